@@ -110,8 +110,8 @@ class Book:
         key, colon, text = line.partition(":")
         text = text[1:] if text.startswith(" ") else text
         if key == "file" and colon:
-            self.file, self.blocks = text, []
-            self.files[text] = b""
+            self.file, self.blocks = decoded(text).decode(), []
+            self.files[self.file] = b""
         elif key == "holds" and self.file:
             self.files[self.file] += line_of(text)
         elif key == "run" and colon:

@@ -1,6 +1,5 @@
 -- What options before others ask for, where words are texts.
 use Rattle.bidi_base.proofs.Common.{◌≡◌, ℕ, ◌-◌, ◌≤◌, Bool, true, false, List, [], ◌∷◌, Some, length, get_or, map, drop, string_bytes, arith, codes, slice_range, take_all}
-use Rattle.std.specs.Prelude.{Ok}
 use Rattle.std.specs.Str.{bytes_eq}
 use Rattle.std.specs.declared.string.String.{String}
 use Rattle.std.proofs.lemmas.List.{length-drop}
@@ -8,8 +7,6 @@ use Rattle.bidi_terminal.specs.Bases.{base_named}
 use Rattle.bidi_terminal.specs.Numbers.{number_of}
 use Rattle.bidi_terminal.specs.declared.base.Base.{Base}
 use Rattle.bidi.specs.Commands.{explain_of, show_of}
-use Rattle.bidi.specs.declared.command.Command.TheVariants.{Help}
-use Rattle.bidi.specs.declared.refusal.Subcommand.TheVariants.{Showing}
 use Rattle.bidi_stages.specs.declared.view.Form.TheVariants.{Page}
 use Rattle.bidi_stages.specs.declared.view.StageView.{StageView}
 use Rattle.bidi.specs.declared.view.View.{View}
@@ -29,26 +26,20 @@ module _ {Z : Type 0} where
   show_of-plain view (w ∷ []) first some is named = simp (simp is at named)
   show_of-plain view (w ∷ v ∷ words) first some is named = simp (rest-all 1 (w ∷ v ∷ words), simp is at named)
 
-  pub show_of-help : (view : View) (words : List (String Z)) (first again : String Z) → 1 ≤ length words → first ≡ get_or words 0 first → again ≡ get_or words 0 again
-      → is_named first (codes "--plain") ≡ false → is_named again (codes "--help") ≡ true → show_of view (map string_bytes words) ≡ Ok (Help (Some Showing))
-  show_of-help view [] first again some is is' other named = absurd (omega arith)
-  show_of-help view (w ∷ []) first again some is is' other named = simp (simp is at other, simp is' at named)
-  show_of-help view (w ∷ v ∷ words) first again some is is' other named = simp (simp is at other, simp is' at named)
-
-  pub show_of-base : (view : View) (words : List (String Z)) (first again third second : String Z) (base : Base) → 2 ≤ length words → first ≡ get_or words 0 first → again ≡ get_or words 0 again → third ≡ get_or words 0 third
-      → second ≡ get_or words 1 second → is_named first (codes "--plain") ≡ false → is_named again (codes "--help") ≡ false → is_named third (codes "--base") ≡ true → base_named (string_bytes second) ≡ Some base
+  pub show_of-base : (view : View) (words : List (String Z)) (first third second : String Z) (base : Base) → 2 ≤ length words → first ≡ get_or words 0 first → third ≡ get_or words 0 third
+      → second ≡ get_or words 1 second → is_named first (codes "--plain") ≡ false → is_named third (codes "--base") ≡ true → base_named (string_bytes second) ≡ Some base
       → show_of (record view { base = base }) (map string_bytes (slice_range words 2 (length words))) ≡ show_of view (map string_bytes words)
-  show_of-base view (w ∷ v ∷ words) first again third second base some is is' is'' next other another named level =
-      simp (rest-all 2 (w ∷ v ∷ words), simp is at other, simp is' at another, simp is'' at named, simp next at level)
-  show_of-base view words first again third second base some is is' is'' next other another named level = absurd (omega arith)
+  show_of-base view (w ∷ v ∷ words) first third second base some is is' next other named level =
+      simp (rest-all 2 (w ∷ v ∷ words), simp is at other, simp is' at named, simp next at level)
+  show_of-base view words first third second base some is is' next other named level = absurd (omega arith)
 
-  pub show_of-width : (view : View) (words : List (String Z)) (first again third fourth second : String Z) (width : ℕ) → 2 ≤ length words → first ≡ get_or words 0 first → again ≡ get_or words 0 again → third ≡ get_or words 0 third
-      → fourth ≡ get_or words 0 fourth → second ≡ get_or words 1 second → is_named first (codes "--plain") ≡ false → is_named again (codes "--help") ≡ false → is_named third (codes "--base") ≡ false
+  pub show_of-width : (view : View) (words : List (String Z)) (first third fourth second : String Z) (width : ℕ) → 2 ≤ length words → first ≡ get_or words 0 first → third ≡ get_or words 0 third
+      → fourth ≡ get_or words 0 fourth → second ≡ get_or words 1 second → is_named first (codes "--plain") ≡ false → is_named third (codes "--base") ≡ false
       → is_named fourth (codes "--width") ≡ true → number_of (string_bytes second) ≡ Some width
       → show_of (record view { width = Some width }) (map string_bytes (slice_range words 2 (length words))) ≡ show_of view (map string_bytes words)
-  show_of-width view (w ∷ v ∷ words) first again third fourth second width some is is' is'' is''' next other another neither named number =
-      simp (rest-all 2 (w ∷ v ∷ words), simp is at other, simp is' at another, simp is'' at neither, simp is''' at named, simp next at number)
-  show_of-width view words first again third fourth second width some is is' is'' is''' next other another neither named number = absurd (omega arith)
+  show_of-width view (w ∷ v ∷ words) first third fourth second width some is is' is'' next other neither named number =
+      simp (rest-all 2 (w ∷ v ∷ words), simp is at other, simp is' at neither, simp is'' at named, simp next at number)
+  show_of-width view words first third fourth second width some is is' is'' next other neither named number = absurd (omega arith)
 
   pub explain_of-html : (view : StageView) (words : List (String Z)) (first : String Z) → 1 ≤ length words → first ≡ get_or words 0 first → is_named first (codes "--html") ≡ true
       → explain_of (record view { form = Page }) (map string_bytes (slice_range words 1 (length words))) ≡ explain_of view (map string_bytes words)
@@ -56,9 +47,9 @@ module _ {Z : Type 0} where
   explain_of-html view (w ∷ []) first some is named = simp (simp is at named)
   explain_of-html view (w ∷ v ∷ words) first some is named = simp (rest-all 1 (w ∷ v ∷ words), simp is at named)
 
-  pub explain_of-base : (view : StageView) (words : List (String Z)) (first again third second : String Z) (base : Base) → 2 ≤ length words → first ≡ get_or words 0 first → again ≡ get_or words 0 again → third ≡ get_or words 0 third
-      → second ≡ get_or words 1 second → is_named first (codes "--html") ≡ false → is_named again (codes "--help") ≡ false → is_named third (codes "--base") ≡ true → base_named (string_bytes second) ≡ Some base
+  pub explain_of-base : (view : StageView) (words : List (String Z)) (first third second : String Z) (base : Base) → 2 ≤ length words → first ≡ get_or words 0 first → third ≡ get_or words 0 third
+      → second ≡ get_or words 1 second → is_named first (codes "--html") ≡ false → is_named third (codes "--base") ≡ true → base_named (string_bytes second) ≡ Some base
       → explain_of (record view { base = base }) (map string_bytes (slice_range words 2 (length words))) ≡ explain_of view (map string_bytes words)
-  explain_of-base view (w ∷ v ∷ words) first again third second base some is is' is'' next other another named level =
-      simp (rest-all 2 (w ∷ v ∷ words), simp is at other, simp is' at another, simp is'' at named, simp next at level)
-  explain_of-base view words first again third second base some is is' is'' next other another named level = absurd (omega arith)
+  explain_of-base view (w ∷ v ∷ words) first third second base some is is' next other named level =
+      simp (rest-all 2 (w ∷ v ∷ words), simp is at other, simp is' at named, simp next at level)
+  explain_of-base view words first third second base some is is' next other named level = absurd (omega arith)

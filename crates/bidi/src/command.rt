@@ -1,6 +1,7 @@
 //! What the words of a call ask for.
 ghost use Rattle.std.specs.Prelude.{◌≡◌, find, map, string_bytes};
-ghost use Rattle.bidi.specs.Commands.{is_option};
+ghost use Rattle.bidi.specs.Commands.{asks_help, unknown_option, late_option};
+ghost use Rattle.bidi.specs.Options.{is_option};
 
 use crate::refusal::{Refusal, Subcommand, Word};
 use crate::view::View;
@@ -22,11 +23,46 @@ impl<'w> Model for FileWords<'w> {
     ghost view = { λ f. map string_bytes f.words.now };
 }
 
-/// Whether a word begins as an option does.
+/// Whether an argument begins as an option does: with a hyphen, and is more than that hyphen.
 fn is_option(word: &str) -> bool
     ensures { result ≡ is_option word.now }
 {
-    word.as_bytes().starts_with(b"--")
+    word.as_bytes().starts_with(b"-") && word != "-"
+}
+
+/// Whether the only argument behind a subcommand asks for help.
+fn asks_help(words: &[String]) -> bool
+    ensures { result ≡ asks_help (map string_bytes words.now) }
+{
+    match words {
+        [word] => Word::new(word.as_str()).is_help(),
+        _ => false,
+    }
+}
+
+/// Why an option is wrong where options may be: the subcommand does not have it, or it has to be the
+/// only argument.
+fn unknown_option<'w>(subcommand: Subcommand, word: &'w str) -> Refusal<'w>
+    ensures { result ≡ unknown_option subcommand word.now }
+{
+    let word = Word::new(word);
+    if word.is_help() {
+        Refusal::NotAlone(Some(subcommand), word)
+    } else {
+        Refusal::NotAnOption(subcommand, word)
+    }
+}
+
+/// Why an option behind a file or a text is wrong.
+fn late_option<'w>(subcommand: Subcommand, word: &'w str) -> Refusal<'w>
+    ensures { result ≡ late_option subcommand word.now }
+{
+    let word = Word::new(word);
+    if word.is_help() {
+        Refusal::NotAlone(Some(subcommand), word)
+    } else {
+        Refusal::LateOption(subcommand, word)
+    }
 }
 
 /// The first of the words that begins as an option does.
@@ -52,12 +88,11 @@ impl<'w> FileWords<'w> {
         match words {
             [] => Ok(FileWords { words }),
             [word, rest @ ..] if word.as_str() == "--" => Ok(FileWords { words: rest }),
-            [word, ..] if is_option(word.as_str()) => Err(Refusal::NotAnOption(
-                subcommand,
-                Word::new(word.as_str()),
-            )),
+            [word, ..] if is_option(word.as_str()) => {
+                Err(unknown_option(subcommand, word.as_str()))
+            }
             [_, rest @ ..] => match first_option(rest) {
-                Some(late) => Err(Refusal::LateOption(subcommand, late)),
+                Some(late) => Err(late_option(subcommand, late.text())),
                 None => Ok(FileWords { words }),
             },
         }
@@ -96,7 +131,7 @@ pub enum Command<'w> {
 }
 
 impl<'w> Command<'w> {
-    ghost use Rattle.bidi.specs.Commands.{command_of, check_of, explain_of, show_of};
+    ghost use Rattle.bidi.specs.Commands.{command_of, check_of, explain_of, show_of, alone_of};
 
     /// What words behind `check` ask for, where there was `--any` before them, or not.
     fn parse_check(any: bool, words: &'w [String]) -> Result<Command<'w>, Refusal<'w>>
@@ -104,9 +139,6 @@ impl<'w> Command<'w> {
     {
         match words {
             [option, rest @ ..] if option.as_str() == "--any" => Command::parse_check(true, rest),
-            [option, ..] if option.as_str() == "--help" => {
-                Ok(Command::Help(Some(Subcommand::Checking)))
-            }
             _ => match FileWords::parse(Subcommand::Checking, words) {
                 Ok(files) => Ok(Command::Check { any, files }),
                 Err(refusal) => Err(refusal),
@@ -125,9 +157,6 @@ impl<'w> Command<'w> {
                     ..view
                 };
                 Command::parse_show(view, rest)
-            }
-            [option, ..] if option.as_str() == "--help" => {
-                Ok(Command::Help(Some(Subcommand::Showing)))
             }
             [option, value, rest @ ..] if option.as_str() == "--base" => {
                 match Base::parse(value.as_str()) {
@@ -166,9 +195,6 @@ impl<'w> Command<'w> {
                 };
                 Command::parse_explain(view, rest)
             }
-            [option, ..] if option.as_str() == "--help" => {
-                Ok(Command::Help(Some(Subcommand::Explaining)))
-            }
             [option, value, rest @ ..] if option.as_str() == "--base" => {
                 match Base::parse(value.as_str()) {
                     Some(base) => Command::parse_explain(StageView { base, ..view }, rest),
@@ -190,23 +216,51 @@ impl<'w> Command<'w> {
         }
     }
 
-    /// What the words ask for, or which of them is wrong and why. Options stand before the files, in
-    /// any order, and of one that is repeated the last counts; `--` ends them. It takes no memory.
+    /// What `--help` and `--version` ask for, which have to be the only argument. Another word is no
+    /// subcommand.
+    fn parse_alone(name: &'w str, rest: &'w [String]) -> Result<Command<'w>, Refusal<'w>>
+        ensures { result ≡ alone_of name.now (map string_bytes rest.now) }
+    {
+        let name = Word::new(name);
+        if !name.is_help() && !name.is_version() {
+            return Err(Refusal::NotASubcommand(name));
+        }
+        if !rest.is_empty() {
+            return Err(Refusal::NotAlone(None, name));
+        }
+        if name.is_help() {
+            return Ok(Command::Help(None));
+        }
+        Ok(Command::Version)
+    }
+
+    /// What the arguments ask for, or which of them is wrong and why. Options come before the files, in
+    /// any order, and the last of a repeated option counts; `--` ends them. `--help` and `--version`
+    /// count only if nothing else follows the program or the subcommand. It does not allocate.
     pub fn parse(words: &'w [String]) -> Result<Command<'w>, Refusal<'w>>
         ensures { result ≡ command_of (map string_bytes words.now) }
     {
         match words {
             [] => Err(Refusal::NoSubcommand),
-            [name, rest @ ..] if name.as_str() == "check" => Command::parse_check(false, rest),
+            [name, rest @ ..] if name.as_str() == "check" => {
+                if asks_help(rest) {
+                    return Ok(Command::Help(Some(Subcommand::Checking)));
+                }
+                Command::parse_check(false, rest)
+            }
             [name, rest @ ..] if name.as_str() == "show" => {
+                if asks_help(rest) {
+                    return Ok(Command::Help(Some(Subcommand::Showing)));
+                }
                 Command::parse_show(View::default(), rest)
             }
             [name, rest @ ..] if name.as_str() == "explain" => {
+                if asks_help(rest) {
+                    return Ok(Command::Help(Some(Subcommand::Explaining)));
+                }
                 Command::parse_explain(StageView::default(), rest)
             }
-            [name, ..] if name.as_str() == "--help" => Ok(Command::Help(None)),
-            [name, ..] if name.as_str() == "--version" => Ok(Command::Version),
-            [name, ..] => Err(Refusal::NotASubcommand(Word::new(name.as_str()))),
+            [name, rest @ ..] => Command::parse_alone(name.as_str(), rest),
         }
     }
 }

@@ -1,6 +1,7 @@
 //! The files of a call: they are read and answered one after the other.
 use crate::help::help;
 use crate::input::{InputFault, check_input, explain_text, show_input};
+use crate::names::shown_name;
 use crate::refusal::Subcommand;
 use crate::status::Status;
 use crate::view::View;
@@ -35,17 +36,24 @@ fn write_out(rt: &(impl Print + Eprint), text: &str) -> Result<(), Status> {
     after_write(rt, io::writer(rt).write_all(text.as_bytes()))
 }
 
-// Tells that an input was not read, and goes on to the next; for want of memory the run ends.
-fn refuse(rt: &(impl Print + Eprint), name: &str, error: &io::Error) -> Result<Status, Status> {
+// Tells that an input was not read, and goes on to the next; if an allocation fails, the run ends.
+fn refuse(
+    rt: &(impl Print + Eprint + AllocGlobal),
+    name: &str,
+    error: &io::Error,
+) -> Result<Status, Status> {
     if error.kind() == ErrorKind::OutOfMemory {
         return out_of_memory(rt);
     }
-    let _ = eprintln!(rt; "bidi: {name}: {error}");
+    let Ok(shown) = shown_name(rt.alloc(), name) else {
+        return out_of_memory(rt);
+    };
+    let _ = eprintln!(rt; "bidi: {shown}: {error}");
     Ok(Status::Device)
 }
 
-// The run ends for want of memory.
-fn end_without_memory(rt: &impl Eprint) -> Status {
+/// The run ends because an allocation failed.
+pub fn end_without_memory(rt: &impl Eprint) -> Status {
     let _ = eprintln!(rt; "bidi: out of memory");
     Status::Memory
 }
@@ -55,10 +63,17 @@ fn out_of_memory(rt: &impl Eprint) -> Result<Status, Status> {
 }
 
 // Tells why an input has no answer.
-fn refuse_bytes(rt: &impl Eprint, name: &str, fault: InputFault) -> Result<Status, Status> {
+fn refuse_bytes(
+    rt: &(impl Eprint + AllocGlobal),
+    name: &str,
+    fault: InputFault,
+) -> Result<Status, Status> {
     match fault {
         InputFault::NotUtf8(at) => {
-            let _ = eprintln!(rt; "bidi: {name}: not UTF-8 from byte {at} on");
+            let Ok(shown) = shown_name(rt.alloc(), name) else {
+                return out_of_memory(rt);
+            };
+            let _ = eprintln!(rt; "bidi: {shown}: not UTF-8 from byte {at} on");
             Ok(Status::Refused)
         }
         InputFault::Memory => out_of_memory(rt),

@@ -1,7 +1,7 @@
 //! What `--help` writes.
 use crate::refusal::Subcommand;
 
-const PROGRAM: &str = "bidi: the Unicode Bidirectional Algorithm over texts in UTF-8\n\
+const PROGRAM: &str = "bidi: the Unicode Bidirectional Algorithm for text in UTF-8\n\
     \n\
     usage: bidi check [--any] [--] [FILE..]\n\
     \u{20}      bidi show [--base auto|ltr|rtl] [--width N] [--plain] [--] [FILE..]\n\
@@ -9,60 +9,73 @@ const PROGRAM: &str = "bidi: the Unicode Bidirectional Algorithm over texts in U
     \u{20}      bidi --help | --version\n\
     \n\
     check    finds direction controls that have no match on their line\n\
-    show     writes lines as they are shown, from left to right\n\
-    explain  writes what each stage of the rules makes of the characters of a text\n\
+    show     writes lines from left to right, for a terminal without bidirectional support\n\
+    explain  shows each step of the algorithm for a text\n\
     \n\
-    'bidi check --help' and its like tell more. Where no file is named, check and show read\n\
-    standard input, as they do for the name -; behind -- no word is an option.\n\
+    'bidi check --help' lists the arguments of check, and likewise for show and explain.\n\
+    --help (or -h) and --version (or -V) must be the only argument.\n\
     \n\
-    Status: 0 nothing was found, or all was written; 1 check has found something; 2 other\n\
-    words, or an input that is not UTF-8; 3 want of memory; 4 a read or a write failed, or\n\
-    the words could not be had.\n";
+    check and show read standard input if no file is named, and for the name -.\n\
+    Put -- before files or texts that may begin with -.\n\
+    \n\
+    Status: 0 nothing was found, or all was written\n\
+    \u{20}       1 check found something\n\
+    \u{20}       2 the arguments are wrong, or an argument or a file is not UTF-8\n\
+    \u{20}       3 out of memory\n\
+    \u{20}       4 reading or writing failed, or the arguments could not be read\n\
+    If several apply, the highest counts.\n";
 
 const CHECK: &str = "usage: bidi check [--any] [--] [FILE..]\n\
     \n\
-    Finds the direction controls that have no match on their line, by which a text can read\n\
-    otherwise than it is. It writes a line for each, such as\n\
+    Finds the direction controls that have no match on their line. They can make source code\n\
+    display differently from how it is compiled. Writes a line for each, such as\n\
     \n\
     main.c:7:18: U+202E RIGHT-TO-LEFT OVERRIDE is not closed on its line\n\
     \n\
-    with the line and the column, which counts characters, both from 1.\n\
+    with file, line and column. Lines and columns count from 1, columns in characters.\n\
     \n\
-    --any   finds every direction control and mark, those with a match too\n\
-    --help  writes this\n\
-    --      ends the options: no word behind it is one\n\
-    FILE    a file in UTF-8; - is standard input, and so is no file at all\n\
+    --any   finds every direction control and mark, also those that have a match\n\
+    --help  writes this text, if it is the only argument behind check\n\
+    --      ends the options: what follows are files\n\
+    FILE    a file in UTF-8; - or no file at all is standard input\n\
     \n\
-    Status: 0 nothing was found; 1 something was found; others as 'bidi --help' has them.\n";
+    A gate, such as a hook or a build step, that accepts no control uses --any:\n\
+    \n\
+    git ls-files -z '*.c' '*.h' | xargs -0 bidi check --any --\n\
+    \n\
+    Without --any, controls that are closed on their line pass, also in an attack.\n\
+    \n\
+    Status: 0 nothing was found; 1 something was found; 'bidi --help' lists the others.\n\
+    A gate accepts 0 and no other.\n";
 
 const SHOW: &str = "usage: bidi show [--base auto|ltr|rtl] [--width N] [--plain] [--] [FILE..]\n\
     \n\
-    Writes the lines of files as a terminal has to be given them that does not know the\n\
-    algorithm: from left to right, at odd levels mirrored and with marks behind their letters.\n\
+    Writes the lines of files from left to right, for a terminal without bidirectional\n\
+    support. Mirrors characters at odd levels, and puts marks after their letters.\n\
     \n\
-    --base   the direction of each line: left to right (ltr), right to left (rtl), or its own\n\
-    \u{20}        (auto), as without this option\n\
-    --width  cuts a line where it takes more than N columns; N has one to three digits\n\
+    --base   the direction of each line: ltr is left to right, rtl is right to left, and auto,\n\
+    \u{20}        the default, takes it from the first strong character of the line\n\
+    --width  cuts a line that takes more than N columns; N has one to three digits\n\
     --plain  neither mirrors characters nor moves marks\n\
-    --help   writes this\n\
-    --       ends the options: no word behind it is one\n\
-    FILE     a file in UTF-8; - is standard input, and so is no file at all\n\
+    --help   writes this text, if it is the only argument behind show\n\
+    --       ends the options: what follows are files\n\
+    FILE     a file in UTF-8; - or no file at all is standard input\n\
     \n\
-    Status: 0 all was written; others as 'bidi --help' has them.\n";
+    Status: 0 all was written; 'bidi --help' lists the others.\n";
 
 const EXPLAIN: &str = "usage: bidi explain [--base auto|ltr|rtl] [--html] [--] TEXT..\n\
     \n\
-    Writes a table of each line of each text: a row a stage of the rules, and a column a\n\
-    character, with a tab before each cell.\n\
+    Writes a table for each line of each text, with a row for each step of the rules and a\n\
+    column for each character. Cells are separated by tabs.\n\
     \n\
-    --base  the direction of each line: left to right (ltr), right to left (rtl), or its own\n\
-    \u{20}       (auto), as without this option\n\
-    --html  writes one page of HTML in place of tables\n\
-    --help  writes this\n\
-    --      ends the options: no word behind it is one\n\
-    TEXT    a text, and not the name of a file\n\
+    --base  the direction of each line: ltr is left to right, rtl is right to left, and auto,\n\
+    \u{20}       the default, takes it from the first strong character of the line\n\
+    --html  writes one page of HTML instead of tables\n\
+    --help  writes this text, if it is the only argument behind explain\n\
+    --      ends the options: what follows are texts\n\
+    TEXT    a text, not the name of a file\n\
     \n\
-    Status: 0 all was written; others as 'bidi --help' has them.\n";
+    Status: 0 all was written; 'bidi --help' lists the others.\n";
 
 /// What is said of a subcommand, or of the program.
 pub fn help(subcommand: Option<Subcommand>) -> &'static str {

@@ -5,10 +5,12 @@ ghost use Rattle.bidi_unicode.specs.Unicode.{unicode_source};
 ghost use Rattle.bidi_controls.specs.Findings.{findings_of, report_of};
 ghost use Rattle.bidi_stages.specs.Explained.{AreTold};
 ghost use Rattle.bidi.specs.Inputs.{TellsInput};
+ghost use Rattle.bidi.specs.Names.{shown_name as shown_name_of};
 ghost use Rattle.bidi.specs.Shown.{shown_text};
 ghost use Rattle.bidi.specs.declared.input.InputFault.TheVariants.{Memory};
 
 use crate::characters::chars_of;
+use crate::names::shown_name;
 use crate::paragraphs::show;
 use crate::status::Status;
 use crate::view::View;
@@ -77,7 +79,8 @@ fn text_of(bytes: &[u8]) -> Result<&str, InputFault>
 }
 
 /// The direction controls in an input of this name that have no match on their line; with `any`
-/// every control and mark. Refused where the input is not UTF-8, and for want of memory.
+/// every control and mark. Hidden characters of the name are escaped. Returns an error if the input is
+/// not UTF-8, or if an allocation fails.
 pub fn check_input(
     alloc: Global,
     any: bool,
@@ -85,7 +88,7 @@ pub fn check_input(
     bytes: &[u8],
 ) -> Result<Checked, InputFault>
     ensures text { IfOk result (λ checked. IsUtf8 bytes.now
-        × (string_bytes checked.report ≡ report_of name.now (findings_of unicode_source any (chars bytes.now)))
+        × (string_bytes checked.report ≡ report_of (shown_name_of (chars name.now)) (findings_of unicode_source any (chars bytes.now)))
         × (checked.found ≡ not (length (findings_of unicode_source any (chars bytes.now)) == 0))) }
     ensures fault { IfErr result (TellsInput bytes.now) }
 {
@@ -93,8 +96,9 @@ pub fn check_input(
     let chars = chars_of(alloc, text)?;
     let findings = findings_in(alloc, &UnicodeData, any, chars.as_slice())?;
     let found = findings.as_slice();
+    let shown = shown_name(alloc, name)?;
     Ok(Checked {
-        report: report(alloc, name, found)?,
+        report: report(alloc, shown.as_str(), found)?,
         found: !found.is_empty(),
     })
 }

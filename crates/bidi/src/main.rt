@@ -9,6 +9,7 @@ mod command;
 mod files;
 mod help;
 mod input;
+mod names;
 mod paragraphs;
 mod refusal;
 mod show;
@@ -16,26 +17,69 @@ mod status;
 mod view;
 
 use command::Command;
-use files::{Task, answer_files, answer_texts, write_help, write_versions};
+use files::{Task, answer_files, answer_texts, end_without_memory, write_help, write_versions};
+use names::{shown_bytes, shown_name};
+use refusal::Refusal;
 use status::Status;
-use std::env;
+use std::alloc::AllocError;
+use std::env::{self, FillError};
 use std::io::{self, ErrorKind};
 use std::process::ExitCode;
 use std::rt::{Env, Files};
 
-// The words after the program's name.
+// The arguments after the program's name.
 fn arguments(rt: &(impl Env + AllocGlobal)) -> io::Result<Vec<String>> {
     let words = env::args(rt)?.skip(1).collect(rt.alloc())?;
     Ok(words)
 }
 
-// Tells why there are no words.
-fn refuse_words(rt: &impl Eprint, error: &io::Error) -> Status {
-    let _ = match error.kind() {
-        ErrorKind::InvalidData => eprintln!(rt; "bidi: a word is not UTF-8"),
-        _ => eprintln!(rt; "bidi: no words could be had: {error}"),
-    };
-    Status::Device
+// The most bytes that Linux takes in an argument.
+const ARGUMENT_LIMIT: usize = 0x2_0000;
+
+// Reports each argument that is not UTF-8. Its bytes are those of the system's list of arguments.
+fn report_arguments(rt: &(impl Env + Eprint + AllocGlobal)) -> Result<(), AllocError> {
+    let mut buffer = Vec::new(rt.alloc());
+    buffer.resize(ARGUMENT_LIMIT, 0)?;
+    for number in 1..usize::MAX {
+        match rt.arg(number, buffer.as_mut_slice()) {
+            Ok(len) => report_argument(rt, &buffer.as_slice()[..len])?,
+            Err(FillError::TooLong) => {}
+            Err(FillError::NotPresent) => break,
+        }
+    }
+    Ok(())
+}
+
+// Reports an argument that is not UTF-8.
+fn report_argument(rt: &(impl Eprint + AllocGlobal), argument: &[u8]) -> Result<(), AllocError> {
+    if str::from_utf8(argument).is_err() {
+        let shown = shown_bytes(rt.alloc(), argument)?;
+        let _ = eprintln!(rt;
+            "bidi: {shown}: this argument is not UTF-8, so no file was read; rename the file, or pass it \
+             on standard input"
+        );
+    }
+    Ok(())
+}
+
+// Tells why there are no arguments.
+fn refuse_arguments(rt: &(impl Env + Eprint + AllocGlobal), error: &io::Error) -> Status {
+    if error.kind() != ErrorKind::InvalidData {
+        let _ = eprintln!(rt; "bidi: the arguments could not be read: {error}");
+        return Status::Device;
+    }
+    if report_arguments(rt).is_err() {
+        return end_without_memory(rt);
+    }
+    Status::Refused
+}
+
+// Tells why the arguments are none of the program's forms.
+fn refuse(rt: &(impl Eprint + AllocGlobal), refusal: &Refusal<'_>) -> Result<(), AllocError> {
+    let text = format!(in rt.alloc(); "{refusal}")?;
+    let shown = shown_name(rt.alloc(), text.as_str())?;
+    let _ = eprintln!(rt; "bidi: {shown}");
+    Ok(())
 }
 
 fn answer(
@@ -54,14 +98,14 @@ fn answer(
 fn serve(rt: &(impl Env + Files + Input + Print + Eprint + AllocGlobal)) -> Status {
     let words = match arguments(rt) {
         Ok(words) => words,
-        Err(error) => return refuse_words(rt, &error),
+        Err(error) => return refuse_arguments(rt, &error),
     };
     match Command::parse(words.as_slice()) {
         Ok(command) => answer(rt, command),
-        Err(refusal) => {
-            let _ = eprintln!(rt; "bidi: {refusal}");
-            Status::Refused
-        }
+        Err(refusal) => match refuse(rt, &refusal) {
+            Ok(()) => Status::Refused,
+            Err(AllocError) => end_without_memory(rt),
+        },
     }
 }
 

@@ -39,12 +39,34 @@ impl<'w> Model for Word<'w> {
 
 impl<'w> Word<'w> {
     ghost use Rattle.std.specs.Prelude.{◌≡◌};
+    ghost use Rattle.bidi.specs.Options.{is_help, is_version};
 
     /// A text as a word.
     pub fn new(text: &'w str) -> Word<'w>
         ensures { result ≡ text.now }
     {
         Word { text }
+    }
+
+    /// Its text.
+    pub fn text(&self) -> &'w str
+        ensures { result.now ≡ self.now }
+    {
+        self.text
+    }
+
+    /// Whether it asks for help.
+    pub fn is_help(&self) -> bool
+        ensures { result ≡ is_help self.now }
+    {
+        self.text == "--help" || self.text == "-h"
+    }
+
+    /// Whether it asks for the version.
+    pub fn is_version(&self) -> bool
+        ensures { result ≡ is_version self.now }
+    {
+        self.text == "--version" || self.text == "-V"
     }
 }
 
@@ -57,8 +79,10 @@ pub enum Refusal<'w> {
     NotASubcommand(Word<'w>),
     /// The subcommand has no such option.
     NotAnOption(Subcommand, Word<'w>),
-    /// The option stands behind a word that is no option.
+    /// The option comes after a file or a text.
     LateOption(Subcommand, Word<'w>),
+    /// `--help` or `--version` is not the only argument behind the program or the subcommand.
+    NotAlone(Option<Subcommand>, Word<'w>),
     /// The option asks for a value, and no word is left.
     NoValue(Subcommand, Word<'w>),
     /// The value of `--base` is none of `auto`, `ltr` and `rtl`.
@@ -72,23 +96,33 @@ pub enum Refusal<'w> {
 impl<'w> fmt::Display for Refusal<'w> {
     fn fmt<W: fmt::Write>(&self, f: &mut fmt::Formatter<W>) -> fmt::Result {
         match self {
-            Refusal::NoSubcommand => f.write_str("no subcommand; see bidi --help"),
+            Refusal::NoSubcommand => f.write_str("no command; see bidi --help"),
             Refusal::NotASubcommand(word) => {
-                write!(f, "no subcommand {}; see bidi --help", word.text)
+                write!(f, "no command {}; see bidi --help", word.text)
             }
             Refusal::NotAnOption(subcommand, word) => write!(
                 f,
-                "{subcommand}: no option {}; see bidi {subcommand} --help",
+                "{subcommand}: no option {}; see bidi {subcommand} --help, or put -- before a file or text \
+                 that begins with -",
                 word.text
             ),
             Refusal::LateOption(subcommand, word) => write!(
                 f,
-                "{subcommand}: option {} stands behind other words; see bidi {subcommand} --help",
+                "{subcommand}: option {} comes after a file or text; put options first, or -- before a \
+                 file or text that begins with -",
+                word.text
+            ),
+            Refusal::NotAlone(None, word) => {
+                write!(f, "{} must be the only argument", word.text)
+            }
+            Refusal::NotAlone(Some(subcommand), word) => write!(
+                f,
+                "{subcommand}: {} must be the only argument; put -- before a file or text of that name",
                 word.text
             ),
             Refusal::NoValue(subcommand, word) => write!(
                 f,
-                "{subcommand}: no value behind {}; see bidi {subcommand} --help",
+                "{subcommand}: no value after {}; see bidi {subcommand} --help",
                 word.text
             ),
             Refusal::NotABase(subcommand, word) => write!(

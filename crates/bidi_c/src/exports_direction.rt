@@ -1,4 +1,4 @@
-//! The exports that return the base direction of a text, and read no further than it is decided.
+//! The exports that return the base direction of a text, and stop at the character that decides it.
 use bidi_calls::first_direction::{first_direction_utf8, first_direction_utf32};
 use bidi_calls::utf16::base_direction;
 use bidi_numbers::fault::answer;
@@ -9,7 +9,7 @@ pub extern "C" fn unicode_bidi_first_direction_utf8(text: &[u8], full: u8) -> i6
     answer(first_direction_utf8(&UnicodeData, text, full != 0))
 }
 
-// Units of UTF-16 have no faults, so the base direction is read no further than it is decided.
+// UTF-16 has no faults, so this call too stops at the character that decides.
 #[unsafe(no_mangle)]
 pub extern "C" fn unicode_bidi_first_direction_utf16(text: &[u16], full: u8) -> i64 {
     answer(Ok(base_direction(&UnicodeData, text, full != 0)))

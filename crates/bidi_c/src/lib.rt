@@ -1,8 +1,8 @@
 //! The library for callers in other languages: a static library with the header `unicode_bidi.h`.
 //!
-//! Each export hands its arguments to a function that tests all that the library asks, and turns the
-//! answer into a number. The caller owns every buffer. A slice is a pointer and a length; that these
-//! are right is what no call can test.
+//! Each export passes its arguments to a function that tests every condition that the library requires. It returns
+//! the result as a number. The caller owns every buffer. A slice is a pointer and a length. No call can test that
+//! these two are right.
 #![tactic(auto)]
 
 mod exports;

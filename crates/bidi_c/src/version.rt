@@ -7,7 +7,7 @@ ghost use Rattle.unicode_bidi.specs.declared.version.TheConstants.{VERSION};
 use bidi_unicode::UNICODE_VERSION;
 use unicode_bidi::VERSION;
 
-/// The number of a version: 10,000 times its major number, 100 times its minor one, and its last.
+/// Returns a version as a number: 10,000 times the major number, plus 100 times the minor number, plus the last one.
 fn version_number(version: (u64, u64, u64)) -> i64
     requires major { version.0 < 10000 }
     requires minor { version.1 < 100 }
@@ -17,14 +17,14 @@ fn version_number(version: (u64, u64, u64)) -> i64
     (version.0 * 10_000 + version.1 * 100 + version.2) as i64
 }
 
-/// The version of the library.
+/// Returns the version of the library.
 pub(crate) fn library_version() -> i64
     ensures { result ≡ pos (version_number VERSION) }
 {
     version_number(VERSION)
 }
 
-/// The version of Unicode's data.
+/// Returns the version of Unicode's data.
 pub(crate) fn data_version() -> i64
     ensures { result ≡ pos (version_number UNICODE_VERSION) }
 {

@@ -1,4 +1,4 @@
-//! The calls over a whole text, by tables of the caller's.
+//! The calls over a whole text that read classes and brackets from the caller's tables.
 ghost use Rattle.std.specs.Prelude.{◌≡◌, length, OnOk, OnErr, IfOk, IsUtf8, Some};
 ghost use Rattle.std.specs.Char.{len_utf8};
 ghost use Rattle.std.specs.List.{list_all};
@@ -18,7 +18,10 @@ use bidi_numbers::rows::{BracketPair, ClassRange, Paragraph};
 use bidi_numbers::tables::Tables;
 use std::alloc::Global;
 
-/// The same call of `utf8` over tables of the caller's.
+/// Writes the class and the level of each byte of a text of UTF-8, and its paragraphs.
+///
+/// Returns the number of paragraphs. Reads `ranges` and `brackets` in place of a data source, and returns a fault
+/// in them first. The rest is as in [`utf8::analyse`].
 pub fn analyse_utf8(
     alloc: Global,
     ranges: &[ClassRange],
@@ -64,7 +67,10 @@ pub fn analyse_utf8(
     }
 }
 
-/// The base direction of a text of UTF-8 over tables of the caller's.
+/// Returns the number of the base direction of a text of UTF-8: 0 for left to right, 1 for right to left, 2 for mixed.
+///
+/// Without `full` it is that of the first paragraph, and with `full` that of the first paragraph that has one.
+/// Returns a fault in the tables first, and then `NotUtf8`.
 pub fn base_direction_utf8(
     alloc: Global,
     ranges: &[ClassRange],
@@ -84,7 +90,10 @@ pub fn base_direction_utf8(
     }
 }
 
-/// The same call of `utf16` over tables of the caller's.
+/// Writes the class and the level of each code unit of a text of UTF-16, and its paragraphs.
+///
+/// Returns the number of paragraphs. Reads `ranges` and `brackets` in place of a data source, and returns a fault
+/// in them first. The rest is as in [`utf16::analyse`].
 pub fn analyse_utf16(
     alloc: Global,
     ranges: &[ClassRange],
@@ -127,7 +136,10 @@ pub fn analyse_utf16(
     }
 }
 
-/// The base direction of a text of UTF-16 over tables of the caller's.
+/// Returns the number of the base direction of a text of UTF-16: 0 for left to right, 1 for right to left, 2 for mixed.
+///
+/// Without `full` it is that of the first paragraph, and with `full` that of the first paragraph that has one. The
+/// only faults are those of the tables.
 pub fn base_direction_utf16(
     alloc: Global,
     ranges: &[ClassRange],
@@ -145,7 +157,10 @@ pub fn base_direction_utf16(
     }
 }
 
-/// The same call of `utf32` over tables of the caller's.
+/// Writes the class and the level of each character of a list, and its paragraphs.
+///
+/// Returns the number of paragraphs. Reads `ranges` and `brackets` in place of a data source, and returns a fault
+/// in them first. The rest is as in [`utf32::analyse`].
 pub fn analyse_utf32(
     alloc: Global,
     ranges: &[ClassRange],
@@ -189,7 +204,11 @@ pub fn analyse_utf32(
     }
 }
 
-/// The base direction of a list of characters over tables of the caller's.
+/// Returns the number of the base direction of a list of characters: 0 for left to right, 1 for right to left, 2 for
+/// mixed.
+///
+/// Without `full` it is that of the first paragraph, and with `full` that of the first paragraph that has one.
+/// Returns a fault in the tables first, and then `NotScalar`.
 pub fn base_direction_utf32(
     alloc: Global,
     ranges: &[ClassRange],

@@ -9,10 +9,10 @@ use crate::counted::CountedText;
 use std::ops::Range;
 use unicode_bidi::Level;
 
-/// Up to how many runs a line's order is quicker written by `write_char_order` than found from its levels.
+/// The maximum number of runs for which `write_char_order` is faster than ordering the characters by their levels.
 pub const COUNTED_RUNS: usize = 16;
 
-// Writes the indexes from `first` on. The loop has no branch, so that it writes many indexes at once.
+// Writes ascending indexes from `first` on. The loop has no branch, so it writes many indexes at once.
 fn write_upwards(first: usize, out: &mut [usize])
     requires { first + length out.old ≤ usize.MAX }
     ensures { out.new ≡ between first (first + length out.old) }
@@ -22,7 +22,7 @@ fn write_upwards(first: usize, out: &mut [usize])
     }
 }
 
-// Writes as many indexes from `first` on, the last one first. This loop has no branch either.
+// Writes the indexes from `first` on in descending order. This loop has no branch either.
 fn write_downwards(first: usize, out: &mut [usize])
     requires { first + length out.old ≤ usize.MAX }
     ensures { out.new ≡ reverse (between first (first + length out.old)) }
@@ -45,7 +45,7 @@ fn write_indexes(first: usize, is_rtl: bool, out: &mut [usize])
     }
 }
 
-// Returns how many characters a range of units has. Where each unit of the text is a character, none is counted.
+// Returns how many characters a range of units has. If each unit of the text is a character, this does not count.
 fn count_in<T: CountedText>(text: T, units: Range<usize>, are_chars: bool) -> usize
     requires is_line { IsLine T.units (T.characters text) units.start units.end }
     requires are_chars { IsTrue are_chars → text_len T.units (T.characters text) ≡ length (T.characters text) }
@@ -57,7 +57,7 @@ fn count_in<T: CountedText>(text: T, units: Range<usize>, are_chars: bool) -> us
     text.subrange(units).count_characters()
 }
 
-// Returns how many characters stand before the unit `at`, where `before` stand before the unit `near`.
+// Returns how many characters come before the unit `at`, given that `before` characters come before the unit `near`.
 fn index_at<T: CountedText>(
     text: T,
     at: usize,
@@ -78,8 +78,8 @@ fn index_at<T: CountedText>(
     }
 }
 
-// Returns the index of the first of a run's `count` characters, from the run that is left of it and the indexes of
-// that one's characters. Mostly the two runs touch, and then no character is counted.
+// Returns the index of the first of a run's `count` characters. `left` is the run on its left, and `indexes` has the
+// indexes of that run's characters. The two runs mostly touch, and then no character is counted.
 fn first_index<T: CountedText>(
     text: T,
     run: &Range<usize>,
@@ -104,9 +104,9 @@ fn first_index<T: CountedText>(
 
 /// Writes the visual order of a line's characters, run by run.
 ///
-/// `levels` are those of the line's units after L1, equal within each character, and `runs` its visual
-/// runs, counted from its first unit. Takes time linear in the line for each run, and less where runs that
-/// touch stay side by side. Does not allocate.
+/// `levels` has the level of each code unit of the line after L1, equal within each character. `runs` has its visual
+/// runs, counted from its first code unit. For each run the time is linear in the line, or less if it touches the run
+/// on its left. Does not allocate.
 pub fn write_char_order<T: CountedText>(
     text: T,
     levels: &[Level],

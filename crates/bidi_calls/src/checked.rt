@@ -1,4 +1,4 @@
-//! The calls over a whole text, with every condition tested.
+//! The calls over a whole text in any encoding. They test every condition.
 ghost use Rattle.std.specs.Prelude.{◌≡◌, ◌<◌, ◌≤◌, ◌&&◌, nat_le, length, map, slice_index, IsTrue, OnOk, OnErr, IfOk, IfSome};
 ghost use Rattle.bidi_base.specs.Classes.{class_number};
 ghost use Rattle.bidi_base.specs.Text.{text_len};
@@ -30,7 +30,7 @@ fn write_classes(out: &mut [u8], classes: &[BidiClass])
     }
 }
 
-// The number of the level at an index.
+// Returns the number of the level at an index.
 fn number_at(levels: &[Level], index: usize) -> u8
     requires { index < length levels.now }
     ensures { result ≡ slice_index levels.now index }
@@ -48,7 +48,7 @@ pub fn write_levels(out: &mut [u8], levels: &[Level])
     }
 }
 
-// A paragraph as a row.
+// Returns a paragraph as a row.
 fn row_of(paragraph: &ParagraphInfo) -> Paragraph
     ensures { result ≡ paragraph_row (((range_of paragraph.now).start, (range_of paragraph.now).end), level_of paragraph.now) }
 {
@@ -70,7 +70,7 @@ fn write_paragraphs(out: &mut [Paragraph], paragraphs: &[ParagraphInfo])
     }
 }
 
-// Writes paragraphs as rows to the front of a buffer, unless that has no room at all.
+// Writes paragraphs as rows to the front of a buffer, unless the buffer is empty.
 fn put_paragraphs(out: &mut [Paragraph], paragraphs: &[ParagraphInfo])
     requires { IsTrue (has_room_or_none (length paragraphs.now) (length out.old)) }
     ensures { out.new
@@ -82,14 +82,14 @@ fn put_paragraphs(out: &mut [Paragraph], paragraphs: &[ParagraphInfo])
     }
 }
 
-// Refuses too little room for the classes or the levels of so many units.
+// Returns `NoRoom` unless the buffers for classes and levels both have `units` entries or more.
 fn check_room(units: usize, class_room: usize, level_room: usize) -> Result<(), Fault>
     ensures { result_err result ≡ fault_unless (nat_le units class_room && nat_le units level_room) Fault.NoRoom }
 {
     check(units <= class_room && units <= level_room, Fault::NoRoom)
 }
 
-// A text, and what a call asks of it.
+// A text and the arguments of a call.
 #[derive(Drop)]
 struct AskedText<'a, D: BidiDataSource, T: TextSource> {
     data_source: &'a D,
@@ -98,8 +98,8 @@ struct AskedText<'a, D: BidiDataSource, T: TextSource> {
     split: Option<SplitRule>,
 }
 
-// Analyses a text into lists of ours, and then writes what was found to the caller's buffers. So a fault
-// that comes late leaves those as they are.
+// Analyses a text into lists of its own, and then copies the result to the caller's buffers. So a late fault leaves
+// those unchanged.
 fn write_analysis<D: BidiDataSource, T: TextSource>(
     alloc: Global,
     asked: &AskedText<D, T>,
@@ -150,8 +150,10 @@ fn write_analysis<D: BidiDataSource, T: TextSource>(
     Ok(found.len())
 }
 
-/// Writes the classes and the levels of a text's units, and its paragraphs, and returns the number of the
-/// paragraphs. Where `paragraphs` has no room at all, they are only counted.
+/// Writes the class and the level of each code unit of a text, and its paragraphs.
+///
+/// Returns the number of paragraphs. If `paragraphs` is empty, only counts them. `base` and `split` are numbers: see
+/// `base_level` and `split_rule`. Writes nothing after a fault.
 pub fn analyse<D: BidiDataSource, T: TextSource>(
     alloc: Global,
     data_source: &D,
@@ -219,7 +221,7 @@ pub fn analyse<D: BidiDataSource, T: TextSource>(
     }
 }
 
-// The number of a direction.
+// Returns the number of a direction.
 pub(crate) fn number_of_direction(direction: Direction) -> usize
     ensures { result ≡ direction_number direction }
 {
@@ -230,8 +232,9 @@ pub(crate) fn number_of_direction(direction: Direction) -> usize
     }
 }
 
-/// The number of a text's base direction: that of its first paragraph, or with `full` that of the
-/// first that has one.
+/// Returns the number of a text's base direction: 0 for left to right, 1 for right to left, 2 for mixed.
+///
+/// Without `full` it is that of the first paragraph, and with `full` that of the first paragraph that has one.
 #[tactic(auto, unfolding(bidi_numbers::specs::Numbers::direction_in))]
 pub fn base_direction<D: BidiDataSource, T: TextSource>(
     data_source: &D,

@@ -1,4 +1,4 @@
-//! Texts whose characters are counted.
+//! Texts that count their characters.
 ghost use Rattle.std.specs.Prelude.{◌≡◌, ◌≤◌, length};
 ghost use Rattle.std.specs.List.{count_by};
 ghost use Rattle.std.specs.Str.{chars};
@@ -10,25 +10,25 @@ ghost use Rattle.bidi_calls.specs.declared.counted.TheConstants.{FEW_BYTES};
 use bidi_text_lines::line_text::LineText;
 use unicode_bidi::text::{StrText, TextSource, Utf16Text, are_characters};
 
-/// A text that counts its characters.
+/// A text that can count its characters.
 pub trait CountedText: LineText {
     /// Returns how many characters the text has.
     fn count_characters(self) -> usize
         ensures { result ≡ length (Self.characters self) };
 }
 
-// Whether a byte of UTF-8 begins a character.
+// Returns whether a byte of UTF-8 begins a character.
 fn begins(byte: u8) -> bool
     ensures { result ≡ begins_character byte }
 {
     byte < 0x80 || 0xC0 <= byte
 }
 
-// Up to how many bytes have a count that is a byte.
+// The maximum number of bytes that can be counted in a byte.
 const FEW_BYTES: usize = 255;
 
-// Returns how many of a few bytes begin a character. The loop has no branch and counts in a byte, so that it reads
-// sixteen bytes at once.
+// Returns how many of a few bytes begin a character. The loop has no branch and counts in a byte, so it reads sixteen
+// bytes at once.
 fn count_few(bytes: &[u8]) -> u8
     requires { length bytes.now ≤ FEW_BYTES }
     ensures { result ≡ count_by begins_character bytes.now }
@@ -60,7 +60,7 @@ impl<'t> CountedText for StrText<'t> {
     }
 }
 
-// Returns how many characters a text of so many units has, counted one by one.
+// Returns how many characters a text of `units` code units has. Counts them one by one.
 fn count_one_by_one<T: TextSource>(text: T, units: usize) -> usize
     requires { units ≡ text_len T.units (T.characters text) }
     ensures { result ≡ length (T.characters text) }
@@ -72,7 +72,7 @@ fn count_one_by_one<T: TextSource>(text: T, units: usize) -> usize
     count
 }
 
-// Returns how many characters a text has. Most texts have no surrogates.
+// Returns how many characters a text has. Most texts have no surrogates, so each unit is a character.
 fn count_utf16(units: &[u16]) -> usize
     ensures { result ≡ length (utf16_text units.now) }
 {

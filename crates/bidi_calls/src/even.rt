@@ -1,4 +1,4 @@
-//! Whether the classes and the levels of a line's units are equal within each character.
+//! Tests whether the classes and levels of a line's code units are equal within each character.
 ghost use Rattle.std.specs.Prelude.{◌≡◌, ◌+◌, ◌<◌, ◌≤◌, ◌&&◌, ◌↔◌, IsTrue, length, map};
 ghost use Rattle.std.specs.Char.{len_utf8};
 ghost use Rattle.std.specs.List.{list_all};
@@ -15,7 +15,7 @@ use bidi_numbers::texts::goes_on;
 use std::simd::prelude::*;
 use unicode_bidi::text::are_characters;
 
-// Whether a unit has the class and the level of the unit before it, if it goes on with a character.
+// Returns whether a unit that continues a character has the class and the level of the unit before it.
 fn is_even_at(goes_on: bool, classes: &[u8], levels: &[u8], at: usize) -> bool
     requires before { 0 < at }
     requires classes { at < length classes.now }
@@ -25,7 +25,7 @@ fn is_even_at(goes_on: bool, classes: &[u8], levels: &[u8], at: usize) -> bool
     !goes_on | (classes[at] == classes[at - 1]) & (levels[at] == levels[at - 1])
 }
 
-// Whether each byte that goes on with a character has the class and the level of the byte before it.
+// Returns whether each byte that continues a character has the class and the level of the byte before it.
 fn is_even_by_bytes(bytes: &[u8], classes: &[u8], levels: &[u8]) -> bool
     requires classes { length classes.now ≡ length bytes.now }
     requires levels { length levels.now ≡ length bytes.now }
@@ -55,9 +55,9 @@ fn sixteen_are_even(bytes: &[u8], classes: &[u8], levels: &[u8], at: usize) -> b
     (goes_on & (other_class | other_level)).to_bitmask() == 0
 }
 
-// Like `is_even_by_bytes`, for more than sixteen bytes. The first byte begins a character, so the blocks start
-// at the second. The last block may overlap the one before it: lines are short, and reading the rest byte by
-// byte would cost more than the blocks.
+// Like `is_even_by_bytes`, for more than sixteen bytes. The first byte begins a character, so the blocks start at the
+// second. The last block may overlap the one before it: lines are short, and reading the rest byte by byte would cost
+// more than the blocks.
 fn is_even_by_blocks(bytes: &[u8], classes: &[u8], levels: &[u8]) -> bool
     requires some { 16 < length bytes.now }
     requires classes { length classes.now ≡ length bytes.now }
@@ -75,10 +75,10 @@ fn is_even_by_blocks(bytes: &[u8], classes: &[u8], levels: &[u8]) -> bool
     sixteen_are_even(bytes, classes, levels, last)
 }
 
-/// Returns whether the classes and the levels of a text's bytes are equal within each character.
+/// Returns whether the classes and levels of a text's bytes are equal within each character.
 ///
-/// There is one class and one level for each byte, and each class is a number below 23. The function
-/// reads sixteen bytes at a time, and never decodes the text.
+/// There is one class and one level for each byte, and each class is a number below 23. Reads sixteen bytes at a
+/// time, and never decodes the text.
 pub fn is_even_utf8(text: &str, classes: &[u8], levels: &[u8]) -> bool
     requires classes { length classes.now ≡ length text.now }
     requires levels { length levels.now ≡ length text.now }
@@ -95,14 +95,14 @@ pub fn is_even_utf8(text: &str, classes: &[u8], levels: &[u8]) -> bool
     }
 }
 
-// Whether two units are a high surrogate and a low one.
+// Returns whether two code units are a high and a low surrogate.
 fn is_pair(high: u16, low: u16) -> bool
     ensures { result ≡ is_pair_of high low }
 {
     (0xD800 <= high && high < 0xDC00) && (0xDC00 <= low && low < 0xE000)
 }
 
-// Whether each unit that ends a pair of surrogates has the class and the level of the unit before it.
+// Returns whether each unit that ends a surrogate pair has the class and the level of the unit before it.
 fn is_even_by_units(units: &[u16], classes: &[u8], levels: &[u8]) -> bool
     requires classes { length classes.now ≡ length units.now }
     requires levels { length levels.now ≡ length units.now }
@@ -115,12 +115,10 @@ fn is_even_by_units(units: &[u16], classes: &[u8], levels: &[u8]) -> bool
     even
 }
 
-/// Returns whether the classes and the levels of the units of a text of UTF-16 are equal within each
-/// character.
+/// Returns whether the classes and levels of a UTF-16 text's code units are equal within each character.
 ///
-/// There is one class and one level for each unit, and each class is a number below 23. Only a low
-/// surrogate directly behind a high one goes on with a character. Most texts have no surrogates, and the
-/// function finds that first.
+/// There is one class and one level for each code unit, and each class is a number below 23. Only a low surrogate
+/// directly after a high one continues a character. Most texts have no surrogates, so this is tested first.
 pub fn is_even_utf16(units: &[u16], classes: &[u8], levels: &[u8]) -> bool
     requires classes { length classes.now ≡ length units.now }
     requires levels { length levels.now ≡ length units.now }

@@ -1,4 +1,4 @@
-//! The base direction of a text, read only as far as it is decided.
+//! The base direction of a text (P2, P3), read only up to the character that decides it.
 ghost use Rattle.std.specs.Prelude.{◌≡◌, ◌≤◌, ℕ, length, take, true, IsUtf8};
 ghost use Rattle.std.specs.Str.{chars};
 ghost use Rattle.std.specs.Str.Lossy.{utf8_valid_len};
@@ -14,10 +14,10 @@ use unicode_bidi::direction_search::{DirectionSearch, search_class, search_direc
 use unicode_bidi::text::StrText;
 use unicode_bidi::{BidiDataSource, Direction};
 
-// The number of bytes that are tested for UTF-8 at a time, and then searched.
+// How many bytes are tested for UTF-8, and then searched, at a time.
 const PIECE: usize = 64;
 
-// The longest text at the front of bytes.
+// Returns the longest text at the front of some bytes.
 fn text_front(bytes: &[u8]) -> &str
     ensures { result.now ≡ take (utf8_valid_len bytes.now) bytes.now }
 {
@@ -27,10 +27,10 @@ fn text_front(bytes: &[u8]) -> &str
     }
 }
 
-/// Returns the number of the base direction of a text of UTF-8, and stops at the character that decides it.
+/// Returns the number of the base direction of a text of UTF-8 (P2, P3).
 ///
-/// Without `full` it also stops at the end of the first paragraph. It returns `NotUtf8` only if bytes that are not UTF-8
-/// come before that. It tests up to 64 bytes at a time, and does not allocate (P2, P3).
+/// Stops at the character that decides, and without `full` also at the end of the first paragraph. Returns `NotUtf8`
+/// only if bytes that are not UTF-8 come before that. Tests up to 64 bytes at a time, and does not allocate.
 pub fn first_direction_utf8<D: BidiDataSource>(
     data_source: &D,
     text: &[u8],
@@ -38,10 +38,10 @@ pub fn first_direction_utf8<D: BidiDataSource>(
 ) -> Result<usize, Fault>
     ensures direction { result ≡ first_direction_utf8 (D.source data_source.now) full text.now }
 
-    // For a text without a fault it is the base direction.
+    // For valid UTF-8, the result is the base direction.
     ensures valid { IsUtf8 text.now → result ≡ Ok (direction_in (D.source data_source.now) full (chars text.now)) }
 
-    // The bytes behind those that decide do not matter.
+    // The bytes after those that decide do not matter.
     ensures decided { let source = D.source data_source.now in
         (n : ℕ) → n ≤ length text.now → IsUtf8 (take n text.now)
         → is_decided source full (chars (take n text.now)) ≡ true
@@ -63,10 +63,10 @@ pub fn first_direction_utf8<D: BidiDataSource>(
     Ok(number_of_direction(Direction::Mixed))
 }
 
-/// Returns the number of the base direction of a list of characters, and stops at the one that decides it.
+/// Returns the number of the base direction of a list of characters (P2, P3).
 ///
-/// Without `full` it also stops at the end of the first paragraph. It returns `NotScalar` only if a number that is no
-/// scalar value comes before that. It does not allocate (P2, P3).
+/// Stops at the character that decides, and without `full` also at the end of the first paragraph. Returns `NotScalar`
+/// only if a number that is not a scalar value comes before that. Does not allocate.
 pub fn first_direction_utf32<D: BidiDataSource>(
     data_source: &D,
     text: &[u32],
@@ -74,11 +74,11 @@ pub fn first_direction_utf32<D: BidiDataSource>(
 ) -> Result<usize, Fault>
     ensures direction { result ≡ first_direction_utf32 (D.source data_source.now) full text.now }
 
-    // For a text without a fault it is the base direction.
+    // If all numbers are scalar values, the result is the base direction.
     ensures valid { list_all is_scalar text.now ≡ true
         → result ≡ Ok (direction_in (D.source data_source.now) full text.now) }
 
-    // The characters behind those that decide do not matter.
+    // The characters after those that decide do not matter.
     ensures decided { let source = D.source data_source.now in
         (n : ℕ) → list_all is_scalar (take n text.now) ≡ true → is_decided source full (take n text.now) ≡ true
         → result ≡ Ok (direction_in source full (take n text.now)) }

@@ -1,4 +1,4 @@
-//! The calls of the library over numbers and buffers, each of which tests all that the library asks.
+//! The library's calls over numbers and buffers. Each call tests every condition that the library requires.
 #![tactic(auto)]
 
 pub mod by_tables;

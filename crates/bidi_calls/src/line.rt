@@ -1,4 +1,4 @@
-//! The calls over a line, from classes and levels that the caller has kept.
+//! The calls over a line, given classes and levels that the caller has kept.
 ghost use Rattle.std.specs.Prelude.{◌≡◌, ◌+◌, ◌-◌, ◌<◌, ◌≤◌, ◌&&◌, IsTrue, true, length, map, slice_index, slice_range, nat_le, OnOk, OnErr, IfOk, All};
 ghost use Rattle.std.specs.List.{list_all};
 ghost use Rattle.std.specs.Result.{result_err};
@@ -28,8 +28,10 @@ use std::alloc::{AllocError, Global};
 use std::ops::Range;
 use unicode_bidi::{Level, TextSource};
 
-/// A line as the caller names it: the numbers of the classes and the levels of a text's units, a
-/// paragraph of the text, and the units from `start` up to `end`.
+/// A line, as the caller passes it.
+///
+/// `classes` and `levels` have the number of the stored class and the stored level of each code unit of a text.
+/// `paragraph` is a paragraph of the text, and the line is its code units from `start` up to `end`.
 #[derive(Clone, Copy, Debug)]
 pub struct KeptLine<'t> {
     pub classes: &'t [u8],
@@ -39,7 +41,7 @@ pub struct KeptLine<'t> {
     pub end: usize,
 }
 
-// Whether a line lies in its paragraph, and that in a text of so many units.
+// Returns whether a line is inside its paragraph, and the paragraph inside a text of `units` code units.
 fn lies_in(paragraph: &Paragraph, start: usize, end: usize, units: usize) -> bool
     ensures { result ≡ lies_in paragraph.now start end units }
 {
@@ -47,7 +49,7 @@ fn lies_in(paragraph: &Paragraph, start: usize, end: usize, units: usize) -> boo
 }
 
 impl<'t> KeptLine<'t> {
-    /// Refuses a line that is none, and classes and levels that are none in the line.
+    /// Checks that the range is a line of its paragraph, and that its classes and levels are valid.
     pub fn check(&self) -> Result<(), Fault>
         ensures fault { result_err result ≡ line_fault self.now }
         ensures sound { OnOk result (IsSound self.now) }
@@ -66,7 +68,7 @@ impl<'t> KeptLine<'t> {
         check(self.paragraph.level < 127, Fault::BadLevel)
     }
 
-    /// The level of the paragraph.
+    /// Returns the level of the paragraph.
     pub fn level(&self) -> Level
         requires { IsSound self.now }
         ensures { result ≡ self.now.paragraph.now.level }
@@ -77,7 +79,7 @@ impl<'t> KeptLine<'t> {
         }
     }
 
-    /// The numbers of the stored classes of the line.
+    /// Returns the numbers of the line's stored classes.
     pub fn class_numbers(&self) -> &'t [u8]
         requires { IsSound self.now }
         ensures { result.now ≡ own_classes self.now }
@@ -85,7 +87,7 @@ impl<'t> KeptLine<'t> {
         &self.classes[self.start..self.end]
     }
 
-    /// The numbers of the stored levels of the line.
+    /// Returns the numbers of the line's stored levels.
     pub fn level_numbers(&self) -> &'t [u8]
         requires { IsSound self.now }
         ensures { result.now ≡ own_levels self.now }
@@ -93,7 +95,7 @@ impl<'t> KeptLine<'t> {
         &self.levels[self.start..self.end]
     }
 
-    /// The levels of the line after L1. A line of up to 256 units needs no allocation.
+    /// Returns the level of each code unit of the line after L1. A line of up to 256 code units needs no allocation.
     pub fn shown(&self, alloc: Global) -> Result<ShownLevels, AllocError>
         requires { IsSound self.now }
         ensures levels { IfOk result (λ s. levels_of s ≡ shown_levels self.now) }
@@ -106,8 +108,10 @@ impl<'t> KeptLine<'t> {
     }
 }
 
-/// Writes the text of a line from left to right (L2). `text` is the line's, and has one class and one
-/// level for each of its characters. If an allocation fails, nothing is written.
+/// Writes the text of a line from left to right (L2).
+///
+/// `text` is the line's text, with one class and one level for each of its characters. If an allocation fails, writes
+/// nothing.
 pub fn write_text<T: LineText>(
     alloc: Global,
     text: T,
@@ -127,7 +131,7 @@ pub fn write_text<T: LineText>(
     write_line(alloc, text, units, line.level(), classes, levels, out)
 }
 
-/// Writes the levels of a line's units after L1, and returns their number.
+/// Writes the level of each code unit of a line after L1, and returns their number. Writes nothing after a fault.
 pub fn line_levels(alloc: Global, line: &KeptLine<'_>, out: &mut [u8]) -> Result<usize, Fault>
     ensures fault { FaultsAs result (levels_fault line.now (length out.old)) }
     ensures kept { OnErr result (out.new ≡ out.old) }
@@ -142,8 +146,9 @@ pub fn line_levels(alloc: Global, line: &KeptLine<'_>, out: &mut [u8]) -> Result
     Ok(count)
 }
 
-/// Writes the visual runs of a line, and returns their number. Where `out` has no room at all, they are
-/// only counted.
+/// Writes the visual runs of a line to `out`, and returns their number.
+///
+/// If `out` is empty, only counts them. Writes nothing after a fault.
 pub fn line_runs(alloc: Global, line: &KeptLine<'_>, out: &mut [Run]) -> Result<usize, Fault>
     ensures fault { FaultsAs result (runs_fault line.now (length out.old)) }
     ensures kept { OnErr result (out.new ≡ out.old) }
@@ -164,8 +169,9 @@ pub fn line_runs(alloc: Global, line: &KeptLine<'_>, out: &mut [Run]) -> Result<
     Ok(runs.len())
 }
 
-/// Writes the order of a line's characters from left to right, and returns their number. `text` is the
-/// line's.
+/// Writes the visual order of a line's characters (L2), and returns their number.
+///
+/// `text` is the line's text. Writes nothing after a fault.
 pub fn map_characters<T: TextSource>(
     alloc: Global,
     text: T,
@@ -188,7 +194,7 @@ pub fn map_characters<T: TextSource>(
     Ok(characters)
 }
 
-/// The order of a line's units from left to right, where each unit is a character. Returns their number.
+/// Writes the visual order of a line's code units, each of which is a character (L2), and returns their number.
 pub fn order_units(alloc: Global, line: &KeptLine<'_>, out: &mut [usize]) -> Result<usize, Fault>
     requires { IsSound line.now }
     ensures fault { FaultsAs result (fault_unless (nat_le (line.now.end - line.now.start) (length out.old)) Fault.NoRoom) }
@@ -203,7 +209,7 @@ pub fn order_units(alloc: Global, line: &KeptLine<'_>, out: &mut [usize]) -> Res
     Ok(units)
 }
 
-/// Writes the visual order of levels, and returns their number.
+/// Writes the visual order of a list of levels (L2), and returns their number.
 pub fn visual_order(levels: &[u8], out: &mut [usize]) -> Result<usize, Fault>
     ensures fault { FaultsAs result (order_fault levels.now (length out.old)) }
     ensures kept { OnErr result (out.new ≡ out.old) }

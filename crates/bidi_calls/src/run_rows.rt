@@ -1,4 +1,4 @@
-//! The visual runs of a line as the rows that a caller reads.
+//! The visual runs of a line, as the rows that a caller reads.
 ghost use Rattle.std.specs.Prelude.{◌≡◌, ◌+◌, ◌<◌, ◌≤◌, IsTrue, length, map, All};
 ghost use Rattle.bidi_base.specs.Display.{run_of, visual_runs, AreVisualRuns};
 ghost use Rattle.bidi_calls.specs.Kept.{written_if_room};
@@ -9,8 +9,8 @@ use bidi_numbers::rows::Run;
 use std::ops::Range;
 use unicode_bidi::Level;
 
-// A run of a line as a row. The line begins at the unit `start` of the text, and the run's units are counted from
-// there.
+// Returns a run of a line as a row. The run counts from the line's first unit, and the line begins at the unit `start`
+// of the text.
 fn row_of(levels: &[Level], start: usize, run: &Range<usize>) -> Run
     requires begins { run.now.start < length levels.now }
     requires ends { run.now.end ≤ length levels.now }
@@ -36,10 +36,10 @@ fn write_rows(out: &mut [Run], levels: &[Level], start: usize, runs: &[Range<usi
     }
 }
 
-/// Writes the visual runs of a line as rows to the front of a buffer that is not empty.
+/// Writes the visual runs of a line as rows to the front of a buffer, unless the buffer is empty.
 ///
-/// `levels` are those of the line's units after L1, and `runs` its visual runs, counted from its first unit.
-/// The rows count from the text's first unit: the line begins at the unit `start`.
+/// `levels` has the level of each code unit of the line after L1. `runs` count from the line's first code unit. The
+/// rows count from the text's first code unit: the line begins at the code unit `start`.
 pub fn put_runs(out: &mut [Run], levels: &[Level], start: usize, runs: &[Range<usize>])
     requires room { IsTrue (has_room_or_none (length runs.now) (length out.old)) }
     requires visual { AreVisualRuns 0 levels.now (map run_of runs.now) }

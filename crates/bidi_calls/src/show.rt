@@ -1,5 +1,5 @@
-//! Everything about a line in one call: its levels, its visual runs, the order of its characters and its
-//! text from left to right.
+//! All about a line in one call: its levels, its visual runs, the order of its characters, and its text from left to
+//! right.
 ghost use Rattle.std.specs.Prelude.{◌≡◌, ℕ, ◌+◌, ◌-◌, ◌<◌, ◌≤◌, ◌&&◌, if◌then◌else◌, IsTrue, true, length, map, flat_map, reverse, slice_index, get_or, sum_by, OnOk, OnErr, IfOk, All};
 ghost use Rattle.bidi_base.specs.Display.{run_of, visual_runs, AreVisualRuns};
 ghost use Rattle.bidi_base.specs.Levels.{is_odd};
@@ -29,7 +29,7 @@ use std::alloc::Global;
 use std::ops::Range;
 use unicode_bidi::{Level, TextSource};
 
-// Writes levels to the front of a buffer that is not empty.
+// Writes levels to the front of a buffer, unless the buffer is empty.
 fn put_levels(out: &mut [u8], levels: &[Level])
     requires { IsTrue (has_room_or_none (length levels.now) (length out.old)) }
     ensures { out.new ≡ written_if_room levels.now out.old }
@@ -39,7 +39,7 @@ fn put_levels(out: &mut [u8], levels: &[Level])
     }
 }
 
-// Writes the text of a line, run by run, to the front of a buffer that is not empty.
+// Writes the text of a line, run by run, to the front of a buffer, unless the buffer is empty.
 fn put_text<T: LineText>(text: T, levels: &[Level], runs: &[Range<usize>], out: &mut [T::Unit])
     requires room { IsTrue (has_room_or_none (length levels.now) (length out.old)) }
     requires visual { AreVisualRuns 0 levels.now (map run_of runs.now) }
@@ -54,7 +54,7 @@ fn put_text<T: LineText>(text: T, levels: &[Level], runs: &[Range<usize>], out: 
     }
 }
 
-// Writes the visual order of levels to the front of a buffer that is not empty.
+// Writes the visual order of levels to the front of a buffer, unless the buffer is empty.
 fn put_order(out: &mut [usize], levels: &[Level])
     requires { IsTrue (has_room_or_none (length levels.now) (length out.old)) }
     ensures { out.new ≡ written_if_room (visual_order_of levels.now) out.old }
@@ -64,14 +64,14 @@ fn put_order(out: &mut [usize], levels: &[Level])
     }
 }
 
-// Whether a buffer has room for so many entries, or is empty.
+// Returns whether a buffer is empty or has room for `count` entries.
 fn has_room(count: usize, room: usize) -> bool
     ensures { result ≡ has_room_or_none count room }
 {
     room == 0 || count <= room
 }
 
-// Whether each buffer has room for its part of a line of so many units, runs and characters, or is empty.
+// Returns whether each buffer is empty or has room for its part of the line.
 fn have_room(
     units: usize,
     runs: usize,
@@ -92,7 +92,7 @@ fn have_room(
         && has_room(units, text_room)
 }
 
-// Keeps one level for each of a line's `len` characters. Where each character is one unit, there is nothing to do.
+// Keeps one level for each of a line's `len` characters. If each character is one unit, there is nothing to do.
 fn keep_characters<T: TextSource>(text: T, len: usize, shown: &mut ShownLevels)
     requires units { length (levels_of shown.old) ≡ text_len T.units (T.characters text) }
     requires len { len ≡ length (T.characters text) }
@@ -103,8 +103,8 @@ fn keep_characters<T: TextSource>(text: T, len: usize, shown: &mut ShownLevels)
     }
 }
 
-// Writes the order of a line's characters. `shown` has one level for each unit before, and may have one for each
-// character behind. In a line of many runs, the order comes from one level a character.
+// Writes the visual order of a line's characters. `shown` has one level for each unit. If there are many runs, the
+// order is found from one level for each character, and `shown` keeps only those.
 fn write_order<T: CountedText>(
     text: T,
     runs: &[Range<usize>],
@@ -124,7 +124,7 @@ fn write_order<T: CountedText>(
     }
 }
 
-// Writes the order of a line's `len` characters to the front of a buffer that is not empty, as `write_order` does.
+// Writes the visual order of a line's `len` characters to the front of a buffer, unless the buffer is empty.
 fn put_order_of<T: CountedText>(
     out: &mut [usize],
     text: T,
@@ -144,12 +144,11 @@ fn put_order_of<T: CountedText>(
     }
 }
 
-/// Shows a line of a text: writes its levels after L1, its visual runs (L2), the order of its characters
-/// and its text from left to right, each to a buffer that is not empty, and to `characters` how many
-/// characters it has. Returns the number of runs.
+/// Writes all about a line: its levels after L1, its visual runs, its character order, and its text (L2).
 ///
-/// `text` is the line's, and has one class and one level for each of its characters. A line of up to 256
-/// units with up to 16 runs needs no allocation. After a fault nothing is written.
+/// Writes each part to its buffer, unless that buffer is empty. Also writes the number of the line's characters to
+/// `characters`, and returns the number of runs. `text` is the line's text, with one class and one level for each of
+/// its characters. A line of up to 256 code units with up to 16 runs needs no allocation. Writes nothing after a fault.
 pub fn show_text<T: CountedText>(
     alloc: Global,
     text: T,
@@ -201,7 +200,7 @@ pub fn show_text<T: CountedText>(
     Ok(count)
 }
 
-// Writes a run of a line. At an odd level its characters, one unit each, are reversed.
+// Writes a run of a line, with its characters in reverse order at an odd level. Each unit is a character.
 fn write_run(chars: &[u32], is_rtl: bool, out: &mut [u32])
     requires { length out.old ≡ length chars.now }
     ensures { out.new ≡ (if is_rtl then reverse chars.now else chars.now) }
@@ -212,7 +211,7 @@ fn write_run(chars: &[u32], is_rtl: bool, out: &mut [u32])
     }
 }
 
-// Writes the runs of a line, one after the other.
+// Writes the runs of a line, one after another.
 fn write_each_run(chars: &[u32], levels: &[Level], runs: &[Range<usize>], out: &mut [u32])
     requires one_a_unit { length chars.now ≡ length levels.now }
     requires room { length out.old ≡ length levels.now }
@@ -232,10 +231,10 @@ fn write_each_run(chars: &[u32], levels: &[Level], runs: &[Range<usize>], out: &
     }
 }
 
-/// Writes the characters of a line from left to right (L2), where each unit is a character.
+/// Writes the characters of a line from left to right (L2). Each code unit is a character.
 ///
-/// `levels` are those of the line's units after L1, and `runs` its visual runs, counted from its first
-/// unit. Takes time linear in the line, and does not allocate.
+/// `levels` has the level of each character after L1. `runs` has the visual runs, counted from the line's first
+/// character. Takes time linear in the line, and does not allocate.
 pub fn write_chars(chars: &[u32], levels: &[Level], runs: &[Range<usize>], out: &mut [u32])
     requires one_a_unit { length chars.now ≡ length levels.now }
     requires room { length out.old ≡ length levels.now }
@@ -245,7 +244,7 @@ pub fn write_chars(chars: &[u32], levels: &[Level], runs: &[Range<usize>], out: 
     write_each_run(chars, levels, runs, out);
 }
 
-// Writes the characters of a line from left to right to the front of a buffer that is not empty.
+// Writes the characters of a line from left to right to the front of a buffer, unless the buffer is empty.
 fn put_chars(chars: &[u32], levels: &[Level], runs: &[Range<usize>], out: &mut [u32])
     requires one_a_unit { length chars.now ≡ length levels.now }
     requires room { IsTrue (has_room_or_none (length levels.now) (length out.old)) }
@@ -257,9 +256,9 @@ fn put_chars(chars: &[u32], levels: &[Level], runs: &[Range<usize>], out: &mut [
     }
 }
 
-/// Shows a line as [`show_text`] does, where each unit is a character.
+/// Writes all about a line of a list of characters, as [`show_text`] does for the other encodings.
 ///
-/// A line of up to 256 units with up to 16 runs needs no allocation. After a fault nothing is written.
+/// A line of up to 256 characters with up to 16 runs needs no allocation. Writes nothing after a fault.
 pub fn show_chars(
     alloc: Global,
     chars: &[u32],

@@ -1,4 +1,4 @@
-//! The calls over texts of UTF-16. A surrogate in no pair is the character U+FFFD.
+//! The calls over texts of UTF-16. An unpaired surrogate is the character U+FFFD.
 ghost use Rattle.std.specs.Prelude.{◌≡◌, ◌+◌, length, map, OnOk, OnErr, IfOk};
 ghost use Rattle.std.specs.Char.Escape.{encode_utf16};
 ghost use Rattle.bidi_base.specs.Text.{is_boundary};
@@ -22,8 +22,11 @@ use std::alloc::Global;
 use unicode_bidi::BidiDataSource;
 use unicode_bidi::text::{TextSource, Utf16Text};
 
-/// Writes the classes and the levels of a text's units, and its paragraphs, and returns the number of the
-/// paragraphs.
+/// Writes the class and the level of each code unit of a text, and its paragraphs.
+///
+/// Returns the number of paragraphs. If `paragraphs` is empty, only counts them. `base` is a level up to 125, or 255
+/// for none. `split` is 0 for one paragraph, 1 for `EachSeparator`, or 2 for `CrLfTogether`. Writes nothing after a
+/// fault.
 pub fn analyse<D: BidiDataSource>(
     alloc: Global,
     data_source: &D,
@@ -68,21 +71,23 @@ pub fn analyse<D: BidiDataSource>(
     )
 }
 
-/// The number of a text's base direction.
+/// Returns the number of a text's base direction: 0 for left to right, 1 for right to left, 2 for mixed.
+///
+/// Without `full` it is that of the first paragraph, and with `full` that of the first paragraph that has one.
 pub fn base_direction<D: BidiDataSource>(data_source: &D, text: &[u16], full: bool) -> usize
     ensures { result ≡ direction_in (D.source data_source.now) full (utf16_text text.now) }
 {
     checked::base_direction(data_source, Utf16Text::new(text), full)
 }
 
-// Whether no character goes on at an index.
+// Returns whether the unit at an index does not continue a character.
 fn is_boundary(text: &[u16], index: usize) -> bool
     ensures { result ≡ is_boundary utf16_len (utf16_text text.now) index }
 {
     Utf16Text::new(text).is_boundary(index)
 }
 
-// Refuses a text that has not one unit an entry, and a line that cuts a character.
+// Checks that there is one entry for each code unit of the text, and that the line cuts no character.
 pub fn check_text(text: &[u16], line: &KeptLine<'_>) -> Result<(), Fault>
     ensures { result_err result ≡ text_fault text.now line.now (cuts_utf16 text.now line.now) }
 {
@@ -117,7 +122,7 @@ fn reorder(
     Ok(count)
 }
 
-/// Writes the text of a line from left to right, and returns its length.
+/// Writes the text of a line from left to right (L2), and returns its length. Writes nothing after a fault.
 pub fn reorder_line(
     alloc: Global,
     text: &[u16],
@@ -140,7 +145,7 @@ pub fn reorder_line(
     reorder(alloc, &text[line.start..line.end], line, out)
 }
 
-/// Writes the order of a line's characters from left to right, and returns their number.
+/// Writes the visual order of a line's characters (L2), and returns their number. Writes nothing after a fault.
 pub fn line_map(
     alloc: Global,
     text: &[u16],
@@ -164,7 +169,7 @@ pub fn line_map(
     map_characters(alloc, own, line, out)
 }
 
-// Shows a line whose text is this, and returns the number of its runs.
+// Writes all about a line, given its text, and returns the number of its runs.
 fn show(
     alloc: Global,
     text: &[u16],
@@ -193,11 +198,10 @@ fn show(
     show_text(alloc, own, line, levels, runs, order, out, characters)
 }
 
-/// Writes everything that a line shows, each part to a buffer that is not empty: its levels after L1, its
-/// visual runs, the order of its characters and its text from left to right (L2).
+/// Writes all about a line: its levels after L1, its visual runs, its character order, and its text (L2).
 ///
-/// Also writes the number of the line's characters, and returns the number of its runs. After a fault
-/// nothing is written.
+/// Writes each part to its buffer, unless that buffer is empty. Also writes the number of the line's characters to
+/// `characters`, and returns the number of its runs. Writes nothing after a fault.
 pub fn show_line(
     alloc: Global,
     text: &[u16],

@@ -1,4 +1,4 @@
-//! The calls over lists of numbers of characters, one a unit.
+//! The calls over lists of characters. Each code unit is the number of a character.
 ghost use Rattle.std.specs.Prelude.{◌≡◌, ◌+◌, ◌<◌, All, false, get_or, length, map, OnOk, OnErr, IfOk};
 ghost use Rattle.std.specs.List.{list_all};
 ghost use Rattle.std.specs.Option.{option_or};
@@ -22,8 +22,11 @@ use std::alloc::Global;
 use unicode_bidi::BidiDataSource;
 use unicode_bidi::text::CharsText;
 
-/// Writes the classes and the levels of a text's characters, and its paragraphs, and returns the number of
-/// the paragraphs.
+/// Writes the class and the level of each character of a list, and its paragraphs.
+///
+/// Returns the number of paragraphs. If `paragraphs` is empty, only counts them. `base` is a level up to 125, or 255
+/// for none. `split` is 0 for one paragraph, 1 for `EachSeparator`, or 2 for `CrLfTogether`. Writes nothing after a
+/// fault.
 pub fn analyse<D: BidiDataSource>(
     alloc: Global,
     data_source: &D,
@@ -65,7 +68,10 @@ pub fn analyse<D: BidiDataSource>(
     )
 }
 
-/// The number of a text's base direction.
+/// Returns the number of a text's base direction: 0 for left to right, 1 for right to left, 2 for mixed.
+///
+/// Without `full` it is that of the first paragraph, and with `full` that of the first paragraph that has one. Returns
+/// `NotScalar` if a number is not a scalar value. Allocates a list of the characters.
 pub fn base_direction<D: BidiDataSource>(
     alloc: Global,
     data_source: &D,
@@ -108,7 +114,7 @@ fn reorder(
     Ok(chars.len())
 }
 
-/// Writes the characters of a line from left to right, and returns their number.
+/// Writes the characters of a line from left to right (L2), and returns their number. Writes nothing after a fault.
 pub fn reorder_line(
     alloc: Global,
     text: &[u32],
@@ -127,7 +133,7 @@ pub fn reorder_line(
     reorder(alloc, &text[line.start..line.end], line, out)
 }
 
-/// Writes the order of a line's characters from left to right, and returns their number.
+/// Writes the visual order of a line's characters (L2), and returns their number. Writes nothing after a fault.
 pub fn line_map(
     alloc: Global,
     text: &[u32],
@@ -148,11 +154,10 @@ pub fn line_map(
     order_units(alloc, line, out)
 }
 
-/// Writes everything that a line shows, each part to a buffer that is not empty: its levels after L1, its
-/// visual runs, and the order and the text of its characters from left to right (L2).
+/// Writes all about a line: its levels after L1, its visual runs, its character order, and its text (L2).
 ///
-/// Also writes the number of the line's characters, and returns the number of its runs. After a fault
-/// nothing is written.
+/// Writes each part to its buffer, unless that buffer is empty. Also writes the number of the line's characters to
+/// `characters`, and returns the number of its runs. Writes nothing after a fault.
 pub fn show_line(
     alloc: Global,
     text: &[u32],

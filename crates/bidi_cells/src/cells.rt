@@ -1,4 +1,4 @@
-//! The cells that stand for a character in a row of each stage.
+//! The cells of the tables that show what each stage does with a text.
 ghost use Rattle.std.specs.Prelude.{◌≡◌, ◌<◌, ◌++◌, length, map, zip, decimal, IfOk, OnOk, string_bytes};
 ghost use Rattle.std.specs.List.{range_with_len};
 ghost use Rattle.bidi_cells.specs.Cells.{class_name, option_name, is_unseen, plain_glyph, glyph, hex_digit, leading_digit, hex};
@@ -10,7 +10,7 @@ use bidi_controls::control::Control;
 use bidi_terminal::push_number;
 use std::alloc::{AllocError, Global};
 
-/// The name of a class.
+/// Returns the name of a class.
 pub fn class_name(class: BidiClass) -> &'static str
     ensures { result.now ≡ class_name class }
 {
@@ -41,7 +41,7 @@ pub fn class_name(class: BidiClass) -> &'static str
     }
 }
 
-/// The name of a class, and a dash where there is none.
+/// Returns the name of a class, or a dash for none.
 pub fn option_name(class: Option<BidiClass>) -> &'static str
     ensures { result.now ≡ option_name class }
 {
@@ -51,7 +51,7 @@ pub fn option_name(class: Option<BidiClass>) -> &'static str
     }
 }
 
-/// Whether characters of this class are not seen: white space, separators, and boundary neutrals.
+/// Returns whether characters of this class are invisible: white space, separators, and boundary neutrals.
 fn is_unseen(class: BidiClass) -> bool
     ensures { result ≡ is_unseen class }
 {
@@ -61,7 +61,7 @@ fn is_unseen(class: BidiClass) -> bool
     )
 }
 
-/// Appends a character that is no control and no mark.
+/// Appends a character that is not a direction control.
 fn push_plain_glyph(out: &mut String, class: BidiClass, c: char) -> Result<(), AllocError>
     ensures { OnOk result (string_bytes out.new ≡ string_bytes out.old ++ plain_glyph class c) }
 {
@@ -75,9 +75,10 @@ fn push_plain_glyph(out: &mut String, class: BidiClass, c: char) -> Result<(), A
     Ok(())
 }
 
-/// Appends a character so that it stands for itself alone: a control or a mark by its short name, a
-/// nonspacing mark on a dotted circle, and white space, separators and what else is not seen as
-/// nothing.
+/// Appends a character so that it can be read by itself.
+///
+/// A control or a mark becomes its short name. A nonspacing mark follows a dotted circle. White space, separators and
+/// other invisible characters become nothing.
 pub fn push_glyph(out: &mut String, class: BidiClass, c: char) -> Result<(), AllocError>
     ensures { OnOk result (string_bytes out.new ≡ string_bytes out.old ++ glyph class c) }
 {
@@ -113,7 +114,7 @@ fn push_digit(out: &mut String, digit: u32) -> Result<(), AllocError>
     Ok(())
 }
 
-/// Appends the digit of a number that is worth so much, if the number is no less.
+/// Appends the hexadecimal digit with this worth, unless the number is below `worth`.
 fn push_leading_digit(out: &mut String, code: u32, worth: u32) -> Result<(), AllocError>
     requires { 0 < worth }
     ensures { OnOk result (string_bytes out.new ≡ string_bytes out.old ++ leading_digit worth code) }
@@ -138,7 +139,7 @@ fn push_hex(out: &mut String, c: char) -> Result<(), AllocError>
     Ok(())
 }
 
-/// The indexes of a list that is so long.
+/// Returns the indexes of a list of length `len`.
 pub fn index_cells(alloc: Global, len: usize) -> Result<Vec<String>, AllocError>
     ensures { IfOk result (λ v. map string_bytes v.items ≡ map decimal (range_with_len 0 len)) }
 {
@@ -151,7 +152,7 @@ pub fn index_cells(alloc: Global, len: usize) -> Result<Vec<String>, AllocError>
     Ok(cells)
 }
 
-/// Numbers.
+/// Returns one cell for each number.
 pub fn number_cells(alloc: Global, numbers: &[usize]) -> Result<Vec<String>, AllocError>
     ensures { IfOk result (λ v. map string_bytes v.items ≡ map decimal numbers.now) }
 {
@@ -164,7 +165,7 @@ pub fn number_cells(alloc: Global, numbers: &[usize]) -> Result<Vec<String>, All
     Ok(cells)
 }
 
-/// Levels, as numbers.
+/// Returns one cell for each level: its number.
 pub fn level_cells(alloc: Global, levels: &[Level]) -> Result<Vec<String>, AllocError>
     ensures { IfOk result (λ v. map string_bytes v.items ≡ map decimal levels.now) }
 {
@@ -177,7 +178,7 @@ pub fn level_cells(alloc: Global, levels: &[Level]) -> Result<Vec<String>, Alloc
     Ok(cells)
 }
 
-/// Code points.
+/// Returns one cell for each character: its code point in hexadecimal.
 pub fn code_cells(alloc: Global, chars: &[char]) -> Result<Vec<String>, AllocError>
     ensures { IfOk result (λ v. map string_bytes v.items ≡ map hex chars.now) }
 {
@@ -190,7 +191,7 @@ pub fn code_cells(alloc: Global, chars: &[char]) -> Result<Vec<String>, AllocErr
     Ok(cells)
 }
 
-/// Classes.
+/// Returns one cell for each class: its name.
 pub fn class_cells(alloc: Global, classes: &[BidiClass]) -> Result<Vec<String>, AllocError>
     ensures { IfOk result (λ v. map string_bytes v.items ≡ map class_name classes.now) }
 {
@@ -201,7 +202,7 @@ pub fn class_cells(alloc: Global, classes: &[BidiClass]) -> Result<Vec<String>, 
     Ok(cells)
 }
 
-/// Classes, of which some are none.
+/// Returns one cell for each class: its name, or a dash for none.
 pub fn option_cells(alloc: Global, classes: &[Option<BidiClass>]) -> Result<Vec<String>, AllocError>
     ensures { IfOk result (λ v. map string_bytes v.items ≡ map option_name classes.now) }
 {
@@ -212,7 +213,7 @@ pub fn option_cells(alloc: Global, classes: &[Option<BidiClass>]) -> Result<Vec<
     Ok(cells)
 }
 
-/// Characters, by their classes.
+/// Returns one cell for each character, as [`push_glyph`] writes it.
 pub fn glyph_cells(
     alloc: Global,
     classes: &[BidiClass],

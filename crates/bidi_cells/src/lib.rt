@@ -1,4 +1,4 @@
-//! The cells that stand for characters, classes and levels in tables and pages.
+//! The cells of tables and pages that show characters, classes and levels.
 #![tactic(auto)]
 
 pub mod cells;

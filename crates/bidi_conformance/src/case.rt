@@ -1,4 +1,4 @@
-//! A case: a text, and what has to be found of it.
+//! A case: a text, and the expected result.
 
 ghost use Rattle.std.specs.Prelude.{◌≤◌, IfSome};
 
@@ -17,11 +17,11 @@ pub enum Base {
     Rtl,
 }
 
-/// The bases, each with the bit that it has in a file of classes.
+/// The base levels, each with its bit in a file of classes.
 pub const BASES: [(Base, u32); 3] = [(Base::Auto, 1), (Base::Ltr, 2), (Base::Rtl, 4)];
 
 impl Base {
-    /// The level, where there is one.
+    /// Returns the level, or `None` for `Auto`.
     pub fn level(self) -> Option<Level>
         ensures { IfSome result (λ level. level ≤ 125) }
     {
@@ -60,7 +60,7 @@ impl Text {
         }
     }
 
-    /// Empties it, and keeps the memory.
+    /// Removes the text, and keeps its memory.
     pub fn clear(&mut self) {
         self.utf8.clear();
         self.utf16.clear();
@@ -77,8 +77,10 @@ impl Text {
     }
 }
 
-/// What has to be found of a text: the level of its paragraph where it is told, that of each character
-/// after L1, none for one that X9 removes, and the others' places from left to right.
+/// The expected result for a text.
+///
+/// This is the level of the paragraph, if the file has it, the level of each character after L1, or none for one that
+/// X9 removes, and the order of the other characters from left to right.
 #[derive(Drop)]
 pub struct Wanted {
     pub paragraph: Option<Level>,

@@ -1,4 +1,4 @@
-//! An answer beside what was wanted.
+//! Compares a result with the expected one.
 
 use crate::case::{Text, Wanted};
 use crate::fault::Fault;
@@ -8,7 +8,7 @@ use bidi_text::text::{CharsText, StrText, TextSource, Utf16Text};
 use std::alloc::Global;
 use unicode_bidi::BidiInfo;
 
-/// What was another than wanted, and both in words.
+/// A part of a result that differs from the expected one, and both as text.
 #[derive(Drop)]
 pub struct Difference {
     pub part: &'static str,
@@ -16,7 +16,7 @@ pub struct Difference {
     pub came: String,
 }
 
-// The words of levels, x where there is none.
+// Returns levels as text, with x for none.
 fn level_words(alloc: Global, levels: &[Option<Level>]) -> Result<String, Fault> {
     let mut words = String::new(alloc);
     for level in levels {
@@ -34,7 +34,7 @@ fn level_words(alloc: Global, levels: &[Option<Level>]) -> Result<String, Fault>
     Ok(words)
 }
 
-// The words of places.
+// Returns indexes as text.
 fn place_words(alloc: Global, places: &[usize]) -> Result<String, Fault> {
     let mut words = String::new(alloc);
     for place in places {
@@ -46,7 +46,7 @@ fn place_words(alloc: Global, places: &[usize]) -> Result<String, Fault> {
     Ok(words)
 }
 
-// Paragraph levels that differ.
+// Returns the difference between two paragraph levels.
 fn of_paragraph(alloc: Global, wanted: Level, came: Level) -> Result<Difference, Fault> {
     Ok(Difference {
         part: "paragraph level",
@@ -55,7 +55,7 @@ fn of_paragraph(alloc: Global, wanted: Level, came: Level) -> Result<Difference,
     })
 }
 
-// Levels that differ.
+// Returns the difference between two lists of levels.
 fn of_levels(
     alloc: Global,
     wanted: &[Option<Level>],
@@ -68,7 +68,7 @@ fn of_levels(
     })
 }
 
-// Orders that differ, if they do.
+// Returns the difference between two orders, or `None` if they are equal.
 fn in_order(
     alloc: Global,
     part: &'static str,
@@ -85,7 +85,7 @@ fn in_order(
     }))
 }
 
-/// What an answer says of each character: where its units begin, and its level.
+/// A result for each character: the index of its first code unit, and its level.
 #[derive(Drop)]
 pub struct PerChar {
     pub places: Vec<usize>,
@@ -105,7 +105,7 @@ impl PerChar {
         Ok(PerChar { places, levels })
     }
 
-    /// Of an answer of this form.
+    /// Reads the result of this form: `units` has one level for each of its code units.
     pub fn new(alloc: Global, form: Form, text: &Text, units: &[Level]) -> Result<PerChar, Fault> {
         match form {
             Form::Info | Form::Paragraph => {
@@ -119,7 +119,7 @@ impl PerChar {
     }
 }
 
-/// The levels of an answer, none for a character that X9 removes.
+/// Returns the levels of a result, and none for a character that X9 removes.
 pub fn levels_after_x9(
     alloc: Global,
     levels: &[Level],
@@ -132,7 +132,7 @@ pub fn levels_after_x9(
     Ok(found)
 }
 
-/// The characters that stay, from left to right, by the order of their levels.
+/// Returns the characters that X9 keeps, from left to right, in the visual order of their levels.
 pub fn order_by_levels(
     alloc: Global,
     levels: &[Level],
@@ -155,7 +155,7 @@ pub fn order_by_levels(
     Ok(order)
 }
 
-// Adds the character at an index, where it stays.
+// Appends the character at an index, unless X9 removes it.
 fn push_kept(order: &mut Vec<usize>, index: usize, removed: &[bool]) -> Result<(), Fault> {
     if removed.get(index) == Some(&false) {
         order.push(index)?;
@@ -163,7 +163,7 @@ fn push_kept(order: &mut Vec<usize>, index: usize, removed: &[bool]) -> Result<(
     Ok(())
 }
 
-// Adds the characters of a run, from left to right.
+// Appends the characters of a run, from left to right.
 fn push_run(
     order: &mut Vec<usize>,
     run: (usize, usize),
@@ -182,7 +182,7 @@ fn push_run(
     Ok(())
 }
 
-// The index of the character that begins at a unit, or the number of characters behind the last.
+// Returns the index of the character that begins at a code unit, or the number of characters at the text's end.
 fn index_at(places: &[usize], unit: usize) -> usize {
     match places.binary_search(&unit) {
         Ok(index) => index,
@@ -190,7 +190,7 @@ fn index_at(places: &[usize], unit: usize) -> usize {
     }
 }
 
-/// The same by the visual runs.
+/// Returns the characters that X9 keeps, from left to right, by the visual runs.
 pub fn order_by_runs(
     alloc: Global,
     answer: &Answer,
@@ -210,7 +210,7 @@ pub fn order_by_runs(
     Ok(order)
 }
 
-/// The first part of an answer that is another than wanted.
+/// Returns the first part of a result that differs from the expected one, or `None` if there is none.
 pub fn compare(
     alloc: Global,
     form: Form,

@@ -1,4 +1,4 @@
-//! How many cases there were, and in which forms they failed.
+//! The number of cases, and of failures in each form.
 
 use crate::case::{Base, Text, Wanted};
 use crate::compare::{Difference, compare};
@@ -6,7 +6,7 @@ use crate::fault::Fault;
 use crate::forms::{FORMS, Form, ask};
 use std::alloc::Global;
 
-/// How many failures are told.
+/// The maximum number of failures that are printed.
 const TOLD: usize = 10;
 
 /// How many cases passed in one form, and how many failed.
@@ -16,16 +16,16 @@ pub struct Outcome {
     pub failed: usize,
 }
 
-/// The cases of a file.
+/// The counts of a file.
 #[derive(Drop)]
 pub struct Counts {
-    /// Lines with a text.
+    /// The number of lines with a text.
     pub lines: usize,
-    /// Texts with a base level.
+    /// The number of texts with a base level.
     pub cases: usize,
-    /// In each form.
+    /// The outcome in each form.
     pub outcomes: [Outcome; 5],
-    /// The first failures, each a line.
+    /// The first failures, one line each.
     pub told: Vec<String>,
 }
 
@@ -43,12 +43,12 @@ impl Counts {
         }
     }
 
-    /// Whether every case passed in every form.
+    /// Returns whether every case passed in every form.
     pub fn all_passed(&self) -> bool {
         self.outcomes.iter().all(|outcome| outcome.failed == 0)
     }
 
-    // Tells a failure, where few were told.
+    // Keeps a failure to print, unless there are enough.
     fn tell(
         &mut self,
         alloc: Global,
@@ -67,7 +67,7 @@ impl Counts {
         Ok(())
     }
 
-    // Runs a case in one form, and answers whether it passed.
+    // Runs a case in one form, and returns whether it passed.
     fn passes(
         &mut self,
         alloc: Global,

@@ -2,7 +2,7 @@
 
 use std::alloc::{AllocError, AllocFailed};
 
-/// What a line of a file should have had.
+/// What is wrong with a line of a file.
 #[derive(Clone, Copy, Debug, PartialEq)]
 pub enum Why {
     Fields,
@@ -19,7 +19,7 @@ pub enum Why {
 }
 
 impl Why {
-    /// The reason in words.
+    /// Returns the reason as text.
     pub fn words(self) -> &'static str {
         match self {
             Why::Fields =>
@@ -42,9 +42,9 @@ impl Why {
 /// Why cases were not run.
 #[derive(Clone, Copy, Debug, PartialEq)]
 pub enum Fault {
-    /// Memory was refused.
+    /// An allocation failed.
     Memory,
-    /// A line of the file, by its number from 1.
+    /// A line of the file has a fault. Lines are counted from 1.
     Line(usize, Why),
 }
 

@@ -1,4 +1,4 @@
-//! The forms of the calls: what each finds of a text that is one paragraph and one line.
+//! The forms of the calls. Each analyses a text that is one paragraph and one line.
 
 use crate::case::{Base, Text};
 use crate::fault::{Fault, Why};
@@ -21,7 +21,7 @@ pub enum Form {
     List,
 }
 
-/// All of them, in the order in which they are told.
+/// All forms, in the order in which they are printed.
 pub const FORMS: [Form; 5] = [
     Form::Info,
     Form::Paragraph,
@@ -42,7 +42,7 @@ impl Form {
     }
 }
 
-/// The level of a text's paragraph, that of each unit after L1, and the runs from left to right.
+/// The level of a text's paragraph, the level of each code unit after L1, and the runs from left to right.
 #[derive(Drop)]
 pub struct Answer {
     pub paragraph: Level,
@@ -52,7 +52,7 @@ pub struct Answer {
 
 const NO_PARAGRAPH: Fault = Fault::Line(0, Why::Paragraph);
 
-/// What `BidiInfo` finds of a text in UTF-8.
+/// Returns what `BidiInfo` finds in a text of UTF-8.
 pub fn by_info(alloc: Global, text: &str, base: Base) -> Result<Answer, Fault> {
     let info = BidiInfo::new_with_data_source(alloc, &UnicodeData, text, base.level())?;
     of_info(alloc, &info)
@@ -73,7 +73,7 @@ fn of_info(alloc: Global, info: &BidiInfo<'_>) -> Result<Answer, Fault> {
     })
 }
 
-/// The same in UTF-16.
+/// Returns what `BidiInfo` finds in a text of UTF-16.
 pub fn by_info16(alloc: Global, text: &[u16], base: Base) -> Result<Answer, Fault> {
     let info = utf16::BidiInfo::new_with_data_source(alloc, &UnicodeData, text, base.level())?;
     of_info16(alloc, &info)
@@ -94,7 +94,7 @@ fn of_info16(alloc: Global, info: &utf16::BidiInfo<'_>) -> Result<Answer, Fault>
     })
 }
 
-/// What `ParagraphBidiInfo` finds of a text in UTF-8.
+/// Returns what `ParagraphBidiInfo` finds in a text of UTF-8.
 pub fn by_paragraph(alloc: Global, text: &str, base: Base) -> Result<Answer, Fault> {
     let level = base.level();
     let info = ParagraphBidiInfo::new_with_data_source(alloc, &UnicodeData, text, level)?;
@@ -109,7 +109,7 @@ pub fn by_paragraph(alloc: Global, text: &str, base: Base) -> Result<Answer, Fau
     })
 }
 
-/// The same in UTF-16.
+/// Returns what `ParagraphBidiInfo` finds in a text of UTF-16.
 pub fn by_paragraph16(alloc: Global, text: &[u16], base: Base) -> Result<Answer, Fault> {
     let level = base.level();
     let info = utf16::ParagraphBidiInfo::new_with_data_source(alloc, &UnicodeData, text, level)?;
@@ -124,7 +124,7 @@ pub fn by_paragraph16(alloc: Global, text: &[u16], base: Base) -> Result<Answer,
     })
 }
 
-/// What the engine finds of a list of characters.
+/// Returns what the engine finds in a list of characters.
 pub fn by_list(alloc: Global, chars: &[char], base: Base) -> Result<Answer, Fault> {
     let text = CharsText::new(chars);
     let analysis = analyse(alloc, &UnicodeData, text, base.level(), true)?;
@@ -162,7 +162,7 @@ fn runs_of_levels(alloc: Global, levels: &[Level]) -> Result<Vec<Range<usize>>, 
     Ok(visual_runs(alloc, 0..levels.len(), levels)?)
 }
 
-/// Asks one form.
+/// Returns what one form finds in a text.
 pub fn ask(alloc: Global, form: Form, text: &Text, base: Base) -> Result<Answer, Fault> {
     match form {
         Form::Info => by_info(alloc, text.utf8.as_str(), base),

@@ -1,7 +1,7 @@
-//! Runs Unicode's own tests of the bidirectional algorithm, BidiTest.txt and BidiCharacterTest.txt.
+//! Runs Unicode's conformance tests of the bidirectional algorithm, BidiTest.txt and BidiCharacterTest.txt.
 //!
-//! Each case goes through `BidiInfo` and `ParagraphBidiInfo` in UTF-8 and in UTF-16, and through `engine`
-//! over a list of characters: the level of its paragraph, the levels after L1, and the order of L2 by
+//! Each case runs through `BidiInfo` and `ParagraphBidiInfo` in UTF-8 and in UTF-16, and through `engine` over a list
+//! of characters. Each run tests the paragraph level, the levels after L1, and the order of L2, both by
 //! `reorder_visual` and by the visual runs. Classes and brackets are those of `bidi_unicode`.
 #![tactic(auto)]
 
@@ -30,7 +30,7 @@ failed are told, and the first ten failures with their lines.
 The exit status is 0 where every case passed, 1 where one failed, 2 where a file has a line that is no
 case, 3 where memory was refused, and 4 where a file could not be read or written.";
 
-// How a run ends. Of two ends the later in this list is the run's.
+// The result of a run. If files have different results, the one that comes later in this list is the result of the run.
 #[derive(Clone, Copy, PartialEq)]
 enum End {
     AllPassed,
@@ -60,7 +60,7 @@ impl End {
     }
 }
 
-// Tells why the cases of a file were not run to its end.
+// Prints why the cases of a file were not run to its end.
 fn refuse(rt: &impl Eprint, name: &str, fault: Fault) -> io::Result<End> {
     match fault {
         Fault::Memory => {
@@ -75,7 +75,7 @@ fn refuse(rt: &impl Eprint, name: &str, fault: Fault) -> io::Result<End> {
     }
 }
 
-// Tells how the cases of a file went.
+// Prints how many cases of a file passed and failed.
 fn print_counts(rt: &impl Print, name: &str, counts: &Counts) -> io::Result<End> {
     let (lines, cases) = (counts.lines, counts.cases);
     println!(rt; "{name}: {lines} lines, {cases} cases")?;

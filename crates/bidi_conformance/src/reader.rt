@@ -1,5 +1,5 @@
-//! The lines of a file of cases: BidiTest.txt, whose texts are classes, or BidiCharacterTest.txt, whose
-//! texts are characters. What stands in a line tells which it is.
+//! Reads the lines of BidiTest.txt, which has texts of classes, or of BidiCharacterTest.txt, which has texts of
+//! characters. The contents of a line tell which file it is from.
 
 use crate::case::{BASES, Base, Text, Wanted};
 use crate::counts::Counts;
@@ -8,7 +8,7 @@ use bidi_base::level::Level;
 use bidi_vectors_format::class::character_of;
 use std::alloc::Global;
 
-/// Reads the cases of a file and runs each.
+/// Reads the cases of a file, and runs each.
 #[derive(Drop)]
 pub struct Reader {
     alloc: Global,
@@ -16,12 +16,12 @@ pub struct Reader {
     wanted: Wanted,
     has_levels: bool,
     has_order: bool,
-    // Lines of cases since the last `@Levels`.
+    // The number of lines of cases since the last `@Levels`.
     group: usize,
     pub counts: Counts,
 }
 
-// A level, or none for `x`.
+// Returns a level, or none for `x`.
 fn level_of(word: &str, line: usize) -> Result<Option<Level>, Fault> {
     if word == "x" {
         return Ok(None);
@@ -55,7 +55,7 @@ fn read_order(order: &mut Vec<usize>, words: &str, line: usize) -> Result<(), Fa
     Ok(())
 }
 
-// The classes of a text, each as a character that has it.
+// Reads a text of classes. Each class becomes a character that has it.
 fn read_classes(text: &mut Text, words: &str, line: usize) -> Result<(), Fault> {
     text.clear();
     for word in words.split_whitespace() {
@@ -82,7 +82,7 @@ fn read_chars(text: &mut Text, words: &str, line: usize) -> Result<(), Fault> {
     Ok(())
 }
 
-// The sum of bits for the base levels of a line of classes.
+// Returns the base levels of a line of classes, as a sum of bits.
 fn bases_of(word: &str, line: usize) -> Result<u32, Fault> {
     match u32::from_str_radix(word, 16) {
         Ok(bits) if 0 < bits && bits < 8 => Ok(bits),
@@ -90,7 +90,7 @@ fn bases_of(word: &str, line: usize) -> Result<u32, Fault> {
     }
 }
 
-// The base level of a line of characters.
+// Returns the base level of a line of characters.
 fn base_of(word: &str, line: usize) -> Result<Base, Fault> {
     match word {
         "0" => Ok(Base::Ltr),
@@ -113,7 +113,7 @@ impl Reader {
         }
     }
 
-    // Counts a line of cases, whose levels have to be as many as its characters.
+    // Counts a line of cases. It must have as many levels as characters.
     fn count_line(&mut self, line: usize) -> Result<(), Fault> {
         self.group = self.group.saturating_add(1);
         self.counts.lines = self.counts.lines.saturating_add(1);
@@ -128,7 +128,7 @@ impl Reader {
             .run(self.alloc, line, &self.text, base, &self.wanted)
     }
 
-    // A line of classes, as `L RLE R; 7`.
+    // Runs a line of classes, such as `L RLE R; 7`.
     fn run_classes(&mut self, line: usize, words: &str, bases: &str) -> Result<(), Fault> {
         if !self.has_levels || !self.has_order {
             return Err(Fault::Line(line, Why::NoLevels));
@@ -144,7 +144,7 @@ impl Reader {
         Ok(())
     }
 
-    // What a line of characters wants: the paragraph's level, the levels and the order.
+    // Reads the expected result of a line of characters: the paragraph's level, the levels and the order.
     fn read_wanted(&mut self, line: usize, words: &str) -> Result<(), Fault> {
         let fields = Fault::Line(line, Why::Fields);
         let (paragraph, rest) = words.split_once(";").ok_or(fields)?;
@@ -154,7 +154,7 @@ impl Reader {
         read_order(&mut self.wanted.order, order, line)
     }
 
-    // A line of characters, as `05D0 0061;2;1;1 2;1 0`.
+    // Runs a line of characters, such as `05D0 0061;2;1;1 2;1 0`.
     fn run_chars(
         &mut self,
         line: usize,
@@ -179,8 +179,8 @@ impl Reader {
         }
     }
 
-    // What is wanted of the cases behind a line. Other lines that begin with `@` are passed over, as the
-    // file of classes says.
+    // Reads the expected result of the cases that follow. Skips other lines that begin with `@`, as the file of classes
+    // prescribes.
     fn read_group(&mut self, line: usize, words: &str) -> Result<(), Fault> {
         if let Some(levels) = words.strip_prefix("@Levels:") {
             self.has_levels = true;
@@ -195,7 +195,7 @@ impl Reader {
         }
     }
 
-    // Holds the number of lines that a file tells against those that were read.
+    // Compares the number of lines that a file states with the number that was read.
     fn check_count(&self, line: usize, words: &str) -> Result<(), Fault> {
         let (told, read) = match words.strip_prefix("#Total Count:") {
             Some(count) => (count, self.counts.lines),
@@ -223,7 +223,7 @@ impl Reader {
         }
     }
 
-    /// Runs the cases of a file, which has to have some.
+    /// Runs the cases of a file. A file without cases is a fault.
     pub fn run_file(&mut self, text: &str) -> Result<(), Fault> {
         let mut last = 0usize;
         for (index, words) in text.lines().enumerate() {

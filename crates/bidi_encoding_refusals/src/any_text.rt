@@ -1,4 +1,4 @@
-//! The calls over any text, and those over levels of one's own.
+//! The calls over any text, and those over the caller's levels.
 
 use bidi_base::char_data::BidiClass;
 use bidi_base::data_source::TableBidiData;
@@ -12,12 +12,12 @@ use std::alloc::Global;
 use unicode_bidi::deprecated::visual_runs;
 use unicode_bidi::engine::{Analyser, analyse, line_levels};
 
-// Levels as a line has them that is cut in the middle of isolates.
+// The levels of a line that begins and ends inside isolates.
 const NUMBERS: [u8; 24] = [
     1, 2, 1, 3, 126, 125, 4, 1, 0, 1, 2, 0, 1, 0, 3, 1, 2, 1, 0, 1, 0, 1, 0, 5,
 ];
 
-// The order of a text as one line, by an analyser and a line that is shown.
+// Returns the visual order of a text as one line, by an `Analyser` and a `ShownLine`.
 fn shown_order<T: TextSource>(
     alloc: Global,
     source: &TableBidiData<'_>,
@@ -39,7 +39,7 @@ fn shown_order<T: TextSource>(
     Ok(order)
 }
 
-// The calls of the engine over a text, split into paragraphs or taken as one.
+// Tries the calls of the engine over a text, split into paragraphs or as one paragraph.
 fn try_text<T: TextSource>(
     rt: &(impl Print + AllocGlobal),
     source: &TableBidiData<'_>,

@@ -1,4 +1,4 @@
-//! The calls over a line whose classes and levels are kept.
+//! The calls over a line, given classes and levels that the caller has kept.
 
 ghost use Rattle.std.specs.Prelude.{IsTrue};
 ghost use Rattle.std.specs.Char.{len_utf8};
@@ -19,7 +19,7 @@ use unicode_bidi::SplitRule;
 use unicode_bidi::engine::analyse_with_rule;
 use unicode_bidi::kept_line::{reorder_utf8, reorder_utf16};
 
-// The text of a line from left to right, with lists of its own.
+// Returns the text of a line of UTF-8 from left to right. Copies the lists that the call takes.
 fn reorder_text<'t>(
     alloc: Global,
     text: &'t str,
@@ -34,7 +34,7 @@ fn reorder_text<'t>(
     reorder_utf8(alloc, text, classes, levels, Level::rtl())
 }
 
-// The same in UTF-16.
+// Returns the text of a line of UTF-16 from left to right. Copies the lists that the call takes.
 fn reorder_units<'t>(
     alloc: Global,
     text: &'t [u16],
@@ -89,7 +89,7 @@ fn try_utf16(rt: &(impl Print + AllocGlobal), source: &TableBidiData<'_>) -> Res
     Ok(())
 }
 
-/// Tries the texts of kept lines, and the analyses that they are kept from.
+/// Tries the texts of kept lines, and the analyses that return their classes and levels.
 pub fn run(rt: &(impl Print + AllocGlobal), source: &TableBidiData<'_>) -> Result<(), Fault> {
     try_utf8(rt, source)?;
     try_utf16(rt, source)

@@ -1,5 +1,6 @@
-//! Makes each call over UTF-16, over any text and of lines kept by the caller that takes memory three times, and
-//! sees that a refusal changes no other answer.
+//! Makes each call that allocates three times, and tests that a failed allocation changes no other result.
+//!
+//! The calls are those over UTF-16, over any text, and over lines with kept classes and levels.
 #![tactic(auto)]
 
 mod any_text;

@@ -14,7 +14,7 @@ use std::ops::Range;
 use unicode_bidi::utf16::{BidiInfo, InitialInfo, ParagraphBidiInfo};
 use unicode_bidi::{ParagraphInfo, SplitRule};
 
-// The levels of a text with a line after L1.
+// Tries the levels of a text with a line after L1.
 fn try_levels(
     rt: &(impl Print + AllocGlobal),
     info: &BidiInfo<'_>,
@@ -37,7 +37,7 @@ fn try_levels(
     Ok(())
 }
 
-// A line from left to right.
+// Tries a line from left to right.
 fn try_order(
     rt: &(impl Print + AllocGlobal),
     info: &BidiInfo<'_>,
@@ -61,7 +61,7 @@ fn try_order(
     Ok(())
 }
 
-// What is told of a line alone.
+// Tries the calls that return only the line.
 fn try_line_alone(
     rt: &(impl Print + AllocGlobal),
     info: &BidiInfo<'_>,
@@ -85,7 +85,7 @@ fn try_line_alone(
     Ok(())
 }
 
-// The line calls, of a paragraph as one line.
+// Tries the line calls. The line is a whole paragraph.
 fn try_line(
     rt: &(impl Print + AllocGlobal),
     info: &BidiInfo<'_>,
@@ -100,7 +100,7 @@ fn try_line(
     try_line_alone(rt, info, para, &line)
 }
 
-// The levels of a text that is one paragraph with a line after L1.
+// Tries the levels of a text that is one paragraph, with a line after L1.
 fn try_whole_levels(
     rt: &(impl Print + AllocGlobal),
     info: &ParagraphBidiInfo<'_>,
@@ -122,7 +122,7 @@ fn try_whole_levels(
     Ok(())
 }
 
-// A line of such a text from left to right.
+// Tries a line of a text that is one paragraph, from left to right.
 fn try_whole_order(
     rt: &(impl Print + AllocGlobal),
     info: &ParagraphBidiInfo<'_>,
@@ -145,7 +145,7 @@ fn try_whole_order(
     Ok(())
 }
 
-// What is told of a line of such a text alone.
+// Tries the calls that return only the line, for a text that is one paragraph.
 fn try_whole_line_alone(
     rt: &(impl Print + AllocGlobal),
     info: &ParagraphBidiInfo<'_>,
@@ -168,7 +168,7 @@ fn try_whole_line_alone(
     Ok(())
 }
 
-// The line calls of a text that is one paragraph, as one line.
+// Tries the line calls of a text that is one paragraph and one line.
 fn try_whole_line(
     rt: &(impl Print + AllocGlobal),
     info: &ParagraphBidiInfo<'_>,
@@ -182,7 +182,7 @@ fn try_whole_line(
     try_whole_line_alone(rt, info, &line)
 }
 
-// The constructors of what is known of a text before its levels, and by a rule of one's own.
+// Tries the constructor that finds no levels, and the one with a split rule.
 fn try_other_constructors(
     rt: &(impl Print + AllocGlobal),
     source: &TableBidiData<'_>,
@@ -201,7 +201,7 @@ fn try_other_constructors(
     Ok(())
 }
 
-// A text in paragraphs, the calls on its last one, and the order of a line.
+// Tries a text in paragraphs, the calls on its last paragraph, and the visual order of its levels.
 fn try_text(rt: &(impl Print + AllocGlobal), source: &TableBidiData<'_>) -> Result<(), Fault> {
     let alloc = rt.alloc();
     let info = tried!(
@@ -220,7 +220,7 @@ fn try_text(rt: &(impl Print + AllocGlobal), source: &TableBidiData<'_>) -> Resu
     Ok(())
 }
 
-// The same of a text that is one paragraph.
+// Tries a text that is one paragraph, the calls on it, and the visual order of its levels.
 fn try_paragraph(rt: &(impl Print + AllocGlobal), source: &TableBidiData<'_>) -> Result<(), Fault> {
     let alloc = rt.alloc();
     let info = tried!(
@@ -237,7 +237,7 @@ fn try_paragraph(rt: &(impl Print + AllocGlobal), source: &TableBidiData<'_>) ->
     Ok(())
 }
 
-/// Tries the constructors, the line calls and the order of a line.
+/// Tries the constructors, the line calls and the visual order.
 pub fn run(rt: &(impl Print + AllocGlobal), source: &TableBidiData<'_>) -> Result<(), Fault> {
     try_other_constructors(rt, source)?;
     try_text(rt, source)?;

@@ -13,7 +13,7 @@ use unicode_bidi::char_data::BidiClass::{self, B, EN, ON, R, WS};
 use unicode_bidi::data_source::TableBidiData;
 use unicode_bidi::text::{StrText, is_line};
 
-// Ranges of characters with their classes. Every other character has class L.
+// Ranges of characters and their classes. Every other character has class L.
 const RANGES: [(char, char, BidiClass); 5] = [
     ('\n', '\n', B),
     (' ', ' ', WS),
@@ -22,7 +22,7 @@ const RANGES: [(char, char, BidiClass); 5] = [
     ('א', 'ת', R),
 ];
 
-// Each opening bracket with its closing one.
+// Each opening bracket and its closing one.
 const BRACKETS: [(char, char, Option<char>); 1] = [('(', ')', None)];
 
 // Prints each range that cuts no character, as a line of the paragraph that it begins in.

@@ -1,5 +1,5 @@
-//! A line of a text as it is shown: the levels of its units after L1, and their order from left to
-//! right by L2.
+//! A line of a text as it is displayed: the levels of its code units after L1, and their visual
+//! order (L2).
 #![tactic(auto)]
 
 pub mod line_levels;

@@ -17,7 +17,7 @@ use bidi_text::text::TextSource;
 use std::alloc::{AllocError, Global};
 use std::ops::Range;
 
-// Writes a level to the part from `from` to `to`.
+// Sets the levels with indexes from `from` up to `to`.
 fn write_level(levels: &mut [Level], from: usize, to: usize, level: Level)
     requires begins { from ≤ to }
     requires ends { to ≤ length levels.old }
@@ -28,7 +28,7 @@ fn write_level(levels: &mut [Level], from: usize, to: usize, level: Level)
     levels[from..to].fill(level);
 }
 
-// The start of the blanks at the end of the part from `from` to `to`, or `to` if there are none.
+// Returns the start of the blanks that end the range from `from` to `to`, or `to` if there are none.
 fn blanks_start<C: ClassList>(classes: C, from: usize, to: usize) -> usize
     requires begins { from ≤ to }
     requires ends { to ≤ length (C.classes classes) }
@@ -46,9 +46,9 @@ fn blanks_start<C: ClassList>(classes: C, from: usize, to: usize) -> usize
 
 /// Applies L1 to the levels of a line.
 ///
-/// Separators, and blanks before them or at the line's end, take the level of the paragraph, which is
-/// `level`. Any other unit that X9 removes takes the level before it. `classes` has the stored class of each
-/// unit, `levels` the stored level.
+/// `level` is the paragraph level. `classes` has the stored class of each code unit, and `levels` its stored
+/// level. Separators get the paragraph level. So do blanks before a separator or at the line's end. Any other
+/// code unit that X9 removes gets the level of the code unit before it, or `level` at the line's start.
 pub fn reset_levels<C: ClassList>(level: Level, classes: C, levels: &mut [Level])
     requires { length levels.old ≡ length (C.classes classes) }
     ensures { levels.new ≡ line_levels level (C.classes classes) levels.old }
@@ -56,7 +56,7 @@ pub fn reset_levels<C: ClassList>(level: Level, classes: C, levels: &mut [Level]
     let mut before = level;
     let mut blank_start = 0;
     let mut at = 0;
-    // A stretch of units that are neither separators nor removed is passed over at once.
+    // Each iteration skips a whole stretch of units that are neither separators nor removed.
     while at < classes.len() {
         let class = classes.class_at(at);
         if is_separator(class) {
@@ -80,15 +80,15 @@ pub fn reset_levels<C: ClassList>(level: Level, classes: C, levels: &mut [Level]
     write_level(levels, blank_start, classes.len(), level);
 }
 
-// Whether a unit is reset, where the unit after it is or is not; the line's end counts as reset.
+// Returns whether L1 resets a unit. `is_next_reset` says whether it resets the next unit, or the line ends there.
 fn is_reset(class: BidiClass, is_next_reset: bool) -> bool
     ensures { result ≡ (is_separator class || (is_blank class && is_next_reset)) }
 {
     is_separator(class) || is_next_reset && is_blank(class)
 }
 
-// Whether a unit has an odd level after L1 by itself: what X9 removes takes that of the unit before it,
-// unless it is reset.
+// Returns whether a unit has an odd level after L1 by itself. A unit that X9 removes and L1 does not reset takes
+// the level of the unit before it, so it does not count.
 fn shows_rtl(level: Level, class: BidiClass, own: Level, is_reset: bool) -> bool
     ensures { result ≡ (if is_reset then is_odd level else (not (is_removed class) && is_odd own)) }
 {
@@ -99,7 +99,7 @@ fn shows_rtl(level: Level, class: BidiClass, own: Level, is_reset: bool) -> bool
     }
 }
 
-// Whether X9 removes the first unit of a line.
+// Returns whether X9 removes the first unit of a line.
 fn starts_removed(classes: &[BidiClass]) -> bool
     ensures { result ≡ (nat_lt 0 (length classes.now) && is_removed (class_at classes.now 0)) }
 {
@@ -111,8 +111,8 @@ fn starts_removed(classes: &[BidiClass]) -> bool
 
 /// Returns whether some unit of a line has an odd level after L1.
 ///
-/// `classes` and `levels` are those stored for the line's units, and `level` is that of the line's
-/// paragraph. Does not allocate.
+/// `classes` and `levels` are the stored ones of the line's code units, and `level` is the paragraph level. Does
+/// not allocate.
 pub fn line_has_rtl(level: Level, classes: &[BidiClass], levels: &[Level]) -> bool
     requires { length levels.now ≡ length classes.now }
     ensures { result ≡ has_rtl (line_levels level classes.now levels.now) }
@@ -129,11 +129,11 @@ pub fn line_has_rtl(level: Level, classes: &[BidiClass], levels: &[Level]) -> bo
             return true;
         }
     }
-    // What X9 removes at the line's start has the level handed in.
+    // At the line's start, units that X9 removes have the paragraph level.
     level.is_rtl() && starts_removed(classes)
 }
 
-// L1 on a line of a text, from the stored classes and levels of the whole text.
+// Applies L1 to one line of a text. `classes` and `levels` are the stored ones of the whole text.
 fn reset_line(level: Level, classes: &[BidiClass], levels: &mut [Level], line: Range<usize>)
     requires same_len { length levels.old ≡ length classes.now }
     requires ordered { line.start ≤ line.end }
@@ -147,10 +147,10 @@ fn reset_line(level: Level, classes: &[BidiClass], levels: &mut [Level], line: R
     );
 }
 
-/// Returns the levels of a line's units after L1.
+/// Returns the level of each code unit of a line after L1.
 ///
-/// `classes` and `levels` are those stored for the units of the whole text. The line is the range `line` of
-/// it, and `level` is the level of the line's paragraph.
+/// `classes` and `levels` are the stored ones of the whole text. The line is the range `line` of its code units,
+/// and `level` is the level of the line's paragraph.
 pub fn levels_of_line(
     alloc: Global,
     level: Level,
@@ -168,10 +168,10 @@ pub fn levels_of_line(
     Ok(shown)
 }
 
-/// Returns the level of each unit of a text: after L1 in the line, and as stored outside it.
+/// Returns the level of each code unit of a text: after L1 in the line, and as stored outside it.
 ///
-/// `classes` and `levels` are those stored for the units of the whole text. The line is the range `line` of
-/// it, and `level` is the level of the line's paragraph.
+/// `classes` and `levels` are the stored ones of the whole text. The line is the range `line` of its code units,
+/// and `level` is the level of the line's paragraph.
 pub fn levels_with_line(
     alloc: Global,
     level: Level,
@@ -189,8 +189,8 @@ pub fn levels_with_line(
     Ok(shown)
 }
 
-// Brings the level of each character's first unit to the character's index, and counts the characters. Follows the
-// lengths of the characters.
+// Moves the level of each character's first unit to the character's index, and returns the number of characters.
+// Steps from character to character by their lengths.
 fn gather_by_characters<T: TextSource>(text: T, levels: &mut [Level]) -> usize
     requires { length levels.old ≡ text_len T.units (T.characters text) }
     ensures count { result ≡ length (T.characters text) }
@@ -204,8 +204,8 @@ fn gather_by_characters<T: TextSource>(text: T, levels: &mut [Level]) -> usize
     index
 }
 
-// Brings the level of each character's first unit to the character's index, and counts the characters. Tests each
-// unit, with no branch in the loop.
+// Moves the level of each character's first unit to the character's index, and returns the number of characters.
+// Tests each unit, with no branch in the loop.
 fn gather_by_units<T: TextSource>(text: T, levels: &mut [Level]) -> usize
     requires { length levels.old ≡ text_len T.units (T.characters text) }
     ensures count { result ≡ length (T.characters text) }
@@ -219,8 +219,8 @@ fn gather_by_units<T: TextSource>(text: T, levels: &mut [Level]) -> usize
     count
 }
 
-// Brings the level of each character's first unit to the character's index, and counts the characters. The lengths
-// of characters are hard to predict, so it is quicker to test each unit, if the text looks one up at once.
+// Moves the level of each character's first unit to the character's index, and returns the number of characters.
+// A branch on a character's length is hard to predict. If the text can test a unit in place, that is faster.
 pub(crate) fn gather<T: TextSource>(text: T, levels: &mut [Level]) -> usize
     requires { length levels.old ≡ text_len T.units (T.characters text) }
     ensures count { result ≡ length (T.characters text) }
@@ -233,7 +233,7 @@ pub(crate) fn gather<T: TextSource>(text: T, levels: &mut [Level]) -> usize
     }
 }
 
-// Writes the level of each character's first unit, and counts the characters.
+// Writes the level of each character's first unit, and returns the number of characters.
 fn copy_by_units<T: TextSource>(text: T, levels: &[Level], out: &mut [Level]) -> usize
     requires one_a_unit { length levels.now ≡ text_len T.units (T.characters text) }
     requires room { length out.old ≡ length levels.now }
@@ -248,11 +248,10 @@ fn copy_by_units<T: TextSource>(text: T, levels: &[Level], out: &mut [Level]) ->
     copied
 }
 
-/// Writes the level of each character of a text, which is that of its first unit, and returns the number of
-/// characters.
+/// Writes the level of each character of a text, and returns the number of characters.
 ///
-/// `levels` has one level a unit, and `out` is as long. The entries of `out` behind the last character hold any
-/// levels.
+/// A character has the level of its first code unit. `levels` has one level for each code unit, and `out` is as
+/// long. After the last character, the entries of `out` hold any levels. Does not allocate.
 pub fn write_first_units<T: TextSource>(text: T, levels: &[Level], out: &mut [Level]) -> usize
     requires one_a_unit { length levels.now ≡ text_len T.units (T.characters text) }
     requires room { length out.old ≡ length levels.now }
@@ -266,9 +265,9 @@ pub fn write_first_units<T: TextSource>(text: T, levels: &[Level], out: &mut [Le
     gather_by_characters(text, out)
 }
 
-/// Returns the level of each character of a text, which is that of its first unit.
+/// Returns the level of each character of a text.
 ///
-/// `levels` has one level a unit. Does not allocate.
+/// A character has the level of its first code unit. `levels` has one level for each code unit. Does not allocate.
 pub fn first_units<T: TextSource>(text: T, mut levels: Vec<Level>) -> Vec<Level>
     requires { length levels.items ≡ text_len T.units (T.characters text) }
     ensures { result.items ≡ per_char 0 T.units (T.characters text) levels.items }
@@ -278,9 +277,10 @@ pub fn first_units<T: TextSource>(text: T, mut levels: Vec<Level>) -> Vec<Level>
     levels
 }
 
-/// Returns what [`levels_with_line`] returns, one level for each character: that of its first unit.
+/// Returns the level of each character of a text: after L1 in the line, and as stored outside it.
 ///
-/// `line` is a range of units too.
+/// A character has the level of its first code unit. `classes` and `levels` are the stored ones of the text's code
+/// units. `line` is a range of code units, and `level` is the level of its paragraph.
 pub fn levels_per_char<T: TextSource>(
     alloc: Global,
     text: T,

@@ -1,4 +1,4 @@
-//! The levels of a line after L1, in memory that is used again for the next line.
+//! The levels of a line after L1, in memory that is reused for the next line.
 
 ghost use Rattle.std.specs.Prelude.{◌≡◌, ◌<◌, ◌≤◌, true, false, take, length, [], OnOk, OnErr, vec_len};
 ghost use Rattle.bidi_base.specs.Text.{text_len, per_char};
@@ -11,10 +11,10 @@ use bidi_base::level::{LTR_LEVEL, Level};
 use bidi_text::text::TextSource;
 use std::alloc::{AllocError, Global};
 
-/// Up to how many units of a line need no allocation.
+/// The maximum number of code units of a line that needs no allocation.
 pub const FEW_UNITS: usize = 256;
 
-// Writes the levels of a line after L1, from those that are stored.
+// Writes the levels of a line after L1, given its stored classes and levels.
 fn write_levels<C: ClassList, L: LevelList>(level: Level, classes: C, levels: L, out: &mut [Level])
     requires valid { L.are_levels levels }
     requires classes { length (L.numbers levels) ≡ length (C.classes classes) }
@@ -25,7 +25,7 @@ fn write_levels<C: ClassList, L: LevelList>(level: Level, classes: C, levels: L,
     reset_levels(level, classes, out);
 }
 
-// Makes a list `len` levels long. New entries hold any level. If an allocation fails, the list is unchanged.
+// Resizes a list to `len` levels. New entries hold any level. If an allocation fails, the list is unchanged.
 fn resize(levels: &mut Vec<Level>, len: usize) -> Result<(), AllocError>
     ensures len { OnOk result (vec_len levels.new ≡ len) }
     ensures kept { OnErr result (levels.new.items ≡ levels.old.items) }
@@ -34,8 +34,8 @@ fn resize(levels: &mut Vec<Level>, len: usize) -> Result<(), AllocError>
     Ok(())
 }
 
-// Brings the level of each character's first unit to the character's index, where the first `len` levels
-// are those of the text's units, and counts the characters.
+// Moves the level of each character's first unit to the character's index, and returns the number of characters.
+// The first `len` levels are those of the text's units.
 fn gather_front<T: TextSource>(text: T, levels: &mut [Level], len: usize) -> usize
     requires within { len ≤ length levels.old }
     requires one_a_unit { len ≡ text_len T.units (T.characters text) }
@@ -45,15 +45,14 @@ fn gather_front<T: TextSource>(text: T, levels: &mut [Level], len: usize) -> usi
     gather(text, &mut levels[..len])
 }
 
-/// The levels of a line's units after L1.
+/// The level of each code unit of a line after L1.
 ///
-/// A line of up to 256 units needs no allocation. What a longer one allocates is used again for the next
-/// line.
+/// A line of up to 256 code units needs no allocation. The memory of a longer line is reused for the next one.
 #[derive(Drop)]
 pub struct ShownLevels {
-    // The first `len` of these are the levels,
+    // The levels are the first `len` of these,
     few: [Level; FEW_UNITS],
-    // or of these, if there were more units.
+    // or of these, if the line had more units.
     many: Vec<Level>,
     are_many: bool,
     len: usize,
@@ -64,7 +63,7 @@ pub struct ShownLevels {
 impl ShownLevels {
     ghost use Rattle.bidi_lines.specs.ShownLevels.{levels as levels_of};
 
-    /// Returns the levels of an empty line. Allocates nothing.
+    /// Returns the levels of an empty line. Does not allocate.
     pub fn new(alloc: Global) -> ShownLevels
         ensures { levels_of result ≡ [] }
     {
@@ -76,9 +75,10 @@ impl ShownLevels {
         }
     }
 
-    /// Finds the levels of a line's units after L1. `classes` has the stored class of each unit, `levels`
-    /// the stored level, and `level` is the paragraph's. If an allocation fails, the levels are those of
-    /// the line before.
+    /// Finds the level of each code unit of a line after L1.
+    ///
+    /// `classes` and `levels` are the stored ones of the line's code units, and `level` is the paragraph level. If an
+    /// allocation fails, the levels of the previous line are kept.
     pub fn show<C: ClassList, L: LevelList>(
         &mut self,
         level: Level,
@@ -103,7 +103,7 @@ impl ShownLevels {
         Ok(())
     }
 
-    /// Keeps one level for each character of the line, that of its first unit. `text` is the line's.
+    /// Keeps one level for each character of the line: that of its first code unit. `text` is the line's text.
     pub fn keep_first_units<T: TextSource>(&mut self, text: T)
         requires { length (levels_of self.old) ≡ text_len T.units (T.characters text) }
         ensures { levels_of self.new ≡ per_char 0 T.units (T.characters text) (levels_of self.old) }
@@ -115,7 +115,7 @@ impl ShownLevels {
         }
     }
 
-    /// Returns the level of each unit of the line.
+    /// Returns the level of each code unit of the line, or of each character after `keep_first_units`.
     pub fn as_slice(&self) -> &[Level]
         ensures { result.now ≡ levels_of self.now }
     {

@@ -1,5 +1,4 @@
-//! The classes and the levels that a line is read from, however they are stored: as the types of
-//! the library, or as numbers.
+//! Lists of stored classes and levels, as `BidiClass` and `Level` or as numbers.
 
 ghost use Rattle.std.specs.Prelude.{◌≡◌, ℕ, ◌+◌, ◌<◌, ◌≤◌, Bool, IsTrue, ⊤, false, nat_lt, List, length, slice_index};
 ghost use Rattle.std.specs.List.{list_all};
@@ -15,7 +14,7 @@ use bidi_base::classes::{is_removed, is_separator};
 use bidi_base::level::{Level, MAX_IMPLICIT_DEPTH, has_rtl};
 use bidi_base::search::{ClassTest, first_passing};
 
-/// Separators, and what X9 removes. The test has no branch, so that many units are tested at once.
+/// Tests for separators and characters that X9 removes. It has no branch, so a loop tests many units at once.
 #[derive(Clone, Copy, Debug)]
 struct SeparatorOrRemoved;
 
@@ -29,22 +28,23 @@ impl ClassTest for SeparatorOrRemoved {
     }
 }
 
-/// A list of classes that is read one by one, or searched.
+/// A list of classes that can be read by index and searched.
 pub trait ClassList: Copy {
     /// The classes.
     ghost classes: { Self → List BidiClass };
 
-    /// The number of classes.
+    /// Returns the number of classes.
     fn len(self) -> usize
         ensures { result ≡ length (classes self) };
 
-    /// The class at an index.
+    /// Returns the class at an index.
     fn class_at(self, index: usize) -> BidiClass
         requires { index < length (classes self) }
         ensures { result ≡ class_at (classes self) index };
 
-    /// The index of the first separator, or class that X9 removes, behind an index, or else the number of
-    /// classes. The class at the index is neither.
+    /// Returns the index of the first stop after an index, or the number of classes if there is none.
+    ///
+    /// A stop is a separator or a class that X9 removes. The class at `index` must not be one.
     fn next_stop(self, index: usize) -> usize
         requires within { index < length (classes self) }
         requires other { is_stop (class_at (classes self) index) ≡ false }
@@ -62,38 +62,49 @@ impl<'t> ClassList for &'t [BidiClass] {
         self[index]
     }
 
+    // The last block may overlap the one before it: lines are short, and testing the rest one by one would cost more
+    // than the blocks.
     fn next_stop(self, index: usize) -> usize {
-        first_passing(SeparatorOrRemoved, self, index + 1, self.len())
+        let end = self.len();
+        if end - index <= 16 {
+            return first_passing(SeparatorOrRemoved, self, index, end);
+        }
+        let last = end - 16;
+        let found = first_passing(SeparatorOrRemoved, self, index, last);
+        if found < last {
+            return found;
+        }
+        first_passing(SeparatorOrRemoved, self, last, end)
     }
 }
 
-/// A list of levels that is read one by one, or sixteen at once.
+/// A list of levels that can be read one by one, or sixteen at once.
 pub trait LevelList: Copy {
     /// The numbers of the levels.
     ghost numbers: { Self → List ℕ };
 
-    /// The number of levels.
+    /// Returns the number of levels.
     fn len(self) -> usize
         ensures { result ≡ length (numbers self) };
 
-    /// The number of the level at an index.
+    /// Returns the number of the level at an index.
     fn number_at(self, index: usize) -> u8
         requires { index < length (numbers self) }
         ensures { result ≡ slice_index (numbers self) index };
 
-    /// The numbers of the sixteen levels from an index on.
+    /// Returns the numbers of the sixteen levels from an index on.
     fn sixteen_at(self, index: usize) -> [u8; 16]
         requires { index + 16 ≤ length (numbers self) }
         ensures { result ≡ chunk index 16 (numbers self) };
 
-    /// Whether some level is odd.
+    /// Returns whether some level is odd.
     fn has_rtl(self) -> bool
         ensures { result ≡ has_rtl (numbers self) };
 
-    /// The numbers stand for levels.
+    /// Says that each number is that of a level.
     ghost are_levels: { Self → Type 0 };
 
-    /// Writes the levels.
+    /// Copies the levels to `out`, which is as long.
     fn copy_to(self, out: &mut [Level])
         requires valid { are_levels self }
         requires same_len { length out.old ≡ length (numbers self) }
@@ -138,7 +149,7 @@ impl<'t> LevelList for &'t [Level] {
     }
 }
 
-// Whether some number is odd.
+// Returns whether some number is odd.
 fn any_odd(numbers: &[u8]) -> bool
     ensures { result ≡ has_rtl numbers.now }
 {
@@ -149,19 +160,19 @@ fn any_odd(numbers: &[u8]) -> bool
     all % 2 == 1
 }
 
-// The level of a number.
+// Returns the level with a number.
 fn level_of(number: u8) -> Level
     requires { number < 127 }
     ensures { result ≡ number }
 {
-    // With the greatest level as a bound no test is left in a loop over many numbers.
+    // With this bound, the compiler leaves no test in a loop over many numbers.
     match Level::new(number.min(MAX_IMPLICIT_DEPTH)) {
         Ok(level) => level,
         Err(_) => unreachable!(),
     }
 }
 
-/// The numbers of levels.
+/// Levels that are stored as their numbers.
 impl<'t> LevelList for &'t [u8] {
     ghost numbers = { λ list. list.now };
 

@@ -15,7 +15,7 @@ use bidi_base::level::Level;
 use std::alloc::{AllocError, Global};
 use std::simd::prelude::*;
 
-// Turns the part from `from` to `to` round.
+// Reverses the range from `from` to `to`.
 fn flip(order: &mut [usize], from: usize, to: usize)
     requires begins { from ≤ to }
     requires ends { to ≤ length order.old }
@@ -27,7 +27,7 @@ fn flip(order: &mut [usize], from: usize, to: usize)
     order[from..to].reverse();
 }
 
-// How many of 16 lanes come before the first one whose bit is set.
+// Returns how many of 16 lanes come before the first lane that has a bit set.
 fn lanes_before(bits: u64) -> usize
     ensures { result ≡ (if bits == 0 then 16 else count_trailing_zeros 64 bits) }
 {
@@ -38,7 +38,7 @@ fn lanes_before(bits: u64) -> usize
     }
 }
 
-// How many of the 16 items from `at` on come before the first that has not the level `level`.
+// Returns how many of the 16 items from `at` on come before the first one at another level than `level`.
 fn first_other<L: LevelList>(levels: L, at: usize, level: u8) -> usize
     requires { at + 16 ≤ length (L.numbers levels) }
     ensures within { result ≤ 16 }
@@ -51,7 +51,7 @@ fn first_other<L: LevelList>(levels: L, at: usize, level: u8) -> usize
     lanes_before(others)
 }
 
-// The end of the stretch of items from `from` on that have its level.
+// Returns the end of the run of items from `from` on that have the same level.
 #[inline(always)]
 pub(crate) fn run_end<L: LevelList>(levels: L, from: usize) -> usize
     requires { from < length (L.numbers levels) }
@@ -73,7 +73,7 @@ pub(crate) fn run_end<L: LevelList>(levels: L, from: usize) -> usize
         }
         at += 16;
     }
-    // Of the last 16 items, those before `at` have this level too.
+    // Of the last 16 items, those before `at` have this level too, so the block may overlap what was read.
     if len - from >= 16 {
         let last = len - 16;
         return last + first_other(levels, last, level);
@@ -84,7 +84,7 @@ pub(crate) fn run_end<L: LevelList>(levels: L, from: usize) -> usize
     at
 }
 
-// How many of the 16 items from `at` on come before the first at the level `base` or below.
+// Returns how many of the 16 items from `at` on come before the first one at level `base` or below.
 fn first_at_most<L: LevelList>(levels: L, at: usize, base: u8) -> usize
     requires { at + 16 ≤ length (L.numbers levels) }
     ensures within { result ≤ 16 }
@@ -97,7 +97,7 @@ fn first_at_most<L: LevelList>(levels: L, at: usize, base: u8) -> usize
     lanes_before(low)
 }
 
-// The end of the stretch of items from `from` on whose levels are above `base`.
+// Returns the end of the stretch of items from `from` on that have levels above `base`.
 fn stretch_end<L: LevelList>(levels: L, from: usize, base: u8) -> usize
     requires { from ≤ length (L.numbers levels) }
     ensures begins { from ≤ result }
@@ -120,7 +120,7 @@ fn stretch_end<L: LevelList>(levels: L, from: usize, base: u8) -> usize
     at
 }
 
-// The least level of the items from `from` up to `to`.
+// Returns the minimum level of the items from `from` up to `to`.
 fn least_of<L: LevelList>(levels: L, from: usize, to: usize) -> u8
     requires some { from < to }
     requires within { to ≤ length (L.numbers levels) }
@@ -134,8 +134,8 @@ fn least_of<L: LevelList>(levels: L, from: usize, to: usize) -> u8
     least
 }
 
-// The least level of the stretch above `base` that begins at `from`. At every level above `base` up
-// to that one the whole stretch is turned, so that their number tells how it ends up.
+// Returns the minimum level of the stretch above `base` that begins at `from`. L2 reverses the whole stretch once
+// for each level above `base` up to that one, so only an odd number of reversals changes it.
 fn least_above<L: LevelList>(levels: L, from: usize, base: u8) -> u8
     requires begins { from < length (L.numbers levels) }
     requires above { base < slice_index (L.numbers levels) from }
@@ -151,7 +151,7 @@ fn least_above<L: LevelList>(levels: L, from: usize, base: u8) -> u8
     least_of(levels, from, end)
 }
 
-// Arranges the stretch of items from `from` on whose levels are `base` or above, and gives its end.
+// Arranges the stretch of items from `from` on that have levels of `base` or above, and returns its end.
 fn arrange<L: LevelList>(levels: L, order: &mut [usize], from: usize, base: u8) -> usize
     requires same_len { length order.old ≡ length (L.numbers levels) }
     requires begins { from ≤ length (L.numbers levels) }
@@ -189,7 +189,7 @@ fn arrange<L: LevelList>(levels: L, order: &mut [usize], from: usize, base: u8) 
     at
 }
 
-// Writes the indexes of a list upwards.
+// Sets each entry to its index.
 fn write_indexes(order: &mut [usize])
     ensures { order.new ≡ range_with_len 0 (length order.old) }
 {
@@ -198,8 +198,8 @@ fn write_indexes(order: &mut [usize])
     }
 }
 
-// Brings the indexes of a line's items, upwards at first, into the visual order. A line without an
-// odd level stays as it is.
+// Puts the indexes of a line's items, which ascend at first, into visual order. If no level is odd, they stay
+// unchanged.
 fn put_in_visual_order<L: LevelList>(levels: L, order: &mut [usize])
     requires { order.old ≡ range_with_len 0 (length (L.numbers levels)) }
     ensures order { order.new ≡ visual_order (L.numbers levels) }
@@ -214,8 +214,8 @@ fn put_in_visual_order<L: LevelList>(levels: L, order: &mut [usize])
 
 /// Writes the visual order of a line (L2): for each place from left to right, the index of the item there.
 ///
-/// `levels` has the level of each item after L1, and `order` has an entry for each. Each index is written
-/// once. An item may be a unit, a character or a level run. Does not allocate.
+/// An item is a code unit, a character or a level run. `levels` has the level of each item after L1, and `order`
+/// is as long. Writes each index once. Does not allocate.
 pub fn write_visual_order<L: LevelList>(levels: L, order: &mut [usize])
     requires { length order.old ≡ length (L.numbers levels) }
     ensures order { order.new ≡ visual_order (L.numbers levels) }
@@ -227,15 +227,16 @@ pub fn write_visual_order<L: LevelList>(levels: L, order: &mut [usize])
     put_in_visual_order(levels, order);
 }
 
-// Returns the indexes below `n`, upwards.
+// Returns the indexes below `n`, in ascending order.
 fn indexes_below(alloc: Global, n: usize) -> Result<Vec<usize>, AllocError>
     ensures { IfOk result (λ v. v.items ≡ range_with_len 0 n) }
 {
     (0..n).collect(alloc)
 }
 
-/// Returns the visual order of a line (L2), as [`write_visual_order`] writes it. Allocates only the list that it
-/// returns.
+/// Returns the visual order of a line (L2): for each place from left to right, the index of the item there.
+///
+/// `levels` has the level of each item after L1. Allocates only the list that it returns.
 pub fn reorder_visual(alloc: Global, levels: &[Level]) -> Result<Vec<usize>, AllocError>
     ensures order { IfOk result (λ v. v.items ≡ visual_order levels.now) }
     ensures visual { IfOk result (λ v. IsVisualOrder levels.now v.items) }
@@ -249,7 +250,7 @@ pub fn reorder_visual(alloc: Global, levels: &[Level]) -> Result<Vec<usize>, All
 
 /// Returns the inverse of a list that has each index once.
 ///
-/// The inverse of a visual order is the visual place of each index. Takes time linear in the list.
+/// The inverse of a visual order has the visual place of each index. Takes time linear in the list.
 pub fn inverse(alloc: Global, order: &[usize]) -> Result<Vec<usize>, AllocError>
     requires { IsPermutation (indexes order.now) order.now }
     ensures { IfOk result (λ v. AreInverse order.now v.items) }

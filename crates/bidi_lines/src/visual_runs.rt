@@ -14,12 +14,13 @@ use smallvec::SmallVec;
 use std::alloc::{AllocError, Global};
 use std::ops::Range;
 
-/// How many runs of a line are kept without an allocation.
+/// The maximum number of runs of a line that needs no allocation.
 const FEW_RUNS: usize = 16;
 
-/// Returns the end of the first level run (BD7) of a line. If that is the line's length, the run is the whole line.
+/// Returns the end of the first level run (BD7) of a line.
 ///
-/// `levels` are those of the line's units after L1. The line is not empty.
+/// `levels` has the level of each code unit after L1, and must not be empty. If the result is the line's length,
+/// the whole line is one run.
 pub fn first_run_end(levels: &[Level]) -> usize
     requires { 0 < length levels.now }
     ensures some { 0 < result }
@@ -31,8 +32,8 @@ pub fn first_run_end(levels: &[Level]) -> usize
     run_end(levels, 0)
 }
 
-// Cuts a line that starts at the unit `start` into its level runs, the first of which ends at the line's unit
-// `first`.
+// Splits a line into its level runs. The line starts at the unit `start` of the text. Its first run ends at its
+// unit `first`.
 fn cut_runs(
     runs: &mut SmallVec<Range<usize>, FEW_RUNS>,
     levels: &[Level],
@@ -66,7 +67,7 @@ fn write_numbers(numbers: &mut [u8], levels: &[Level], start: usize, runs: &[Ran
     }
 }
 
-// Copies runs in this order. If an allocation fails, nothing is copied.
+// Appends runs in the given order. If an allocation fails, appends nothing.
 fn copy_in_order(
     ordered: &mut SmallVec<Range<usize>, FEW_RUNS>,
     runs: &[Range<usize>],
@@ -84,9 +85,9 @@ fn copy_in_order(
     Ok(())
 }
 
-// Copies the level runs of a line, which starts at the unit `start`, from left to right (L2). `numbers` and
-// `order` have room for one entry a run, for the number of its level and its place. If an allocation fails,
-// nothing is copied.
+// Copies the level runs of a line from left to right (L2). The line starts at the unit `start` of the text.
+// `numbers` and `order` are buffers with one entry for each run: the number of its level, and the visual order.
+// If an allocation fails, copies nothing.
 fn copy_visual(
     ordered: &mut SmallVec<Range<usize>, FEW_RUNS>,
     levels: &[Level],
@@ -107,16 +108,15 @@ fn copy_visual(
     copy_in_order(ordered, runs, order)
 }
 
-/// The visual runs of a line: its level runs (BD7), from left to right (L2).
+/// The visual runs of a line: its level runs (BD7) from left to right (L2).
 ///
-/// A line of up to 16 runs needs no allocation. What a longer one allocates is used again for the next
-/// line.
+/// A line of up to 16 runs needs no allocation. The memory of a line with more runs is reused for the next one.
 #[derive(Drop)]
 pub struct LineRuns {
-    // In the order of the text, and from left to right.
+    // The runs in the order of the text, and then from left to right.
     runs: SmallVec<Range<usize>, FEW_RUNS>,
     ordered: SmallVec<Range<usize>, FEW_RUNS>,
-    // Of a line with more runs: the number of the level of each run, and their order.
+    // Buffers for a line of more than 16 runs: the number of each run's level, and the visual order.
     numbers: Vec<u8>,
     order: Vec<usize>,
 }
@@ -124,7 +124,7 @@ pub struct LineRuns {
 impl LineRuns {
     ghost use Rattle.bidi_lines.specs.LineRuns.{runs as runs_of};
 
-    /// Returns no runs. Allocates nothing.
+    /// Returns an empty list of runs. Does not allocate.
     pub fn new(alloc: Global) -> LineRuns
         ensures { runs_of result ≡ [] }
     {
@@ -136,8 +136,10 @@ impl LineRuns {
         }
     }
 
-    /// Finds the runs of a line that starts at the unit `start` of a text. `levels` are those of the
-    /// line's units after L1. If an allocation fails, there are no runs.
+    /// Finds the visual runs of a line.
+    ///
+    /// The line starts at the code unit `start` of a text. `levels` has the level of each code unit of the line after
+    /// L1. If an allocation fails, there are no runs.
     pub fn find(&mut self, levels: &[Level], start: usize) -> Result<(), AllocError>
         requires { start + length levels.now ≤ usize.MAX }
         ensures runs { OnOk result (runs_of self.new ≡ visual_runs start levels.now) }
@@ -151,8 +153,10 @@ impl LineRuns {
         self.find_behind(levels, start, first_run_end(levels))
     }
 
-    /// Finds the runs of a line as [`LineRuns::find`] does, where the end of the first level run is known: see
-    /// [`first_run_end`].
+    /// Finds the visual runs of a line, given the end of its first level run.
+    ///
+    /// [`first_run_end`] returns that end. The line starts at the code unit `start` of a text, and `levels` has the
+    /// level of each code unit after L1. If an allocation fails, there are no runs.
     pub fn find_behind(
         &mut self,
         levels: &[Level],
@@ -191,14 +195,14 @@ impl LineRuns {
         )
     }
 
-    /// Returns the runs from left to right, as ranges of units of the text.
+    /// Returns the runs from left to right, as ranges of code units of the text.
     pub fn as_slice(&self) -> &[Range<usize>]
         ensures { map run_of result.now ≡ runs_of self.now }
     {
         self.ordered.as_slice()
     }
 
-    /// Returns the runs from left to right as a list. Those of a line of up to 16 runs are copied to it.
+    /// Returns the runs from left to right as a list. Allocates that list if the line has up to 16 runs.
     pub fn into_vec(self) -> Result<Vec<Range<usize>>, AllocError>
         ensures { IfOk result (λ v. map run_of v.items ≡ runs_of self) }
     {
@@ -207,10 +211,21 @@ impl LineRuns {
     }
 }
 
+// Returns a list of the same runs.
+fn copied(alloc: Global, runs: &[Range<usize>]) -> Result<Vec<Range<usize>>, AllocError>
+    ensures { IfOk result (λ v. map run_of v.items ≡ map run_of runs.now) }
+{
+    let mut list = Vec::with_capacity(alloc, runs.len())?;
+    for run in runs {
+        list.push(run.start..run.end)?;
+    }
+    Ok(list)
+}
+
 /// Returns the level runs (BD7) of a line from left to right (L2).
 ///
-/// Each is a range of units of the text, in which the line starts at the unit `start`. `levels` are those of
-/// the line's units after L1. A line of up to 16 runs allocates only the list that is returned.
+/// Each run is a range of code units of the text. The line starts at the code unit `start`, and `levels` has the
+/// level of each of its code units after L1. A line of up to 16 runs allocates only the list that is returned.
 pub fn visual_runs_of(
     alloc: Global,
     levels: &[Level],
@@ -220,13 +235,25 @@ pub fn visual_runs_of(
     ensures runs { IfOk result (λ v. map run_of v.items ≡ visual_runs start levels.now) }
     ensures visual { IfOk result (λ v. AreVisualRuns start levels.now (map run_of v.items)) }
 {
+    if levels.is_empty() {
+        return Ok(Vec::new(alloc));
+    }
+    let first = first_run_end(levels);
+    if first == levels.len() {
+        return Ok(vec![in alloc; start..start + first]?);
+    }
     let mut runs = LineRuns::new(alloc);
-    runs.find(levels, start)?;
-    runs.into_vec()
+    runs.find_behind(levels, start, first)?;
+    if runs.as_slice().len() <= FEW_RUNS {
+        copied(alloc, runs.as_slice())
+    } else {
+        runs.into_vec()
+    }
 }
 
-/// Returns the level of each unit of a text as [`levels_with_line`] does, and the level runs (BD7) of the
-/// line from left to right (L2), in units of the text.
+/// Returns the level of each code unit of a text, and the level runs (BD7) of a line from left to right (L2).
+///
+/// The levels are those of [`levels_with_line`]. The runs are ranges of code units of the text.
 pub fn levels_and_runs(
     alloc: Global,
     level: Level,

@@ -1,4 +1,4 @@
-//! Classes that are read from the numbers that stand for them.
+//! Classes that are stored as their numbers.
 ghost use Rattle.std.specs.Prelude.{◌≡◌, ◌+◌, ◌≤◌, if◌then◌else◌, length, map};
 ghost use Rattle.bidi_base.specs.Search.{IsFirst};
 ghost use Rattle.bidi_lines.specs.Stops.{is_stop};
@@ -9,14 +9,14 @@ use bidi_base::char_data::BidiClass;
 use bidi_lines::stored::ClassList;
 use std::simd::prelude::*;
 
-/// The classes of some numbers, which are read in place. A number above 22 is read as PDI.
+/// A list of classes that is read in place from their numbers. A number above 22 is read as PDI.
 #[derive(Clone, Copy, Debug)]
 pub struct ClassNumbers<'t> {
     numbers: &'t [u8],
 }
 
 impl<'t> ClassNumbers<'t> {
-    /// Reads the classes of these numbers.
+    /// Returns the list of the classes with these numbers.
     pub fn new(numbers: &'t [u8]) -> ClassNumbers<'t>
         ensures { result.numbers.now ≡ numbers.now }
     {
@@ -24,14 +24,14 @@ impl<'t> ClassNumbers<'t> {
     }
 }
 
-// Whether a number stands for a separator or for a class that X9 removes.
+// Returns whether a number is that of a separator or of a class that X9 removes.
 fn is_stop(number: u8) -> bool
     ensures { result ≡ is_stop (class_numbered number) }
 {
     (9 <= number) & (number <= 11) | (14 <= number) & (number <= 18)
 }
 
-// Writes 1 for each number of a separator or of a class that X9 removes, and 0 for each other.
+// Writes 1 for each number of a separator or of a class that X9 removes, and 0 for every other number.
 fn mark_stops(numbers: &[u8], marks: &mut [u8])
     requires { length marks.old ≡ length numbers.now }
     ensures { marks.new ≡ map (λ n. if is_stop (class_numbered n) then 1 else 0) numbers.now }
@@ -41,8 +41,8 @@ fn mark_stops(numbers: &[u8], marks: &mut [u8])
     }
 }
 
-// How many of the sixteen numbers from `at` on come before the first of a separator or of a class that X9
-// removes.
+// Returns how many of the sixteen numbers from `at` on come before the first number of a separator or of a class
+// that X9 removes.
 fn numbers_before_stop(numbers: &[u8], at: usize) -> usize
     requires { at + 16 ≤ length numbers.now }
     ensures { IsFirst is_stop (map class_numbered numbers.now) at (at + 16) (at + result) }
@@ -59,9 +59,9 @@ fn numbers_before_stop(numbers: &[u8], at: usize) -> usize
     }
 }
 
-// Returns the index of the first number from `from` on of a separator or of a class that X9 removes, or else the
-// number of numbers. The last block may overlap the one before it: lines are short, and reading the rest one by
-// one would cost more than the blocks.
+// Returns the index of the first number from `from` on of a separator or of a class that X9 removes. Without one,
+// returns the length of the list. The last block may overlap the one before it: lines are short, and reading the
+// rest one by one would cost more than the blocks.
 fn first_stop(numbers: &[u8], from: usize) -> usize
     requires { from ≤ length numbers.now }
     ensures { IsFirst is_stop (map class_numbered numbers.now) from (length numbers.now) result }
@@ -96,7 +96,7 @@ impl<'t> ClassList for ClassNumbers<'t> {
         class_of(self.numbers[index])
     }
 
-    // In a line of sixteen units, the block from the index on takes in all of it.
+    // In a line of sixteen units, the block that begins at the index takes in the whole line.
     fn next_stop(self, index: usize) -> usize {
         first_stop(self.numbers, index)
     }

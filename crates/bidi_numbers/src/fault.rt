@@ -1,38 +1,38 @@
-//! Why a call is refused, and the number that stands for it.
+//! Why a call returns an error, and the number of each error.
 ghost use Rattle.std.specs.Prelude.{◌≡◌};
 ghost use Rattle.std.specs.Result.{result_err};
 ghost use Rattle.bidi_numbers.specs.Faults.{fault_unless, has_room_or_none, code_of, answer_of};
 
 use std::alloc::AllocError;
 
-/// Why a call is refused.
+/// Why a call returns an error.
 #[derive(Clone, Copy, Debug, PartialEq, Eq)]
 pub enum Fault {
-    /// Memory was refused.
+    /// An allocation failed.
     NoMemory,
     /// A text of bytes is not UTF-8.
     NotUtf8,
-    /// A number that stands for a character is no scalar value.
+    /// A number that stands for a character is not a scalar value.
     NotScalar,
-    /// A base level is neither at most 125 nor the one that stands for none.
+    /// A base level is above 125, and is not the number for no base level.
     BadBaseLevel,
-    /// A number stands for no split rule.
+    /// A number is not that of a split rule.
     BadSplit,
-    /// A number stands for no class.
+    /// A number is not that of a class.
     BadClass,
     /// A level is above 126.
     BadLevel,
     /// Lists that go together have different lengths.
     UnequalLengths,
-    /// A line is reversed, or does not lie in its paragraph, or its paragraph not in the text.
+    /// A line is reversed or not inside its paragraph, or the paragraph is not inside the text.
     BadLine,
     /// A line cuts a character.
     CutCharacter,
-    /// The classes or the levels of one character's units differ.
+    /// The classes or the levels of one character's code units differ.
     UnevenCharacter,
-    /// A buffer for the answer is too short.
+    /// A buffer is too short for the result.
     NoRoom,
-    /// A table's ranges are reversed or do not ascend.
+    /// A range of a table is reversed, or the ranges do not ascend.
     BadRanges,
 }
 
@@ -46,21 +46,21 @@ impl From<AllocError> for Fault {
     }
 }
 
-/// Refuses where something does not hold.
+/// Returns the fault unless the condition holds.
 pub fn check(holds: bool, fault: Fault) -> Result<(), Fault>
     ensures { result_err result ≡ fault_unless holds fault }
 {
     if holds { Ok(()) } else { Err(fault) }
 }
 
-/// Refuses a buffer for an answer of so many entries that has room for some, but not for all.
+/// Returns `NoRoom` if a buffer is not empty, but too short for `count` entries.
 pub fn check_room_or_none(count: usize, room: usize) -> Result<(), Fault>
     ensures { result_err result ≡ fault_unless (has_room_or_none count room) Fault.NoRoom }
 {
     check(room == 0 || count <= room, Fault::NoRoom)
 }
 
-/// The number that the header gives a fault.
+/// Returns the number that the C header gives a fault. It is below 0.
 fn code(fault: Fault) -> i64
     ensures { result ≡ code_of fault }
 {
@@ -81,7 +81,7 @@ fn code(fault: Fault) -> i64
     }
 }
 
-/// What an export answers: a count, or below 0 the number of a fault.
+/// Returns what an export returns: a count, or the negative number of a fault.
 pub fn answer(found: Result<usize, Fault>) -> i64
     ensures { result ≡ answer_of found }
 {

@@ -1,5 +1,5 @@
-//! What crosses the border to other languages: numbers, rows, tables and texts as they come, with every
-//! condition tested, and the faults that a call is refused for.
+//! What callers in other languages pass: numbers, rows, tables and texts. Tests every condition, and names the
+//! faults that a call returns.
 #![tactic(auto)]
 
 pub mod class_numbers;

@@ -1,4 +1,4 @@
-//! Classes, levels and rules as the numbers that stand for them.
+//! The numbers of classes, levels and split rules.
 ghost use Rattle.std.specs.Prelude.{◌≡◌, ◌+◌, ◌≤◌, ◌<◌, IfOk, length, map, nat_lt, nat_le};
 ghost use Rattle.std.specs.List.{list_all};
 ghost use Rattle.std.specs.Result.{result_err};
@@ -13,13 +13,13 @@ use bidi_base::level::Level;
 use bidi_walk::split_rule::SplitRule;
 use std::simd::prelude::*;
 
-/// The number that stands for no base level.
+/// The number for no base level.
 const AUTO: u8 = 255;
 
-/// How many classes there are.
+/// The number of classes.
 const CLASSES: u8 = 23;
 
-/// The number of a class.
+/// Returns the number of a class.
 pub fn number_of(class: BidiClass) -> u8
     ensures { result ≡ class_number class }
 {
@@ -50,7 +50,7 @@ pub fn number_of(class: BidiClass) -> u8
     }
 }
 
-/// The class of a number below 23.
+/// Returns the class with a number below 23.
 #[tactic(auto, unfolding(crate::specs::Numbers::class_numbered))]
 pub fn class_of(number: u8) -> BidiClass
     ensures { result ≡ class_numbered number }
@@ -82,7 +82,7 @@ pub fn class_of(number: u8) -> BidiClass
     }
 }
 
-// Whether the sixteen numbers from `at` on are below a limit.
+// Returns whether the sixteen numbers from `at` on are below a limit.
 fn sixteen_below(numbers: &[u8], at: usize, limit: u8) -> bool
     requires { at + 16 ≤ length numbers.now }
     ensures { result ≡ list_all (λ n. nat_lt n limit) (chunk at 16 numbers.now) }
@@ -91,8 +91,8 @@ fn sixteen_below(numbers: &[u8], at: usize, limit: u8) -> bool
     block.simd_ge(u8x16::splat(limit)).to_bitmask() == 0
 }
 
-// Whether each of sixteen numbers or more is below a limit. The last block may overlap the one before it:
-// lines are short, and reading the rest one by one would cost more than the blocks.
+// Returns whether each number is below a limit. There are at least sixteen. The last block may overlap the one
+// before it: lines are short, and reading the rest one by one would cost more than the blocks.
 fn all_below_by_blocks(numbers: &[u8], limit: u8) -> bool
     requires { 16 ≤ length numbers.now }
     ensures { result ≡ list_all (λ n. nat_lt n limit) numbers.now }
@@ -108,7 +108,7 @@ fn all_below_by_blocks(numbers: &[u8], limit: u8) -> bool
     sixteen_below(numbers, last, limit)
 }
 
-/// Returns whether each number is below a limit. It reads sixteen numbers at a time.
+/// Returns whether each number is below a limit. Reads sixteen numbers at a time.
 pub fn all_below(numbers: &[u8], limit: u8) -> bool
     ensures { result ≡ list_all (λ n. nat_lt n limit) numbers.now }
 {
@@ -119,14 +119,14 @@ pub fn all_below(numbers: &[u8], limit: u8) -> bool
     }
 }
 
-/// Refuses numbers of which one stands for no class.
+/// Returns `BadClass` unless each number is that of a class.
 pub fn check_classes(numbers: &[u8]) -> Result<(), Fault>
     ensures { result_err result ≡ fault_unless (list_all is_class numbers.now) Fault.BadClass }
 {
     check(all_below(numbers, CLASSES), Fault::BadClass)
 }
 
-/// The base level that a number asks for.
+/// Returns the base level of a number: none for 255, and `BadBaseLevel` for 126 to 254.
 pub fn base_level(number: u8) -> Result<Option<Level>, Fault>
     ensures fault { result_err result ≡ fault_unless (is_base number) Fault.BadBaseLevel }
     ensures level { IfOk result (λ base. base ≡ base_of number) }
@@ -140,7 +140,9 @@ pub fn base_level(number: u8) -> Result<Option<Level>, Fault>
     }
 }
 
-/// The split rule that a number asks for, none for 0.
+/// Returns the split rule of a number.
+///
+/// 0 is none, 1 is `EachSeparator`, and 2 is `CrLfTogether`. Any other number is `BadSplit`.
 pub fn split_rule(number: u8) -> Result<Option<SplitRule>, Fault>
     ensures fault { result_err result ≡ fault_unless (is_split number) Fault.BadSplit }
     ensures rule { IfOk result (λ split. split ≡ split_of number) }

@@ -1,6 +1,6 @@
-//! What crosses the border in rows: plain structs as C lays them out.
+//! The rows that callers in other languages read and write: plain structs with the layout of C.
 
-/// A paragraph: the units that it takes, and its level.
+/// A paragraph: its range of code units, and its level.
 #[repr(C)]
 #[derive(Clone, Copy, Debug, PartialEq)]
 pub struct Paragraph {
@@ -9,7 +9,7 @@ pub struct Paragraph {
     pub level: u8,
 }
 
-/// A visual run: the units that it takes, and their level after L1.
+/// A visual run: its range of code units, and their level after L1.
 #[repr(C)]
 #[derive(Clone, Copy, Debug, PartialEq)]
 pub struct Run {
@@ -27,7 +27,7 @@ pub struct ClassRange {
     pub class: u8,
 }
 
-/// A pair of brackets, and the opening one's normal form, itself where it has no other.
+/// A pair of brackets, and the normal form of the opening one, or itself if it has none.
 #[repr(C)]
 #[derive(Clone, Copy, Debug, PartialEq)]
 pub struct BracketPair {

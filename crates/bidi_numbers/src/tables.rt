@@ -1,4 +1,4 @@
-//! A data source over tables of the caller's.
+//! A data source that reads the caller's tables.
 ghost use Rattle.std.specs.Prelude.{◌≡◌, true, map, IsTrue, IfOk, None};
 ghost use Rattle.std.specs.List.{list_all};
 ghost use Rattle.bidi_base.specs.Source.{table_fault, table_source};
@@ -14,28 +14,28 @@ use bidi_base::char_data::BidiClass;
 use bidi_base::data_source::TableBidiData;
 use std::alloc::{AllocError, Global};
 
-/// The rows of a table of ranges and of one of brackets, as the library reads them.
+/// The rows of a table of classes and a table of brackets, in the types of the library.
 #[derive(Drop)]
 pub struct Tables {
     ranges: Vec<(char, char, BidiClass)>,
     brackets: Vec<(char, char, Option<char>)>,
 }
 
-// Whether the ends of a range are characters.
+// Returns whether both ends of a range are scalar values.
 fn has_scalars(range: &ClassRange) -> bool
     ensures { result ≡ has_scalars range.now }
 {
     is_scalar(range.first) && is_scalar(range.last)
 }
 
-// Whether the members of a pair are characters.
+// Returns whether all members of a pair are scalar values.
 fn has_brackets(pair: &BracketPair) -> bool
     ensures { result ≡ has_brackets pair.now }
 {
     is_scalar(pair.opening) && is_scalar(pair.closing) && is_scalar(pair.normal_form)
 }
 
-// A range as the library reads it.
+// Returns a range in the types of the library.
 fn range_of(range: &ClassRange) -> (char, char, BidiClass)
     requires { IsTrue (has_scalars range.now) }
     ensures { result ≡ range_of range.now }
@@ -47,7 +47,7 @@ fn range_of(range: &ClassRange) -> (char, char, BidiClass)
     )
 }
 
-// A pair as the library reads it.
+// Returns a pair in the types of the library.
 fn bracket_of(pair: &BracketPair) -> (char, char, Option<char>)
     requires { IsTrue (has_brackets pair.now) }
     ensures { result ≡ bracket_of pair.now }
@@ -60,7 +60,7 @@ fn bracket_of(pair: &BracketPair) -> (char, char, Option<char>)
     )
 }
 
-// Ranges as the library reads them.
+// Returns ranges in the types of the library.
 fn ranges_of(alloc: Global, rows: &[ClassRange]) -> Result<Vec<(char, char, BidiClass)>, AllocError>
     requires { list_all has_scalars rows.now ≡ true }
     ensures { IfOk result (λ v. v.items ≡ map range_of rows.now) }
@@ -72,7 +72,7 @@ fn ranges_of(alloc: Global, rows: &[ClassRange]) -> Result<Vec<(char, char, Bidi
     Ok(ranges)
 }
 
-// Pairs as the library reads them.
+// Returns pairs in the types of the library.
 fn brackets_of(
     alloc: Global,
     rows: &[BracketPair],
@@ -87,21 +87,21 @@ fn brackets_of(
     Ok(brackets)
 }
 
-// Whether all ends of ranges are characters.
+// Returns whether all ends of all ranges are scalar values.
 fn all_have_scalars(rows: &[ClassRange]) -> bool
     ensures { result ≡ list_all has_scalars rows.now }
 {
     rows.iter().all(has_scalars)
 }
 
-// Whether all members of pairs are characters.
+// Returns whether all members of all pairs are scalar values.
 fn all_have_brackets(rows: &[BracketPair]) -> bool
     ensures { result ≡ list_all has_brackets rows.now }
 {
     rows.iter().all(has_brackets)
 }
 
-// Whether the numbers of all ranges stand for classes.
+// Returns whether the numbers of all ranges are those of classes.
 fn all_have_classes(rows: &[ClassRange]) -> bool
     ensures { result ≡ list_all has_class rows.now }
 {
@@ -109,7 +109,9 @@ fn all_have_classes(rows: &[ClassRange]) -> bool
 }
 
 impl Tables {
-    /// Reads the rows.
+    /// Checks and converts the rows of both tables.
+    ///
+    /// Returns `NotScalar` if an entry is not a scalar value, and `BadClass` if a number is not that of a class.
     pub fn new(
         alloc: Global,
         ranges: &[ClassRange],
@@ -128,7 +130,7 @@ impl Tables {
         })
     }
 
-    /// The source over them.
+    /// Returns the data source, or `BadRanges` if a range is reversed or the ranges do not ascend.
     pub fn source(&self) -> Result<TableBidiData<'_>, Fault>
         ensures fault { FaultsAs result (order_fault self.now.ranges.items) }
         ensures source { IfOk result (λ t. source_of t ≡ table_source self.now.ranges.items self.now.brackets.items) }

@@ -1,4 +1,4 @@
-//! Texts as they come: bytes, units and numbers of characters.
+//! Texts as callers in other languages pass them: bytes, code units and numbers of characters.
 ghost use Rattle.std.specs.Prelude.{◌≡◌, ℕ, ◌<◌, ◌≤◌, IsTrue, IsUtf8, IfOk, MatchResult, length, slice_get, List, true};
 ghost use Rattle.std.specs.List.{list_all};
 ghost use Rattle.bidi_numbers.specs.Texts.{is_scalar, goes_on};
@@ -6,7 +6,7 @@ ghost use Rattle.bidi_numbers.specs.Texts.{is_scalar, goes_on};
 use crate::fault::Fault;
 use std::alloc::{AllocError, Global};
 
-/// The text of bytes that are UTF-8.
+/// Returns bytes as a text, or `NotUtf8` if they are not UTF-8.
 pub fn utf8(bytes: &[u8]) -> Result<&str, Fault>
     ensures { MatchResult result
         (λ text. (text.now ≡ bytes.now) × IsUtf8 bytes.now)
@@ -15,26 +15,26 @@ pub fn utf8(bytes: &[u8]) -> Result<&str, Fault>
     if !simdutf8::is_utf8(bytes) {
         return Err(Fault::NotUtf8);
     }
-    // `from_utf8` of `simdutf8` reads fewer than 64 bytes one by one, and the text of a line is often
-    // that short.
+    // This does not use `from_utf8` of `simdutf8`: it reads fewer than 64 bytes one by one, and lines are often that
+    // short.
     Ok(unsafe { std::str::from_utf8_unchecked(bytes) })
 }
 
-/// Whether a character of UTF-8 goes on at an index.
+/// Returns whether the byte at an index continues a character of UTF-8.
 pub fn goes_on(bytes: &[u8], index: usize) -> bool
     ensures { result ≡ goes_on bytes.now index }
 {
     index < bytes.len() && 0x80 <= bytes[index] && bytes[index] < 0xC0
 }
 
-/// Whether a number is a scalar value.
+/// Returns whether a number is a scalar value.
 pub fn is_scalar(number: u32) -> bool
     ensures { result ≡ is_scalar number }
 {
     number < 0xD800 || 0xE000 <= number && number <= 0x10FFFF
 }
 
-/// Whether each number is a scalar value. It reads all of them, so that it needs no branch for each.
+/// Returns whether each number is a scalar value. Reads all numbers, so that the loop needs no branch.
 pub fn all_scalar(numbers: &[u32]) -> bool
     ensures { result ≡ list_all is_scalar numbers.now }
 {
@@ -45,7 +45,7 @@ pub fn all_scalar(numbers: &[u32]) -> bool
     all
 }
 
-/// The character of a scalar value.
+/// Returns the character with a scalar value.
 pub fn char_of(number: u32) -> char
     requires { is_scalar number ≡ true }
     ensures { result ≡ number }
@@ -56,7 +56,7 @@ pub fn char_of(number: u32) -> char
     }
 }
 
-/// The characters of scalar values.
+/// Returns the characters with these scalar values.
 pub fn chars_of(alloc: Global, numbers: &[u32]) -> Result<Vec<char>, AllocError>
     requires { list_all is_scalar numbers.now ≡ true }
     ensures { IfOk result (λ v. v.items ≡ numbers.now) }

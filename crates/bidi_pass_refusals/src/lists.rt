@@ -11,7 +11,7 @@ use bidi_trials::trial::Fault;
 use bidi_trials::tried;
 use bidi_vectors_rules::conditions::{are_directed, are_kept, are_left, is_side};
 
-// The classes of characters, their classes under overrides, and their brackets.
+// The characters' classes, their classes under overrides, and their brackets.
 #[derive(Clone, Copy)]
 struct Characters {
     classes: [BidiClass; LENGTH],
@@ -19,7 +19,7 @@ struct Characters {
     brackets: [Option<BidiMatchedOpeningBracket>; LENGTH],
 }
 
-// Those of the text.
+// Reads the characters of the text.
 fn read_text(source: &TableBidiData<'_>) -> Characters {
     let mut read = Characters {
         classes: [L; LENGTH],
@@ -33,7 +33,7 @@ fn read_text(source: &TableBidiData<'_>) -> Characters {
     read
 }
 
-// The characters of the text at these places, and how many they are.
+// Returns the characters of the text at these indexes, and their number.
 fn gathered(text: &Characters, overridden: &[BidiClass], places: &[usize]) -> (Characters, usize) {
     let mut read = *text;
     let mut count = 0;
@@ -48,7 +48,7 @@ fn gathered(text: &Characters, overridden: &[BidiClass], places: &[usize]) -> (C
     (read, count)
 }
 
-// The rules within a sequence.
+// Tries the rules that resolve a sequence.
 fn try_sequence(
     rt: &(impl Print + AllocGlobal),
     text: &Characters,

@@ -1,5 +1,6 @@
-//! Makes each call of the rules over lists and of the passes in place that takes memory three times, and
-//! sees that a refusal changes no other answer.
+//! Makes each call that allocates three times, and tests that a failed allocation changes no other result.
+//!
+//! The calls are those of the rules over lists and of the passes in place.
 #![tactic(auto)]
 
 mod lists;

@@ -18,17 +18,17 @@ use std::marker::Brand;
 use std::sync::ledger::{Blank, Ledger};
 use unicode_bidi::InitialInfo;
 
-// The most units that a text here has.
+// The maximum number of code units of a text here.
 const ROOM: usize = 256;
 
-// What the passes write: levels and classes, one a unit.
+// The output of the passes: the level and the class of each code unit.
 #[derive(Clone, Copy, PartialEq)]
 struct Units {
     levels: [Level; ROOM],
     classes: [BidiClass; ROOM],
 }
 
-// A text with its stored classes, one a unit, and whether one of them is an initiator.
+// A text, the stored class of each code unit, and whether one of these is an initiator.
 #[derive(Clone, Copy)]
 struct Classified<'a> {
     text: StrText<'a>,
@@ -36,7 +36,7 @@ struct Classified<'a> {
     has_isolate_controls: bool,
 }
 
-// The explicit levels and the sequences of a paragraph. The slices get levels and classes.
+// Returns the sequences of a paragraph, and writes its explicit levels and its classes to the slices.
 fn prepare(
     alloc: Global,
     text: StrText,
@@ -79,7 +79,7 @@ fn prepare(
     Ok(sequences)
 }
 
-// What the first two passes make of a text.
+// Runs the first two passes on a text.
 fn prepared(
     alloc: Global,
     of: Classified<'_>,
@@ -106,7 +106,7 @@ fn prepared(
     Ok((units, sequences))
 }
 
-// What the first pass alone makes of it.
+// Runs only the first pass on a text.
 fn computed(alloc: Global, of: Classified<'_>) -> Result<(Units, LevelRunVec), NoAnswer> {
     let count = of.classes.len();
     if count > ROOM || !is_per_char(of.text, of.classes) {
@@ -131,7 +131,7 @@ fn computed(alloc: Global, of: Classified<'_>) -> Result<(Units, LevelRunVec), N
     Ok((units, runs))
 }
 
-// The same, with its steps counted in a ledger that this blank opens.
+// Runs the first pass on a text, and counts its steps in the ledger that this blank opens.
 fn computed_by<S: Ledger>(
     alloc: Global,
     of: Classified<'_>,
@@ -166,12 +166,12 @@ fn computed_by<S: Ledger>(
     Ok((units, runs))
 }
 
-// The same, with its steps counted.
+// Runs the first pass on a text, and counts its steps.
 fn computed_counted(alloc: Global, of: Classified<'_>) -> Result<(Units, LevelRunVec), NoAnswer> {
     computed_by::<Brand>(alloc, of, Blank::new(1))
 }
 
-// The units with the weak types of a sequence resolved, which takes no memory.
+// Resolves the weak types of a sequence, which does not allocate, and returns the code units.
 fn with_weak(
     of: Classified<'_>,
     sequence: &IsolatingRunSequence,
@@ -186,7 +186,7 @@ fn with_weak(
     Ok(units)
 }
 
-// Resolves the neutrals of a sequence in place, by a resolver or by the call alone.
+// Resolves the neutrals of a sequence in place, by `resolver` or, without one, by the plain call.
 fn resolve(
     alloc: Global,
     text: StrText,
@@ -213,7 +213,8 @@ fn resolve(
     Ok(())
 }
 
-// The units with the neutrals of a sequence resolved. A refusal has to leave the classes.
+// Resolves the neutrals of a sequence, and returns the code units. A failed allocation must leave the classes
+// unchanged.
 fn with_neutrals(
     alloc: Global,
     of: Classified<'_>,
@@ -246,7 +247,7 @@ fn with_neutrals(
     }
 }
 
-// The units with their implicit levels, which take no memory, and the greatest of these.
+// Resolves the implicit levels, which does not allocate. Returns the code units and the maximum level.
 fn with_implicit(of: Classified<'_>, before: &Units) -> Result<(Units, Level), NoAnswer> {
     let mut units = *before;
     let count = of.classes.len();
@@ -261,7 +262,7 @@ fn with_implicit(of: Classified<'_>, before: &Units) -> Result<(Units, Level), N
     Ok((units, greatest))
 }
 
-// The weak types of a sequence.
+// Tries the weak types of a sequence.
 fn try_weak(
     rt: &impl Print,
     of: Classified<'_>,
@@ -272,7 +273,7 @@ fn try_weak(
     Ok(())
 }
 
-// The neutrals of a sequence, by a resolver and by the call alone.
+// Tries the neutrals of a sequence, by a resolver and by the plain call.
 fn try_neutrals(
     rt: &(impl Print + AllocGlobal),
     of: Classified<'_>,
@@ -294,7 +295,7 @@ fn try_neutrals(
     Ok(())
 }
 
-// The passes over a text, one after the other.
+// Tries the passes on a text, one after another.
 fn try_passes(
     rt: &(impl Print + AllocGlobal),
     source: &TableBidiData<'_>,
@@ -322,7 +323,7 @@ fn try_passes(
     Ok(())
 }
 
-/// Tries the passes over a text with isolates, and over one without.
+/// Tries the passes on a text with isolates, and on one without.
 pub fn run(rt: &(impl Print + AllocGlobal), source: &TableBidiData<'_>) -> Result<(), Fault> {
     for (text, has_isolate_controls) in [(TEXT, true), (WITHOUT_ISOLATES, false)] {
         let info = tried!(

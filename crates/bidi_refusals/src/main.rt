@@ -1,4 +1,4 @@
-//! Makes each call over UTF-8 that takes memory three times, and sees that a refusal changes no other answer.
+//! Makes each call over UTF-8 that allocates three times, and tests that a failed allocation changes no other result.
 #![tactic(auto)]
 
 mod utf8;

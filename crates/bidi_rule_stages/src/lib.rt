@@ -1,4 +1,4 @@
-//! What each stage of the rules makes of the characters of a paragraph.
+//! The result of each stage of the rules for the characters of a paragraph.
 #![tactic(auto)]
 
 pub mod stages;

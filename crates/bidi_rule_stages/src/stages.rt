@@ -1,4 +1,4 @@
-//! What the rules make of a paragraph, stage by stage.
+//! The results of the rules for a paragraph, stage by stage.
 ghost use Rattle.std.specs.Prelude.{◌≡◌, ◌<◌, ◌≤◌, None, map, length, vec_len, zip, All, IfOk, IfSome};
 ghost use Rattle.bidi_base.specs.Isolates.{stored_classes};
 ghost use Rattle.bidi_base.specs.Places.{at_places, first_or};
@@ -17,8 +17,9 @@ use bidi_text::text::CharsText;
 use std::alloc::{AllocError, Global};
 use unicode_bidi::{ParagraphInfo, engine};
 
-/// What each stage of the rules makes of a paragraph. Where nothing else is said, a list has one entry
-/// a character.
+/// The result of each stage of the rules for a paragraph.
+///
+/// A list has one entry for each character, unless its field says otherwise.
 #[derive(Drop)]
 pub struct Stages {
     /// The level of the paragraph (P2, P3).
@@ -29,21 +30,21 @@ pub struct Stages {
     pub explicit: Explicit,
     /// The isolating run sequences (X10).
     pub sequences: Vec<PlainSequence>,
-    /// The classes after W7, none where X9 removes the character.
+    /// The classes after W7, or none for a character that X9 removes.
     pub weak: Vec<Option<BidiClass>>,
-    /// The classes after N2, none where X9 removes the character.
+    /// The classes after N2, or none for a character that X9 removes.
     pub neutral: Vec<Option<BidiClass>>,
     /// The levels after I1 and I2.
     pub levels: Vec<Level>,
-    /// The levels after L1, where the paragraph is one line.
+    /// The levels after L1, if the paragraph is one line.
     pub line_levels: Vec<Level>,
-    /// At each visual place the index of the character that stands there (L2).
+    /// The visual order: for each visual place, the index of the character there (L2).
     pub order: Vec<usize>,
     /// The visual place of each character.
     pub places: Vec<usize>,
 }
 
-/// The classes at some places.
+/// Returns the classes at some indexes.
 fn classes_at(
     alloc: Global,
     classes: &[BidiClass],
@@ -59,7 +60,7 @@ fn classes_at(
     Ok(found)
 }
 
-/// The brackets at some places.
+/// Returns the brackets at some indexes.
 fn brackets_at(
     alloc: Global,
     brackets: &[Option<BidiMatchedOpeningBracket>],
@@ -75,7 +76,7 @@ fn brackets_at(
     Ok(found)
 }
 
-/// What is known of the characters of a paragraph before W1.
+/// The characters of a paragraph before W1.
 #[derive(Clone, Copy)]
 struct Characters<'p> {
     source: &'p [BidiClass],
@@ -84,7 +85,7 @@ struct Characters<'p> {
     levels: &'p [Level],
 }
 
-/// What W1 to W7 leave of a sequence.
+/// Returns the classes of a sequence after W1 to W7.
 fn weak_of(
     alloc: Global,
     paragraph: Characters<'_>,
@@ -99,7 +100,7 @@ fn weak_of(
     Ok(weak)
 }
 
-/// The level at the first of some places.
+/// Returns the level at the first of some indexes.
 fn first_level_at(levels: &[Level], places: &[usize]) -> Level
     requires some { 0 < length places.now }
     requires within { All (λ p. p < length levels.now) places.now }
@@ -108,7 +109,7 @@ fn first_level_at(levels: &[Level], places: &[usize]) -> Level
     levels[places[0]]
 }
 
-/// What N0 to N2 leave of a sequence.
+/// Returns the classes of a sequence after N0 to N2.
 fn neutral_of(
     alloc: Global,
     paragraph: Characters<'_>,
@@ -140,7 +141,7 @@ fn neutral_of(
     Ok(neutral)
 }
 
-/// Writes what a sequence gives its characters.
+/// Writes the classes of a sequence's characters to their places.
 fn write_row(row: &mut Vec<Option<BidiClass>>, places: &[usize], values: &[BidiClass])
     requires within { All (λ p. p < vec_len row.old) places.now }
     requires long { length values.now ≡ length places.now }
@@ -151,7 +152,7 @@ fn write_row(row: &mut Vec<Option<BidiClass>>, places: &[usize], values: &[BidiC
     }
 }
 
-/// What each isolating run sequence gives its characters after W7, and after N2.
+/// The classes of a paragraph's characters after W7, and after N2.
 #[derive(Drop)]
 struct Resolved {
     weak: Vec<Option<BidiClass>>,
@@ -188,7 +189,7 @@ fn resolve(
     })
 }
 
-/// The level of the first paragraph.
+/// Returns the level of the first paragraph.
 fn first_level(paragraphs: &[ParagraphInfo]) -> Level
     ensures { result ≡ first_or 0 (levels_of paragraphs.now) }
 {
@@ -198,7 +199,7 @@ fn first_level(paragraphs: &[ParagraphInfo]) -> Level
     }
 }
 
-/// The classes of characters.
+/// Returns the classes of characters.
 fn classes_of<D: BidiDataSource>(
     alloc: Global,
     data_source: &D,
@@ -212,7 +213,7 @@ fn classes_of<D: BidiDataSource>(
         .collect(alloc)
 }
 
-/// The brackets that characters are.
+/// Returns the bracket of each character, if it is one.
 fn brackets_of<D: BidiDataSource>(
     alloc: Global,
     data_source: &D,
@@ -226,8 +227,8 @@ fn brackets_of<D: BidiDataSource>(
         .collect(alloc)
 }
 
-/// What each stage makes of a paragraph, by its level, and the classes and levels that are stored for
-/// its characters.
+/// Returns the result of each stage, given the level of a paragraph, and the stored classes and levels of its
+/// characters.
 fn stages_of<D: BidiDataSource>(
     alloc: Global,
     data_source: &D,
@@ -269,8 +270,9 @@ fn stages_of<D: BidiDataSource>(
     })
 }
 
-/// What each stage of the rules makes of a paragraph, taken by itself, at a base level, which is at most
-/// 125, or at the level that its characters give it (P2, P3).
+/// Returns the result of each stage of the rules for a paragraph by itself.
+///
+/// `base` is the level of the paragraph, at most 125. If it is `None`, the characters decide (P2, P3).
 pub fn find_stages<D: BidiDataSource>(
     alloc: Global,
     data_source: &D,

@@ -1,10 +1,10 @@
-//! The base level that a word names.
+//! The base level that an argument names.
 use bidi_base::level::{LTR_LEVEL, Level, RTL_LEVEL};
 
-/// A base level as a word names it.
+/// A base level, as an argument names it.
 #[derive(Clone, Copy, Debug, PartialEq)]
 pub enum Base {
-    /// None: each paragraph finds its own level (P2, P3).
+    /// None: each paragraph gets its level from its characters (P2, P3).
     Auto,
     /// Left to right, level 0.
     Ltr,
@@ -16,7 +16,7 @@ impl Base {
     ghost use Rattle.std.specs.Prelude.{◌≡◌};
     ghost use Rattle.bidi_terminal.specs.Bases.{base_named, level_of_base};
 
-    /// The base level that a word names: `auto`, `ltr` or `rtl`. `None` for every other word.
+    /// Returns the base level that an argument names: `auto`, `ltr` or `rtl`. Returns `None` for any other argument.
     pub fn parse(word: &str) -> Option<Base>
         ensures { result ≡ base_named word.now }
     {
@@ -28,7 +28,7 @@ impl Base {
         }
     }
 
-    /// The base level, where there is one.
+    /// Returns the base level, or `None` for `Auto`.
     pub fn level(self) -> Option<Level>
         ensures { result ≡ level_of_base self }
     {

@@ -2,8 +2,9 @@
 use unicode_bidi::layout::CharWidth;
 use unicode_width::UnicodeWidthChar;
 
-/// The columns that characters take in a terminal: two for a wide character, none for a nonspacing
-/// mark and for a control.
+/// The number of columns that a character takes in a terminal.
+///
+/// A wide character takes two columns. A nonspacing mark and a control take none.
 #[derive(Clone, Copy, Debug, Default)]
 pub struct Columns;
 

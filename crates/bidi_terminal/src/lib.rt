@@ -1,5 +1,5 @@
-//! What programs at a terminal share: the base levels and the numbers that words name, numbers in
-//! decimal, and the columns that characters take.
+//! Shared code of terminal programs: base levels and numbers in arguments, decimal numbers, and the columns of
+//! characters.
 #![tactic(auto)]
 
 mod base;

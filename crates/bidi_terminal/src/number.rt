@@ -1,4 +1,4 @@
-//! Numbers as words write them.
+//! Decimal numbers, read and written.
 ghost use Rattle.std.specs.Prelude.{◌≡◌, ◌++◌, decimal, OnOk, string_bytes};
 ghost use Rattle.std.specs.Char.{is_ascii_digit};
 ghost use Rattle.std.specs.List.{list_all};
@@ -7,15 +7,14 @@ ghost use Rattle.bidi_terminal.specs.Numbers.{number_of};
 use itoa::Buffer;
 use std::alloc::AllocError;
 
-// Whether a word has digits alone.
+// Returns whether an argument has only digits.
 fn is_digits(word: &str) -> bool
     ensures { result ≡ list_all is_ascii_digit word.now }
 {
     word.bytes().all(|byte| byte.is_ascii_digit())
 }
 
-/// The number that a word of one to three digits writes, with or without leading zeros. `None` for
-/// every other word.
+/// Returns the number of one to three digits, with or without leading zeros. Returns `None` for any other argument.
 pub fn parse_number(word: &str) -> Option<u16>
     ensures { result ≡ number_of word.now }
 {

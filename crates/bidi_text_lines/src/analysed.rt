@@ -1,4 +1,4 @@
-//! A text with its stored classes and levels, and what its lines show, whatever its encoding.
+//! A text in any encoding, with its stored classes and levels, and what its lines show.
 ghost use Rattle.std.specs.Prelude.{◌≡◌, ◌<◌, IsTrue, IfOk, map};
 ghost use Rattle.bidi_base.specs.Analysed.{IsLineOf, AreLevelsWithLine, AreLevelsOfLine, AreRunsOfLine, levels_with_line_per_char};
 ghost use Rattle.bidi_base.specs.Direction.{direction_of_levels};
@@ -18,9 +18,8 @@ use std::ops::Range;
 
 /// A text with the stored class (X5c) and the stored level of each code unit.
 ///
-/// A line is a range of code units. Both its ends have to begin a character or be the text's length
-/// (see `is_line`), and the level that is handed in with it is its paragraph's. Where memory is refused
-/// nothing has changed.
+/// A line is a range of code units that cuts no character (see `is_line`). The level that is passed with it is
+/// the level of its paragraph.
 #[derive(PartialEq, Debug, Drop)]
 pub struct Analysed<T: TextSource> {
     text: T,
@@ -34,7 +33,7 @@ pub struct Analysed<T: TextSource> {
 impl<T: TextSource> Analysed<T> {
     ghost use Rattle.bidi_text_lines.specs.Analysed.{analysed, text_of};
 
-    /// A text with its classes and levels, one a code unit. The units of a character have to agree.
+    /// Returns a text with one class and one level for each code unit, which must be equal within each character.
     pub fn new(text: T, original_classes: Vec<BidiClass>, levels: Vec<Level>) -> Analysed<T>
         requires classes { IsTrue (is_per_char ⟦<BidiClass as PartialEq>⟧.eq T.units (T.characters text) original_classes.items) }
         requires levels { IsTrue (is_per_char ⟦<Level as PartialEq>⟧.eq T.units (T.characters text) levels.items) }
@@ -49,14 +48,14 @@ impl<T: TextSource> Analysed<T> {
         }
     }
 
-    /// The text.
+    /// Returns the text.
     pub fn text(&self) -> T
         ensures { result ≡ text_of self.now }
     {
         self.text
     }
 
-    /// The class of each unit.
+    /// Returns the stored class of each code unit.
     pub fn original_classes(&self) -> &[BidiClass]
         ensures classes { result.now ≡ (analysed self.now).classes }
         ensures per_char { let a = analysed self.now in
@@ -65,7 +64,7 @@ impl<T: TextSource> Analysed<T> {
         self.original_classes.as_slice()
     }
 
-    /// The level of each unit.
+    /// Returns the stored level of each code unit.
     pub fn levels(&self) -> &[Level]
         ensures levels { result.now ≡ (analysed self.now).levels }
         ensures per_char { let a = analysed self.now in IsTrue (is_per_char ⟦<Level as PartialEq>⟧.eq a.len_of a.chars result.now) }
@@ -73,21 +72,21 @@ impl<T: TextSource> Analysed<T> {
         self.levels.as_slice()
     }
 
-    /// Whether some level is odd.
+    /// Returns whether some level is odd.
     pub fn has_rtl(&self) -> bool
         ensures { result ≡ has_rtl_of (analysed self.now).levels }
     {
         has_rtl(self.levels.as_slice())
     }
 
-    /// The direction of the levels.
+    /// Returns the direction of the levels.
     pub fn direction(&self) -> Direction
         ensures { result ≡ direction_of_levels (analysed self.now).levels }
     {
         direction_of(self.levels.as_slice())
     }
 
-    /// The levels of the text's units, those of the line after L1.
+    /// Returns the level of each code unit of the text: after L1 in the line, and as stored outside it.
     pub fn reordered_levels(
         &self,
         alloc: Global,
@@ -100,7 +99,7 @@ impl<T: TextSource> Analysed<T> {
         levels_with_line(alloc, level, self.original_classes(), self.levels(), line)
     }
 
-    /// The levels of the text's characters, those of the line after L1.
+    /// Returns the level of each character of the text: after L1 in the line, and as stored outside it.
     pub fn reordered_levels_per_char(
         &self,
         alloc: Global,
@@ -114,8 +113,9 @@ impl<T: TextSource> Analysed<T> {
         levels_per_char(alloc, self.text, level, classes, self.levels(), line)
     }
 
-    /// The levels of the text's units, those of the line after L1, and the line's level runs (BD7)
-    /// from left to right (L2), as ranges of code units.
+    /// Returns the level of each code unit of the text, and the level runs (BD7) of the line from left to right (L2).
+    ///
+    /// The levels are those after L1 in the line, and the stored ones outside it. Runs are ranges of code units.
     pub fn visual_runs(
         &self,
         alloc: Global,
@@ -129,7 +129,7 @@ impl<T: TextSource> Analysed<T> {
         levels_and_runs(alloc, level, self.original_classes(), self.levels(), line)
     }
 
-    /// The levels of the line's units after L1.
+    /// Returns the level of each code unit of the line after L1.
     pub fn line_levels(
         &self,
         alloc: Global,
@@ -142,9 +142,9 @@ impl<T: TextSource> Analysed<T> {
         levels_of_line(alloc, level, self.original_classes(), self.levels(), line)
     }
 
-    /// The line's level runs (BD7) from left to right (L2), as ranges of code units.
+    /// Returns the level runs (BD7) of the line from left to right (L2), as ranges of code units of the text.
     ///
-    /// A line of up to 256 code units with up to 16 runs allocates the list of runs alone.
+    /// A line of up to 256 code units with up to 16 runs allocates only the list of runs.
     pub fn line_runs(
         &self,
         alloc: Global,

@@ -5,7 +5,10 @@ ghost use Rattle.bidi_base.specs.Direction.{direction_of_levels};
 use bidi_base::char_data::Direction;
 use bidi_base::level::Level;
 
-/// Left to right if there are levels and all are even, right to left if none is even, else mixed.
+/// Returns the direction of a list of levels.
+///
+/// It is right to left if no level is even, left to right if none is odd, and mixed otherwise. An empty list is
+/// right to left.
 pub fn direction_of(levels: &[Level]) -> Direction
     ensures { result ≡ direction_of_levels levels.now }
 {

@@ -22,15 +22,15 @@ mod turned;
 mod utf16;
 mod utf8;
 
-/// A text whose lines are written from left to right, run by run.
+/// A text that can write its lines from left to right, run by run.
 pub trait LineText: TextSource {
     /// A code unit: `u8` in UTF-8, `u16` in UTF-16, `char` in a list of characters.
     type Unit: Copy;
 
-    /// The code units of a text.
+    /// Returns the code units of a text.
     ghost units_of: { Self → List Self.Unit };
 
-    /// How a character is written at an odd level.
+    /// Returns the code units that a character is written as at an odd level.
     ghost encode: { ℕ → List Self.Unit };
 
     /// Writes the code units of a run unchanged.
@@ -50,10 +50,9 @@ pub trait LineText: TextSource {
 
 /// Writes the runs of a line to `out`, in the order of `runs`.
 ///
-/// The line begins at the code unit `start` of the text. `levels` are the levels of its code units
-/// after L1, and the lengths of the runs add up to their number. A run at an even level is copied, and
-/// the characters of a run at an odd level are reversed (L2). Takes time linear in the line, and does
-/// not allocate.
+/// Copies a run at an even level, and reverses the characters of a run at an odd level (L2). The line begins at
+/// the code unit `start` of the text. `levels` has the level of each code unit of the line after L1. The lengths
+/// of the runs add up to the line's length. Takes time linear in the line, and does not allocate.
 pub fn write_runs<T: LineText>(
     text: T,
     start: usize,
@@ -80,8 +79,8 @@ pub fn write_runs<T: LineText>(
     }
 }
 
-// Writes the text of a line, whose levels after L1 are given, from left to right (L2). If an allocation fails,
-// nothing is written.
+// Writes the text of a line from left to right (L2), given its levels after L1. If an allocation fails, writes
+// nothing.
 fn write_shown<T: LineText>(
     alloc: Global,
     text: T,
@@ -111,10 +110,11 @@ fn write_shown<T: LineText>(
     Ok(())
 }
 
-/// Writes the text of a line from left to right (L2). The line is a range of code units of the text.
+/// Writes the text of a line from left to right (L2).
 ///
-/// `classes` and `levels` are those stored for its code units, and `level` is the paragraph's. A line of up
-/// to 256 code units with up to 16 runs needs no allocation. If an allocation fails, nothing is written.
+/// The line is a range of code units of the text. `classes` and `levels` are the stored ones of these code units,
+/// and `level` is the paragraph level. A line of up to 256 code units with up to 16 runs needs no allocation. If
+/// an allocation fails, writes nothing.
 pub fn write_line<T: LineText, C: ClassList, L: LevelList>(
     alloc: Global,
     text: T,
@@ -146,8 +146,8 @@ pub fn write_line<T: LineText, C: ClassList, L: LevelList>(
 impl<T: LineText> Analysed<T> {
     ghost use Rattle.bidi_text_lines.specs.Analysed.{analysed, text_of};
 
-    // The text of a line from left to right. `None`, with nothing allocated for it, if no level of the
-    // line is odd after L1: then the line shows its units unchanged. `blank` is any unit.
+    // Returns the text of a line from left to right. If no level of the line is odd after L1, the line stays in order:
+    // returns `None`, and does not allocate. `blank` may be any code unit.
     fn turned_line(
         &self,
         alloc: Global,

@@ -1,4 +1,4 @@
-//! A line of a text as it is shown, in memory that is used again for the next line.
+//! A line of a text as it is displayed, in memory that is reused for the next line.
 ghost use Rattle.std.specs.Prelude.{◌≡◌, ℕ, ◌+◌, ◌-◌, ◌≤◌, List, [], ◌++◌, length, take, map, IsTrue, OnOk, OnErr, ◌↔◌};
 ghost use Rattle.std.specs.declared.ops.Range.{Range as RangeOf};
 ghost use Rattle.bidi_base.specs.Analysed.{AnalysedText, IsLineOf, AreLevelsOfLine, AreRunsOfLine, StaysInOrder, line_levels_per_char};
@@ -13,7 +13,7 @@ ghost use Rattle.bidi_text_lines.specs.Written.{shown_units, AreRunsOfChars};
 use crate::analysed::Analysed;
 use crate::line_text::{LineText, write_runs};
 use bidi_base::char_data::BidiClass;
-use bidi_base::level::{LTR_LEVEL, Level, has_rtl};
+use bidi_base::level::{Level, has_rtl};
 use bidi_lines::line_levels::write_first_units;
 use bidi_lines::shown_levels::ShownLevels;
 use bidi_lines::visual_order::write_visual_order;
@@ -26,7 +26,7 @@ mod chars;
 mod utf16;
 mod utf8;
 
-// Writes the level of each character of a text, that of its first unit.
+// Replaces a list by the level of each character of a text: that of its first unit.
 fn gather_levels<T: TextSource>(
     text: T,
     levels: &[Level],
@@ -35,13 +35,14 @@ fn gather_levels<T: TextSource>(
     requires { length levels.now ≡ text_len T.units (T.characters text) }
     ensures { OnOk result (of_chars.new.items ≡ per_char 0 T.units (T.characters text) levels.now) }
 {
-    of_chars.resize(levels.len(), LTR_LEVEL)?;
+    of_chars.clear();
+    of_chars.extend_from_slice(levels)?;
     let count = write_first_units(text, levels, of_chars.as_mut_slice());
     of_chars.truncate(count);
     Ok(())
 }
 
-// Replaces a list by the visual order of some levels (L2).
+// Replaces a list by the visual order of some levels (L2). If an allocation fails, the list is unchanged.
 fn replace_order(levels: &[Level], order: &mut Vec<usize>) -> Result<(), AllocError>
     ensures order { OnOk result (order.new.items ≡ visual_order levels.now) }
     ensures unchanged { OnErr result (order.new.items ≡ order.old.items) }
@@ -57,15 +58,15 @@ fn replace_order(levels: &[Level], order: &mut Vec<usize>) -> Result<(), AllocEr
 /// units with up to 16 runs allocates nothing.
 #[derive(Drop)]
 pub struct ShownLine<T: TextSource> {
-    // The whole text, and the line as a range of its code units.
+    // The whole text, and the line's range of code units.
     text: T,
     start: usize,
     end: usize,
-    // The first ones are those of the line.
+    // The first `end - start` of these are the line's levels.
     levels: ShownLevels,
     runs: LineRuns,
     has_rtl: bool,
-    // Room for the levels of the line's characters.
+    // A buffer for the levels of the line's characters.
     of_chars: Vec<Level>,
     ghost is_line: { IsLine T.units (T.characters text) start end },
     ghost one_a_unit: { end - start ≤ length (kept_levels levels) },
@@ -78,7 +79,7 @@ impl<T: TextSource> ShownLine<T> {
     ghost use Rattle.bidi_text_lines.specs.Analysed.{analysed as analysed_of, text_of as analysed_text, with_lists};
     ghost use Rattle.bidi_text_lines.specs.ShownLine.{text_of, levels as levels_of, runs as runs_of, Shows};
 
-    /// Shows the empty line at the start of a text. Nothing is allocated.
+    /// Returns a value that shows the empty line at the start of a text. Does not allocate.
     pub fn of_text(alloc: Global, text: T) -> ShownLine<T>
         ensures text { text_of result ≡ text }
         ensures shows { (a : AnalysedText) → (level : ℕ) → a.len_of ≡ T.units → a.chars ≡ T.characters text
@@ -101,7 +102,7 @@ impl<T: TextSource> ShownLine<T> {
         ensures start { self.new.start ≡ 0 }
         ensures end { self.new.end ≡ 0 }
     {
-        // There are no runs either if this fails.
+        // If this fails, there are no runs either.
         let _ = self.runs.find(&[], 0);
         self.text = text;
         self.start = 0;
@@ -129,10 +130,11 @@ impl<T: TextSource> ShownLine<T> {
         self.show_lists(analysed.text(), classes, analysed.levels(), level, line)
     }
 
-    /// Shows a line of a text, as [`ShownLine::show`] does.
+    /// Shows a line of a text, given the text's classes and levels.
     ///
-    /// `classes` and `levels` have the stored class and the stored level of each code unit of the whole text,
-    /// the same for all units of a character.
+    /// `classes` and `levels` have the stored class and the stored level of each code unit of the whole text, equal
+    /// within each character. `line`, `level`, the cost and the result of a failed allocation are those of
+    /// [`ShownLine::show`].
     pub fn show_lists(
         &mut self,
         text: T,
@@ -226,7 +228,7 @@ impl<T: LineText> ShownLine<T> {
         }
     }
 
-    // Appends the line's code units from left to right. `blank` is any unit.
+    // Appends the line's code units from left to right. `blank` may be any code unit.
     fn push_units(&self, out: &mut Vec<T::Unit>, blank: T::Unit) -> Result<(), AllocError>
         ensures text { OnOk result (out.new.items ≡ out.old.items
             ++ shown_units T.units T.encode (T.characters (text_of self.now)) (T.units_of (text_of self.now))

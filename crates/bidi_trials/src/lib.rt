@@ -1,14 +1,14 @@
-//! What the programs share that make calls while memory is refused: a call that is made three times, the
-//! requests before and behind all calls, and texts for them.
+//! Shared code of the programs that make calls while allocations fail. They make each call three times, and allocate
+//! before and after all calls.
 #![tactic(auto)]
 
 pub mod program;
 pub mod texts;
 pub mod trial;
 
-/// Makes a call three times, prints its name and how many of the three were refused, and hands back
-/// the answer. All answers must be equal, or alike by a test of one's own, and one call at most be
-/// refused.
+/// Makes a call three times, prints its name and how many of the three failed to allocate, and returns the result.
+///
+/// All results must be equal, or alike by the caller's test. At most one of the three calls may fail.
 #[macro_export]
 macro_rules! tried {
     ($rt:expr, $name:expr, $call:expr) => {

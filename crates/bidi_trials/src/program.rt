@@ -1,4 +1,4 @@
-//! What stands around the calls of a program.
+//! What a program does before and after its calls.
 
 use crate::trial::Fault;
 use bidi_base::data_source::TableBidiData;
@@ -8,7 +8,7 @@ use std::process::ExitCode;
 use std::rt::Env;
 use std::{env, io};
 
-// How many requests to make before the calls: the first argument, or none.
+// Returns how many allocations to make before the calls: the first argument, or 0 without one.
 fn requests_before(rt: &(impl Env + AllocGlobal)) -> io::Result<u64> {
     match env::args(rt)?.nth(1) {
         Some(word) => Ok(word.parse().unwrap_or(0)),
@@ -16,7 +16,7 @@ fn requests_before(rt: &(impl Env + AllocGlobal)) -> io::Result<u64> {
     }
 }
 
-// Makes so many requests, and says how many were refused.
+// Makes `count` allocations, and returns how many failed.
 fn request(alloc: Global, count: u64) -> u64 {
     let mut refused = 0u64;
     for _ in 0..count {
@@ -27,26 +27,25 @@ fn request(alloc: Global, count: u64) -> u64 {
     refused
 }
 
-/// Makes the requests before the calls, as many as the program's first argument says, and prints how many
-/// were refused.
+/// Makes the allocations before the calls, as many as the program's first argument says, and prints how many failed.
 pub fn request_before(rt: &(impl Env + Print + AllocGlobal)) -> Result<(), Fault> {
     let count = requests_before(rt)?;
     println!(rt; "before {}", request(rt.alloc(), count))?;
     Ok(())
 }
 
-/// Makes the one request behind the calls, and prints whether it was refused.
+/// Makes one allocation after the calls, and prints whether it failed.
 pub fn request_behind(rt: &(impl Print + AllocGlobal)) -> Result<(), Fault> {
     println!(rt; "behind {}", request(rt.alloc(), 1))?;
     Ok(())
 }
 
-/// The data source of the calls.
+/// Returns the data source of the calls.
 pub fn sample() -> Result<TableBidiData<'static>, Fault> {
     TableBidiData::new(&RANGES, &BRACKETS).map_err(|_fault| Fault::NoTrial("the sample"))
 }
 
-/// How a program ends, by what came of its calls. A fault is told on standard error.
+/// Returns the exit code of a program. Prints a fault to standard error.
 pub fn end(rt: &impl Eprint, name: &'static str, outcome: Result<(), Fault>) -> ExitCode {
     match outcome {
         Ok(()) => ExitCode::SUCCESS,

@@ -1,16 +1,16 @@
-//! A call that is made three times, and of which one request may be refused.
+//! A call that is made three times, while one allocation may fail.
 
 use bidi_base::level::VecError;
 use std::alloc::AllocError;
 use std::error::Error;
 use std::{fmt, io};
 
-/// Why a call gives no answer.
+/// Why a call returns no result.
 #[derive(Drop)]
 pub enum NoAnswer {
-    /// Memory was refused, and all that was lent is as it was.
+    /// An allocation failed, and all that the call borrowed is unchanged.
     Refused,
-    /// Something else: a refusal has changed what it must leave, or the call refused its arguments.
+    /// Something else: a failed allocation changed what it must leave, or the call rejected its arguments.
     Wrong,
 }
 
@@ -29,15 +29,15 @@ impl From<VecError> for NoAnswer {
     }
 }
 
-/// Why the trials end early.
+/// Why a program ends early.
 #[derive(Debug, Drop)]
 pub enum Fault {
-    /// Of a call's three answers two differ, or more than one is missing, or one is for another
-    /// reason than memory.
+    /// Two of a call's three results differ, more than one is missing, or one is missing for another reason than
+    /// memory.
     Answers(&'static str),
-    /// A line or a condition that a trial asks for does not stand.
+    /// A line or a condition that a trial needs is not there.
     NoTrial(&'static str),
-    /// The arguments could not be read, or the answers not be written.
+    /// The program could not read its arguments or write its output.
     Device,
 }
 
@@ -59,10 +59,10 @@ impl From<io::Error> for Fault {
     }
 }
 
-/// How often a call is made.
+/// How many times a call is made.
 pub const CALLS: u8 = 3;
 
-/// What came of the calls so far: how many were refused, and whether each went with those before it.
+/// The results of a call so far: how many calls failed, and whether all results are alike.
 #[derive(Clone, Copy)]
 pub struct Outcomes {
     refused: u8,
@@ -70,7 +70,7 @@ pub struct Outcomes {
 }
 
 impl Outcomes {
-    /// None yet.
+    /// Returns the results of no calls.
     pub fn new() -> Outcomes {
         Outcomes {
             refused: 0,
@@ -78,18 +78,18 @@ impl Outcomes {
         }
     }
 
-    /// Takes one more answer, which is equal to the first or not.
+    /// Counts a result, which is like the first one or not.
     pub fn compare(&mut self, is_alike: bool) {
         self.are_alike &= is_alike;
     }
 
-    /// Takes a call without an answer. One at most may be refused.
+    /// Counts a call without a result. At most one call may fail, and only to allocate.
     pub fn miss(&mut self, reason: NoAnswer) {
         self.compare(matches!(reason, NoAnswer::Refused) && self.refused == 0);
         self.refused = self.refused.saturating_add(1);
     }
 
-    /// Prints the call's name and how many of its calls were refused.
+    /// Prints the call's name and how many of its calls failed.
     pub fn tell(self, rt: &impl Print, name: &'static str) -> Result<(), Fault> {
         if !self.are_alike {
             return Err(Fault::Answers(name));

@@ -1,5 +1,4 @@
-//! Rows of characters and of classes: what a source answers of a character, and which classes a rule's
-//! group has.
+//! Rows of characters and of classes: what a source returns for a character, and which classes are in a group.
 
 use bidi_base::char_data::BidiClass::{L, R};
 use bidi_base::char_data::{BidiClass, is_rtl};
@@ -19,7 +18,7 @@ use bidi_vectors_format::tally::Tally;
 use bidi_vectors_format::text::char_of;
 use std::alloc::Global;
 
-// The bracket that a character is: `opens` or `closes` and its pair's opening, or `none`.
+// Returns the bracket of a character as text: `opens` or `closes` with its pair's opening bracket, or `none`.
 fn bracket_words<D: BidiDataSource>(
     alloc: Global,
     source: &D,
@@ -34,13 +33,13 @@ fn bracket_words<D: BidiDataSource>(
     Ok(format!(in alloc; "{kind} {opening}")?)
 }
 
-// The character of a row.
+// Returns the character of a row.
 fn char_field(row: &Row<'_>) -> Result<char, RowFault> {
     let field = row.field("character")?;
     char_of(field.value, field.line)
 }
 
-// Holds what a source answers of a character against a row.
+// Compares what a source returns for a character with a row.
 fn check_source<D: BidiDataSource>(
     alloc: Global,
     source: &D,
@@ -54,7 +53,7 @@ fn check_source<D: BidiDataSource>(
     tally.agree(row, "bracket", calls[1], bracket_words(alloc, source, c));
 }
 
-/// A row of a character over a table: its class and the bracket that it is.
+/// Runs a row of a character over a table: its class and its bracket.
 pub fn run_character(
     alloc: Global,
     tables: &Tables,
@@ -71,7 +70,7 @@ pub fn run_character(
     Ok(())
 }
 
-// The partner of a mirrored character, or `none`.
+// Returns the partner of a mirrored character, or `none`.
 fn partner_words(alloc: Global, c: char) -> Result<String, RowFault> {
     match mirrored(c) {
         Some(partner) => char_words(alloc, &[partner]),
@@ -79,8 +78,7 @@ fn partner_words(alloc: Global, c: char) -> Result<String, RowFault> {
     }
 }
 
-/// A row of a character by Unicode's own data: its class, the bracket that it is, and the character that
-/// it is mirrored to.
+/// Runs a row of a character over Unicode's data: its class, its bracket, and its mirrored character.
 pub fn run_unicode(alloc: Global, row: &Row<'_>, tally: &mut Tally) -> Result<(), RowFault> {
     row.has_only(&["character", "class", "bracket", "mirrored"])?;
     let calls = [
@@ -98,7 +96,7 @@ pub fn run_unicode(alloc: Global, row: &Row<'_>, tally: &mut Tally) -> Result<()
     Ok(())
 }
 
-/// The format characters by their names.
+/// The format characters and their names.
 #[rattlefmt::skip]
 static FORMAT_CHARS: [(&str, char); 12] = [
     ("ALM", format_chars::ALM), ("LRM", format_chars::LRM), ("RLM", format_chars::RLM), ("LRE", format_chars::LRE),
@@ -110,7 +108,7 @@ fn format_chars() -> &'static [(&'static str, char)] {
     FORMAT_CHARS.as_slice()
 }
 
-/// A row of a format character, which its name names: its code point, and its class over a table.
+/// Runs a row that names a format character: its code point, and its class over a table.
 pub fn run_format(
     alloc: Global,
     tables: &Tables,
@@ -129,7 +127,7 @@ pub fn run_format(
     Ok(())
 }
 
-// Whether a class is in the group that a test finds. `None` where no test has this name.
+// Returns whether the test with this name finds a class, or `None` if there is no such test.
 fn is_in_group(test: &str, class: BidiClass) -> Option<bool> {
     let is_in = match test {
         "is_strong" => is_strong(class),
@@ -149,7 +147,7 @@ fn is_in_group(test: &str, class: BidiClass) -> Option<bool> {
     Some(is_in)
 }
 
-// The same of the groups by the direction that a class has in N0 and N1, or by X9.
+// Like `is_in_group`, for the groups by the direction of a class in N0 and N1, or by X9.
 fn is_in_direction(test: &str, class: BidiClass) -> Option<bool> {
     let is_in = match test {
         "stands_for L" => stands_for(class, L),
@@ -164,7 +162,7 @@ fn is_in_direction(test: &str, class: BidiClass) -> Option<bool> {
     Some(is_in)
 }
 
-/// A row of a group of classes, which the name of a test names: the classes that pass it, in their order.
+/// Runs a row that names a test of classes: the classes that pass it, in order.
 pub fn run_group(alloc: Global, row: &Row<'_>, tally: &mut Tally) -> Result<(), RowFault> {
     row.has_only(&["test", "classes"])?;
     let test = row.field("test")?;

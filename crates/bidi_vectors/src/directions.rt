@@ -29,7 +29,7 @@ fn check_base<T: TextSource>(
     tally.agree_word(row, "full", call, direction_word(full));
 }
 
-/// A row of a text, the direction of its first paragraph, and that of the first paragraph that has one.
+/// Runs a row of a text, the direction of its first paragraph, and that of the first paragraph that has one.
 pub fn run_base(
     alloc: Global,
     tables: &Tables,
@@ -62,7 +62,7 @@ fn check_utf8(
     Ok(())
 }
 
-// The same in UTF-16.
+// Tests both directions in UTF-16.
 fn check_utf16(
     alloc: Global,
     source: &TableBidiData<'_>,
@@ -80,8 +80,9 @@ fn check_utf16(
     Ok(())
 }
 
-/// A row of a text that is one paragraph: whether no class can turn it, whether some level is odd, and
-/// the direction of its levels.
+/// Runs a row of a text that is one paragraph.
+///
+/// The row says whether no class can turn the direction, whether some level is odd, and the direction of the levels.
 pub fn run_levels(
     alloc: Global,
     tables: &Tables,

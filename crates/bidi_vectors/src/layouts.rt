@@ -15,7 +15,7 @@ use std::ops::Range;
 use unicode_bidi::layout::{CharWidth, LineMap, lines};
 use unicode_bidi::{BidiInfo, ParagraphInfo};
 
-// One width for every character but U+0301, which has one of its own.
+// A width for U+0301, and one for every other character.
 #[derive(Clone, Copy)]
 struct Widths {
     letter: usize,
@@ -36,7 +36,7 @@ impl CharWidth for Widths {
     }
 }
 
-// The units of a range of characters.
+// Converts a range of characters to code units.
 fn units_of(alloc: Global, text: &str, word: &str, line: usize) -> Result<Range<usize>, RowFault> {
     let places = places_of(alloc, StrText::new(text))?;
     let (start, end) = range_of(word, line)?;
@@ -46,7 +46,7 @@ fn units_of(alloc: Global, text: &str, word: &str, line: usize) -> Result<Range<
     Ok(start..end)
 }
 
-// The range that a row asks about: its field `part`, or the whole text.
+// Returns the range that a row tests: its field `part`, or the whole text.
 fn part_of(alloc: Global, row: &Row<'_>, text: &str) -> Result<Range<usize>, RowFault> {
     match row.get("part") {
         Some(field) => units_of(alloc, text, field.value, field.line),
@@ -54,7 +54,7 @@ fn part_of(alloc: Global, row: &Row<'_>, text: &str) -> Result<Range<usize>, Row
     }
 }
 
-// The lines of a range of a text.
+// Returns the lines of a range of a text.
 fn lines_between(
     alloc: Global,
     info: &BidiInfo<'_>,
@@ -71,7 +71,7 @@ fn lines_between(
     Ok(lines(alloc, info, &para, &widths, limit)?)
 }
 
-// The widths of a row's characters.
+// Returns the widths of a row's characters.
 fn widths_of(row: &Row<'_>) -> Result<Widths, RowFault> {
     Ok(Widths {
         letter: number(row.field("letter")?)?,
@@ -79,7 +79,7 @@ fn widths_of(row: &Row<'_>) -> Result<Widths, RowFault> {
     })
 }
 
-// The lines of the range of a text that a row asks about, in words.
+// Returns the lines of a row's range as text.
 fn words_of_lines(
     alloc: Global,
     source: &TableBidiData<'_>,
@@ -93,7 +93,7 @@ fn words_of_lines(
     ranges_in(alloc, StrText::new(text), found.as_slice())
 }
 
-/// A row of a text, the widths of its characters, a limit, and the lines of a range of it.
+/// Runs a row of a text, the widths of its characters, a limit, and the lines of a range of it.
 pub fn run_lines(
     alloc: Global,
     tables: &Tables,
@@ -108,7 +108,7 @@ pub fn run_lines(
     Ok(())
 }
 
-// The map of a line of the first paragraph.
+// Returns the map of a line of the first paragraph.
 fn map_of(alloc: Global, info: &BidiInfo<'_>, line: Range<usize>) -> Result<LineMap, RowFault> {
     let Some(para) = info.paragraphs().first() else {
         return Err(RowFault::Line(0, Why::Paragraph));
@@ -119,7 +119,7 @@ fn map_of(alloc: Global, info: &BidiInfo<'_>, line: Range<usize>) -> Result<Line
     Ok(LineMap::new(alloc, info, para, line)?)
 }
 
-// The map of the line of a text that a row asks about.
+// Returns the map of the line that a row tests.
 fn map_of_row(
     alloc: Global,
     source: &TableBidiData<'_>,
@@ -132,7 +132,7 @@ fn map_of_row(
     map_of(alloc, &info, range)
 }
 
-// The character at each visual place up to two behind the last, and the place of each character.
+// Returns the character at each visual place, up to two after the last, and the place of each character.
 fn entries_of(alloc: Global, map: &LineMap) -> Result<(Vec<usize>, Vec<usize>), RowFault> {
     let mut order = Vec::new(alloc);
     let mut places = Vec::new(alloc);
@@ -147,7 +147,7 @@ fn entries_of(alloc: Global, map: &LineMap) -> Result<(Vec<usize>, Vec<usize>), 
     Ok((order, places))
 }
 
-/// A row of a text, a line of it, the character at each visual place, and the place of each character.
+/// Runs a row of a text, a line of it, the character at each visual place, and the place of each character.
 pub fn run_map(
     alloc: Global,
     tables: &Tables,

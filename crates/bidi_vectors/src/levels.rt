@@ -1,4 +1,4 @@
-//! Rows of levels: which numbers are levels, what is next to a level, and the texts that name one.
+//! Rows of levels: which numbers are levels, what is next to a level, and the texts that name a level.
 
 use bidi_base::level::{Error, Level, VecError};
 use bidi_vectors_format::answer::{class_words, flag_word, level_words};
@@ -8,7 +8,7 @@ use bidi_vectors_format::row::{Field, Row};
 use bidi_vectors_format::tally::Tally;
 use std::alloc::Global;
 
-// A number that a level can have or not.
+// Returns the number of a field, which need not be a level.
 fn byte_of(field: Field<'_>) -> Result<u8, RowFault> {
     match field.value.parse::<u8>() {
         Ok(number) => Ok(number),
@@ -16,7 +16,7 @@ fn byte_of(field: Field<'_>) -> Result<u8, RowFault> {
     }
 }
 
-// The number of a level that was answered, or `none`.
+// Returns the number of the level that a call returned, or `none`.
 fn answer_words(alloc: Global, answer: Result<Level, Error>) -> Result<String, RowFault> {
     match answer {
         Ok(level) => level_words(alloc, &[level]),
@@ -35,7 +35,7 @@ fn check_answer(
     tally.agree(row, key, call, answer_words(alloc, answer));
 }
 
-/// A row of a number: the level that it is, if it is one, and what is next to that level.
+/// Runs a row of a number: its level, if it is one, and what is next to that level.
 pub fn run_level(alloc: Global, row: &Row<'_>, tally: &mut Tally) -> Result<(), RowFault> {
     row.has_only(&[
         "number",
@@ -76,7 +76,7 @@ fn check_next(alloc: Global, row: &Row<'_>, tally: &mut Tally, level: Level) {
     tally.agree(row, "class", "Level::bidi_class", words);
 }
 
-// The level that is left, which a refusal leaves as it was.
+// Returns the resulting level. An error leaves the level unchanged.
 fn step_words(
     alloc: Global,
     before: Level,
@@ -90,7 +90,7 @@ fn step_words(
     Ok(String::from_str(alloc, words)?)
 }
 
-/// A row of a level and a number: what raising and lowering by it gives. A refusal leaves the level.
+/// Runs a row of a level and a number: the level raised and lowered by it. An error leaves the level unchanged.
 pub fn run_step(alloc: Global, row: &Row<'_>, tally: &mut Tally) -> Result<(), RowFault> {
     row.has_only(&["level", "by", "raised", "explicit", "lowered"])?;
     let field = row.field("level")?;
@@ -111,7 +111,7 @@ pub fn run_step(alloc: Global, row: &Row<'_>, tally: &mut Tally) -> Result<(), R
     Ok(())
 }
 
-/// A row of a level and a text, and whether the text names the level.
+/// Runs a row of a level and a text, and whether the text names the level.
 pub fn run_name(row: &Row<'_>, tally: &mut Tally) -> Result<(), RowFault> {
     row.has_only(&["level", "name", "matches"])?;
     let field = row.field("level")?;
@@ -121,7 +121,7 @@ pub fn run_name(row: &Row<'_>, tally: &mut Tally) -> Result<(), RowFault> {
     Ok(())
 }
 
-// The numbers of a field, each up to 255.
+// Returns the numbers of a field, each up to 255.
 fn bytes_of(alloc: Global, field: Field<'_>) -> Result<Vec<u8>, RowFault> {
     let mut bytes = Vec::new(alloc);
     for number in numbers(alloc, field)? {
@@ -133,7 +133,7 @@ fn bytes_of(alloc: Global, field: Field<'_>) -> Result<Vec<u8>, RowFault> {
     Ok(bytes)
 }
 
-// The numbers of the levels that were answered, or `none`.
+// Returns the numbers of the levels that a call returned, or `none`.
 fn list_words(alloc: Global, answer: Result<Vec<Level>, VecError>) -> Result<String, RowFault> {
     match answer {
         Ok(levels) => level_words(alloc, levels.as_slice()),
@@ -142,7 +142,7 @@ fn list_words(alloc: Global, answer: Result<Vec<Level>, VecError>) -> Result<Str
     }
 }
 
-/// A row of numbers: the levels that they are, or `none` where one is no level.
+/// Runs a row of numbers: their levels, or `none` if a number is not a level.
 pub fn run_list(alloc: Global, row: &Row<'_>, tally: &mut Tally) -> Result<(), RowFault> {
     row.has_only(&["numbers", "levels"])?;
     let bytes = bytes_of(alloc, row.field("numbers")?)?;

@@ -24,7 +24,7 @@ use unicode_bidi::{BidiInfo, ParagraphBidiInfo, ParagraphInfo, utf16};
 
 const NO_LINE: RowFault = RowFault::Line(0, Why::Line);
 
-// The words of levels one a unit of a text.
+// Returns levels as text, given one for each code unit of a text.
 fn all_levels<T: TextSource>(
     alloc: Global,
     text: T,
@@ -33,12 +33,12 @@ fn all_levels<T: TextSource>(
     levels_in(alloc, text, levels?.as_slice())
 }
 
-// The words of levels one a character.
+// Returns levels as text, given one for each character.
 fn char_levels(alloc: Global, levels: Result<Vec<Level>, AllocError>) -> Result<String, RowFault> {
     level_words(alloc, levels?.as_slice())
 }
 
-// The words of the levels of a line, among those of its text.
+// Returns the levels of a line as text, given those of the whole text.
 fn levels_between(
     alloc: Global,
     levels: Result<Vec<Level>, AllocError>,
@@ -48,7 +48,7 @@ fn levels_between(
     level_words(alloc, levels.get(line.0..line.1).unwrap_or(&[]))
 }
 
-// The words of runs.
+// Returns runs as text.
 fn all_runs<T: TextSource>(
     alloc: Global,
     text: T,
@@ -57,7 +57,7 @@ fn all_runs<T: TextSource>(
     ranges_in(alloc, text, runs?.as_slice())
 }
 
-// Holds the levels and the runs of a line against a row.
+// Compares the levels and the runs of a line with a row.
 fn check_visual<T: TextSource>(
     alloc: Global,
     text: T,
@@ -76,8 +76,8 @@ fn check_visual<T: TextSource>(
     }
 }
 
-// Holds what the calls on a line answer against a row: the levels of all units and of all characters of
-// its text, those of the line, and its runs. `visual_runs` takes no empty line.
+// Compares the results of the calls on a line with a row: the levels of all code units and of all characters of the
+// text, the levels of the line, and its runs. `visual_runs` requires a line that is not empty.
 macro_rules! check_line {
     ($asked:expr, $text:expr, $tally:expr, $info:expr, $line:expr $(, $para:expr)?) => {{
         let (alloc, row, (start, end)) = ($asked.alloc, $asked.row, $line);
@@ -98,7 +98,7 @@ macro_rules! check_line {
     }};
 }
 
-// Holds a line of UTF-8 from left to right against a row: its characters, and whether it is borrowed.
+// Compares a line of UTF-8 from left to right with a row: its characters, and whether it is borrowed.
 fn check_str(
     alloc: Global,
     row: &Row<'_>,
@@ -121,7 +121,7 @@ fn str_words(alloc: Global, line: &CowStr<'_>) -> Result<String, RowFault> {
     char_words(alloc, chars.as_slice())
 }
 
-// The same in UTF-16.
+// Compares a line of UTF-16 from left to right with a row: its characters, and whether it is borrowed.
 fn check_slice(
     alloc: Global,
     row: &Row<'_>,
@@ -144,7 +144,7 @@ fn check_slice(
     }
 }
 
-// A line from left to right, from its text, and the classes and levels of its bytes.
+// Returns a line from left to right, given its text, and the classes and levels of its bytes.
 fn kept_words(
     alloc: Global,
     text: &str,
@@ -162,7 +162,7 @@ fn kept_words(
     str_words(alloc, &shown)
 }
 
-// The same of a line of a text.
+// Returns a line from left to right, given the text that it is in.
 fn words_of_kept_line(
     alloc: Global,
     info: &BidiInfo<'_>,
@@ -180,7 +180,7 @@ fn words_of_kept_line(
     }
 }
 
-// A row of a line: the line in characters, and the paragraph's level where it is one's own.
+// A row of a line: the line in characters, and the level of the paragraph if the row has one.
 #[derive(Drop)]
 struct Asked<'r> {
     alloc: Global,
@@ -190,7 +190,7 @@ struct Asked<'r> {
 }
 
 impl Asked<'_> {
-    // The line in units of a text.
+    // Returns the line in code units of a text.
     fn units<T: TextSource>(&self, text: T) -> Result<(usize, usize), RowFault> {
         let places = places_of(self.alloc, text)?;
         let start = places.get(self.line.0).copied().ok_or(NO_LINE)?;
@@ -198,7 +198,7 @@ impl Asked<'_> {
         Ok((start, end))
     }
 
-    // The paragraph that the line is asked with: the first one, or one of the row's level.
+    // Returns the paragraph to pass with the line: the first one, or one with the row's level.
     fn paragraph(&self, paragraphs: &[ParagraphInfo]) -> Result<ParagraphInfo, RowFault> {
         let Some(first) = paragraphs.first() else {
             return Err(NO_LINE);
@@ -247,7 +247,7 @@ impl Asked<'_> {
         Ok(())
     }
 
-    // The same of a text that is one paragraph, which has its level.
+    // Tests the line of a text that is one paragraph, with the level of that paragraph.
     fn check_paragraph(
         &self,
         info: &ParagraphBidiInfo<'_>,
@@ -278,7 +278,7 @@ impl Asked<'_> {
         Ok(())
     }
 
-    // Both.
+    // Tests the line of a text that is one paragraph in both encodings.
     fn check_paragraphs(
         &self,
         source: &TableBidiData<'_>,
@@ -304,8 +304,7 @@ impl Asked<'_> {
         self.check_paragraph(&info, tally)
     }
 
-    // The levels of all characters after L1, by the engine, and the levels and the runs of the line as it is
-    // shown.
+    // Tests the engine's levels of all characters after L1, and the levels and runs of a `ShownLine`.
     fn check_engine<T: TextSource>(
         &self,
         text: T,
@@ -334,7 +333,7 @@ impl Asked<'_> {
         Ok(())
     }
 
-    // The same of a text in any encoding.
+    // Tests the line of a text in any encoding.
     fn check_text<T: TextSource>(
         &self,
         source: &TableBidiData<'_>,
@@ -346,7 +345,7 @@ impl Asked<'_> {
     }
 }
 
-// The level of a row's own paragraph, where it has one.
+// Returns the paragraph level of a row, if it has one.
 fn own_level(row: &Row<'_>) -> Result<Option<Level>, RowFault> {
     match row.get("paragraph") {
         Some(field) => Ok(Some(level_of(field.value, field.line)?)),
@@ -354,7 +353,7 @@ fn own_level(row: &Row<'_>) -> Result<Option<Level>, RowFault> {
     }
 }
 
-// The line of a row: its field `line`, or the whole text.
+// Returns the line of a row: its field `line`, or the whole text.
 fn line_of(row: &Row<'_>, count: usize) -> Result<(usize, usize), RowFault> {
     match row.get("line") {
         Some(field) => range_of(field.value, field.line),
@@ -362,13 +361,13 @@ fn line_of(row: &Row<'_>, count: usize) -> Result<(usize, usize), RowFault> {
     }
 }
 
-// The number of a text's characters.
+// Returns the number of a text's characters.
 fn count_of(alloc: Global, text: &RowText) -> Result<usize, RowFault> {
     let places = places_of(alloc, Utf16Text::new(text.utf16.as_slice()))?;
     Ok(places.len().saturating_sub(1))
 }
 
-/// A row of a line of a text's first paragraph, in characters, or of the whole text.
+/// Runs a row of a line of a text's first paragraph, in characters, or of the whole text.
 pub fn run(
     alloc: Global,
     tables: &Tables,
@@ -403,7 +402,7 @@ pub fn run(
     Ok(())
 }
 
-// The calls of a text that may have several paragraphs, in each encoding that it has.
+// Tests the calls of a text that may have several paragraphs, in each encoding that it has.
 fn check_infos(
     asked: &Asked<'_>,
     source: &TableBidiData<'_>,

@@ -1,7 +1,7 @@
-//! Makes the calls of each row in files of rows, and tells which answered something else.
+//! Runs the test vectors of files of rows, and prints which calls return something else.
 //!
-//! Words are the files' names. Each row whose answer differs is a line of standard output; behind them
-//! stands, for each call, against how many rows it was held. `data/README.md` describes the files.
+//! The arguments are the names of the files. Prints a line for each row with another result, and then, for each call,
+//! how many rows it was compared with. `data/README.md` describes the files.
 #![tactic(auto)]
 
 mod characters;
@@ -24,7 +24,7 @@ use std::rt::{Env, Files};
 use std::{env, fs, io};
 use tables::Sources;
 
-// How a run ends.
+// The result of a run.
 enum End {
     AllAgree,
     SomeDiffer,
@@ -41,7 +41,7 @@ impl End {
     }
 }
 
-// Tells why a file's rows were not run.
+// Prints why the rows of a file were not run.
 fn refuse(rt: &impl Eprint, name: &str, fault: RowFault) -> io::Result<End> {
     match fault {
         RowFault::Memory => eprintln!(rt; "bidi_vectors: {name}: out of memory")?,
@@ -53,7 +53,7 @@ fn refuse(rt: &impl Eprint, name: &str, fault: RowFault) -> io::Result<End> {
     Ok(End::Refused)
 }
 
-// Runs the rows of one file, and prints what differs. `None` where the file has rows.
+// Runs the rows of one file, and prints what differs. Returns `None` unless the file has a fault.
 fn answer_file(
     rt: &(impl Files + Print + Eprint + AllocGlobal),
     name: &str,
@@ -71,7 +71,7 @@ fn answer_file(
     Ok(None)
 }
 
-// Prints, for each call, against how many rows it was held.
+// Prints, for each call, how many rows it was compared with.
 fn print_calls(rt: &impl Print, tally: &Tally) -> io::Result<()> {
     for (call, count) in &tally.calls {
         println!(rt; "{count} {call}")?;

@@ -24,7 +24,7 @@ fn check_order(
     }
 }
 
-/// A row of levels, and the index of the level that stands at each place from the left.
+/// Runs a row of levels, and the index of the level at each place from the left.
 pub fn run_order(alloc: Global, row: &Row<'_>, tally: &mut Tally) -> Result<(), RowFault> {
     row.has_only(&["levels", "order"])?;
     let levels = levels(alloc, row.field("levels")?)?;
@@ -43,7 +43,7 @@ pub fn run_order(alloc: Global, row: &Row<'_>, tally: &mut Tally) -> Result<(), 
     Ok(())
 }
 
-// The visual runs of a line of levels.
+// Returns the visual runs of a line of levels.
 fn runs_of(
     alloc: Global,
     levels: &[Level],
@@ -56,7 +56,7 @@ fn runs_of(
     }
 }
 
-/// A row of levels, a line of them, and its runs from left to right.
+/// Runs a row of levels, a line of them, and its runs from left to right.
 pub fn run_runs(alloc: Global, row: &Row<'_>, tally: &mut Tally) -> Result<(), RowFault> {
     row.has_only(&["levels", "line", "runs"])?;
     let levels = levels(alloc, row.field("levels")?)?;

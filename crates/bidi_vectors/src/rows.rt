@@ -8,7 +8,7 @@ use bidi_vectors_format::source::Tables;
 use bidi_vectors_format::tally::Tally;
 use std::alloc::Global;
 
-// Makes the calls of a row of the public calls, over this source. Whether its kind is one of theirs.
+// Makes the calls of a row of the public calls, over this source. Returns whether the row is of such a kind.
 fn run_public(
     alloc: Global,
     tables: &Tables,
@@ -30,7 +30,7 @@ fn run_public(
     Ok(true)
 }
 
-// The same of the calls that have no text, or a text alone.
+// Makes the calls of a row that has no text, or only a text. Returns whether the row is of such a kind.
 fn run_base(
     alloc: Global,
     tables: &Tables,
@@ -73,7 +73,7 @@ fn run_row(
     Err(RowFault::Line(row.line, Why::Kind))
 }
 
-// The fault of a row, which has its line where the call knew none.
+// Returns a fault with the line of its row, if the call did not know the line.
 fn at_row(fault: RowFault, row: &Row<'_>) -> RowFault {
     match fault {
         RowFault::Line(0, why) => RowFault::Line(row.line, why),
@@ -81,7 +81,7 @@ fn at_row(fault: RowFault, row: &Row<'_>) -> RowFault {
     }
 }
 
-/// Runs the rows of a file. Each row is held against at least one answer.
+/// Runs the rows of a file. Each row is compared with at least one result.
 pub fn run_file(
     alloc: Global,
     text: &str,

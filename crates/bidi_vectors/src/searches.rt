@@ -10,7 +10,7 @@ use bidi_vectors_format::row::Row;
 use bidi_vectors_format::tally::Tally;
 use std::alloc::Global;
 
-/// The class ON.
+/// Tests for the class ON.
 #[derive(Clone, Copy)]
 struct OtherNeutral;
 
@@ -25,7 +25,7 @@ impl ClassTest for OtherNeutral {
     }
 }
 
-// The first unit of class ON in a range of the classes, or the range's end.
+// Returns the first index of class ON in a range of the classes, or the range's end.
 fn first_neutral(classes: &[BidiClass], from: usize, to: usize) -> Result<usize, RowFault> {
     if from > to || to > classes.len() {
         return Err(RowFault::Line(0, Why::Line));
@@ -33,7 +33,7 @@ fn first_neutral(classes: &[BidiClass], from: usize, to: usize) -> Result<usize,
     Ok(first_passing(OtherNeutral, classes, from, to))
 }
 
-/// A row of classes, a range of them, and the first unit of class ON there, or the range's end.
+/// Runs a row of classes, a range of them, and the first index of class ON there, or the range's end.
 pub fn run(alloc: Global, row: &Row<'_>, tally: &mut Tally) -> Result<(), RowFault> {
     row.has_only(&["classes", "range", "found"])?;
     let classes = classes_of(alloc, row.field("classes")?)?;

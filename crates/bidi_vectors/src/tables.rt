@@ -10,14 +10,14 @@ use bidi_vectors_format::source::Tables;
 use bidi_vectors_format::tally::Tally;
 use std::alloc::Global;
 
-/// The sources so far, by their names.
+/// The sources read so far, and their names.
 #[derive(Drop)]
 pub struct Sources {
     sources: Vec<(String, Tables)>,
     none: Tables,
 }
 
-// The words of a fault in ranges.
+// Returns a fault in ranges as text.
 fn error_words(alloc: Global, error: TableError) -> Result<String, RowFault> {
     let words = match error {
         TableError::Reversed(index) => format!(in alloc; "reversed {index}")?,
@@ -26,7 +26,7 @@ fn error_words(alloc: Global, error: TableError) -> Result<String, RowFault> {
     Ok(words)
 }
 
-// Whether a character stands in a range of a table.
+// Returns whether a character is in a range of a table.
 fn is_in_a_range(ranges: &[(char, char, BidiClass)], c: char) -> bool {
     for (first, last, _) in ranges {
         if *first <= c && c <= *last {
@@ -36,8 +36,7 @@ fn is_in_a_range(ranges: &[(char, char, BidiClass)], c: char) -> bool {
     false
 }
 
-// Holds the classes of the first and the last character of each range, and of their neighbours, against
-// the ranges.
+// Compares the classes of the first and the last character of each range, and of their neighbours, with the ranges.
 fn check_ranges(
     alloc: Global,
     tables: &Tables,
@@ -57,7 +56,7 @@ fn check_ranges(
     }
 }
 
-// A neighbour of a range, if it is a character and in no range, has class L.
+// Tests that a neighbour of a range has class L, if it is a character and in no range.
 fn check_neighbour(
     alloc: Global,
     tables: &Tables,
@@ -87,7 +86,7 @@ impl Sources {
         }
     }
 
-    // The tables with this name.
+    // Returns the tables with this name.
     fn named(&self, name: &str, line: usize) -> Result<&Tables, RowFault> {
         for (known, tables) in &self.sources {
             if known.as_str() == name {
@@ -97,7 +96,7 @@ impl Sources {
         Err(RowFault::Line(line, Why::SourceName))
     }
 
-    /// The tables that a row names, or the sample's, or none before the sample's stand there.
+    /// Returns the tables that a row names, or else the sample's, or empty ones before the sample's are read.
     pub fn of_row(&self, row: &Row<'_>) -> Result<&Tables, RowFault> {
         match row.get("source") {
             Some(field) => self.named(field.value, field.line),
@@ -105,7 +104,7 @@ impl Sources {
         }
     }
 
-    // A row that is a source for the rows behind it.
+    // Adds the source of a row, for the rows after it.
     fn add(&mut self, alloc: Global, row: &Row<'_>, tally: &mut Tally) -> Result<(), RowFault> {
         row.has_only_or_many(&["fault"], &["range", "bracket"])?;
         let tables = Tables::of_row(alloc, row)?;
@@ -129,7 +128,7 @@ impl Sources {
         Ok(())
     }
 
-    // Holds the library's sample table against the source of this row.
+    // Compares the library's sample table with the source of this row.
     fn check_sample(&self, row: &Row<'_>, tally: &mut Tally) -> Result<(), RowFault> {
         row.has_only(&["source"])?;
         let tables = self.of_row(row)?;
@@ -144,7 +143,7 @@ impl Sources {
         Ok(())
     }
 
-    /// A row of a source. Whether it is one.
+    /// Runs a row of a source. Returns whether the row is one.
     pub fn run(
         &mut self,
         alloc: Global,

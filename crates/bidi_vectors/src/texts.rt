@@ -21,7 +21,7 @@ use std::alloc::Global;
 use unicode_bidi::engine::{Analyser, Analysis, analyse, analyse_with_rule};
 use unicode_bidi::{BidiInfo, InitialInfo, ParagraphBidiInfo, ParagraphInfo, SplitRule, utf16};
 
-// What is found in a text without its levels: a class on each unit, and the paragraphs.
+// A text without its levels: the class of each code unit, and the paragraphs.
 #[derive(Clone, Copy)]
 struct Found<'a, T: TextSource> {
     text: T,
@@ -30,7 +30,7 @@ struct Found<'a, T: TextSource> {
 }
 
 impl<T: TextSource> Found<'_, T> {
-    // Holds it against a row.
+    // Compares this with a row.
     fn check(&self, asked: &Asked<'_>, tally: &mut Tally, call: &'static str) {
         let (alloc, row) = (asked.alloc, asked.row);
         let words = classes_in(alloc, self.text, self.classes);
@@ -40,7 +40,7 @@ impl<T: TextSource> Found<'_, T> {
     }
 }
 
-// Paragraphs of a text in its characters.
+// Converts the paragraphs of a text to characters.
 fn paragraphs_in<T: TextSource>(
     alloc: Global,
     text: T,
@@ -57,7 +57,7 @@ fn paragraphs_in<T: TextSource>(
     paragraph_words(alloc, found.as_slice())
 }
 
-/// The base level of a row: none for `auto`, or where it has no such field.
+/// Returns the base level of a row: none for `auto`, or without such a field.
 pub fn base_of(row: &Row<'_>) -> Result<Option<Level>, RowFault>
     ensures { IfOk result (λ base. IfSome base (λ level. level ≤ 125)) }
 {
@@ -74,7 +74,7 @@ pub fn base_of(row: &Row<'_>) -> Result<Option<Level>, RowFault>
     }
 }
 
-// Where a text ends: behind each separator, behind each but a CR before LF, or at its end alone.
+// Where a paragraph ends: after each separator, after each one except a CR before LF, or only at the text's end.
 #[derive(Clone, Copy, PartialEq)]
 enum Split {
     EachSeparator,
@@ -104,7 +104,7 @@ impl Split {
     }
 }
 
-// A row of a text: its source, and how it is split.
+// A row of a text: its source, and how it is split into paragraphs.
 #[derive(Clone, Copy)]
 struct Asked<'r> {
     alloc: Global,
@@ -113,7 +113,7 @@ struct Asked<'r> {
     split: Split,
 }
 
-// Holds what a constructor found against a row, but its levels.
+// Compares what a constructor found, without its levels, with a row.
 macro_rules! check_found {
     ($asked:expr, $tally:expr, $call:expr, $text:expr, $info:expr) => {
         Found {
@@ -125,7 +125,7 @@ macro_rules! check_found {
     };
 }
 
-// The same with its levels.
+// Compares what a constructor found, with its levels, with a row.
 macro_rules! check_info {
     ($asked:expr, $tally:expr, $call:expr, $text:expr, $info:expr) => {{
         check_found!($asked, $tally, $call, $text, $info);
@@ -134,7 +134,7 @@ macro_rules! check_info {
 }
 
 impl Asked<'_> {
-    // Holds the levels that a call answers, one a unit of the text, against the row.
+    // Compares the levels that a call returns, one for each code unit of the text, with the row.
     fn check_levels<T: TextSource>(
         &self,
         text: T,
@@ -146,7 +146,7 @@ impl Asked<'_> {
         tally.agree(self.row, "levels", call, words);
     }
 
-    // Holds what the engine finds of a text in some encoding against the row.
+    // Compares what the engine finds of a text in some encoding with the row.
     fn check_analysis<T: TextSource>(
         &self,
         text: T,
@@ -170,7 +170,7 @@ impl Asked<'_> {
         Ok(())
     }
 
-    // Holds what an analyser writes to lists of ours against the row, when it reads the text a second time.
+    // Compares what an analyser writes to the caller's lists with the row, when it reads the text for the second time.
     fn check_analyser<T: TextSource>(&self, text: T, tally: &mut Tally) -> Result<(), RowFault> {
         let (alloc, base, rule) = (self.alloc, base_of(self.row)?, self.split.rule());
         let mut classes = vec![in alloc; BidiClass::B; text.len()]?;
@@ -206,7 +206,7 @@ impl Asked<'_> {
         Ok(())
     }
 
-    // The same of the constructors over UTF-8 that cut a text into paragraphs by a rule.
+    // Tests the constructors over UTF-8 that split a text into paragraphs by a rule.
     fn check_rule(&self, text: &str, rule: SplitRule, tally: &mut Tally) -> Result<(), RowFault> {
         let (base, units) = (base_of(self.row)?, StrText::new(text));
         let info = BidiInfo::new_with_rule(self.alloc, self.source, text, base, rule)?;
@@ -214,7 +214,7 @@ impl Asked<'_> {
         Ok(())
     }
 
-    // The same of those that cut it behind each separator.
+    // Tests the constructors over UTF-8 that split a text after each separator.
     fn check_utf8(&self, text: &str, tally: &mut Tally) -> Result<(), RowFault> {
         let (alloc, source, units) = (self.alloc, self.source, StrText::new(text));
         let info = BidiInfo::new_with_data_source(alloc, source, text, base_of(self.row)?)?;
@@ -223,7 +223,7 @@ impl Asked<'_> {
         Ok(())
     }
 
-    // The same of those that find no levels.
+    // Tests the constructors over UTF-8 that find no levels.
     fn check_initial(&self, text: &str, tally: &mut Tally) -> Result<(), RowFault> {
         let (base, units) = (base_of(self.row)?, StrText::new(text));
         let info = InitialInfo::new_with_data_source(self.alloc, self.source, text, base)?;
@@ -232,7 +232,7 @@ impl Asked<'_> {
         Ok(())
     }
 
-    // The same over UTF-16.
+    // Tests the constructors over UTF-16 that split a text into paragraphs by a rule.
     fn check_rule16(
         &self,
         text: &[u16],
@@ -263,7 +263,7 @@ impl Asked<'_> {
         Ok(())
     }
 
-    // The same of the constructors that take a text as one paragraph.
+    // Tests the constructors that take a text of UTF-8 as one paragraph.
     fn check_whole_utf8(&self, text: &str, tally: &mut Tally) -> Result<(), RowFault> {
         let (base, units) = (base_of(self.row)?, StrText::new(text));
         let info = ParagraphBidiInfo::new_with_data_source(self.alloc, self.source, text, base)?;
@@ -296,13 +296,13 @@ impl Asked<'_> {
         Ok(())
     }
 
-    // Whether some level is odd, as a call answers it.
+    // Compares the result of `has_rtl` with the levels.
     fn check_rtl(&self, tally: &mut Tally, levels: &[Level], came: bool) {
         let wanted = flag_word(has_rtl(levels));
         tally.same_word(self.row, "has_rtl", wanted, flag_word(came));
     }
 
-    // The constructors of a text in both encodings.
+    // Tests the constructors of a text in both encodings.
     fn check_infos(&self, text: &RowText, tally: &mut Tally) -> Result<(), RowFault> {
         let (utf8, utf16) = (text.utf8.as_str(), text.utf16.as_slice());
         if let Some(rule) = self.split.rule() {
@@ -322,7 +322,7 @@ impl Asked<'_> {
         Ok(())
     }
 
-    // The rules over lists, put together, of a text that is not too long for them.
+    // Tests the rules over lists on a text that is not too long for them.
     fn check_rules(&self, chars: &[char], tally: &mut Tally) -> Result<(), RowFault> {
         if self.split == Split::CrLfTogether || chars.len() > 1000 {
             return Ok(());
@@ -337,7 +337,7 @@ impl Asked<'_> {
         Ok(())
     }
 
-    // The levels of the characters of a text with U+00AD before one of them, but that of U+00AD.
+    // Inserts U+00AD into a text, and returns the levels of the other characters as text.
     fn levels_around(&self, chars: &[char], index: usize) -> Result<String, RowFault> {
         let alloc = self.alloc;
         let longer = with_soft_hyphen(alloc, chars, index)?;
@@ -348,7 +348,7 @@ impl Asked<'_> {
         level_words(alloc, others.as_slice())
     }
 
-    // Sees that U+00AD changes no other level of a short text over the sample, wherever it stands.
+    // Tests that U+00AD changes no other level of a short text over the sample, at any index.
     fn check_soft_hyphens(&self, chars: &[char], tally: &mut Tally) {
         if self.split != Split::EachSeparator
             || self.row.get("source").is_some()
@@ -363,7 +363,7 @@ impl Asked<'_> {
     }
 }
 
-// The paragraph that a whole text is, where it has a character.
+// Returns the one paragraph of a text, if the text is not empty.
 fn whole_of(len: usize, level: Level) -> Option<ParagraphInfo> {
     if len == 0 {
         return None;
@@ -371,7 +371,7 @@ fn whole_of(len: usize, level: Level) -> Option<ParagraphInfo> {
     ParagraphInfo::new(0..len, level)
 }
 
-// The text with U+00AD before the character at an index, or at the end.
+// Returns the text with U+00AD before the character at an index, or at the end.
 fn with_soft_hyphen(alloc: Global, chars: &[char], index: usize) -> Result<String, RowFault> {
     let mut longer = String::new(alloc);
     for (at, c) in chars.iter().enumerate() {
@@ -386,7 +386,7 @@ fn with_soft_hyphen(alloc: Global, chars: &[char], index: usize) -> Result<Strin
     Ok(longer)
 }
 
-// The levels but the one at an index.
+// Returns the levels except the one at an index.
 fn without(alloc: Global, levels: &[Level], index: usize) -> Result<Vec<Level>, RowFault> {
     let mut others = Vec::new(alloc);
     for (at, level) in levels.iter().enumerate() {
@@ -397,7 +397,7 @@ fn without(alloc: Global, levels: &[Level], index: usize) -> Result<Vec<Level>, 
     Ok(others)
 }
 
-/// A row of a text: what each constructor finds in it in each encoding, and the rules over lists.
+/// Runs a row of a text: what each constructor finds in each encoding, and the rules over lists.
 pub fn run(
     alloc: Global,
     tables: &Tables,
@@ -431,7 +431,7 @@ pub fn run(
     asked.check_rules(chars, tally)
 }
 
-// Whether a row says that its text is one paragraph, or none.
+// Returns whether a row says that its text is one paragraph, or none.
 fn has_one_paragraph(row: &Row<'_>) -> bool {
     match row.get("paragraphs") {
         Some(field) => !field.value.contains(" "),
@@ -439,7 +439,7 @@ fn has_one_paragraph(row: &Row<'_>) -> bool {
     }
 }
 
-// The base level of a row, which may be above 125.
+// Returns the base level of a row, which may be above 125.
 fn any_base_of(row: &Row<'_>) -> Result<Option<Level>, RowFault> {
     let field = row.field("base")?;
     match field.value {
@@ -448,7 +448,7 @@ fn any_base_of(row: &Row<'_>) -> Result<Option<Level>, RowFault> {
     }
 }
 
-/// A row that the call which finds no levels takes alone: a base level above 125, or a very long text.
+/// Runs a row that only the constructor without levels accepts: a base level above 125, or a very long text.
 pub fn run_initial(
     alloc: Global,
     tables: &Tables,

@@ -1,4 +1,4 @@
-//! Rows of texts as encodings have them: where characters begin, and what the calls of a text answer there.
+//! Rows of texts in each encoding: where characters begin, and what the methods of a text return there.
 
 use bidi_text::text::{CharsText, StrText, TextSource, Utf16Text, is_line, is_per_char};
 use bidi_vectors_format::answer::{char_words, flag_word, number_words, places_of};
@@ -10,7 +10,7 @@ use bidi_vectors_format::text::RowText;
 use std::alloc::Global;
 use std::ops::Range;
 
-// The characters of a range of a text's units, where it is a line.
+// Returns the characters of a range of a text's code units, if the range is a line.
 fn characters_of_line<T: TextSource>(
     alloc: Global,
     text: T,
@@ -22,12 +22,12 @@ fn characters_of_line<T: TextSource>(
     Ok(Some(text.subrange(line).chars().collect(alloc)?))
 }
 
-// The unit behind a character.
+// Returns the index after a character.
 fn end_of<T: TextSource>(place: usize, c: char) -> usize {
     place.saturating_add(T::char_len(c))
 }
 
-// Sees that the walks over a text give the characters at their places, each as long as it is.
+// Tests that the iterators of a text return its characters, with their indexes and lengths.
 fn walks_agree<T: TextSource>(
     alloc: Global,
     text: T,
@@ -46,7 +46,7 @@ fn walks_agree<T: TextSource>(
     Ok(true)
 }
 
-// What stands at a unit: the character that begins there, if one does.
+// Returns the character that begins at a code unit, if there is one.
 fn char_beginning(chars: &[char], places: &[usize], unit: usize) -> Option<char> {
     match places.binary_search(&unit) {
         Ok(index) => chars.get(index).copied(),
@@ -54,7 +54,7 @@ fn char_beginning(chars: &[char], places: &[usize], unit: usize) -> Option<char>
     }
 }
 
-// Sees that a text answers of a unit what stands there.
+// Tests what the methods of a text return at a code unit.
 fn unit_agrees<T: TextSource>(text: T, chars: &[char], places: &[usize], unit: usize) -> bool {
     let begins = char_beginning(chars, places, unit);
     let character = begins.map(|c| (c, T::char_len(c)));
@@ -71,7 +71,7 @@ fn unit_agrees<T: TextSource>(text: T, chars: &[char], places: &[usize], unit: u
         && low_block_agrees(text, unit)
 }
 
-// Sees that a text answers the character of a place before its last unit.
+// Tests the character that a text returns at an index before its last code unit.
 fn next_agrees<T: TextSource>(text: T, character: Option<(char, usize)>, unit: usize) -> bool {
     if unit < text.len().saturating_sub(1) && text.is_boundary(unit) {
         Some(text.next_at(unit)) == character
@@ -80,7 +80,7 @@ fn next_agrees<T: TextSource>(text: T, character: Option<(char, usize)>, unit: u
     }
 }
 
-// Sees that a text that answers sixteen ASCII characters at once answers those that stand there.
+// Tests the block of sixteen ASCII characters at an index, if the text returns one.
 fn block_agrees<T: TextSource>(text: T, unit: usize) -> bool {
     let Some(block) = text.ascii_block_at(unit) else {
         return true;
@@ -93,7 +93,7 @@ fn block_agrees<T: TextSource>(text: T, unit: usize) -> bool {
     true
 }
 
-// Sees that a text that answers sixteen characters below U+0800 at once answers those that stand there.
+// Tests the block of sixteen characters below U+0800 at an index, if the text returns one.
 fn low_block_agrees<T: TextSource>(text: T, unit: usize) -> bool {
     let Some(block) = text.low_block_at(unit) else {
         return true;
@@ -107,7 +107,7 @@ fn low_block_agrees<T: TextSource>(text: T, unit: usize) -> bool {
     true
 }
 
-// Sees that a text answers of every range what it is: a line between two places, or none.
+// Tests each range of a text: it is a line exactly if it cuts no character.
 fn lines_agree<T: TextSource>(
     alloc: Global,
     text: T,
@@ -142,7 +142,7 @@ fn line_agrees<T: TextSource>(
     Ok(agree)
 }
 
-// Sees that all calls of a text agree with its characters and their places, behind its end too.
+// Tests that all methods of a text agree with its characters and their indexes, also after its end.
 fn calls_agree<T: TextSource>(
     alloc: Global,
     text: T,
@@ -157,7 +157,7 @@ fn calls_agree<T: TextSource>(
     Ok(walks_agree(alloc, text, chars, places)? && lines_agree(alloc, text, chars, places)?)
 }
 
-// Whether all calls of a text agree, in words.
+// Returns as text whether all methods of a text agree.
 fn agreement<T: TextSource>(
     alloc: Global,
     text: T,
@@ -191,7 +191,7 @@ fn check<T: TextSource>(
     Ok(())
 }
 
-/// A row of a text: in each encoding the unit at which each character begins, and behind them the length.
+/// Runs a row of a text: in each encoding, the index at which each character begins, and then the length.
 pub fn run(alloc: Global, row: &Row<'_>, tally: &mut Tally) -> Result<(), RowFault> {
     row.has_only(&["text", "characters", "utf8", "utf16", "list"])?;
     let text = RowText::of_row(alloc, row)?;
@@ -203,7 +203,7 @@ pub fn run(alloc: Global, row: &Row<'_>, tally: &mut Tally) -> Result<(), RowFau
     check(alloc, units, row, tally, "list", "CharsText")
 }
 
-/// A row of a text and entries, and whether these are one a unit of UTF-8 and alike on each character.
+/// Runs a row of a text and entries: whether there is one for each byte, equal within each character.
 pub fn run_entries(alloc: Global, row: &Row<'_>, tally: &mut Tally) -> Result<(), RowFault> {
     row.has_only(&["text", "entries", "alike"])?;
     let text = RowText::of_row(alloc, row)?;

@@ -1,4 +1,4 @@
-//! What is found out about two texts is equal exactly where text, classes, levels and paragraphs are.
+//! Tests that two results are equal exactly if their texts, classes, levels and paragraphs are equal.
 
 use crate::source::sample;
 use bidi_base::level::{LTR_LEVEL, RTL_LEVEL};
@@ -50,7 +50,7 @@ fn initial_infos(rt: HostRuntime) -> Result<(), Fail> {
     Ok(())
 }
 
-// Two surrogates in no pair are both U+FFFD, and still two texts.
+// Two different unpaired surrogates are both U+FFFD, but the texts differ.
 #[test]
 fn utf16_infos(rt: HostRuntime) -> Result<(), Fail> {
     let source = sample()?;

@@ -1,4 +1,4 @@
-//! Walks over texts, from both ends and over bare lists of units.
+//! Tests of iterators over texts, from both ends and over bare lists of code units.
 
 use bidi_text::text::{
     CharsCharIndexIter, CharsCharIter, CharsIndexLenIter, CharsText, StrText, TextSource,
@@ -6,7 +6,7 @@ use bidi_text::text::{
 };
 use std::test::Fail;
 
-// Two pairs of surrogates, of which only the inner two units are one.
+// Four surrogates. Only the inner two are a pair.
 const SURROGATES: [u16; 4] = [0xD800, 0xD800, 0xDC00, 0xDC00];
 
 #[test]
@@ -60,7 +60,7 @@ fn walks_over_bare_lists(rt: HostRuntime) -> Result<(), Fail> {
     Ok(())
 }
 
-// A text hands its units out as it was given them, and says how long a character is in them.
+// A text returns the code units that it was given, and the length of a character in them.
 #[test]
 fn units_and_lengths(rt: HostRuntime) {
     let list = ['\u{5D0}', '\u{10000}', 'a'];

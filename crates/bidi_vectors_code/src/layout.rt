@@ -1,4 +1,4 @@
-//! Lines of given width, as they are shown.
+//! Tests of lines of a given width.
 
 use crate::source::sample;
 use std::test::Fail;
@@ -17,7 +17,7 @@ impl CharWidth for OneEach {
     }
 }
 
-// Each line may be shown, with no test.
+// Each line can be displayed without a test.
 #[test]
 fn lines_that_are_shown(rt: HostRuntime) -> Result<(), Fail> {
     let alloc = rt.alloc();

@@ -1,4 +1,4 @@
-//! The constants of levels, and what refusals become.
+//! Tests of the constants of levels, and of error conversions.
 
 use bidi_base::level::{
     LTR_LEVEL, Level, MAX_EXPLICIT_DEPTH, MAX_IMPLICIT_DEPTH, RTL_LEVEL, VecError, has_rtl,

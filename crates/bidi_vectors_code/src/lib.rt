@@ -1,4 +1,4 @@
-//! Tests that are no rows: equality, iterators from both ends, accessors, and a trait of one's own.
+//! Tests that are not rows: equality, iterators from both ends, accessors, and a custom trait implementation.
 #![tactic(auto)]
 
 #[cfg(test)]

@@ -1,4 +1,4 @@
-//! The search for pairs, bracket by bracket.
+//! Tests of the search for pairs, bracket by bracket.
 
 use bidi_base::brackets::{Bracket, PairSearch};
 use std::test::Fail;

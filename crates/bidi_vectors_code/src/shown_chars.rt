@@ -1,4 +1,4 @@
-//! The same of a list of characters.
+//! Tests of a value that shows lines of a list of characters.
 
 use bidi_base::char_data::BidiClass;
 use bidi_base::char_data::BidiClass::{L, R};

@@ -1,4 +1,4 @@
-//! A value that shows one line after another.
+//! Tests of a value that shows one line after another.
 
 use crate::source::sample;
 use bidi_text::text::{StrText, is_line};

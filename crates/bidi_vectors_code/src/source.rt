@@ -1,4 +1,4 @@
-//! The sample table as a source.
+//! Tests of the sample table as a source.
 
 use bidi_base::data_source::TableBidiData;
 use bidi_base::sample;

@@ -1,4 +1,4 @@
-//! The same of texts of UTF-16.
+//! Tests of the accessors over UTF-16.
 
 use crate::source::sample;
 use bidi_base::char_data::BidiClass::{L, R};
@@ -6,7 +6,7 @@ use bidi_base::char_data::Direction;
 use std::test::Fail;
 use unicode_bidi::utf16::{BidiInfo, InitialInfo, Paragraph, ParagraphBidiInfo};
 
-// A letter from right to left and a pair.
+// A right-to-left letter and a surrogate pair.
 const LETTER_AND_PAIR: [u16; 3] = [0x5D0, 0xD800, 0xDC00];
 
 #[test]

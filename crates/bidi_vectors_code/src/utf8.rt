@@ -1,4 +1,4 @@
-//! What is found out about a text, as it is read: UTF-8.
+//! Tests of the accessors over UTF-8.
 
 use crate::source::sample;
 use bidi_base::char_data::BidiClass::{B, L, LRI, R};

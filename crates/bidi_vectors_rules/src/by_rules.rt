@@ -1,4 +1,4 @@
-//! The rules over lists, put together one after the other: the stored classes and levels of a text.
+//! The stored classes and levels of a text, found by applying the rules over lists one after another.
 
 ghost use Rattle.std.specs.Prelude.{◌≤◌, IfOk};
 
@@ -11,10 +11,10 @@ use bidi_plain::plain::{PlainSequence, explicit_levels, implicit, neutral, seque
 use bidi_vectors_format::fault::{RowFault, Why};
 use std::alloc::Global;
 
-// What the rules over lists take for granted, and a row never breaks.
+// A condition of the rules over lists does not hold. No row breaks one.
 const NO_SEQUENCE: RowFault = RowFault::Line(0, Why::RulesOverLists);
 
-// The index of the PDI that matches an initiator (BD9), or the number of classes.
+// Returns the index of the PDI that matches an initiator (BD9), or the number of classes if there is none.
 fn matching_pdi(classes: &[BidiClass], initiator: usize) -> usize {
     let mut depth = 0usize;
     for (index, class) in classes.iter().enumerate().skip(initiator) {
@@ -30,7 +30,7 @@ fn matching_pdi(classes: &[BidiClass], initiator: usize) -> usize {
     classes.len()
 }
 
-// The first strong class from one index to another that stands in no isolate (P2).
+// Returns the first strong class between two indexes that is outside isolates (P2).
 fn deciding_class(classes: &[BidiClass], from: usize, to: usize) -> Option<BidiClass> {
     let mut isolate_end = 0;
     for (index, class) in classes.iter().enumerate().take(to).skip(from) {
@@ -46,7 +46,7 @@ fn deciding_class(classes: &[BidiClass], from: usize, to: usize) -> Option<BidiC
     None
 }
 
-// The classes with each FSI resolved (X5c).
+// Returns the classes with each FSI resolved (X5c).
 fn with_resolved_fsi(alloc: Global, classes: &[BidiClass]) -> Result<Vec<BidiClass>, RowFault> {
     let mut stored = Vec::new(alloc);
     for (index, class) in classes.iter().enumerate() {
@@ -61,14 +61,14 @@ fn with_resolved_fsi(alloc: Global, classes: &[BidiClass]) -> Result<Vec<BidiCla
     Ok(stored)
 }
 
-// An explicit level.
+// Returns the explicit level with a number.
 fn explicit(number: u8) -> Result<Level, RowFault>
     ensures { IfOk result (λ level. level ≤ 125) }
 {
     Level::new_explicit(number).map_err(|_| NO_SEQUENCE)
 }
 
-// The level of a paragraph (P2, P3).
+// Returns the level of a paragraph (P2, P3).
 fn paragraph_level(classes: &[BidiClass], base: Option<u8>) -> Result<Level, RowFault> {
     match base {
         Some(number) => explicit(number),
@@ -79,7 +79,7 @@ fn paragraph_level(classes: &[BidiClass], base: Option<u8>) -> Result<Level, Row
     }
 }
 
-// The entries at these places.
+// Returns the entries at these indexes.
 fn at<X: Copy>(alloc: Global, entries: &[X], places: &[usize]) -> Result<Vec<X>, RowFault> {
     let mut found = Vec::new(alloc);
     for place in places {
@@ -88,8 +88,7 @@ fn at<X: Copy>(alloc: Global, entries: &[X], places: &[usize]) -> Result<Vec<X>,
     Ok(found)
 }
 
-// A paragraph's characters: their stored classes, their brackets, and their classes and levels after
-// X1 to X8.
+// The characters of a paragraph: their stored classes, their brackets, and their classes and levels after X1 to X8.
 #[derive(Drop)]
 struct Characters {
     classes: Vec<BidiClass>,
@@ -99,7 +98,7 @@ struct Characters {
 }
 
 impl Characters {
-    // The levels of the characters in a sequence: W1 to W7, N0 to N2, I1 and I2.
+    // Returns the levels of the characters of a sequence (W1 to W7, N0 to N2, I1 and I2).
     fn levels_of(&self, alloc: Global, sequence: &PlainSequence) -> Result<Vec<Level>, RowFault> {
         let (sos, eos) = (sequence.sos(), sequence.eos());
         let classes = at(alloc, self.classes.as_slice(), sequence.places())?;
@@ -131,7 +130,7 @@ impl Characters {
     }
 }
 
-// The brackets of a text, one entry a character.
+// Returns the bracket of each character of a text, if it is one.
 fn brackets_of(
     alloc: Global,
     source: &TableBidiData,
@@ -144,7 +143,7 @@ fn brackets_of(
     Ok(brackets)
 }
 
-// The stored classes of a paragraph.
+// Returns the stored classes of a paragraph.
 fn classes_of(
     alloc: Global,
     source: &TableBidiData,
@@ -157,7 +156,7 @@ fn classes_of(
     with_resolved_fsi(alloc, classes.as_slice())
 }
 
-// Writes levels at these places.
+// Writes levels to these indexes.
 fn write(levels: &mut [Level], places: &[usize], resolved: &[Level]) {
     for (place, level) in places.iter().zip(resolved) {
         if *place < levels.len() {
@@ -166,7 +165,7 @@ fn write(levels: &mut [Level], places: &[usize], resolved: &[Level]) {
     }
 }
 
-// The levels of a paragraph's characters, where those of what X9 removed are open.
+// Returns the levels of a paragraph's characters. Those of characters that X9 removes are not set yet.
 fn levels_by_sequences(
     alloc: Global,
     characters: &Characters,
@@ -184,7 +183,7 @@ fn levels_by_sequences(
     Ok(levels)
 }
 
-// The stored levels of a paragraph.
+// Returns the stored levels of a paragraph.
 fn resolve_paragraph(
     alloc: Global,
     source: &TableBidiData,
@@ -205,7 +204,7 @@ fn resolve_paragraph(
     with_removed(alloc, para_level, classes, levels.as_slice())
 }
 
-// The levels, where what X9 removed has that of the character before it.
+// Returns the levels, and gives each character that X9 removes the level of the character before it.
 fn with_removed(
     alloc: Global,
     para_level: Level,
@@ -223,7 +222,7 @@ fn with_removed(
     Ok(stored)
 }
 
-/// The stored classes and levels of a text, cut behind each separator (P1) or as one paragraph.
+/// Returns the stored classes and levels of a text that is split after each separator (P1), or is one paragraph.
 pub fn resolve(
     alloc: Global,
     source: &TableBidiData,

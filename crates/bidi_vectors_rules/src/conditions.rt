@@ -1,4 +1,4 @@
-//! Tests of what the calls ask of lists of classes.
+//! Tests of the conditions that the calls require of lists of classes.
 
 ghost use Rattle.std.specs.Prelude.{◌≡◌, not, ◌||◌};
 ghost use Rattle.std.specs.List.{list_all, list_any};
@@ -8,21 +8,21 @@ use bidi_base::char_data::BidiClass::{self, AN, B, BN, EN, FSI, L, LRI, ON, PDI,
 use bidi_base::classes::is_initiator;
 use bidi_rules::prepare::not_removed_by_x9;
 
-/// Whether a class may be sos or eos.
+/// Returns whether a class may be sos or eos.
 pub fn is_side(class: BidiClass) -> bool
     ensures { result ≡ is_l_or_r class }
 {
     matches!(class, L | R)
 }
 
-/// Whether X9 removes none of the classes.
+/// Returns whether X9 removes none of the classes.
 pub fn are_kept(classes: &[BidiClass]) -> bool
     ensures { result ≡ list_all is_kept classes.now }
 {
     classes.iter().all(|class| not_removed_by_x9(class))
 }
 
-/// Whether the weak types leave a class.
+/// Returns whether a class may remain after the weak types.
 pub fn is_left(class: BidiClass) -> bool
     ensures { result ≡ is_weak_resolved class }
 {
@@ -32,42 +32,42 @@ pub fn is_left(class: BidiClass) -> bool
     )
 }
 
-/// Whether the weak types leave all the classes.
+/// Returns whether all the classes may remain after the weak types.
 pub fn are_left(classes: &[BidiClass]) -> bool
     ensures { result ≡ list_all is_weak_resolved classes.now }
 {
     classes.iter().all(|class| is_left(*class))
 }
 
-// Whether a unit may have a class: BN, or one that the weak types leave.
+// Returns whether a class is BN, or may remain after the weak types.
 fn is_left_or_removed(class: BidiClass) -> bool
     ensures { result ≡ (is_weak_resolved class || not (is_kept_in_place class)) }
 {
     is_left(class) || matches!(class, BN)
 }
 
-/// Whether the weak types leave all the classes but BN.
+/// Returns whether all the classes except BN may remain after the weak types.
 pub fn are_left_or_removed(classes: &[BidiClass]) -> bool
     ensures { result ≡ list_all (λ c. is_weak_resolved c || not (is_kept_in_place c)) classes.now }
 {
     classes.iter().all(|class| is_left_or_removed(*class))
 }
 
-// Whether the neutrals leave a class.
+// Returns whether a class may remain after the neutrals.
 fn is_directed(class: BidiClass) -> bool
     ensures { result ≡ has_direction class }
 {
     matches!(class, L | R | EN | AN)
 }
 
-/// Whether the neutrals leave all the classes.
+/// Returns whether all the classes may remain after the neutrals.
 pub fn are_directed(classes: &[BidiClass]) -> bool
     ensures { result ≡ list_all has_direction classes.now }
 {
     classes.iter().all(|class| is_directed(*class))
 }
 
-/// Whether some class is an isolate initiator.
+/// Returns whether some class is an isolate initiator.
 pub fn has_initiator(classes: &[BidiClass]) -> bool
     ensures { result ≡ list_any is_initiator_of classes.now }
 {

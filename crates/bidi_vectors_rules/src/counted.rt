@@ -1,4 +1,4 @@
-//! The passes that count their steps, which have to leave what those without a count leave.
+//! The passes that count their steps. They must find what the passes without a count find.
 
 ghost use Rattle.std.specs.Prelude.{◌≡◌, ◌≤◌, length};
 
@@ -13,8 +13,8 @@ use std::alloc::Global;
 use std::marker::Brand;
 use std::sync::ledger::{Blank, Ledger};
 
-// The level runs of a paragraph, by a count of steps that this blank opens. The slices get levels and
-// classes.
+// Returns the level runs of a paragraph, and writes the levels and classes to the slices. Counts steps in the ledger
+// that this blank opens.
 fn compute_by<S: Ledger>(
     alloc: Global,
     para_level: Level,
@@ -49,7 +49,7 @@ fn compute_by<S: Ledger>(
     Ok(runs)
 }
 
-/// The level runs that the counted pass finds. The slices get levels and classes.
+/// Returns the level runs that the counted pass finds, and writes the levels and classes to the slices.
 pub fn level_runs(
     alloc: Global,
     para_level: Level,
@@ -75,7 +75,7 @@ pub fn level_runs(
     Ok(runs)
 }
 
-// Resolves a sequence in place, by a count that has one step before.
+// Resolves the weak types of a sequence in place. One step is counted before.
 fn resolve_by<S: Ledger>(
     text: StrText,
     sequence: &IsolatingRunSequence,

@@ -24,7 +24,7 @@ use bidi_vectors_format::tally::Tally;
 use bidi_vectors_format::text::RowText;
 use std::alloc::Global;
 
-/// The level of a row's field, which may be an explicit one.
+/// Returns the level in a field of a row, which must be an explicit level.
 pub fn explicit_level(row: &Row<'_>, key: &str) -> Result<Level, RowFault>
     ensures { IfOk result (λ level. level ≤ 125) }
 {
@@ -36,7 +36,7 @@ pub fn explicit_level(row: &Row<'_>, key: &str) -> Result<Level, RowFault>
     }
 }
 
-// The level runs of a paragraph, and its sequences. The slices get levels and classes.
+// Returns the level runs and the sequences of a paragraph, and writes the levels and classes to the slices.
 fn prepare(
     alloc: Global,
     para_level: Level,
@@ -81,7 +81,7 @@ fn prepare(
     Ok((found, sequences))
 }
 
-/// What the passes in place leave on the units of a text: levels, classes, level runs and sequences.
+/// The result of the passes in place on the code units of a text: levels, classes, level runs and sequences.
 #[derive(Drop)]
 pub struct Prepared {
     pub levels: Vec<Level>,
@@ -90,7 +90,7 @@ pub struct Prepared {
     pub sequences: Vec<IsolatingRunSequence>,
 }
 
-// What the levels hold before a pass, which is of no effect.
+// Returns levels for a pass to overwrite. Their values have no effect.
 fn any_levels(alloc: Global, count: usize) -> Result<Vec<Level>, RowFault>
     ensures { IfOk result (λ levels. length levels.items ≡ count) }
 {
@@ -98,7 +98,7 @@ fn any_levels(alloc: Global, count: usize) -> Result<Vec<Level>, RowFault>
 }
 
 impl Prepared {
-    /// Of a text with these classes, one a character.
+    /// Runs the passes on a text, given the class of each character.
     pub fn new(
         alloc: Global,
         para_level: Level,
@@ -129,7 +129,7 @@ impl Prepared {
         })
     }
 
-    /// The same by the counted pass, without the sequences.
+    /// Runs the counted pass on a text, given the class of each character. Finds no sequences.
     pub fn by_count(
         alloc: Global,
         para_level: Level,
@@ -159,7 +159,7 @@ impl Prepared {
     }
 }
 
-/// A text of characters of one and two units by turns, one for each class.
+/// Returns a text with one character for each class, of one and two code units by turns.
 pub fn letters(alloc: Global, classes: &[BidiClass]) -> Result<String, RowFault> {
     let mut text = String::new(alloc);
     for index in 0..classes.len() {
@@ -168,7 +168,7 @@ pub fn letters(alloc: Global, classes: &[BidiClass]) -> Result<String, RowFault>
     Ok(text)
 }
 
-// The words of sequences over a list: the places of each, its sos and its eos.
+// Returns sequences over a list as text: the indexes of each, its sos and its eos.
 fn plain_words(alloc: Global, sequences: &[PlainSequence]) -> Result<String, RowFault> {
     let mut words = String::new(alloc);
     for sequence in sequences {
@@ -184,7 +184,7 @@ fn plain_words(alloc: Global, sequences: &[PlainSequence]) -> Result<String, Row
     Ok(words)
 }
 
-// The words of the characters in a sequence in place that X9 keeps, its sos and its eos.
+// Appends a sequence in place as text: its characters that X9 keeps, its sos and its eos.
 fn push_kept(
     words: &mut String,
     text: &str,
@@ -219,7 +219,7 @@ fn kept_words(
     Ok(words)
 }
 
-// The words of the classes with BN for what X9 removes.
+// Returns the classes as text, with BN for each class that X9 removes.
 fn removed_words(alloc: Global, classes: &[BidiClass]) -> Result<String, RowFault> {
     let mut in_place = Vec::new(alloc);
     for class in classes {
@@ -228,12 +228,12 @@ fn removed_words(alloc: Global, classes: &[BidiClass]) -> Result<String, RowFaul
     class_words(alloc, in_place.as_slice())
 }
 
-// Whether X9 removes all of the classes. Then there is one sequence in place, and none over a list.
+// Returns whether X9 removes all of the classes. If so, there is one sequence in place, and none over a list.
 fn are_all_removed(classes: &[BidiClass]) -> bool {
     classes.iter().all(|class| removed_by_x9(*class))
 }
 
-// Holds what the passes in place leave of a row's classes against what the rules over the list found.
+// Compares the result of the passes in place with the result of the rules over the list.
 fn check_in_place(
     alloc: Global,
     row: &Row<'_>,
@@ -264,7 +264,7 @@ fn check_in_place(
     Ok(())
 }
 
-// Holds what the counted pass leaves against what the one without a count left.
+// Compares the result of the counted pass with that of the pass without a count.
 fn check_counted(
     alloc: Global,
     row: &Row<'_>,
@@ -284,7 +284,7 @@ fn check_counted(
     tally.same(row, call, wanted, came);
 }
 
-/// A row of classes: the rules over a list, and then the passes in place over letters.
+/// Runs a row of classes: the rules over a list, and then the passes in place over letters.
 pub fn run_list(alloc: Global, row: &Row<'_>, tally: &mut Tally) -> Result<(), RowFault> {
     row.has_only(&["level", "classes", "levels", "overridden", "sequences"])?;
     let para_level = explicit_level(row, "level")?;
@@ -307,7 +307,7 @@ pub fn run_list(alloc: Global, row: &Row<'_>, tally: &mut Tally) -> Result<(), R
     check_in_place(alloc, row, tally, para_level, classes, overridden, plain)
 }
 
-// The words of sequences in place: the runs of each, in characters of the text, its sos and its eos.
+// Returns sequences in place as text: the runs of each, in characters of the text, its sos and its eos.
 fn sequence_words(
     alloc: Global,
     text: StrText,
@@ -326,7 +326,7 @@ fn sequence_words(
     Ok(words)
 }
 
-// Holds what the passes in place leave on a text against a row.
+// Compares the result of the passes in place on a text with a row.
 fn check_prepared(
     alloc: Global,
     row: &Row<'_>,
@@ -344,8 +344,8 @@ fn check_prepared(
     tally.agree(row, "sequences", "prepare::isolating_run_sequences", words);
 }
 
-/// A row of a text with its classes. Where no class is an initiator, the flag for isolates may be false
-/// or true.
+/// Runs a row of a text with its classes. If no class is an initiator, tries the flag for isolates as false and as
+/// true.
 pub fn run_units(alloc: Global, row: &Row<'_>, tally: &mut Tally) -> Result<(), RowFault> {
     row.has_only(&[
         "level",

@@ -15,7 +15,7 @@ use bidi_vectors_format::row::Row;
 use bidi_vectors_format::tally::Tally;
 use std::alloc::Global;
 
-// One level for each class, resolved in place, and the greatest.
+// Resolves one level for each class in place, and returns the levels and their maximum.
 fn in_place(
     alloc: Global,
     level: Level,
@@ -28,7 +28,7 @@ fn in_place(
     Ok((levels, greatest))
 }
 
-/// A row of classes at one level. Where X9 removed some, only the pass in place takes them.
+/// Runs a row of classes at one level. If X9 removes some of them, runs only the pass in place.
 pub fn run(alloc: Global, row: &Row<'_>, tally: &mut Tally) -> Result<(), RowFault> {
     row.has_only(&["level", "classes", "levels", "greatest"])?;
     let level = explicit_level(row, "level")?;

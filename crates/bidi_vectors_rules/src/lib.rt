@@ -1,4 +1,4 @@
-//! Rows of the rules over lists and of the passes in place: each row's calls, held against the row.
+//! Rows of the rules over lists and of the passes in place: makes the calls of each row, and compares their results.
 #![tactic(auto)]
 
 mod by_rules;
@@ -18,7 +18,7 @@ use bidi_vectors_format::tally::Tally;
 pub use by_rules::resolve;
 use std::alloc::Global;
 
-/// Makes the calls of a row of the rules, over this source. Whether its kind is one of theirs.
+/// Makes the calls of a row of the rules over this source. Returns whether the row is of such a kind.
 pub fn run(
     alloc: Global,
     tables: &Tables,

@@ -1,5 +1,4 @@
-//! Rows of bracket pairs (BD16), of neutrals (N0 to N2) and of what follows from them, over lists and in
-//! place.
+//! Rows of bracket pairs (BD16), of neutrals (N0 to N2) and of the levels that follow, over lists and in place.
 
 use crate::conditions::{are_directed, are_kept, are_left, are_left_or_removed, is_side};
 use crate::explicit_levels::explicit_level;
@@ -22,7 +21,7 @@ use bidi_vectors_format::tally::Tally;
 use bidi_vectors_format::text::RowText;
 use std::alloc::Global;
 
-// The brackets of a text, one entry a character.
+// Returns the bracket of each character of a text, if it is one.
 fn brackets_of(
     alloc: Global,
     source: &TableBidiData,
@@ -35,7 +34,7 @@ fn brackets_of(
     Ok(brackets)
 }
 
-// The pairs of a list.
+// Returns the bracket pairs of a list.
 fn listed_pairs(
     alloc: Global,
     classes: &[BidiClass],
@@ -48,7 +47,7 @@ fn listed_pairs(
     Ok(pairs(alloc, classes, brackets)?)
 }
 
-/// A row of a text, the classes of its characters, and the pairs of its brackets.
+/// Runs a row of a text, the classes of its characters, and its bracket pairs.
 pub fn run_pairs(
     alloc: Global,
     tables: &Tables,
@@ -66,7 +65,7 @@ pub fn run_pairs(
     Ok(())
 }
 
-// The neutrals of a sequence over lists.
+// Resolves the neutrals of a sequence over lists.
 fn listed(
     alloc: Global,
     level: Level,
@@ -88,8 +87,8 @@ fn listed(
     Ok(answer)
 }
 
-// Classes and levels one a unit: the levels, the classes before the weak types were resolved, and
-// those of the neutrals.
+// Three lists with one entry for each code unit: the levels, the classes before the weak types, and the classes before
+// the neutrals.
 #[derive(Drop)]
 struct OfUnits {
     levels: Vec<Level>,
@@ -98,7 +97,7 @@ struct OfUnits {
 }
 
 impl OfUnits {
-    // Of entries one a character.
+    // Returns these lists, given one entry for each character.
     fn new(alloc: Global, text: &str, before: &Before) -> Result<OfUnits, RowFault> {
         let text = StrText::new(text);
         Ok(OfUnits {
@@ -109,7 +108,7 @@ impl OfUnits {
     }
 }
 
-// By which call neutrals are resolved in place.
+// The call that resolves neutrals in place.
 #[derive(Clone, Copy)]
 enum Call {
     Alone,
@@ -128,7 +127,7 @@ impl Call {
         }
     }
 
-    // The field that has the classes which it leaves.
+    // Returns the row's field that has the resulting classes.
     fn key(self) -> &'static str {
         match self {
             Call::UpToN1 => "without n2",
@@ -143,7 +142,7 @@ const OTHER_TEXT: RowFault = RowFault::Line(0, Why::OtherText);
 
 const OTHER_CLASSES: RowFault = RowFault::Line(0, Why::Classes);
 
-// Resolves the neutrals of a sequence in place, by a resolver or by the call alone.
+// Resolves the neutrals of a sequence in place, by `resolver` or, without one, by `resolve_neutral`.
 fn resolve(
     alloc: Global,
     text: StrText,
@@ -176,7 +175,7 @@ fn resolve(
     Ok(())
 }
 
-// Resolves the neutrals of a sequence whose runs are lent, with N2 or without it.
+// Resolves the neutrals of a sequence with borrowed runs, with N2 or without it.
 fn resolve_lent(
     alloc: Global,
     text: StrText,
@@ -246,7 +245,7 @@ fn resolve_by(
     }
 }
 
-// Resolves the sequences of a text in place.
+// Resolves the neutrals of all sequences of a text in place.
 fn resolve_sequences(
     alloc: Global,
     text: StrText,
@@ -264,7 +263,7 @@ fn resolve_sequences(
     Ok(())
 }
 
-// The classes and levels of a sequence's characters that a row has.
+// The classes and levels that a row gives the characters of a sequence.
 #[derive(Drop)]
 struct Before {
     levels: Vec<Level>,
@@ -273,7 +272,7 @@ struct Before {
 }
 
 impl Before {
-    // Of a row that has the levels.
+    // Reads them from a row that has the levels.
     fn of_row(alloc: Global, row: &Row<'_>) -> Result<Before, RowFault> {
         Ok(Before {
             levels: levels(alloc, row.field("levels")?)?,
@@ -282,7 +281,7 @@ impl Before {
         })
     }
 
-    // Of a row whose characters are all at level 0.
+    // Reads them from a row with all characters at level 0.
     fn at_level_0(alloc: Global, row: &Row<'_>) -> Result<Before, RowFault> {
         let classes = classes_of(alloc, row.field("classes")?)?;
         Ok(Before {
@@ -293,7 +292,7 @@ impl Before {
     }
 }
 
-// What the sequences of a text become in place, by a call.
+// Returns the classes that a call leaves on the sequences of a text in place, as text.
 fn words_in_place(
     alloc: Global,
     source: &TableBidiData,
@@ -308,7 +307,7 @@ fn words_in_place(
     classes_in(alloc, text, units.classes.as_slice())
 }
 
-// Holds that against a row, by each call.
+// Compares the result of each call in place with a row.
 fn check_in_place(
     alloc: Global,
     row: &Row<'_>,
@@ -324,7 +323,7 @@ fn check_in_place(
     }
 }
 
-// The neutrals over a list, in words.
+// Resolves the neutrals over a list, and returns them as text.
 fn listed_words(
     alloc: Global,
     source: &TableBidiData,
@@ -339,7 +338,7 @@ fn listed_words(
     class_words(alloc, answer.as_slice())
 }
 
-/// A row of a text at level 0 that is one sequence: the rule over a list, and the passes in place.
+/// Runs a row of a text at level 0 that is one sequence: the rule over a list, and the passes in place.
 pub fn run_list(
     alloc: Global,
     tables: &Tables,
@@ -371,8 +370,9 @@ pub fn run_list(
     Ok(())
 }
 
-/// A row of a text with its sequences, the explicit level of each character, its class before the weak
-/// types were resolved and before the neutrals are.
+/// Runs a row of a text with its sequences and three lists with one entry for each character.
+///
+/// These are the explicit levels, the classes before the weak types, and the classes before the neutrals.
 pub fn run_units(
     alloc: Global,
     tables: &Tables,
@@ -406,7 +406,7 @@ pub fn run_units(
     Ok(())
 }
 
-// The weak types of a sequence whose sos is `edge`.
+// Resolves the weak types of a sequence over a list. Its sos is `edge`.
 fn listed_weak(
     alloc: Global,
     edge: BidiClass,
@@ -418,7 +418,7 @@ fn listed_weak(
     Ok(weak(alloc, edge, classes)?)
 }
 
-// The implicit levels of classes at a level, in words.
+// Returns the implicit levels of classes at a level, as text.
 fn listed_levels(alloc: Global, level: Level, classes: &[BidiClass]) -> Result<String, RowFault> {
     if level.number() > 125 || !are_directed(classes) {
         return Err(RowFault::Line(0, Why::Classes));
@@ -427,7 +427,7 @@ fn listed_levels(alloc: Global, level: Level, classes: &[BidiClass]) -> Result<S
     level_words(alloc, levels.as_slice())
 }
 
-// The levels that the rules over lists leave of a sequence whose sides are `edge`, in words.
+// Returns the levels that the rules over lists give a sequence, as text. Its sos and eos are both `edge`.
 fn words_of_levels(
     alloc: Global,
     source: &TableBidiData,
@@ -445,8 +445,9 @@ fn words_of_levels(
     listed_levels(alloc, level, answer.as_slice())
 }
 
-/// A row of a text that is one sequence, its level, its sos and eos in one, its classes, and its levels
-/// after the weak types, the neutrals and the implicit levels.
+/// Runs a row of a text that is one sequence, and compares its levels after I1 and I2.
+///
+/// The row has the level, one class that is both sos and eos, and the classes.
 pub fn run_levels(
     alloc: Global,
     tables: &Tables,

@@ -1,4 +1,4 @@
-//! Rows of isolating run sequences, and of the walks over their units. Runs are of units here.
+//! Rows of isolating run sequences, and of the walks over their code units. Runs are ranges of code units here.
 
 use crate::units::{sequence_of, whole_sequence_of};
 use crate::weak_types::class_field;
@@ -13,7 +13,7 @@ use bidi_vectors_format::tally::Tally;
 use bidi_vectors_format::text::RowText;
 use std::alloc::Global;
 
-// Holds a sequence against what it was made of.
+// Compares a sequence with the runs, sos and eos that it was made of.
 fn check_made(
     alloc: Global,
     row: &Row<'_>,
@@ -34,7 +34,7 @@ fn check_made(
     Ok(())
 }
 
-/// A row of runs with sos and eos, and whether they make a sequence; with a text, whether they fit it.
+/// Runs a row of runs with sos and eos, and whether they make a sequence. With a text, also tests whether they fit it.
 pub fn run_sequence(alloc: Global, row: &Row<'_>, tally: &mut Tally) -> Result<(), RowFault> {
     row.has_only(&["runs", "sos", "eos", "valid", "text", "fits"])?;
     let runs = ranges(alloc, row.field("runs")?)?;
@@ -52,7 +52,7 @@ pub fn run_sequence(alloc: Global, row: &Row<'_>, tally: &mut Tally) -> Result<(
     }
 }
 
-// The units of a sequence upwards from a place in one of its runs, and those downwards.
+// Returns the units of a sequence in ascending and in descending order from an index in one of its runs.
 fn walks(
     alloc: Global,
     sequence: &IsolatingRunSequence,
@@ -70,7 +70,7 @@ fn walks(
     }
 }
 
-/// A row of runs, a unit in one of them, and the units upwards and downwards from there.
+/// Runs a row of runs, a unit in one of them, and the units in ascending and in descending order from there.
 pub fn run_walk(alloc: Global, row: &Row<'_>, tally: &mut Tally) -> Result<(), RowFault> {
     row.has_only(&["runs", "unit", "run", "upwards", "downwards"])?;
     let runs = ranges(alloc, row.field("runs")?)?;

@@ -1,4 +1,4 @@
-//! Lists over the units of a text, and sequences of runs.
+//! Lists over the code units of a text, and sequences of runs.
 
 use bidi_base::char_data::BidiClass;
 use bidi_rules::implicit::resolve_weak;
@@ -11,7 +11,7 @@ use bidi_vectors_format::item::range_of;
 use bidi_vectors_format::row::Field;
 use std::alloc::Global;
 
-/// The start and the end of each run of a sequence, its sos and its eos.
+/// A sequence: the start and the end of each of its runs, its sos and its eos.
 #[derive(Drop)]
 pub struct Sequence {
     pub runs: Vec<(usize, usize)>,
@@ -19,7 +19,7 @@ pub struct Sequence {
     pub eos: BidiClass,
 }
 
-/// Each entry, one a character of the text, on every unit of its character.
+/// Returns one entry for each code unit of a text, given one for each character.
 pub fn per_unit<T: TextSource, X: Copy>(
     alloc: Global,
     text: T,
@@ -35,7 +35,7 @@ pub fn per_unit<T: TextSource, X: Copy>(
     Ok(units)
 }
 
-// The places of runs of characters in a text.
+// Converts runs of characters to runs of code units of a text.
 fn runs_in(
     alloc: Global,
     text: StrText,
@@ -53,7 +53,7 @@ fn runs_in(
     Ok(found)
 }
 
-/// The runs of a field, which are ranges of a text's characters, as ranges of its units.
+/// Returns the runs of a field as ranges of code units. The field has ranges of a text's characters.
 pub fn runs_of_field(
     alloc: Global,
     text: StrText,
@@ -66,7 +66,7 @@ pub fn runs_of_field(
     runs_in(alloc, text, runs.as_slice(), field.line)
 }
 
-// The sequence that words as `0..3 4..7 R R` are: its runs, sos and eos.
+// Reads a sequence such as `0..3 4..7 R R`: its runs, sos and eos.
 fn sequence_of_words(
     alloc: Global,
     text: StrText,
@@ -92,7 +92,9 @@ fn sequence_of_words(
     }
 }
 
-/// The sequences of a field, in units of a text: each its runs, sos and eos, with a semicolon between two.
+/// Returns the sequences of a field, in code units of a text.
+///
+/// The field has the runs, sos and eos of each sequence, and a semicolon between two sequences.
 pub fn sequences_of_field(
     alloc: Global,
     text: StrText,
@@ -107,7 +109,7 @@ pub fn sequences_of_field(
     Ok(sequences)
 }
 
-/// The sequence of runs with these starts and ends, if they make one.
+/// Returns the sequence of runs with these starts and ends, if they make one.
 pub fn sequence_of(
     alloc: Global,
     ends: &[(usize, usize)],
@@ -121,7 +123,7 @@ pub fn sequence_of(
     Ok(IsolatingRunSequence::new(runs, sos, eos))
 }
 
-/// The same, which must make one.
+/// Returns the sequence of runs with these starts and ends, or a fault if they make none.
 pub fn whole_sequence_of(
     alloc: Global,
     ends: &[(usize, usize)],
@@ -135,7 +137,7 @@ pub fn whole_sequence_of(
     }
 }
 
-/// The same runs once more.
+/// Returns a copy of runs.
 pub fn copied(alloc: Global, runs: &[LevelRun]) -> Result<LevelRunVec, RowFault> {
     let mut copies = Vec::new(alloc);
     for run in runs {
@@ -144,7 +146,7 @@ pub fn copied(alloc: Global, runs: &[LevelRun]) -> Result<LevelRunVec, RowFault>
     Ok(copies)
 }
 
-/// Resolves the weak types of a sequence in place, one class a unit of the text.
+/// Resolves the weak types of a sequence in place. There is one class for each code unit of the text.
 pub fn resolve_weak_units(
     text: StrText,
     sequence: &IsolatingRunSequence,

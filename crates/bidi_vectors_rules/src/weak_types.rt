@@ -14,13 +14,13 @@ use bidi_vectors_format::tally::Tally;
 use bidi_vectors_format::text::RowText;
 use std::alloc::Global;
 
-/// The class of a row's field.
+/// Returns the class in a field of a row.
 pub fn class_field(row: &Row<'_>, key: &str) -> Result<BidiClass, RowFault> {
     let field = row.field(key)?;
     class_of(field.value, field.line)
 }
 
-// The weak types over a list.
+// Resolves the weak types over a list.
 fn listed(
     alloc: Global,
     sos: BidiClass,
@@ -33,8 +33,7 @@ fn listed(
     Ok(weak(alloc, sos, classes)?)
 }
 
-// A text of as many letters, each followed by what X9 removes where `is_parted` says so, and these
-// classes on it.
+// Returns a text of letters with these classes. If `is_parted`, each letter is followed by a character that X9 removes.
 fn letters(
     alloc: Global,
     classes: &[BidiClass],
@@ -53,8 +52,7 @@ fn letters(
     Ok((text, of_chars))
 }
 
-// Resolves a sequence of these runs in place, with a count and without one, and answers the classes, one
-// a character.
+// Resolves a sequence of these runs in place, with a count and without one, and returns the class of each character.
 fn resolved(
     alloc: Global,
     text: &str,
@@ -75,7 +73,7 @@ fn resolved(
     ))
 }
 
-// What the rules make of letters in place, without what X9 removes between them.
+// Tests the rules in place on letters, and leaves out the characters between them that X9 removes.
 fn check_letters(
     alloc: Global,
     row: &Row<'_>,
@@ -95,7 +93,7 @@ fn check_letters(
     Ok(())
 }
 
-// The words of the classes of the letters.
+// Returns the classes of the letters as text.
 fn kept_words(alloc: Global, classes: &[BidiClass], is_parted: bool) -> Result<String, RowFault> {
     let mut kept = Vec::new(alloc);
     for (index, class) in classes.iter().enumerate() {
@@ -108,7 +106,7 @@ fn kept_words(alloc: Global, classes: &[BidiClass], is_parted: bool) -> Result<S
     class_words(alloc, kept.as_slice())
 }
 
-/// A row of classes: the rules over a list, and those in place on a text of one sequence.
+/// Runs a row of classes: the rules over a list, and those in place on a text of one sequence.
 pub fn run_list(alloc: Global, row: &Row<'_>, tally: &mut Tally) -> Result<(), RowFault> {
     row.has_only(&["sos", "classes", "after"])?;
     let sos = class_field(row, "sos")?;
@@ -124,7 +122,7 @@ pub fn run_list(alloc: Global, row: &Row<'_>, tally: &mut Tally) -> Result<(), R
     check_letters(alloc, row, tally, sos, classes, true)
 }
 
-/// A row of a text, the runs of a sequence in it, and a class for each of its characters.
+/// Runs a row of a text, the runs of a sequence in it, and a class for each of its characters.
 pub fn run_units(alloc: Global, row: &Row<'_>, tally: &mut Tally) -> Result<(), RowFault> {
     row.has_only(&["sos", "text", "runs", "classes", "after"])?;
     let sos = class_field(row, "sos")?;

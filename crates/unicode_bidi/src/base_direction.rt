@@ -23,7 +23,7 @@ pub fn get_base_direction_with_data_source<D: BidiDataSource, T: TextSource>(
         (paragraphs_of (each_separator (D.source data_source.now)) (T.characters text)) in
         result ≡ base_direction classes }
 
-    // It is right to left exactly where the first paragraph has level 1 by its own characters.
+    // The result is right to left exactly if the first paragraph's characters give it level 1.
     ensures level { let classes = map (map (D.source data_source.now).class_of)
         (paragraphs_of (each_separator (D.source data_source.now)) (T.characters text)) in
         (result ≡ Rtl) ↔ (paragraph_level None (first_or [] classes) ≡ 1) }
@@ -45,7 +45,7 @@ pub fn get_base_direction_full_with_data_source<D: BidiDataSource, T: TextSource
     find_direction(data_source, text, true)
 }
 
-// The direction of the first deciding character, in the first paragraph or with `full` in any.
+// Returns the direction of the first deciding character in the first paragraph, or with `full` in any paragraph.
 fn find_direction<D: BidiDataSource, T: TextSource>(
     data_source: &D,
     text: T,
@@ -55,7 +55,7 @@ fn find_direction<D: BidiDataSource, T: TextSource>(
         (paragraphs_of (each_separator (D.source data_source.now)) (T.characters text)) in
         result ≡ (if full then full_base_direction classes else base_direction classes) }
 {
-    // A text has no more units than a `usize` counts, and so no more isolates.
+    // Shows the proof that a text has no more code units than `usize::MAX`, and so no more isolates.
     let _units = text.len();
     match search_direction(data_source, text, 0, full) {
         DirectionSearch::Found(direction) => direction,

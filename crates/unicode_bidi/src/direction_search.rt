@@ -10,7 +10,7 @@ use bidi_base::classes::{is_initiator, is_paragraph_separator, is_pdi, is_strong
 use bidi_base::data_source::BidiDataSource;
 use bidi_text::text::TextSource;
 
-/// How far a search for the base direction has come.
+/// The state of a search for the base direction.
 #[derive(Clone, Copy, Debug, PartialEq)]
 pub enum DirectionSearch {
     /// The search is over: the direction of the deciding character, or `Mixed` if the first paragraph ended
@@ -20,7 +20,7 @@ pub enum DirectionSearch {
     Open(usize),
 }
 
-// The direction that a deciding character of this class gives.
+// Returns the direction of a deciding character of this class.
 fn direction_of(class: BidiClass) -> Direction
     ensures { result ≡ direction_by (Some class) }
 {
@@ -31,7 +31,7 @@ fn direction_of(class: BidiClass) -> Direction
     }
 }
 
-// How many isolates are open behind a character of this class.
+// Returns how many isolates are open after a character of this class.
 fn depth_after(depth: usize, class: BidiClass) -> usize
     requires { depth + 1 < 2 ^ 64 }
     ensures { result ≡ depth_after depth class }
@@ -45,10 +45,10 @@ fn depth_after(depth: usize, class: BidiClass) -> usize
     }
 }
 
-/// Returns how far the search has come after one character.
+/// Returns the state of the search after one character.
 ///
-/// `class` is the class of the character, and `depth` the number of isolates that are open before it. With `full` a
-/// paragraph separator closes the open isolates, and the search goes on in the next paragraph (P1). Without `full` it
+/// `class` is the class of the character, and `depth` the number of isolates that are open before it. With `full`, a
+/// paragraph separator closes the open isolates, and the search goes on in the next paragraph (P1). Without `full`, it
 /// ends the search.
 pub fn search_class(class: BidiClass, depth: usize, full: bool) -> DirectionSearch
     requires { depth + 1 < 2 ^ 64 }
@@ -67,10 +67,10 @@ pub fn search_class(class: BidiClass, depth: usize, full: bool) -> DirectionSear
     }
 }
 
-/// Returns how far the search has come after the characters of a text.
+/// Returns the state of the search after the characters of a text.
 ///
-/// `depth` is the number of isolates that are open before the text: 0 at the front of a text. A longer text may be
-/// searched in pieces, each with the number that the call before it returned. The call stops at the character that
+/// `depth` is the number of isolates that are open before the text: 0 at the front of a text. A longer text can be
+/// searched in pieces. Each call then gets the number that the call before it returned. Stops at the character that
 /// decides, and does not allocate.
 pub fn search_direction<D: BidiDataSource, T: TextSource>(
     data_source: &D,
@@ -81,7 +81,7 @@ pub fn search_direction<D: BidiDataSource, T: TextSource>(
     requires { depth + text_len T.units (T.characters text) < 2 ^ 64 }
     ensures search { result ≡ search_in full depth (map (D.source data_source.now).class_of (T.characters text)) }
 
-    // From the front of a text on, this is its base direction.
+    // At the front of a text, this is its base direction.
     ensures direction { let classes = map (map (D.source data_source.now).class_of)
         (paragraphs_of (each_separator (D.source data_source.now)) (T.characters text)) in
         depth ≡ 0

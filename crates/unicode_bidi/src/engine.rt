@@ -1,4 +1,4 @@
-//! The classes, the paragraphs and the levels of a whole text, whatever its encoding.
+//! The classes, the paragraphs and the levels of a text in any encoding.
 
 ghost use Rattle.std.specs.Prelude.{◌≡◌, [], ◌∷◌, true, false, IsTrue, ◌≤◌, ◌++◌, length, map, take, drop, flat_map, slice_range, All, OnOk, OnErr, IfOk, IfSome};
 ghost use Rattle.bidi_base.specs.Analysed.{IsAnalysis, IsPerCharText, HasCharValues, AreLevelsWithLine, classes_of_chars, levels_of_chars};
@@ -28,13 +28,13 @@ use std::alloc::{AllocError, Global};
 use std::mem;
 use std::ops::Range;
 
-/// What the algorithm finds out about a text, without the text.
+/// The result of the algorithm for a text, without the text itself.
 #[derive(PartialEq, Debug, Drop)]
 pub struct Analysis {
     pub(crate) original_classes: Vec<BidiClass>,
     pub(crate) levels: Vec<Level>,
     pub(crate) paragraphs: SmallVec<ParagraphInfo, 1>,
-    // One entry a paragraph.
+    // One entry for each paragraph.
     pub(crate) flags: SmallVec<ParagraphFlags, 1>,
 }
 
@@ -66,17 +66,17 @@ impl Analysis {
     }
 }
 
-// A text whose stored classes are known.
+// A text with its stored classes.
 #[derive(Drop)]
 struct ClassifiedText<'a, D: BidiDataSource, T: TextSource> {
     data_source: &'a D,
     text: T,
-    // One a unit.
+    // One for each code unit.
     original_classes: &'a [BidiClass],
     ghost long: { length original_classes.now ≡ text_len T.units (T.characters text) },
 }
 
-// Writes the stored levels of one paragraph. `levels` are of the whole text.
+// Writes the stored levels of one paragraph. `levels` has those of the whole text.
 fn write_paragraph<D: BidiDataSource, T: TextSource>(
     resolver: &mut LevelResolver,
     alloc: Global,
@@ -133,10 +133,10 @@ fn write_paragraphs<D: BidiDataSource, T: TextSource>(
     Ok(())
 }
 
-/// Analyses one text after another, and keeps the memory of its lists from each to the next.
+/// Analyses one text after another, and reuses the memory of its lists.
 ///
-/// The caller has the lists of classes and levels. A text of up to 256 code units that is one paragraph
-/// allocates nothing if no character of it opens an embedding or an isolate, and none is a bracket.
+/// The caller provides the lists of classes and levels. A text of up to 256 code units that is one paragraph allocates
+/// nothing if no character opens an embedding or an isolate, and none is a bracket.
 #[derive(Drop)]
 pub struct Analyser {
     found: FoundParagraphs,
@@ -209,8 +209,8 @@ impl Analyser {
     }
 }
 
-// What `analyse` finds of a text that a rule cuts into paragraphs. Without one the whole text is one
-// paragraph, even an empty one.
+// Does the work of `analyse` for a text that a rule splits into paragraphs. Without a rule the whole text is one
+// paragraph, even if it is empty.
 pub(crate) fn analyse_by<D: BidiDataSource, T: TextSource>(
     alloc: Global,
     data_source: &D,
@@ -266,25 +266,25 @@ pub fn analyse<D: BidiDataSource, T: TextSource>(
         (with_analysis T.units (T.characters text) a) (ranges_of (paragraphs_of_analysis a))
         (levels_of (paragraphs_of_analysis a))) }
 
-    // All units of a character have one class and one level.
+    // All code units of a character have the same class and the same level.
     ensures per_char { IfOk result (λ a. IsPerCharText (with_analysis T.units (T.characters text) a)) }
 
-    // The classes and the levels, one a character, come of the characters, the source, the base level
-    // and the split alone: two texts of the same characters have the same, whatever their encodings.
+    // The classes and levels of the characters depend only on the characters, the source, the base level and the split.
+    // So two texts with the same characters have the same ones, whatever their encodings.
     ensures by_characters { IfOk result (λ a. HasCharValues (with_analysis T.units (T.characters text) a)
         (classes_of_chars (D.source data_source.now) split (T.characters text))
         (levels_of_chars (D.source data_source.now) base split (T.characters text))) }
 
-    // No level is below that of its paragraph or above the greatest.
+    // No level is below that of its paragraph or above the maximum.
     ensures bounded { IfOk result (λ a. All (λ p. AreLevelsFrom (level_of p)
         (slice_range (stored_levels_of a) (range_of p).start (range_of p).end)) (paragraphs_of_analysis a)) }
 
-    // Split, every unit is in one paragraph, and separators stand at the paragraphs' ends alone.
+    // With `split`, every code unit is in one paragraph, and separators are only at the ends of paragraphs.
     ensures parted { split ≡ true
         → IfOk result (λ a. AreParagraphRanges (D.source data_source.now) T.units (T.characters text)
         (ranges_of (paragraphs_of_analysis a))) }
 
-    // Not split, there is one paragraph, the whole text.
+    // Without `split`, there is one paragraph, the whole text.
     ensures whole { split ≡ false
         → IfOk result (λ a. ranges_of (paragraphs_of_analysis a) ≡ (0, text_len T.units (T.characters text)) ∷ []) }
 {
@@ -331,9 +331,9 @@ pub fn line_levels<T: TextSource>(
     ensures levels { IfOk result (λ v. AreLevelsWithLine (with_analysis T.units (T.characters text) analysis.now)
         level line v.items) }
 
-    // The levels, one a character, come of the analysis's classes and levels, one a character, of the
-    // level handed in and of the line counted in characters alone. So corresponding lines of two texts
-    // of the same characters have the same levels a character, and the same order.
+    // The levels of the characters depend only on the classes and levels of the characters, on `level`, and on the line
+    // counted in characters. So corresponding lines of two texts with the same characters have the same levels for each
+    // character, and the same order.
     ensures by_characters { let chars = T.characters text in
         IfOk result (λ v. per_char 0 T.units chars v.items
         ≡ levels_with_line_of level (per_char L T.units chars (original_classes_of analysis.now))

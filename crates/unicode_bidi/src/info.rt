@@ -1,4 +1,4 @@
-// What the algorithm finds out about a text.
+// The result of the algorithm for a text.
 ghost use Rattle.std.specs.Prelude.{◌≡◌, ◌<◌, ◌≤◌, IsTrue, IfOk, IfSome, OnOk, OnErr, All, Some, map, slice_range, false};
 ghost use Rattle.bidi_base.specs.Analysed.{IsLineOf, IsPerCharText, AreLevelsWithLine, AreLevelsOfLine, AreRunsOfLine, levels_with_line_per_char};
 ghost use Rattle.bidi_base.specs.Display.{run_of};
@@ -25,7 +25,7 @@ use smallvec::SmallVec;
 use std::alloc::{AllocError, Global};
 use std::ops::Range;
 
-/// What the algorithm finds out about a text: its paragraphs, and the class and the level of each character.
+/// The result of the algorithm for a text: its paragraphs, and the class and the level of each character.
 ///
 /// A line is a range of code units of the text that cuts no character (see `is_line`). Its levels after L1
 /// depend on the level of the paragraph that is passed with it.
@@ -42,7 +42,7 @@ impl<T: TextSource> BidiInfo<T> {
     ghost use Rattle.bidi_text_lines.specs.ShownLine.{text_of as shown_text, Shows};
     ghost use Rattle.unicode_bidi.specs.BidiInfo.{analysed as analysed_of, paragraphs, original_classes, levels as levels_of_info};
 
-    // What `new_with_rule` finds at each encoding, of any text.
+    // Does the work of `new_with_rule` for a text in any encoding.
     pub(crate) fn of_text<D: BidiDataSource>(
         alloc: Global,
         data_source: &D,
@@ -126,7 +126,7 @@ impl<T: TextSource> BidiInfo<T> {
         self.analysed.reordered_levels(alloc, para.level(), line)
     }
 
-    /// Returns what `reordered_levels` returns, one level for each character of the whole text.
+    /// Returns the level of each character of the whole text: after L1 in the line, and before L1 outside it.
     pub fn reordered_levels_per_char(
         &self,
         alloc: Global,

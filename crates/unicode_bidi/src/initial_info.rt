@@ -28,7 +28,7 @@ pub struct InitialInfo<T: TextSource> {
 impl<T: TextSource> InitialInfo<T> {
     ghost use Rattle.unicode_bidi.specs.InitialInfo.{len_of, chars_of, original_classes, paragraphs};
 
-    // What `new_with_data_source` finds at each encoding, of any text.
+    // Does the work of `new_with_data_source` for a text in any encoding.
     pub(crate) fn of_text<D: BidiDataSource>(
         alloc: Global,
         data_source: &D,

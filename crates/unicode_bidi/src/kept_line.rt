@@ -1,4 +1,4 @@
-//! The text of a line whose classes and levels the caller has kept, so that it costs the line alone.
+//! The text of a line, given its stored classes and levels, in time that depends only on the line.
 
 ghost use Rattle.std.specs.Prelude.{◌≡◌, ◌↔◌, IsTrue, IfOk, length, encode_utf8};
 ghost use Rattle.std.specs.Char.{len_utf8};
@@ -41,10 +41,11 @@ pub fn reorder_utf8<'t>(
     analysed.reorder_line(alloc, level, 0..text.len())
 }
 
-/// Returns the text of a line of UTF-16 from left to right, as [`reorder_utf8`] does of UTF-8.
+/// Returns the text of a line of UTF-16 from left to right (L2).
 ///
-/// There is one class and one level for each code unit. A surrogate in no pair is unchanged at an even level,
-/// and 0xFFFD at an odd level.
+/// `text` is the line. `classes` and `levels` have the stored class and level of each code unit, equal within each
+/// character (see `is_per_char`). `level` is the level of its paragraph. An unpaired surrogate is unchanged at an even
+/// level, and 0xFFFD at an odd level. The result is borrowed exactly if no level of the line is odd after L1.
 pub fn reorder_utf16<'t>(
     alloc: Global,
     text: &'t [u16],

@@ -1,4 +1,4 @@
-//! Lines of given width, and the places of their characters on the screen, over UTF-8.
+//! Lines of a given width, and the places of their characters on the screen, over UTF-8.
 
 ghost use Rattle.std.specs.Prelude.{◌≡◌, ◌≢◌, ℕ, ◌<◌, true, false, map, length, slice_get, IfOk, IfSome, All, Some};
 ghost use Rattle.std.specs.List.{range_with_len};
@@ -34,7 +34,7 @@ pub trait CharWidth {
         ensures { result ≡ width_of self.now c };
 }
 
-// How many units the first line of a text takes: as many characters as fit, and one where none does.
+// Returns how many code units the first line of a text takes: as many characters as fit, and at least one.
 fn first_line_len<T: TextSource, W: CharWidth>(text: T, widths: &W, limit: usize) -> usize
     ensures { let chars = T.characters text in
         result ≡ place T.units chars (line_length (W.width_of widths.now) limit chars) }
@@ -50,7 +50,7 @@ fn first_line_len<T: TextSource, W: CharWidth>(text: T, widths: &W, limit: usize
     text.len()
 }
 
-// The lines of a range of a text.
+// Returns the lines of a range of a text.
 fn lines_of<T: TextSource, W: CharWidth>(
     alloc: Global,
     text: T,
@@ -104,7 +104,7 @@ pub fn lines<W: CharWidth>(
     )
 }
 
-// The levels of a line's characters after L1.
+// Returns the levels of a line's characters after L1.
 fn char_levels(
     alloc: Global,
     info: &BidiInfo<'_>,
@@ -122,7 +122,7 @@ fn char_levels(
     Ok(shown)
 }
 
-// Whether each index stands at its own place.
+// Returns whether each index is at its own place.
 fn is_in_order(order: &[usize]) -> bool
     ensures ordered { result ≡ true → order.now ≡ indexes order.now }
     ensures other { result ≡ false → order.now ≢ indexes order.now }
@@ -135,7 +135,7 @@ fn is_in_order(order: &[usize]) -> bool
     true
 }
 
-// The entry of a list at an index. `None` from `len` on. An empty list stands for the indexes up to `len`.
+// Returns the entry of a list at an index, or `None` from `len` on. An empty list stands for the indexes up to `len`.
 fn entry_at(list: &[usize], len: usize, index: usize) -> Option<usize>
     ensures { result ≡ slice_get (entries list.now len) index }
 {
@@ -154,7 +154,7 @@ fn entry_at(list: &[usize], len: usize, index: usize) -> Option<usize>
 #[derive(PartialEq, Debug, Drop)]
 pub struct LineMap {
     len: usize,
-    // Both are empty if each character stands at its own index.
+    // Both are empty if each character is displayed at its own index.
     order: Vec<usize>,
     places: Vec<usize>,
     ghost inverse: { AreInverse order.items places.items },
@@ -165,7 +165,7 @@ pub struct LineMap {
 impl LineMap {
     ghost use Rattle.unicode_bidi.specs.LineMap.{order as order_of, places as places_of};
 
-    // The map of a line that shows its characters in the order of the text.
+    // Returns the map of a line that displays its characters in the order of the text.
     fn in_order(alloc: Global, len: usize) -> LineMap
         ensures order { order_of result ≡ range_with_len 0 len }
         ensures places { places_of result ≡ range_with_len 0 len }
@@ -177,7 +177,7 @@ impl LineMap {
         }
     }
 
-    // The map of a line by the levels of its characters after L1.
+    // Returns the map of a line, given the levels of its characters after L1.
     fn of_levels(alloc: Global, levels: &[Level]) -> Result<LineMap, AllocError>
         ensures order { IfOk result (λ m. order_of m ≡ visual_order levels.now) }
         ensures places { IfOk result (λ m. places_of m ≡ visual_places levels.now) }

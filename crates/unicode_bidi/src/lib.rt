@@ -4,7 +4,7 @@
 //! let source = TableBidiData::new(&sample::RANGES, &sample::BRACKETS).unwrap();
 //! let info = BidiInfo::new_with_data_source(alloc, &source, "אבגabc", None)?;
 //! let paragraph = &info.paragraphs()[0];      // 0..9 in bytes, level 1
-//! info.levels();                              // 1 1 1 1 1 1 2 2 2, one a byte
+//! info.levels();                              // 1 1 1 1 1 1 2 2 2, one level for each byte
 //! info.reorder_line(alloc, paragraph, 0..9)?; // "abcגבא", the line from left to right
 //! info.visual_runs(alloc, paragraph, 0..9)?;  // the same as runs of bytes: 6..9, 0..6
 //! BidiInfo::reorder_visual(alloc, levels)?;   // of levels 1 3 3 2 1: 4 2 1 3 0

@@ -11,7 +11,7 @@ use bidi_paragraphs::paragraph_info::ParagraphInfo;
 use bidi_text::text::TextSource;
 use bidi_text_lines::level_direction::direction_of;
 
-/// A paragraph, and what was found out about its text.
+/// A paragraph, and the result of the algorithm for its text.
 #[derive(Debug, Drop)]
 pub struct Paragraph<'a, T: TextSource> {
     info: &'a BidiInfo<T>,
@@ -29,7 +29,7 @@ impl<'a, T: TextSource> Paragraph<'a, T> {
         Paragraph { info, para }
     }
 
-    /// What was found out about the text.
+    /// Returns the result of the algorithm for the text.
     pub fn info(&self) -> &'a BidiInfo<T>
         ensures { result.now ≡ info_of self.now }
     {

@@ -1,4 +1,4 @@
-// What the algorithm finds out about a text that is one paragraph.
+// The result of the algorithm for a text that is one paragraph.
 ghost use Rattle.std.specs.Prelude.{◌≡◌, ◌<◌, ◌≤◌, IsTrue, IfOk, IfSome, OnOk, OnErr, map, false};
 ghost use Rattle.bidi_base.specs.Analysed.{IsLineOf, IsPerCharText, IsParagraphAnalysis, AreLevelsWithLine, AreLevelsOfLine, AreRunsOfLine, levels_with_line_per_char};
 ghost use Rattle.bidi_base.specs.Direction.{direction_of_levels};
@@ -20,7 +20,7 @@ use bidi_text_lines::shown_line::ShownLine;
 use std::alloc::{AllocError, Global};
 use std::ops::Range;
 
-/// What the algorithm finds out about a text that is one paragraph, whatever separators it has.
+/// The result of the algorithm for a text that is one paragraph, whatever separators it has.
 ///
 /// A line is a range of code units of the text that cuts no character (see `is_line`).
 #[derive(PartialEq, Debug, Drop)]
@@ -35,7 +35,7 @@ impl<T: TextSource> ParagraphBidiInfo<T> {
     ghost use Rattle.bidi_text_lines.specs.ShownLine.{text_of as shown_text, Shows};
     ghost use Rattle.unicode_bidi.specs.ParagraphBidiInfo.{analysed as analysed_of, original_classes, levels as levels_of_info, paragraph_level, is_pure_ltr};
 
-    // What `new_with_data_source` finds at each encoding, of any text.
+    // Does the work of `new_with_data_source` for a text in any encoding.
     pub(crate) fn of_text<D: BidiDataSource>(
         alloc: Global,
         data_source: &D,
@@ -130,7 +130,7 @@ impl<T: TextSource> ParagraphBidiInfo<T> {
             .reordered_levels(alloc, self.paragraph_level, line)
     }
 
-    /// Returns what `reordered_levels` returns, one level for each character of the whole text.
+    /// Returns the level of each character of the whole text: after L1 in the line, and before L1 outside it.
     pub fn reordered_levels_per_char(
         &self,
         alloc: Global,

@@ -1,7 +1,7 @@
-//! Texts of UTF-16, whose units are those of UTF-16.
+//! Texts of UTF-16.
 //!
-//! A high surrogate directly followed by a low one is one character, two units long. Any other
-//! surrogate is a character of its own: U+FFFD, one unit long.
+//! A high surrogate directly followed by a low one is one character, two code units long. Any other
+//! surrogate is the character U+FFFD, one code unit long.
 
 ghost use Rattle.std.specs.Prelude.{◌≡◌, ◌≤◌, ◌↔◌, IsTrue, IfOk, IfSome, All, Some, slice_range, true};
 ghost use Rattle.std.specs.Char.Escape.{encode_utf16};
@@ -27,13 +27,13 @@ use std::alloc::{AllocError, Global};
 use std::borrow::CowSlice;
 use std::ops::Range;
 
-/// What the algorithm finds out about a text: its paragraphs, and the class and the level of each character.
+/// The result of the algorithm for a text: its paragraphs, and the class and the level of each character.
 ///
 /// A line is a range of code units that cuts no character (see `is_line`). Its levels after L1 depend on the
 /// level of the paragraph that is passed with it.
 pub type BidiInfo<'t> = info::BidiInfo<Utf16Text<'t>>;
 
-/// What the algorithm finds out about a text that is one paragraph, whatever separators it has.
+/// The result of the algorithm for a text that is one paragraph, whatever separators it has.
 ///
 /// A line is a range of code units that cuts no character (see `is_line`).
 pub type ParagraphBidiInfo<'t> = paragraph_bidi_info::ParagraphBidiInfo<Utf16Text<'t>>;
@@ -41,7 +41,7 @@ pub type ParagraphBidiInfo<'t> = paragraph_bidi_info::ParagraphBidiInfo<Utf16Tex
 /// The paragraphs of a text and the classes of its characters.
 pub type InitialInfo<'t> = initial_info::InitialInfo<Utf16Text<'t>>;
 
-/// A paragraph, and what was found out about its text.
+/// A paragraph, and the result of the algorithm for its text.
 pub type Paragraph<'a, 't> = paragraph::Paragraph<'a, Utf16Text<'t>>;
 
 /// A line as it is shown: its levels after L1, its visual runs (L2), the order of its characters, and its text.
@@ -68,14 +68,14 @@ impl<'t> info::BidiInfo<Utf16Text<'t>> {
         ensures analysis { IfOk result (λ i. IsAnalysis (D.source data_source.now) default_para_level true
             (analysed_of i) (ranges_of (paragraphs i)) (levels_of (paragraphs i))) }
 
-        // Every unit is in one paragraph, and separators stand at the paragraphs' ends alone.
+        // Every code unit is in one paragraph, and separators are only at the ends of paragraphs.
         ensures parted { IfOk result (λ i. let a = analysed_of i in
             AreParagraphRanges (D.source data_source.now) a.len_of a.chars (ranges_of (paragraphs i))) }
 
-        // All units of a character have one class and one level.
+        // All code units of a character have the same class and the same level.
         ensures per_char { IfOk result (λ i. IsPerCharText (analysed_of i)) }
 
-        // No level is below that of its paragraph or above the greatest.
+        // No level is below that of its paragraph or above the maximum.
         ensures bounded { IfOk result (λ i. All
             (λ p. AreLevelsFrom (level_of p)
             (slice_range (analysed_of i).levels (range_of p).start (range_of p).end))
@@ -87,19 +87,19 @@ impl<'t> info::BidiInfo<Utf16Text<'t>> {
             (HasOwnUnits a.len_of (stored_levels (D.source data_source.now) default_para_level) a.chars a.levels)
             (ranges_of (paragraphs i))) }
 
-        // Which character of class BN stands at a place changes no level of its paragraph.
+        // Replacing a character of class BN by another of class BN changes no level of its paragraph.
         ensures boundary_neutrals_alike { BoundaryNeutralsAreAlike (D.source data_source.now) default_para_level }
 
-        // A paragraph of level 0 in which nothing can turn the direction has level 0 throughout.
+        // If no class in a paragraph of level 0 can change the direction, all its levels are 0.
         ensures stays_left_to_right { StaysLeftToRight (D.source data_source.now) default_para_level }
     {
         let rule = SplitRule::EachSeparator;
         BidiInfo::new_with_rule(alloc, data_source, text, default_para_level, rule)
     }
 
-    /// Analyses a text as `new_with_data_source` does. A rule says where its paragraphs end.
+    /// Analyses a text as `new_with_data_source` does, with paragraphs that end where `rule` says.
     ///
-    /// With `CrLfTogether` a U+000D of class B directly before a U+000A of class B stays with it: the U+000D
+    /// With `CrLfTogether`, a U+000D of class B directly before a U+000A of class B stays with it. The U+000D
     /// has the paragraph level, and closes nothing.
     pub fn new_with_rule<D: BidiDataSource>(
         alloc: Global,
@@ -113,15 +113,15 @@ impl<'t> info::BidiInfo<Utf16Text<'t>> {
         ensures analysis { IfOk result (λ i. IsAnalysisBy (D.source data_source.now) default_para_level (Some rule)
             (analysed_of i) (ranges_of (paragraphs i)) (levels_of (paragraphs i))) }
 
-        // Every unit is in one paragraph, and separators stand at the paragraphs' ends alone. With
-        // `CrLfTogether` one also stands directly before a U+000A that ends its paragraph: a U+000D.
+        // Every code unit is in one paragraph, and separators are only at the ends of paragraphs. With
+        // `CrLfTogether`, a U+000D may also come directly before the U+000A that ends its paragraph.
         ensures parted { IfOk result (λ i. let a = analysed_of i in
             AreParagraphRangesBy rule (D.source data_source.now) a.len_of a.chars (ranges_of (paragraphs i))) }
 
-        // All units of a character have one class and one level.
+        // All code units of a character have the same class and the same level.
         ensures per_char { IfOk result (λ i. IsPerCharText (analysed_of i)) }
 
-        // No level is below that of its paragraph or above the greatest.
+        // No level is below that of its paragraph or above the maximum.
         ensures bounded { IfOk result (λ i. All
             (λ p. AreLevelsFrom (level_of p)
             (slice_range (analysed_of i).levels (range_of p).start (range_of p).end))
@@ -133,10 +133,10 @@ impl<'t> info::BidiInfo<Utf16Text<'t>> {
             (HasOwnUnits a.len_of (stored_levels (D.source data_source.now) default_para_level) a.chars a.levels)
             (ranges_of (paragraphs i))) }
 
-        // Which character of class BN stands at a place changes no level of its paragraph.
+        // Replacing a character of class BN by another of class BN changes no level of its paragraph.
         ensures boundary_neutrals_alike { BoundaryNeutralsAreAlike (D.source data_source.now) default_para_level }
 
-        // A paragraph of level 0 in which nothing can turn the direction has level 0 throughout.
+        // If no class in a paragraph of level 0 can change the direction, all its levels are 0.
         ensures stays_left_to_right { StaysLeftToRight (D.source data_source.now) default_para_level }
     {
         let text = Utf16Text::new(text);
@@ -153,7 +153,7 @@ impl<'t> info::BidiInfo<Utf16Text<'t>> {
     /// Returns the text of the line from left to right: its characters in the order of L2, by their levels
     /// after L1.
     ///
-    /// A surrogate in no pair is 0xFFFD at an odd level, and unchanged at an even level. Combining marks (L3)
+    /// An unpaired surrogate is 0xFFFD at an odd level, and unchanged at an even level. Combining marks (L3)
     /// are not moved, and characters are not mirrored (L4). The text is borrowed, and nothing is allocated for
     /// it, exactly if no level of the line is odd after L1.
     pub fn reorder_line(
@@ -190,16 +190,16 @@ impl<'t> paragraph_bidi_info::ParagraphBidiInfo<Utf16Text<'t>> {
         ensures analysis { IfOk result (λ i. IsParagraphAnalysis (D.source data_source.now) default_para_level
             (analysed_of i) (paragraph_level i) (is_pure_ltr i)) }
 
-        // All units of a character have one class and one level.
+        // All code units of a character have the same class and the same level.
         ensures per_char { IfOk result (λ i. IsPerCharText (analysed_of i)) }
 
-        // No level is below that of the paragraph or above the greatest.
+        // No level is below that of the paragraph or above the maximum.
         ensures bounded { IfOk result (λ i. AreLevelsFrom (paragraph_level i) (levels_of_info i)) }
 
-        // Which character of class BN stands at a place changes no level.
+        // Replacing a character of class BN by another of class BN changes no level.
         ensures boundary_neutrals_alike { BoundaryNeutralsAreAlike (D.source data_source.now) default_para_level }
 
-        // A paragraph of level 0 in which nothing can turn the direction has level 0 throughout.
+        // If no class in a paragraph of level 0 can change the direction, all its levels are 0.
         ensures stays_left_to_right { StaysLeftToRight (D.source data_source.now) default_para_level }
     {
         paragraph_bidi_info::ParagraphBidiInfo::of_text(
@@ -220,7 +220,7 @@ impl<'t> paragraph_bidi_info::ParagraphBidiInfo<Utf16Text<'t>> {
     /// Returns the text of the line from left to right: its characters in the order of L2, by their levels
     /// after L1.
     ///
-    /// A surrogate in no pair is 0xFFFD at an odd level, and unchanged at an even level. Combining marks (L3)
+    /// An unpaired surrogate is 0xFFFD at an odd level, and unchanged at an even level. Combining marks (L3)
     /// are not moved, and characters are not mirrored (L4). The text is borrowed, and nothing is allocated for
     /// it, exactly if no level of the line is odd after L1.
     pub fn reorder_line(
@@ -259,7 +259,7 @@ impl<'t> initial_info::InitialInfo<Utf16Text<'t>> {
         ensures levels { IfOk result (λ i. let pieces = pieces_of true (D.source data_source.now) (chars_of i) in
             levels_of (paragraphs i) ≡ paragraph_levels (D.source data_source.now) default_para_level pieces) }
 
-        // Every unit is in one paragraph, and separators stand at the paragraphs' ends alone.
+        // Every code unit is in one paragraph, and separators are only at the ends of paragraphs.
         ensures parted { IfOk result (λ i. AreParagraphRanges (D.source data_source.now) (len_of i) (chars_of i)
             (ranges_of (paragraphs i))) }
         ensures per_char { IfOk result (λ i. IsTrue

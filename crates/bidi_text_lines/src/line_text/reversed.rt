@@ -1,7 +1,7 @@
 // Code units in reverse order.
 ghost use Rattle.std.specs.Prelude.{◌≡◌, length, reverse};
 
-// Writes code units in reverse order. The loop has no branch, so that it moves many units at once.
+// Writes code units in reverse order. The loop has no branch, so it moves many units at once.
 pub(super) fn write_reversed<U: Copy>(units: &[U], out: &mut [U])
     requires { length out.old ≡ length units.now }
     ensures { out.new ≡ reverse units.now }

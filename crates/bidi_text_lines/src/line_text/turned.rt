@@ -1,17 +1,17 @@
-// The bytes of a text whose characters stand last first. A loop over bytes turns many at once: it reads
-// no character, and each byte tells by its neighbours with which of them it changes places.
+// Reverses the characters of UTF-8 by a loop that handles many bytes at once. It decodes no character: each byte's
+// neighbours tell which byte goes to its mirrored place.
 ghost use Rattle.std.specs.Prelude.{◌≡◌, ℕ, ◌+◌, ◌-◌, ◌<◌, ◌≤◌, nat_lt, length, slice_index, slice_index_or, if◌then◌else◌};
 ghost use Rattle.std.specs.List.{list_all};
 ghost use Rattle.bidi_text_lines.specs.Turned.{turned_byte, turned_at, behind_two};
 
-// The least first byte of a character of two bytes, of three and of four.
+// The minimum first byte of a character of two, three and four bytes.
 const OF_TWO: u8 = 0xC0;
 
 const OF_THREE: u8 = 0xE0;
 
 const OF_FOUR: u8 = 0xF0;
 
-// Whether no character takes four bytes.
+// Returns whether no character has four bytes.
 pub(super) fn are_short(bytes: &[u8]) -> bool
     ensures { result ≡ list_all (λ b. nat_lt b 0xF0) bytes.now }
 {
@@ -22,8 +22,8 @@ pub(super) fn are_short(bytes: &[u8]) -> bool
     greatest < OF_FOUR
 }
 
-// The first of two bytes where a test holds, else the second. There is no branch in it, so that a loop
-// chooses for many bytes at once.
+// Returns `held` if the test holds, and `other` otherwise. It has no branch, so a loop chooses for many bytes at
+// once.
 fn choose(test: bool, held: u8, other: u8) -> u8
     ensures { result ≡ (if test then held else other) }
 {
@@ -31,8 +31,8 @@ fn choose(test: bool, held: u8, other: u8) -> u8
     (held & mask) | (other & !mask)
 }
 
-// What stands in the place of a byte when the text is turned round, by the two bytes before it and the
-// two behind it.
+// Returns the byte that goes to a byte's mirrored place in the reversed text. It depends on the two bytes before
+// and the two bytes after.
 fn turned_byte(far: u8, near: u8, byte: u8, next: u8, later: u8) -> u8
     ensures { result ≡ turned_byte far near byte next later }
 {
@@ -42,7 +42,7 @@ fn turned_byte(far: u8, near: u8, byte: u8, next: u8, later: u8) -> u8
     choose(byte >= OF_THREE, later, by_next)
 }
 
-// Turns all bytes of a text but the first two and the last two.
+// Reverses a text except for its first two and its last two bytes.
 fn turn_middle(bytes: &[u8], out: &mut [u8])
     requires same_len { length out.old ≡ length bytes.now }
     requires long { 4 ≤ length bytes.now }
@@ -61,7 +61,7 @@ fn turn_middle(bytes: &[u8], out: &mut [u8])
     }
 }
 
-// The byte so many before a place, or 0 where none stands there.
+// Returns the byte `by` places before an index, or 0 if there is none.
 fn byte_before(bytes: &[u8], at: usize, by: usize) -> u8
     requires at { at < length bytes.now }
     requires by { by ≤ 2 }
@@ -73,7 +73,7 @@ fn byte_before(bytes: &[u8], at: usize, by: usize) -> u8
     }
 }
 
-// The byte so many behind a place, or 0 where none stands there.
+// Returns the byte `by` places after an index, or 0 if there is none.
 fn byte_behind(bytes: &[u8], at: usize, by: usize) -> u8
     requires at { at < length bytes.now }
     requires by { by ≤ 2 }
@@ -85,7 +85,7 @@ fn byte_behind(bytes: &[u8], at: usize, by: usize) -> u8
     }
 }
 
-// Turns the bytes of a text from a place up to another.
+// Reverses the bytes of a text with indexes from `from` up to `to`.
 fn turn_ends(bytes: &[u8], out: &mut [u8], from: usize, to: usize)
     requires same_len { length out.old ≡ length bytes.now }
     requires ordered { from ≤ to }
@@ -109,7 +109,7 @@ fn turn_ends(bytes: &[u8], out: &mut [u8], from: usize, to: usize)
     }
 }
 
-// Writes the bytes of a text with its characters last first, where no character takes four bytes.
+// Writes the characters of a text in reverse order. No character may have four bytes.
 pub(super) fn turn_round(bytes: &[u8], out: &mut [u8])
     requires { length out.old ≡ length bytes.now }
     ensures { (j : ℕ) → j < length out.old

@@ -52,8 +52,9 @@ impl<'t> LineText for StrText<'t> {
 impl<'t> Analysed<StrText<'t>> {
     ghost use Rattle.bidi_text_lines.specs.Analysed.{analysed, text_of};
 
-    /// The text of a line of UTF-8 from left to right. It is borrowed exactly where no level of the
-    /// line is odd after L1.
+    /// Returns the text of a line of UTF-8 from left to right (L2).
+    ///
+    /// The result is borrowed exactly if no level of the line is odd after L1.
     pub fn reorder_line(
         &self,
         alloc: Global,
@@ -68,7 +69,7 @@ impl<'t> Analysed<StrText<'t>> {
         let text = self.text().as_str();
         let units = line.start..line.end;
         match self.turned_line(alloc, level, units, 0)? {
-            // The bytes are not tested: the proof shows that they are UTF-8.
+            // This skips the test for UTF-8: the proof shows that the bytes are UTF-8.
             Some(turned) => Ok(CowStr::Owned(unsafe { String::from_utf8_unchecked(turned) })),
             None => Ok(CowStr::Borrowed(&text[line])),
         }

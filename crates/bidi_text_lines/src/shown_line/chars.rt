@@ -11,7 +11,7 @@ use std::alloc::{AllocError, Global};
 impl<'t> ShownLine<CharsText<'t>> {
     ghost use Rattle.bidi_text_lines.specs.ShownLine.{text_of, Shows, AppendsTextOfLine};
 
-    /// Shows the empty line of an empty text. Nothing is allocated.
+    /// Returns a value that shows the empty line of an empty text. Does not allocate.
     pub fn new(alloc: Global) -> ShownLine<CharsText<'t>>
         ensures text { (text_of result).list.now ≡ [] }
         ensures shows { (a : AnalysedText) → (level : ℕ) → a.len_of ≡ one_unit → a.chars ≡ []

@@ -12,7 +12,7 @@ use std::alloc::{AllocError, Global};
 impl<'t> ShownLine<Utf16Text<'t>> {
     ghost use Rattle.bidi_text_lines.specs.ShownLine.{text_of, Shows, AppendsTextOfLine};
 
-    /// Shows the empty line of an empty text. Nothing is allocated.
+    /// Returns a value that shows the empty line of an empty text. Does not allocate.
     pub fn new(alloc: Global) -> ShownLine<Utf16Text<'t>>
         ensures text { (text_of result).units.now ≡ [] }
         ensures shows { (a : AnalysedText) → (level : ℕ) → a.len_of ≡ utf16_len → a.chars ≡ []

@@ -12,7 +12,7 @@ use std::mem;
 impl<'t> ShownLine<StrText<'t>> {
     ghost use Rattle.bidi_text_lines.specs.ShownLine.{text_of, Shows, AppendsTextOfLine};
 
-    /// Shows the empty line of an empty text. Nothing is allocated.
+    /// Returns a value that shows the empty line of an empty text. Does not allocate.
     pub fn new(alloc: Global) -> ShownLine<StrText<'t>>
         ensures text { (text_of result).text.now ≡ [] }
         ensures shows { (a : AnalysedText) → (level : ℕ) → a.len_of ≡ len_utf8 → a.chars ≡ []
@@ -37,7 +37,7 @@ impl<'t> ShownLine<StrText<'t>> {
         let alloc = *out.allocator();
         let mut bytes = mem::replace(out, String::new(alloc)).into_bytes();
         let pushed = self.push_units(&mut bytes, 0);
-        // The bytes are not tested: the proof shows that they are UTF-8.
+        // This skips the test for UTF-8: the proof shows that the bytes are UTF-8.
         *out = unsafe { String::from_utf8_unchecked(bytes) };
         pushed
     }

@@ -1,6 +1,6 @@
 use Rattle.bidi_base.proofs.Common.{◌≡◌, map, drop, string_bytes}
 use Rattle.std.proofs.Common.{find}
-use Rattle.bidi.specs.Commands.{is_option}
+use Rattle.bidi.specs.Options.{is_option}
 use Rattle.bidi.proofs.command.first_option.Given as goal
 
 abbrev pub invariant-loop-word : goal.invariant-loop-word

@@ -1,12 +1,9 @@
 use Rattle.bidi_base.proofs.Common.{arith}
-use Rattle.bidi.proofs.OptionsLemmas.{show_of-plain, show_of-help, show_of-base, show_of-width}
+use Rattle.bidi.proofs.OptionsLemmas.{show_of-plain, show_of-base, show_of-width}
 use Rattle.bidi.proofs.command.Command.+parse_show.Goals as goal
 
 pub returns-in-len1-up : goal.returns-in-len1-up
 returns-in-len1-up t c = grind (arith, show_of-plain)
-
-pub returns-in-len1-up-2 : goal.returns-in-len1-up-2
-returns-in-len1-up-2 t c = grind (arith, show_of-help)
 
 pub returns-in-Some : goal.returns-in-Some
 returns-in-Some t c = grind (arith, show_of-base)
