@@ -1,5 +1,5 @@
--- How a line is displayed, and lines that are displayed differently from how they read. A line here is the list of its
--- characters without the separator that ends it, and is a paragraph by itself.
+-- How a line is displayed, and lines that are displayed differently from how they read. A line here is the list of
+-- its characters without the separator that ends it, and is a paragraph by itself.
 use Rattle.std.specs.Prelude.{ℕ, Bool, not, ◌&&◌, ◌||◌, nat_eq, List, map, filter, Option, Some, None}
 use Rattle.std.specs.Char.{is_ascii_graphic}
 use Rattle.std.specs.Cmp.Lexicographic.{pointwise}

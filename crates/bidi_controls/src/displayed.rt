@@ -1,8 +1,10 @@
 //! Lines that are displayed differently from how they read.
-ghost use Rattle.std.specs.Prelude.{◌≡◌, ◌<◌, [], All, length, OnOk, IfOk};
+ghost use Rattle.std.specs.Prelude.{◌≡◌, ◌<◌, All, length, OnOk, IfOk};
 ghost use Rattle.bidi_base.specs.Order.{visual_order, IsVisualOrder};
 ghost use Rattle.bidi_base.specs.Places.{at_places, first_or};
-ghost use Rattle.bidi_controls.specs.Displayed.{displayed_levels, displayed_order, displayed, displayed_text, without_controls as without_controls_of, visible_ascii, are_same, has_control as has_control_of, is_reordered as is_reordered_by, is_displayed_differently as is_displayed_differently_by};
+ghost use Rattle.bidi_controls.specs.Displayed.{displayed_levels, displayed_order, displayed, displayed_text, visible_ascii, are_same};
+ghost use Rattle.bidi_controls.specs.Displayed.{without_controls as without_controls_of, has_control as has_control_of};
+ghost use Rattle.bidi_controls.specs.Displayed.{is_reordered as is_reordered_by, is_displayed_differently as is_displayed_differently_by};
 ghost use Rattle.bidi_terminal.specs.Bases.{level_of_base};
 ghost use Rattle.unicode_bidi.specs.ParagraphInfo.{levels_of};
 
@@ -105,9 +107,7 @@ struct DisplayedOrder {
 
 impl DisplayedOrder {
     // Returns the order of an empty line. Allocates nothing.
-    fn new(alloc: Global) -> DisplayedOrder
-        ensures { result.order.items ≡ [] }
-    {
+    fn new(alloc: Global) -> DisplayedOrder {
         DisplayedOrder {
             analyser: Analyser::new(alloc),
             classes: Vec::new(alloc),
@@ -204,9 +204,7 @@ pub struct DisplayedLine {
 
 impl DisplayedLine {
     /// Returns a value that has displayed nothing. Allocates nothing.
-    pub fn new(alloc: Global) -> DisplayedLine
-        ensures { result.chars.items ≡ [] }
-    {
+    pub fn new(alloc: Global) -> DisplayedLine {
         DisplayedLine {
             order: DisplayedOrder::new(alloc),
             chars: Vec::new(alloc),
@@ -221,7 +219,8 @@ impl DisplayedLine {
         base: Base,
         line: &[char],
     ) -> Result<(), AllocError>
-        ensures { OnOk result (self.new.chars.items ≡ displayed (D.source data_source.now) (level_of_base base) line.now) }
+        ensures { OnOk result (self.new.chars.items
+            ≡ displayed (D.source data_source.now) (level_of_base base) line.now) }
     {
         self.order.find(alloc, data_source, base, line)?;
         write_in_order(line, self.order.order.as_slice(), &mut self.chars)
@@ -238,7 +237,8 @@ impl DisplayedLine {
         line: &[char],
         out: &mut Vec<char>,
     ) -> Result<(), AllocError>
-        ensures { OnOk result (out.new.items ≡ displayed_text (D.source data_source.now) (level_of_base base) line.now) }
+        ensures { OnOk result (out.new.items
+            ≡ displayed_text (D.source data_source.now) (level_of_base base) line.now) }
     {
         self.find(alloc, data_source, base, line)?;
         write_without_controls(data_source, self.chars.as_slice(), out)
@@ -253,14 +253,15 @@ impl DisplayedLine {
         line: &[char],
         out: &mut Vec<char>,
     ) -> Result<(), AllocError>
-        ensures { OnOk result (out.new.items ≡ visible_ascii (displayed (D.source data_source.now) (level_of_base base) line.now)) }
+        ensures { OnOk result (out.new.items
+            ≡ visible_ascii (displayed (D.source data_source.now) (level_of_base base) line.now)) }
     {
         self.find(alloc, data_source, base, line)?;
         write_visible_ascii(self.chars.as_slice(), out)
     }
 
-    // Deletes the direction controls from a line, and writes its visible ASCII from left to right. The two lists are
-    // overwritten.
+    // Deletes the direction controls from a line, and writes its visible ASCII from left to right. The line without
+    // them and the visible ASCII replace the contents of the two lists.
     fn write_visible_without_controls<D: BidiDataSource>(
         &mut self,
         alloc: Global,
@@ -270,8 +271,9 @@ impl DisplayedLine {
         without_controls: &mut Vec<char>,
         out: &mut Vec<char>,
     ) -> Result<(), AllocError>
-        ensures { OnOk result (out.new.items ≡ visible_ascii (displayed (D.source data_source.now) (level_of_base base)
-            (without_controls_of (D.source data_source.now) line.now))) }
+        ensures { let kept = without_controls_of (D.source data_source.now) line.now in
+            OnOk result (out.new.items
+            ≡ visible_ascii (displayed (D.source data_source.now) (level_of_base base) kept)) }
     {
         write_without_controls(data_source, line, without_controls)?;
         self.write_visible(alloc, data_source, base, without_controls.as_slice(), out)
@@ -294,9 +296,7 @@ pub struct DisplayComparison {
 
 impl DisplayComparison {
     /// Returns a value that has compared nothing. Allocates nothing.
-    pub fn new(alloc: Global) -> DisplayComparison
-        ensures { result.read.items ≡ [] }
-    {
+    pub fn new(alloc: Global) -> DisplayComparison {
         DisplayComparison {
             displayed: DisplayedLine::new(alloc),
             read: Vec::new(alloc),
@@ -306,7 +306,7 @@ impl DisplayComparison {
         }
     }
 
-    // Finds the visible ASCII of a line from left to right, and returns whether it reads so.
+    // Finds the visible ASCII of a line as it is displayed, and returns whether that is how it reads.
     fn is_as_read<D: BidiDataSource>(
         &mut self,
         alloc: Global,
@@ -316,8 +316,8 @@ impl DisplayComparison {
     ) -> Result<bool, AllocError>
         ensures shown { OnOk result (self.new.shown.items
             ≡ visible_ascii (displayed (D.source data_source.now) (level_of_base base) line.now)) }
-        ensures same { IfOk result (λ same. same
-            ≡ are_same (visible_ascii (displayed (D.source data_source.now) (level_of_base base) line.now)) (visible_ascii line.now)) }
+        ensures same { let shown = displayed (D.source data_source.now) (level_of_base base) line.now in
+            IfOk result (λ same. same ≡ are_same (visible_ascii shown) (visible_ascii line.now)) }
     {
         write_visible_ascii(line, &mut self.read)?;
         self.displayed
@@ -325,8 +325,8 @@ impl DisplayComparison {
         Ok(self.shown.as_slice() == self.read.as_slice())
     }
 
-    // Returns whether the visible ASCII that was found last is that of a line from left to right, where the controls
-    // are deleted from the line.
+    // Returns whether the visible ASCII that was found last is also displayed if the controls are deleted from the
+    // line.
     fn is_as_without_controls<D: BidiDataSource>(
         &mut self,
         alloc: Global,
@@ -334,9 +334,9 @@ impl DisplayComparison {
         base: Base,
         line: &[char],
     ) -> Result<bool, AllocError>
-        ensures { IfOk result (λ same. same ≡ are_same self.old.shown.items
-            (visible_ascii (displayed (D.source data_source.now) (level_of_base base)
-            (without_controls_of (D.source data_source.now) line.now)))) }
+        ensures { let kept = without_controls_of (D.source data_source.now) line.now in
+            IfOk result (λ same. same ≡ are_same self.old.shown.items
+            (visible_ascii (displayed (D.source data_source.now) (level_of_base base) kept))) }
     {
         self.displayed.write_visible_without_controls(
             alloc,
@@ -359,7 +359,8 @@ impl DisplayComparison {
         base: Base,
         line: &[char],
     ) -> Result<bool, AllocError>
-        ensures { IfOk result (λ found. found ≡ is_reordered_by (D.source data_source.now) (level_of_base base) line.now) }
+        ensures { IfOk result (λ found. found
+            ≡ is_reordered_by (D.source data_source.now) (level_of_base base) line.now) }
     {
         if self.is_as_read(alloc, data_source, base, line)? {
             return Ok(false);
