@@ -5,6 +5,7 @@ ghost use Rattle.bidi.specs.Options.{is_option};
 
 use crate::refusal::{Refusal, Subcommand, Word};
 use crate::view::View;
+use bidi_controls::finding::Wanted;
 use bidi_stages::view::{Form, StageView};
 use bidi_terminal::{Base, parse_number};
 use std::marker::Model;
@@ -109,9 +110,10 @@ impl<'w> FileWords<'w> {
 /// A form of the program.
 #[derive(Drop)]
 pub enum Command<'w> {
-    /// `check [--any] [FILE..]`: the direction controls without a match on their line, or all.
+    /// `check [--any|--unmatched] [FILE..]`: direction controls without a match on their line, or all controls, and
+    /// lines that are displayed differently from how they read.
     Check {
-        any: bool,
+        wanted: Wanted,
         files: FileWords<'w>,
     },
     /// `explain [--base auto|ltr|rtl] [--html] TEXT..`: what each stage makes of the characters.
@@ -133,14 +135,19 @@ pub enum Command<'w> {
 impl<'w> Command<'w> {
     ghost use Rattle.bidi.specs.Commands.{command_of, check_of, explain_of, show_of, alone_of};
 
-    /// What words behind `check` ask for, where there was `--any` before them, or not.
-    fn parse_check(any: bool, words: &'w [String]) -> Result<Command<'w>, Refusal<'w>>
-        ensures { result ≡ check_of any (map string_bytes words.now) }
+    /// What words behind `check` ask for, if the options before them want these findings.
+    fn parse_check(wanted: Wanted, words: &'w [String]) -> Result<Command<'w>, Refusal<'w>>
+        ensures { result ≡ check_of wanted (map string_bytes words.now) }
     {
         match words {
-            [option, rest @ ..] if option.as_str() == "--any" => Command::parse_check(true, rest),
+            [option, rest @ ..] if option.as_str() == "--any" => {
+                Command::parse_check(Wanted::EveryControl, rest)
+            }
+            [option, rest @ ..] if option.as_str() == "--unmatched" => {
+                Command::parse_check(Wanted::Unmatched, rest)
+            }
             _ => match FileWords::parse(Subcommand::Checking, words) {
-                Ok(files) => Ok(Command::Check { any, files }),
+                Ok(files) => Ok(Command::Check { wanted, files }),
                 Err(refusal) => Err(refusal),
             },
         }
@@ -246,7 +253,7 @@ impl<'w> Command<'w> {
                 if asks_help(rest) {
                     return Ok(Command::Help(Some(Subcommand::Checking)));
                 }
-                Command::parse_check(false, rest)
+                Command::parse_check(Wanted::Misleading, rest)
             }
             [name, rest @ ..] if name.as_str() == "show" => {
                 if asks_help(rest) {
