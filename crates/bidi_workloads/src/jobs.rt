@@ -300,7 +300,7 @@ fn sources(
         let wanted = if index % 2 == 1 {
             Wanted::EveryControl
         } else {
-            Wanted::Unmatched
+            Wanted::Misleading
         };
         let found = findings_in(alloc, &UnicodeData, wanted, file.as_slice())?;
         let told = report(alloc, "source", found.as_slice())?;
