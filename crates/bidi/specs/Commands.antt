@@ -51,13 +51,24 @@ abbrev pub over_files : (List (List ℕ) → Command) → Result (List (List ℕ
 over_files command (Ok files) = Ok (command files)
 over_files command (Err refusal) = Err refusal
 
+-- the findings that an option of `check` wants, if it is one
+abbrev pub wanted_by_option : List ℕ → Option Wanted
+wanted_by_option option =
+    if bytes_eq option (codes "--any") then Some EveryControl
+    else if bytes_eq option (codes "--unmatched") then Some Unmatched
+    else None
+
+-- what follows of an option, or of a word that is none
+abbrev pub by_option : {A : Type 0} → Result Command Refusal → (A → Result Command Refusal) → Option A → Result Command Refusal
+by_option other next None = other
+by_option other next (Some value) = next value
+
 -- behind `check` and options that want these findings: further options, in any order, and files
 abbrev pub check_of : Wanted → List (List ℕ) → Result Command Refusal
 check_of wanted [] = Ok (Check wanted [])
 check_of wanted (word ∷ words) =
-    if bytes_eq word (codes "--any") then check_of EveryControl words
-    else if bytes_eq word (codes "--unmatched") then check_of Unmatched words
-    else over_files (Check wanted) (file_words Checking (word ∷ words))
+    by_option (over_files (Check wanted) (file_words Checking (word ∷ words))) (λ asked. check_of asked words)
+    (wanted_by_option word)
 
 -- what `show` does without options
 abbrev pub first_view : View

@@ -1,6 +1,6 @@
 //! What the words of a call ask for.
 ghost use Rattle.std.specs.Prelude.{◌≡◌, find, map, string_bytes};
-ghost use Rattle.bidi.specs.Commands.{asks_help, unknown_option, late_option};
+ghost use Rattle.bidi.specs.Commands.{asks_help, unknown_option, late_option, wanted_by_option};
 ghost use Rattle.bidi.specs.Options.{is_option};
 
 use crate::refusal::{Refusal, Subcommand, Word};
@@ -132,24 +132,42 @@ pub enum Command<'w> {
     Version,
 }
 
+/// The findings that an option of `check` wants, if it is one.
+fn wanted_by(option: &str) -> Option<Wanted>
+    ensures { result ≡ wanted_by_option option.now }
+{
+    match option {
+        "--any" => Some(Wanted::EveryControl),
+        "--unmatched" => Some(Wanted::Unmatched),
+        _ => None,
+    }
+}
+
 impl<'w> Command<'w> {
-    ghost use Rattle.bidi.specs.Commands.{command_of, check_of, explain_of, show_of, alone_of};
+    ghost use Rattle.bidi.specs.Commands.{command_of, check_of, explain_of, show_of, alone_of, over_files, file_words};
+    ghost use Rattle.bidi.specs.declared.command.Command.TheVariants.{Check};
+    ghost use Rattle.bidi.specs.declared.refusal.Subcommand.TheVariants.{Checking};
+
+    /// What `check` does with files that words name, if these findings are wanted.
+    fn check_files(wanted: Wanted, words: &'w [String]) -> Result<Command<'w>, Refusal<'w>>
+        ensures { result ≡ over_files (Check wanted) (file_words Checking (map string_bytes words.now)) }
+    {
+        match FileWords::parse(Subcommand::Checking, words) {
+            Ok(files) => Ok(Command::Check { wanted, files }),
+            Err(refusal) => Err(refusal),
+        }
+    }
 
     /// What words behind `check` ask for, if the options before them want these findings.
     fn parse_check(wanted: Wanted, words: &'w [String]) -> Result<Command<'w>, Refusal<'w>>
         ensures { result ≡ check_of wanted (map string_bytes words.now) }
     {
         match words {
-            [option, rest @ ..] if option.as_str() == "--any" => {
-                Command::parse_check(Wanted::EveryControl, rest)
-            }
-            [option, rest @ ..] if option.as_str() == "--unmatched" => {
-                Command::parse_check(Wanted::Unmatched, rest)
-            }
-            _ => match FileWords::parse(Subcommand::Checking, words) {
-                Ok(files) => Ok(Command::Check { wanted, files }),
-                Err(refusal) => Err(refusal),
+            [option, rest @ ..] => match wanted_by(option.as_str()) {
+                Some(wanted) => Command::parse_check(wanted, rest),
+                None => Command::check_files(wanted, words),
             },
+            [] => Command::check_files(wanted, words),
         }
     }
 
