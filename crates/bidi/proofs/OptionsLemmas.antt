@@ -1,12 +1,15 @@
 -- What options before others ask for, where words are texts.
-use Rattle.bidi_base.proofs.Common.{◌≡◌, ℕ, ◌-◌, ◌≤◌, Bool, true, false, List, [], ◌∷◌, Some, length, get_or, map, drop, string_bytes, arith, codes, slice_range, take_all}
+use Rattle.bidi_base.proofs.Common.{◌≡◌, ℕ, ◌-◌, ◌≤◌, Bool, true, false, List, [], ◌∷◌, Some, None, length, get_or, map, drop, string_bytes, arith, codes, slice_range, take_all}
 use Rattle.std.specs.Str.{bytes_eq}
 use Rattle.std.specs.declared.string.String.{String}
 use Rattle.std.proofs.lemmas.List.{length-drop}
 use Rattle.bidi_terminal.specs.Bases.{base_named}
 use Rattle.bidi_terminal.specs.Numbers.{number_of}
 use Rattle.bidi_terminal.specs.declared.base.Base.{Base}
-use Rattle.bidi.specs.Commands.{explain_of, show_of}
+use Rattle.bidi_controls.specs.declared.finding.Wanted.{Wanted}
+use Rattle.bidi.specs.Commands.{wanted_by_option, check_of, explain_of, show_of, file_words, over_files}
+use Rattle.bidi.specs.declared.command.Command.TheVariants.{Check}
+use Rattle.bidi.specs.declared.refusal.Subcommand.TheVariants.{Checking}
 use Rattle.bidi_stages.specs.declared.view.Form.TheVariants.{Page}
 use Rattle.bidi_stages.specs.declared.view.StageView.{StageView}
 use Rattle.bidi.specs.declared.view.View.{View}
@@ -19,6 +22,16 @@ module _ {Z : Type 0} where
   -- a word that is this option
   abbrev is_named : String Z → List ℕ → Bool
   is_named word option = bytes_eq (string_bytes word) option
+
+  pub check_of-option : (wanted asked : Wanted) (words : List (String Z)) (first : String Z) → 1 ≤ length words → first ≡ get_or words 0 first → wanted_by_option (string_bytes first) ≡ Some asked
+      → check_of asked (map string_bytes (slice_range words 1 (length words))) ≡ check_of wanted (map string_bytes words)
+  check_of-option wanted asked [] first some is named = absurd (omega arith)
+  check_of-option wanted asked (w ∷ words) first some is named = simp (rest-all 1 (w ∷ words), simp is at named)
+
+  pub check_of-files : (wanted : Wanted) (words : List (String Z)) (first : String Z) → 1 ≤ length words → first ≡ get_or words 0 first → wanted_by_option (string_bytes first) ≡ None
+      → over_files (Check wanted) (file_words Checking (map string_bytes words)) ≡ check_of wanted (map string_bytes words)
+  check_of-files wanted [] first some is other = absurd (omega arith)
+  check_of-files wanted (w ∷ words) first some is other = simp (simp is at other)
 
   pub show_of-plain : (view : View) (words : List (String Z)) (first : String Z) → 1 ≤ length words → first ≡ get_or words 0 first → is_named first (codes "--plain") ≡ true
       → show_of (record view { plain = true }) (map string_bytes (slice_range words 1 (length words))) ≡ show_of view (map string_bytes words)

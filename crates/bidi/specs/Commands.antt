@@ -4,6 +4,8 @@ use Rattle.std.specs.Str.{bytes_eq}
 use Rattle.bidi_terminal.specs.Bases.{base_named}
 use Rattle.bidi_terminal.specs.Numbers.{number_of}
 use Rattle.bidi_terminal.specs.declared.base.Base.TheVariants.{Auto}
+use Rattle.bidi_controls.specs.declared.finding.Wanted.{Wanted}
+use Rattle.bidi_controls.specs.declared.finding.Wanted.TheVariants.{Unmatched, Misleading, EveryControl}
 use Rattle.bidi_stages.specs.Explained.{first_stage_view}
 use Rattle.bidi_stages.specs.declared.view.Form.TheVariants.{Page}
 use Rattle.bidi_stages.specs.declared.view.StageView.{StageView}
@@ -49,12 +51,24 @@ abbrev pub over_files : (List (List ℕ) → Command) → Result (List (List ℕ
 over_files command (Ok files) = Ok (command files)
 over_files command (Err refusal) = Err refusal
 
--- behind `check`, and behind `--any` or not: further options, and files
-abbrev pub check_of : Bool → List (List ℕ) → Result Command Refusal
-check_of any [] = Ok (Check any [])
-check_of any (word ∷ words) =
-    if bytes_eq word (codes "--any") then check_of true words
-    else over_files (Check any) (file_words Checking (word ∷ words))
+-- the findings that an option of `check` wants, if it is one
+abbrev pub wanted_by_option : List ℕ → Option Wanted
+wanted_by_option option =
+    if bytes_eq option (codes "--any") then Some EveryControl
+    else if bytes_eq option (codes "--unmatched") then Some Unmatched
+    else None
+
+-- what follows of an option, or of a word that is none
+abbrev pub by_option : {A : Type 0} → Result Command Refusal → (A → Result Command Refusal) → Option A → Result Command Refusal
+by_option other next None = other
+by_option other next (Some value) = next value
+
+-- behind `check` and options that want these findings: further options, in any order, and files
+abbrev pub check_of : Wanted → List (List ℕ) → Result Command Refusal
+check_of wanted [] = Ok (Check wanted [])
+check_of wanted (word ∷ words) =
+    by_option (over_files (Check wanted) (file_words Checking (word ∷ words))) (λ asked. check_of asked words)
+    (wanted_by_option word)
 
 -- what `show` does without options
 abbrev pub first_view : View
@@ -114,7 +128,7 @@ alone_of name words =
 abbrev pub command_of : List (List ℕ) → Result Command Refusal
 command_of [] = Err NoSubcommand
 command_of (name ∷ words) =
-    if bytes_eq name (codes "check") then (if asks_help words then Ok (Help (Some Checking)) else check_of false words)
+    if bytes_eq name (codes "check") then (if asks_help words then Ok (Help (Some Checking)) else check_of Misleading words)
     else if bytes_eq name (codes "show") then (if asks_help words then Ok (Help (Some Showing)) else show_of first_view words)
     else if bytes_eq name (codes "explain")
     then (if asks_help words then Ok (Help (Some Explaining)) else explain_of first_stage_view words)

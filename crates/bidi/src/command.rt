@@ -1,10 +1,11 @@
 //! What the words of a call ask for.
 ghost use Rattle.std.specs.Prelude.{◌≡◌, find, map, string_bytes};
-ghost use Rattle.bidi.specs.Commands.{asks_help, unknown_option, late_option};
+ghost use Rattle.bidi.specs.Commands.{asks_help, unknown_option, late_option, wanted_by_option};
 ghost use Rattle.bidi.specs.Options.{is_option};
 
 use crate::refusal::{Refusal, Subcommand, Word};
 use crate::view::View;
+use bidi_controls::finding::Wanted;
 use bidi_stages::view::{Form, StageView};
 use bidi_terminal::{Base, parse_number};
 use std::marker::Model;
@@ -109,9 +110,10 @@ impl<'w> FileWords<'w> {
 /// A form of the program.
 #[derive(Drop)]
 pub enum Command<'w> {
-    /// `check [--any] [FILE..]`: the direction controls without a match on their line, or all.
+    /// `check [--any|--unmatched] [FILE..]`: direction controls without a match on their line, or all controls, and
+    /// lines that are displayed differently from how they read.
     Check {
-        any: bool,
+        wanted: Wanted,
         files: FileWords<'w>,
     },
     /// `explain [--base auto|ltr|rtl] [--html] TEXT..`: what each stage makes of the characters.
@@ -130,19 +132,42 @@ pub enum Command<'w> {
     Version,
 }
 
-impl<'w> Command<'w> {
-    ghost use Rattle.bidi.specs.Commands.{command_of, check_of, explain_of, show_of, alone_of};
+/// The findings that an option of `check` wants, if it is one.
+fn wanted_by(option: &str) -> Option<Wanted>
+    ensures { result ≡ wanted_by_option option.now }
+{
+    match option {
+        "--any" => Some(Wanted::EveryControl),
+        "--unmatched" => Some(Wanted::Unmatched),
+        _ => None,
+    }
+}
 
-    /// What words behind `check` ask for, where there was `--any` before them, or not.
-    fn parse_check(any: bool, words: &'w [String]) -> Result<Command<'w>, Refusal<'w>>
-        ensures { result ≡ check_of any (map string_bytes words.now) }
+impl<'w> Command<'w> {
+    ghost use Rattle.bidi.specs.Commands.{command_of, check_of, explain_of, show_of, alone_of, over_files, file_words};
+    ghost use Rattle.bidi.specs.declared.command.Command.TheVariants.{Check};
+    ghost use Rattle.bidi.specs.declared.refusal.Subcommand.TheVariants.{Checking};
+
+    /// What `check` does with files that words name, if these findings are wanted.
+    fn check_files(wanted: Wanted, words: &'w [String]) -> Result<Command<'w>, Refusal<'w>>
+        ensures { result ≡ over_files (Check wanted) (file_words Checking (map string_bytes words.now)) }
+    {
+        match FileWords::parse(Subcommand::Checking, words) {
+            Ok(files) => Ok(Command::Check { wanted, files }),
+            Err(refusal) => Err(refusal),
+        }
+    }
+
+    /// What words behind `check` ask for, if the options before them want these findings.
+    fn parse_check(wanted: Wanted, words: &'w [String]) -> Result<Command<'w>, Refusal<'w>>
+        ensures { result ≡ check_of wanted (map string_bytes words.now) }
     {
         match words {
-            [option, rest @ ..] if option.as_str() == "--any" => Command::parse_check(true, rest),
-            _ => match FileWords::parse(Subcommand::Checking, words) {
-                Ok(files) => Ok(Command::Check { any, files }),
-                Err(refusal) => Err(refusal),
+            [option, rest @ ..] => match wanted_by(option.as_str()) {
+                Some(wanted) => Command::parse_check(wanted, rest),
+                None => Command::check_files(wanted, words),
             },
+            [] => Command::check_files(wanted, words),
         }
     }
 
@@ -246,7 +271,7 @@ impl<'w> Command<'w> {
                 if asks_help(rest) {
                     return Ok(Command::Help(Some(Subcommand::Checking)));
                 }
-                Command::parse_check(false, rest)
+                Command::parse_check(Wanted::Misleading, rest)
             }
             [name, rest @ ..] if name.as_str() == "show" => {
                 if asks_help(rest) {

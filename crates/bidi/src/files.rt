@@ -5,6 +5,7 @@ use crate::names::shown_name;
 use crate::refusal::Subcommand;
 use crate::status::Status;
 use crate::view::View;
+use bidi_controls::finding::Wanted;
 use bidi_stages::page;
 use bidi_stages::view::{Form, StageView};
 use bidi_unicode::UNICODE_VERSION;
@@ -83,7 +84,7 @@ fn refuse_bytes(
 /// What is done with each input.
 #[derive(Clone, Copy)]
 pub enum Task {
-    Check { any: bool },
+    Check(Wanted),
     Show(View),
 }
 
@@ -95,7 +96,7 @@ fn answer_bytes(
     bytes: &[u8],
 ) -> Result<Status, Status> {
     match task {
-        Task::Check { any } => match check_input(rt.alloc(), any, name, bytes) {
+        Task::Check(wanted) => match check_input(rt.alloc(), wanted, name, bytes) {
             Ok(checked) => {
                 write_out(rt, checked.report.as_str())?;
                 Ok(checked.status())

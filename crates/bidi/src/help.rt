@@ -3,12 +3,12 @@ use crate::refusal::Subcommand;
 
 const PROGRAM: &str = "bidi: the Unicode Bidirectional Algorithm for text in UTF-8\n\
     \n\
-    usage: bidi check [--any] [--] [FILE..]\n\
+    usage: bidi check [--any | --unmatched] [--] [FILE..]\n\
     \u{20}      bidi show [--base auto|ltr|rtl] [--width N] [--plain] [--] [FILE..]\n\
     \u{20}      bidi explain [--base auto|ltr|rtl] [--html] [--] TEXT..\n\
     \u{20}      bidi --help | --version\n\
     \n\
-    check    finds direction controls that have no match on their line\n\
+    check    finds direction controls that make a line display differently from how it reads\n\
     show     writes lines from left to right, for a terminal without bidirectional support\n\
     explain  shows each step of the algorithm for a text\n\
     \n\
@@ -25,25 +25,29 @@ const PROGRAM: &str = "bidi: the Unicode Bidirectional Algorithm for text in UTF
     \u{20}       4 reading or writing failed, or the arguments could not be read\n\
     If several apply, the highest counts.\n";
 
-const CHECK: &str = "usage: bidi check [--any] [--] [FILE..]\n\
+const CHECK: &str = "usage: bidi check [--any | --unmatched] [--] [FILE..]\n\
     \n\
-    Finds the direction controls that have no match on their line. They can make source code\n\
-    display differently from how it is compiled. Writes a line for each, such as\n\
+    Finds the direction controls that have no match on their line, and the lines that controls\n\
+    make display differently from how they read. Both can make source code display differently\n\
+    from how it is compiled. Writes a line for each, such as\n\
     \n\
     main.c:7:18: U+202E RIGHT-TO-LEFT OVERRIDE is not closed on its line\n\
+    main.c:9:3: U+2067 RIGHT-TO-LEFT ISOLATE is on a line displayed differently from how it reads\n\
     \n\
     with file, line and column. Lines and columns count from 1, columns in characters.\n\
     \n\
-    --any   finds every direction control and mark, also those that have a match\n\
-    --help  writes this text, if it is the only argument behind check\n\
-    --      ends the options: what follows are files\n\
-    FILE    a file in UTF-8; - or no file at all is standard input\n\
+    --any        finds every direction control and mark too, also those that have a match\n\
+    --unmatched  finds only controls that have no match\n\
+    --help       writes this text, if it is the only argument behind check\n\
+    --           ends the options: what follows are files\n\
+    FILE         a file in UTF-8; - or no file at all is standard input\n\
     \n\
     A gate, such as a hook or a build step, that accepts no control uses --any:\n\
     \n\
     git ls-files -z '*.c' '*.h' | xargs -0 bidi check --any --\n\
     \n\
-    Without --any, controls that are closed on their line pass, also in an attack.\n\
+    Without --any, controls pass that are closed on their line, if its ASCII displays in the\n\
+    order in which it reads, or as it would without them.\n\
     \n\
     Status: 0 nothing was found; 1 something was found; 'bidi --help' lists the others.\n\
     A gate accepts 0 and no other.\n";

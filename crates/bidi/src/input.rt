@@ -15,6 +15,7 @@ use crate::paragraphs::show;
 use crate::status::Status;
 use crate::view::View;
 use bidi_controls::check::findings_in;
+use bidi_controls::finding::Wanted;
 use bidi_controls::report::report;
 use bidi_stages::explain::explain;
 use bidi_stages::view::StageView;
@@ -78,23 +79,22 @@ fn text_of(bytes: &[u8]) -> Result<&str, InputFault>
     }
 }
 
-/// The direction controls in an input of this name that have no match on their line; with `any`
-/// every control and mark. Hidden characters of the name are escaped. Returns an error if the input is
-/// not UTF-8, or if an allocation fails.
+/// What `check` finds in an input of this name, if these findings are wanted. Hidden characters of the name are
+/// escaped. Returns an error if the input is not UTF-8, or if an allocation fails.
 pub fn check_input(
     alloc: Global,
-    any: bool,
+    wanted: Wanted,
     name: &str,
     bytes: &[u8],
 ) -> Result<Checked, InputFault>
     ensures text { IfOk result (λ checked. IsUtf8 bytes.now
-        × (string_bytes checked.report ≡ report_of (shown_name_of (chars name.now)) (findings_of unicode_source any (chars bytes.now)))
-        × (checked.found ≡ not (length (findings_of unicode_source any (chars bytes.now)) == 0))) }
+        × (string_bytes checked.report ≡ report_of (shown_name_of (chars name.now)) (findings_of unicode_source wanted (chars bytes.now)))
+        × (checked.found ≡ not (length (findings_of unicode_source wanted (chars bytes.now)) == 0))) }
     ensures fault { IfErr result (TellsInput bytes.now) }
 {
     let text = text_of(bytes)?;
     let chars = chars_of(alloc, text)?;
-    let findings = findings_in(alloc, &UnicodeData, any, chars.as_slice())?;
+    let findings = findings_in(alloc, &UnicodeData, wanted, chars.as_slice())?;
     let found = findings.as_slice();
     let shown = shown_name(alloc, name)?;
     Ok(Checked {

@@ -87,7 +87,7 @@ fn answer(
     command: Command<'_>,
 ) -> Status {
     match command {
-        Command::Check { any, files } => answer_files(rt, Task::Check { any }, files.words()),
+        Command::Check { wanted, files } => { answer_files(rt, Task::Check(wanted), files.words()) }
         Command::Explain { view, texts } => answer_texts(rt, view, texts.words()),
         Command::Help(subcommand) => write_help(rt, subcommand),
         Command::Show { view, files } => answer_files(rt, Task::Show(view), files.words()),

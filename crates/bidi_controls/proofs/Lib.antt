@@ -1,6 +1,7 @@
 pub mod ClosedOpeners
 pub mod FindingsLemmas
 pub mod IndexLemmas
+pub mod LineLevels
 pub mod LinesLemmas
 pub mod OpenersLemmas
 pub mod QuietLines

@@ -1,46 +1,88 @@
 -- What `check` finds in a text, and how it is told.
-use Rattle.std.specs.Prelude.{ℕ, ◌+◌, Bool, ◌||◌, if◌then◌else◌, List, [], ◌∷◌, ◌++◌, get_or, map, filter_map, flat_map, codes, decimal, Option, None, option_map}
+use Rattle.std.specs.Prelude.{ℕ, ◌+◌, Bool, true, false, ◌&&◌, ◌||◌, if◌then◌else◌, List, [], ◌∷◌, ◌++◌, get_or, map, flat_map, position, codes, decimal, Option, None, option_map}
+use Rattle.std.specs.Option.{option_to_list}
 use Rattle.bidi_base.specs.declared.char_data.BidiClass.{BidiClass}
 use Rattle.bidi_base.specs.Classes.{is_opener}
-use Rattle.bidi_base.specs.Places.{indexes, class_at}
+use Rattle.bidi_base.specs.Places.{indexes, class_at, holds_number}
 use Rattle.bidi_base.specs.Source.{Source}
-use Rattle.bidi_controls.specs.Lines.{lines_of}
 use Rattle.bidi_controls.specs.Controls.{control_of, control_name}
-use Rattle.bidi_controls.specs.Matches.{is_unmatched}
+use Rattle.bidi_controls.specs.Displayed.{is_displayed_differently}
+use Rattle.bidi_controls.specs.Lines.{lines_of, own_chars}
+use Rattle.bidi_controls.specs.Matches.{is_control, is_unmatched}
 use Rattle.bidi_controls.specs.declared.finding.Finding.{Finding}
 use Rattle.bidi_controls.specs.declared.finding.Trouble.{Trouble}
-use Rattle.bidi_controls.specs.declared.finding.Trouble.TheVariants.{NotClosed, ClosesNothing, Present}
+use Rattle.bidi_controls.specs.declared.finding.Trouble.TheVariants.{NotClosed, ClosesNothing, Present, DisplayedDifferently}
+use Rattle.bidi_controls.specs.declared.finding.Wanted.{Wanted}
+use Rattle.bidi_controls.specs.declared.finding.Wanted.TheVariants.{Unmatched, Misleading, EveryControl}
+
+-- every control and mark is wanted
+abbrev pub wants_every_control : Wanted → Bool
+wants_every_control EveryControl = true
+wants_every_control Unmatched = false
+wants_every_control Misleading = false
+
+-- lines are wanted that are displayed differently from how they read
+abbrev pub wants_lines : Wanted → Bool
+wants_lines Unmatched = false
+wants_lines Misleading = true
+wants_lines EveryControl = true
 
 -- what is the matter with a control of this class
 abbrev pub trouble_of : Bool → BidiClass → Trouble
 trouble_of unmatched class = if unmatched then (if is_opener class then NotClosed else ClosesNothing) else Present
 
+-- that this is the matter with the control or the mark at a place of a line, if the character there is one
+abbrev pub finding_with : Trouble → ℕ → ℕ → BidiClass → ℕ → Option Finding
+finding_with trouble line place class c =
+    option_map (λ control. record { line = line; column = place + 1; control = control; trouble = trouble }) (control_of class c)
+
 -- what is found at a place of a line, if something is: a control without its match on the line, or with `any`
 -- every control and mark
 abbrev pub finding_of : Bool → ℕ → ℕ → Bool → BidiClass → ℕ → Option Finding
 finding_of any line place unmatched class c =
-    if any || unmatched then
-    option_map
-    (λ control. record { line = line; column = place + 1; control = control; trouble = trouble_of unmatched class })
-    (control_of class c)
-    else None
+    if any || unmatched then finding_with (trouble_of unmatched class) line place class c else None
 
 -- the same of the character at an index of the line
 abbrev pub finding_at : Bool → ℕ → List BidiClass → List ℕ → ℕ → Option Finding
 finding_at any line classes chars k = finding_of any line k (is_unmatched classes k) (class_at classes k) (get_or chars k 0)
 
--- the findings in a line, in order
-abbrev pub findings_in_line : Source → Bool → ℕ → List ℕ → List Finding
-findings_in_line source any line chars = filter_map (finding_at any line (map source.class_of chars) chars) (indexes chars)
+-- what is found at a place of a line if this is where the line tells that it is displayed differently from how it reads
+abbrev pub line_finding_of : Bool → ℕ → ℕ → BidiClass → ℕ → Option Finding
+line_finding_of here line place class c = if here then finding_with DisplayedDifferently line place class c else None
+
+-- the same of the character at an index of the line
+abbrev pub line_finding_at : Option ℕ → ℕ → List BidiClass → List ℕ → ℕ → Option Finding
+line_finding_at differing line classes chars k =
+    line_finding_of (holds_number differing k) line k (class_at classes k) (get_or chars k 0)
+
+-- all that is found at an index of a line: first what is found of the line, then what is found of the character
+abbrev pub findings_at : Bool → Option ℕ → ℕ → List BidiClass → List ℕ → ℕ → List Finding
+findings_at any differing line classes chars k =
+    option_to_list (line_finding_at differing line classes chars k) ++ option_to_list (finding_at any line classes chars k)
+
+-- where a line tells that it is displayed differently from how it reads, if it is so and this is wanted: at its first
+-- control
+abbrev pub differing_place : Source → Wanted → List ℕ → Option ℕ
+differing_place source wanted chars =
+    if wants_lines wanted && is_displayed_differently source (own_chars source chars)
+    then position (λ c. is_control (source.class_of c)) chars else None
+
+-- the findings in a line, in the order of their columns
+abbrev pub findings_in_line : Source → Wanted → ℕ → List ℕ → List Finding
+findings_in_line source wanted line chars =
+    flat_map
+    (findings_at (wants_every_control wanted) (differing_place source wanted chars) line (map source.class_of chars) chars)
+    (indexes chars)
 
 -- the same for lines, of which the first has this number
-abbrev pub findings_from : Source → Bool → ℕ → List (List ℕ) → List Finding
-findings_from source any line [] = []
-findings_from source any line (chars ∷ lines) = findings_in_line source any line chars ++ findings_from source any (line + 1) lines
+abbrev pub findings_from : Source → Wanted → ℕ → List (List ℕ) → List Finding
+findings_from source wanted line [] = []
+findings_from source wanted line (chars ∷ lines) =
+    findings_in_line source wanted line chars ++ findings_from source wanted (line + 1) lines
 
 -- the findings in a text, in order
-unfoldable pub findings_of : Source → Bool → List ℕ → List Finding
-findings_of source any chars = findings_from source any 1 (lines_of source chars)
+unfoldable pub findings_of : Source → Wanted → List ℕ → List Finding
+findings_of source wanted chars = findings_from source wanted 1 (lines_of source chars)
 
 -- ---- how a finding is told
 
@@ -48,6 +90,7 @@ abbrev pub trouble_text : Trouble → List ℕ
 trouble_text NotClosed = codes "is not closed on its line"
 trouble_text ClosesNothing = codes "closes nothing on its line"
 trouble_text Present = codes "is present"
+trouble_text DisplayedDifferently = codes "is on a line displayed differently from how it reads"
 
 -- where it stands: the file, the line and the column
 abbrev pub place_text : List ℕ → Finding → List ℕ

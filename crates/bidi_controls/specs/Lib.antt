@@ -1,4 +1,5 @@
 pub mod Controls
+pub mod Displayed
 pub mod Findings
 pub mod Lines
 pub mod Matches

@@ -1,14 +1,16 @@
 //! What `check` finds in a text.
-ghost use Rattle.std.specs.Prelude.{◌≡◌, ◌++◌, map, IfOk, OnOk};
+ghost use Rattle.std.specs.Prelude.{◌≡◌, ◌+◌, ◌<◌, ◌^◌, ◌++◌, map, flat_map, position, IfOk, OnOk};
 ghost use Rattle.std.specs.Option.{option_to_list};
-ghost use Rattle.bidi_base.specs.Places.{indexes};
-ghost use Rattle.bidi_controls.specs.Findings.{findings_in_line, findings_of};
-ghost use Rattle.bidi_controls.specs.Matches.{is_unmatched};
+ghost use Rattle.bidi_base.specs.Places.{holds_number, indexes};
+ghost use Rattle.bidi_controls.specs.Findings.{finding_of, line_finding_of, findings_at, findings_of, differing_place as differing_place_of};
+ghost use Rattle.bidi_controls.specs.Matches.{is_control, is_unmatched};
 
-use crate::finding::Finding;
-use crate::lines::first_line;
+use crate::displayed::DisplayComparison;
+use crate::finding::{Finding, Trouble, Wanted};
+use crate::lines::{first_line, own_chars};
 use crate::openers::Openers;
-use crate::unmatched::find_unmatched;
+use crate::unmatched::{find_unmatched, is_control};
+use bidi_base::char_data::BidiClass;
 use bidi_base::data_source::BidiDataSource;
 use std::alloc::{AllocError, Global};
 
@@ -22,43 +24,125 @@ fn push_found(findings: &mut Vec<Finding>, found: Option<Finding>) -> Result<(),
     Ok(())
 }
 
-/// Appends the findings in a line, whose number this is: of the characters that are controls
-/// without a match, or with `any` of all controls and marks.
+/// Returns the index of the first direction control among some characters.
+fn first_control<D: BidiDataSource>(data_source: &D, chars: &[char]) -> Option<usize>
+    ensures { result ≡ position (λ c. is_control ((D.source data_source.now).class_of c)) chars.now }
+{
+    chars
+        .iter()
+        .position(|c| is_control(data_source.bidi_class(*c)))
+}
+
+/// Returns where a line tells that it is displayed differently from how it reads, if it is so and this is wanted: the
+/// index of its first control.
+fn differing_place<D: BidiDataSource>(
+    comparison: &mut DisplayComparison,
+    alloc: Global,
+    data_source: &D,
+    wanted: Wanted,
+    line: &[char],
+) -> Result<Option<usize>, AllocError>
+    ensures { IfOk result (λ place. place ≡ differing_place_of (D.source data_source.now) wanted line.now) }
+{
+    if !wanted.wants_lines() {
+        return Ok(None);
+    }
+    let own = own_chars(data_source, line);
+    if !comparison.is_displayed_differently(alloc, data_source, own)? {
+        return Ok(None);
+    }
+    Ok(first_control(data_source, line))
+}
+
+/// Returns whether an index is this one, if there is one.
+fn is_at(place: Option<usize>, index: usize) -> bool
+    ensures { result ≡ holds_number place index }
+{
+    match place {
+        Some(place) => place == index,
+        None => false,
+    }
+}
+
+/// Appends what is found at an index of a line, whose number this is.
+fn push_findings_at(
+    findings: &mut Vec<Finding>,
+    any: bool,
+    number: usize,
+    is_differing: bool,
+    is_unmatched: bool,
+    place: usize,
+    class: BidiClass,
+    c: char,
+) -> Result<(), AllocError>
+    requires { place + 1 < 2 ^ 64 }
+    ensures { OnOk result (findings.new.items ≡ findings.old.items
+        ++ (option_to_list (line_finding_of is_differing number place class c)
+        ++ option_to_list (finding_of any number place is_unmatched class c))) }
+{
+    if is_differing {
+        let finding = Finding::with(Trouble::DisplayedDifferently, number, place, class, c);
+        push_found(findings, finding)?;
+    }
+    push_found(
+        findings,
+        Finding::of(any, number, place, is_unmatched, class, c),
+    )
+}
+
+/// Appends the findings in a line, whose number this is: at an index that is handed in, that the line is displayed
+/// differently from how it reads; of the characters, those that are controls without a match, or with `any` all
+/// controls and marks.
 fn push_findings<D: BidiDataSource>(
     findings: &mut Vec<Finding>,
     data_source: &D,
     any: bool,
     number: usize,
+    differing: Option<usize>,
     line: &[char],
     unmatched: &[bool],
 ) -> Result<(), AllocError>
     requires { unmatched.now ≡ map (is_unmatched (map (D.source data_source.now).class_of line.now)) (indexes line.now) }
-    ensures { OnOk result (findings.new.items
-        ≡ findings.old.items ++ findings_in_line (D.source data_source.now) any number line.now) }
+    ensures { OnOk result (findings.new.items ≡ findings.old.items
+        ++ flat_map (findings_at any differing number (map (D.source data_source.now).class_of line.now) line.now)
+        (indexes line.now)) }
 {
     for (place, c) in line.iter().enumerate() {
         let class = data_source.bidi_class(*c);
-        let finding = Finding::of(any, number, place, unmatched[place], class, *c);
-        push_found(findings, finding)?;
+        push_findings_at(
+            findings,
+            any,
+            number,
+            is_at(differing, place),
+            unmatched[place],
+            place,
+            class,
+            *c,
+        )?;
     }
     Ok(())
 }
 
-/// The direction controls in a text that have no match on their line, in order; with `any` every
-/// control and mark. An embedding or an override wants its PDF (BD11), an isolate initiator its PDI
-/// (BD9), and a PDF or a PDI what it closes. Lines and columns are counted from 1, columns in
-/// characters. Lines end after a paragraph separator, CR LF as one.
+/// What is found in a text, in order.
+///
+/// These are direction controls that have no match on their line, or with `EveryControl` every control and mark. An
+/// embedding or an override wants its PDF (BD11), an isolate initiator its PDI (BD9), and a PDF or a PDI what it
+/// closes. Unless `wanted` is `Unmatched`, a line that is displayed differently from how it reads is found too, at its
+/// first control (see `DisplayComparison`).
+///
+/// Lines and columns are counted from 1, columns in characters. Lines end after a paragraph separator, CR LF as one.
 pub fn findings_in<D: BidiDataSource>(
     alloc: Global,
     data_source: &D,
-    any: bool,
+    wanted: Wanted,
     chars: &[char],
 ) -> Result<Vec<Finding>, AllocError>
-    ensures { IfOk result (λ found. found.items ≡ findings_of (D.source data_source.now) any chars.now) }
+    ensures { IfOk result (λ found. found.items ≡ findings_of (D.source data_source.now) wanted chars.now) }
 {
     let mut findings = Vec::new(alloc);
     let mut openers = Openers::new(alloc);
     let mut unmatched = Vec::new(alloc);
+    let mut comparison = DisplayComparison::new(alloc);
     let mut lines_before = 0;
     let mut rest = chars;
     while !rest.is_empty() {
@@ -67,11 +151,13 @@ pub fn findings_in<D: BidiDataSource>(
         // In a line without controls and marks nothing is found.
         if !first.is_quiet {
             find_unmatched(data_source, line, &mut openers, &mut unmatched)?;
+            let differing = differing_place(&mut comparison, alloc, data_source, wanted, line)?;
             push_findings(
                 &mut findings,
                 data_source,
-                any,
+                wanted.wants_every_control(),
                 lines_before + 1,
+                differing,
                 line,
                 unmatched.as_slice(),
             )?;

@@ -3,6 +3,36 @@ use crate::control::Control;
 use bidi_base::char_data::BidiClass;
 use bidi_base::classes::{is_embedding, is_initiator};
 
+/// Which findings are wanted.
+#[derive(Clone, Copy, Debug)]
+pub enum Wanted {
+    /// Controls without a match.
+    Unmatched,
+    /// Controls without a match, and lines that are displayed differently from how they read.
+    Misleading,
+    /// Every control and mark, and lines that are displayed differently from how they read.
+    EveryControl,
+}
+
+impl Wanted {
+    ghost use Rattle.std.specs.Prelude.{◌≡◌};
+    ghost use Rattle.bidi_controls.specs.Findings.{wants_every_control, wants_lines};
+
+    /// Returns whether every control and mark is wanted.
+    pub fn wants_every_control(self) -> bool
+        ensures { result ≡ wants_every_control self }
+    {
+        matches!(self, Wanted::EveryControl)
+    }
+
+    /// Returns whether lines are wanted that are displayed differently from how they read.
+    pub fn wants_lines(self) -> bool
+        ensures { result ≡ wants_lines self }
+    {
+        !matches!(self, Wanted::Unmatched)
+    }
+}
+
 /// What is the matter with a control.
 #[derive(Clone, Copy, Debug)]
 pub enum Trouble {
@@ -12,6 +42,8 @@ pub enum Trouble {
     ClosesNothing,
     /// It is there, as every control and mark is that is asked for.
     Present,
+    /// It is the first control of a line that is displayed differently from how it reads.
+    DisplayedDifferently,
 }
 
 impl Trouble {
@@ -39,6 +71,7 @@ impl Trouble {
             Trouble::NotClosed => "is not closed on its line",
             Trouble::ClosesNothing => "closes nothing on its line",
             Trouble::Present => "is present",
+            Trouble::DisplayedDifferently => "is on a line displayed differently from how it reads",
         }
     }
 }
@@ -56,7 +89,27 @@ pub struct Finding {
 
 impl Finding {
     ghost use Rattle.std.specs.Prelude.{◌≡◌, ◌+◌, ◌<◌, ◌^◌};
-    ghost use Rattle.bidi_controls.specs.Findings.{finding_of};
+    ghost use Rattle.bidi_controls.specs.Findings.{finding_with, finding_of};
+
+    /// Returns the finding that something is the matter with the control or the mark at an index of a line, if the
+    /// character there is one.
+    pub fn with(
+        trouble: Trouble,
+        line: usize,
+        place: usize,
+        class: BidiClass,
+        c: char,
+    ) -> Option<Finding>
+        requires { place + 1 < 2 ^ 64 }
+        ensures { result ≡ finding_with trouble line place class c }
+    {
+        Some(Finding {
+            line,
+            column: place + 1,
+            control: Control::of(class, c)?,
+            trouble,
+        })
+    }
 
     /// What is found at a place of a line, counted from 0, if something is: a control without its
     /// match on that line, or with `any` every control and mark.
@@ -74,11 +127,6 @@ impl Finding {
         if !any && !unmatched {
             return None;
         }
-        Some(Finding {
-            line,
-            column: place + 1,
-            control: Control::of(class, c)?,
-            trouble: Trouble::of(unmatched, class),
-        })
+        Finding::with(Trouble::of(unmatched, class), line, place, class, c)
     }
 }

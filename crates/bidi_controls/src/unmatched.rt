@@ -12,7 +12,7 @@ use bidi_base::data_source::BidiDataSource;
 use std::alloc::AllocError;
 
 /// Whether a character of this class opens or closes something.
-fn is_control(class: BidiClass) -> bool
+pub(crate) fn is_control(class: BidiClass) -> bool
     ensures { result ≡ is_control class }
 {
     is_initiator(class) || is_embedding(class) || is_pdi(class) || matches!(class, BidiClass::PDF)

@@ -6,8 +6,8 @@ use Rattle.bidi_controls.proofs.check.findings_in.Given as goal
 abbrev pub invariant-loop-rest : goal.invariant-loop-rest
 invariant-loop-rest g l = record {
   few : l.lines_before + length l.rest ≤ length l.fn.chars;
-  found : l.findings.items ++ findings_from (g.D.BidiDataSource.source l.fn.data_source) l.any (l.lines_before + 1) (lines_of (g.D.BidiDataSource.source l.fn.data_source) l.rest)
-      ≡ findings_of (g.D.BidiDataSource.source l.fn.data_source) l.any l.fn.chars;
+  found : l.findings.items ++ findings_from (g.D.BidiDataSource.source l.fn.data_source) l.wanted (l.lines_before + 1) (lines_of (g.D.BidiDataSource.source l.fn.data_source) l.rest)
+      ≡ findings_of (g.D.BidiDataSource.source l.fn.data_source) l.wanted l.fn.chars;
 }
 
 abbrev pub decreases-loop-rest : goal.decreases-loop-rest

@@ -7,5 +7,5 @@ bounds-unmatched-place g c = grind (arith, length-map-range_with_len)
 
 pub loop-place-preserved : goal.loop-place-preserved
 loop-place-preserved g c =
-    more_findings (g.D.BidiDataSource.source c.args.data_source.now).class_of _ _ _ _ _ _ _ _ _ _ _
-    c.loop-place-test.true c.index-line-place.is c.bidi_class-class.ensures c.requires c.of-finding.ensures c.loop-place.invariant c.in_ok-push_found.ensures
+    more_findings (g.D.BidiDataSource.source c.args.data_source.now).class_of _ _ _ _ _ _ _ _ _ _ _ _
+    c.loop-place-test.true c.index-line-place.is c.bidi_class-class.ensures c.requires c.is_at.ensures c.loop-place.invariant c.in_ok-push_findings_at.ensures

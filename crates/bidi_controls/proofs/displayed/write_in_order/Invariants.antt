@@ -1,0 +1,6 @@
+use Rattle.bidi_base.proofs.Common.{◌≡◌, take}
+use Rattle.bidi_base.specs.Places.{at_places}
+use Rattle.bidi_controls.proofs.displayed.write_in_order.Given as goal
+
+abbrev pub invariant-loop-index : goal.invariant-loop-index
+invariant-loop-index l = l.out.items ≡ at_places 0 l.line (take l.index-index l.order)

@@ -1,0 +1,395 @@
+//! Lines that are displayed differently from how they read.
+ghost use Rattle.std.specs.Prelude.{◌≡◌, ◌<◌, All, length, OnOk, IfOk};
+ghost use Rattle.bidi_base.specs.Order.{visual_order, IsVisualOrder};
+ghost use Rattle.bidi_base.specs.Places.{at_places, first_or};
+ghost use Rattle.bidi_controls.specs.Displayed.{displayed_levels, displayed_order, displayed, displayed_text, visible_ascii, are_same};
+ghost use Rattle.bidi_controls.specs.Displayed.{without_controls as without_controls_of, has_control as has_control_of};
+ghost use Rattle.bidi_controls.specs.Displayed.{is_reordered as is_reordered_by, is_displayed_differently as is_displayed_differently_by};
+ghost use Rattle.bidi_terminal.specs.Bases.{level_of_base};
+ghost use Rattle.unicode_bidi.specs.ParagraphInfo.{levels_of};
+
+use crate::unmatched::is_control;
+use bidi_base::char_data::BidiClass;
+use bidi_base::data_source::BidiDataSource;
+use bidi_base::level::{LTR_LEVEL, Level};
+use bidi_lines::line_levels::reset_levels;
+use bidi_lines::visual_order::write_visual_order;
+use bidi_terminal::Base;
+use bidi_text::text::CharsText;
+use std::alloc::{AllocError, Global};
+use unicode_bidi::ParagraphInfo;
+use unicode_bidi::engine::Analyser;
+
+// Returns the level of the first paragraph.
+fn first_level(paragraphs: &[ParagraphInfo]) -> Level
+    ensures { result ≡ first_or 0 (levels_of paragraphs.now) }
+{
+    match paragraphs {
+        [first, ..] => first.level(),
+        [] => LTR_LEVEL,
+    }
+}
+
+// Writes the levels of a line's characters after L1. `classes` is overwritten.
+fn write_levels<D: BidiDataSource>(
+    analyser: &mut Analyser,
+    alloc: Global,
+    data_source: &D,
+    base: Base,
+    line: &[char],
+    classes: &mut [BidiClass],
+    levels: &mut [Level],
+) -> Result<(), AllocError>
+    requires class_room { length classes.old ≡ length line.now }
+    requires level_room { length levels.old ≡ length line.now }
+    ensures { OnOk result (levels.new ≡ displayed_levels (D.source data_source.now) (level_of_base base) line.now) }
+{
+    let text = CharsText::new(line);
+    analyser.analyse(
+        alloc,
+        data_source,
+        text,
+        base.level(),
+        None,
+        classes,
+        levels,
+    )?;
+    let level = first_level(analyser.paragraphs());
+    reset_levels(level, &*classes, levels);
+    Ok(())
+}
+
+// Replaces a list by the levels of a line's characters after L1. `classes` is overwritten.
+fn replace_levels<D: BidiDataSource>(
+    analyser: &mut Analyser,
+    alloc: Global,
+    data_source: &D,
+    base: Base,
+    line: &[char],
+    classes: &mut Vec<BidiClass>,
+    levels: &mut Vec<Level>,
+) -> Result<(), AllocError>
+    ensures { OnOk result (levels.new.items
+        ≡ displayed_levels (D.source data_source.now) (level_of_base base) line.now) }
+{
+    classes.resize(line.len(), BidiClass::L)?;
+    levels.resize(line.len(), LTR_LEVEL)?;
+    write_levels(
+        analyser,
+        alloc,
+        data_source,
+        base,
+        line,
+        classes.as_mut_slice(),
+        levels.as_mut_slice(),
+    )
+}
+
+// Replaces a list by the visual order of some levels (L2).
+fn replace_order(levels: &[Level], order: &mut Vec<usize>) -> Result<(), AllocError>
+    ensures order { OnOk result (order.new.items ≡ visual_order levels.now) }
+    ensures visual { OnOk result (IsVisualOrder levels.now order.new.items) }
+{
+    order.resize(levels.len(), 0)?;
+    write_visual_order(levels, order.as_mut_slice());
+    Ok(())
+}
+
+// The order in which a line is displayed. Takes one line after another, and reuses its memory.
+#[derive(Drop)]
+struct DisplayedOrder {
+    analyser: Analyser,
+    // One a character of the line.
+    classes: Vec<BidiClass>,
+    levels: Vec<Level>,
+    order: Vec<usize>,
+}
+
+impl DisplayedOrder {
+    // Returns the order of an empty line. Allocates nothing.
+    fn new(alloc: Global) -> DisplayedOrder {
+        DisplayedOrder {
+            analyser: Analyser::new(alloc),
+            classes: Vec::new(alloc),
+            levels: Vec::new(alloc),
+            order: Vec::new(alloc),
+        }
+    }
+
+    // Finds the order in which a line's characters are displayed: their indexes from left to right.
+    fn find<D: BidiDataSource>(
+        &mut self,
+        alloc: Global,
+        data_source: &D,
+        base: Base,
+        line: &[char],
+    ) -> Result<(), AllocError>
+        ensures order { OnOk result (self.new.order.items
+            ≡ displayed_order (D.source data_source.now) (level_of_base base) line.now) }
+        ensures indexes { OnOk result (All (λ index. index < length line.now) self.new.order.items) }
+    {
+        replace_levels(
+            &mut self.analyser,
+            alloc,
+            data_source,
+            base,
+            line,
+            &mut self.classes,
+            &mut self.levels,
+        )?;
+        replace_order(self.levels.as_slice(), &mut self.order)?;
+        Ok(())
+    }
+}
+
+// Replaces a list by the visible ASCII of some characters.
+fn write_visible_ascii(chars: &[char], out: &mut Vec<char>) -> Result<(), AllocError>
+    ensures { OnOk result (out.new.items ≡ visible_ascii chars.now) }
+{
+    out.clear();
+    for c in chars {
+        if c.is_ascii_graphic() {
+            out.push(*c)?;
+        }
+    }
+    Ok(())
+}
+
+// Replaces a list by the characters of a line at some indexes.
+fn write_in_order(line: &[char], order: &[usize], out: &mut Vec<char>) -> Result<(), AllocError>
+    requires { All (λ index. index < length line.now) order.now }
+    ensures { OnOk result (out.new.items ≡ at_places 0 line.now order.now) }
+{
+    out.clear();
+    for index in order {
+        out.push(line[*index])?;
+    }
+    Ok(())
+}
+
+// Replaces a list by some characters without the direction controls among them.
+fn write_without_controls<D: BidiDataSource>(
+    data_source: &D,
+    chars: &[char],
+    out: &mut Vec<char>,
+) -> Result<(), AllocError>
+    ensures { OnOk result (out.new.items ≡ without_controls_of (D.source data_source.now) chars.now) }
+{
+    out.clear();
+    for c in chars {
+        if !is_control(data_source.bidi_class(*c)) {
+            out.push(*c)?;
+        }
+    }
+    Ok(())
+}
+
+// Returns whether some character is a direction control.
+fn has_control<D: BidiDataSource>(data_source: &D, chars: &[char]) -> bool
+    ensures { result ≡ has_control_of (D.source data_source.now) chars.now }
+{
+    chars.iter().any(|c| is_control(data_source.bidi_class(*c)))
+}
+
+/// A line as it is displayed.
+///
+/// Displays one line after another, and reuses its memory. A line is a paragraph by itself. Nothing is mirrored (L4),
+/// and marks are not moved (L3).
+#[derive(Drop)]
+pub struct DisplayedLine {
+    order: DisplayedOrder,
+    // The characters from left to right.
+    chars: Vec<char>,
+}
+
+impl DisplayedLine {
+    /// Returns a value that has displayed nothing. Allocates nothing.
+    pub fn new(alloc: Global) -> DisplayedLine {
+        DisplayedLine {
+            order: DisplayedOrder::new(alloc),
+            chars: Vec::new(alloc),
+        }
+    }
+
+    // Finds the characters of a line from left to right.
+    fn find<D: BidiDataSource>(
+        &mut self,
+        alloc: Global,
+        data_source: &D,
+        base: Base,
+        line: &[char],
+    ) -> Result<(), AllocError>
+        ensures { OnOk result (self.new.chars.items
+            ≡ displayed (D.source data_source.now) (level_of_base base) line.now) }
+    {
+        self.order.find(alloc, data_source, base, line)?;
+        write_in_order(line, self.order.order.as_slice(), &mut self.chars)
+    }
+
+    /// Writes the characters of a line from left to right, without its direction controls.
+    ///
+    /// They replace the contents of `out`.
+    pub fn write<D: BidiDataSource>(
+        &mut self,
+        alloc: Global,
+        data_source: &D,
+        base: Base,
+        line: &[char],
+        out: &mut Vec<char>,
+    ) -> Result<(), AllocError>
+        ensures { OnOk result (out.new.items
+            ≡ displayed_text (D.source data_source.now) (level_of_base base) line.now) }
+    {
+        self.find(alloc, data_source, base, line)?;
+        write_without_controls(data_source, self.chars.as_slice(), out)
+    }
+
+    // Writes the visible ASCII of a line from left to right, in place of the contents of `out`.
+    fn write_visible<D: BidiDataSource>(
+        &mut self,
+        alloc: Global,
+        data_source: &D,
+        base: Base,
+        line: &[char],
+        out: &mut Vec<char>,
+    ) -> Result<(), AllocError>
+        ensures { OnOk result (out.new.items
+            ≡ visible_ascii (displayed (D.source data_source.now) (level_of_base base) line.now)) }
+    {
+        self.find(alloc, data_source, base, line)?;
+        write_visible_ascii(self.chars.as_slice(), out)
+    }
+
+    // Deletes the direction controls from a line, and writes its visible ASCII from left to right. The line without
+    // them and the visible ASCII replace the contents of the two lists.
+    fn write_visible_without_controls<D: BidiDataSource>(
+        &mut self,
+        alloc: Global,
+        data_source: &D,
+        base: Base,
+        line: &[char],
+        without_controls: &mut Vec<char>,
+        out: &mut Vec<char>,
+    ) -> Result<(), AllocError>
+        ensures { let kept = without_controls_of (D.source data_source.now) line.now in
+            OnOk result (out.new.items
+            ≡ visible_ascii (displayed (D.source data_source.now) (level_of_base base) kept)) }
+    {
+        write_without_controls(data_source, line, without_controls)?;
+        self.write_visible(alloc, data_source, base, without_controls.as_slice(), out)
+    }
+}
+
+/// Compares how a line is displayed with how it reads.
+///
+/// Compares one line after another, and reuses its memory.
+#[derive(Drop)]
+pub struct DisplayComparison {
+    displayed: DisplayedLine,
+    // The visible ASCII of the line as it is read and as it is displayed.
+    read: Vec<char>,
+    shown: Vec<char>,
+    // The line without its controls, and its visible ASCII as it is displayed then.
+    without_controls: Vec<char>,
+    shown_without_controls: Vec<char>,
+}
+
+impl DisplayComparison {
+    /// Returns a value that has compared nothing. Allocates nothing.
+    pub fn new(alloc: Global) -> DisplayComparison {
+        DisplayComparison {
+            displayed: DisplayedLine::new(alloc),
+            read: Vec::new(alloc),
+            shown: Vec::new(alloc),
+            without_controls: Vec::new(alloc),
+            shown_without_controls: Vec::new(alloc),
+        }
+    }
+
+    // Finds the visible ASCII of a line as it is displayed, and returns whether that is how it reads.
+    fn is_as_read<D: BidiDataSource>(
+        &mut self,
+        alloc: Global,
+        data_source: &D,
+        base: Base,
+        line: &[char],
+    ) -> Result<bool, AllocError>
+        ensures shown { OnOk result (self.new.shown.items
+            ≡ visible_ascii (displayed (D.source data_source.now) (level_of_base base) line.now)) }
+        ensures same { let shown = displayed (D.source data_source.now) (level_of_base base) line.now in
+            IfOk result (λ same. same ≡ are_same (visible_ascii shown) (visible_ascii line.now)) }
+    {
+        write_visible_ascii(line, &mut self.read)?;
+        self.displayed
+            .write_visible(alloc, data_source, base, line, &mut self.shown)?;
+        Ok(self.shown.as_slice() == self.read.as_slice())
+    }
+
+    // Returns whether the visible ASCII that was found last is also displayed if the controls are deleted from the
+    // line.
+    fn is_as_without_controls<D: BidiDataSource>(
+        &mut self,
+        alloc: Global,
+        data_source: &D,
+        base: Base,
+        line: &[char],
+    ) -> Result<bool, AllocError>
+        ensures { let kept = without_controls_of (D.source data_source.now) line.now in
+            IfOk result (λ same. same ≡ are_same self.old.shown.items
+            (visible_ascii (displayed (D.source data_source.now) (level_of_base base) kept))) }
+    {
+        self.displayed.write_visible_without_controls(
+            alloc,
+            data_source,
+            base,
+            line,
+            &mut self.without_controls,
+            &mut self.shown_without_controls,
+        )?;
+        Ok(self.shown.as_slice() == self.shown_without_controls.as_slice())
+    }
+
+    // Returns whether, with a base level, the visible ASCII of a line is displayed neither as it is read nor as it is
+    // displayed without the controls.
+    #[tactic(auto, unfolding(crate::specs::Displayed::is_reordered))]
+    fn is_reordered<D: BidiDataSource>(
+        &mut self,
+        alloc: Global,
+        data_source: &D,
+        base: Base,
+        line: &[char],
+    ) -> Result<bool, AllocError>
+        ensures { IfOk result (λ found. found
+            ≡ is_reordered_by (D.source data_source.now) (level_of_base base) line.now) }
+    {
+        if self.is_as_read(alloc, data_source, base, line)? {
+            return Ok(false);
+        }
+        let is_same = self.is_as_without_controls(alloc, data_source, base, line)?;
+        Ok(!is_same)
+    }
+
+    /// Returns whether a line is displayed differently from how it reads.
+    ///
+    /// `line` is a line without the separator that ends it. It is displayed differently if it has a direction control
+    /// and, from left to right or with the base level of P2 and P3, its printable ASCII characters other than the
+    /// space are displayed neither in the order in which they are read, nor in the order in which they are displayed
+    /// if the controls are deleted from the line.
+    #[tactic(auto, unfolding(crate::specs::Displayed::is_displayed_differently))]
+    pub fn is_displayed_differently<D: BidiDataSource>(
+        &mut self,
+        alloc: Global,
+        data_source: &D,
+        line: &[char],
+    ) -> Result<bool, AllocError>
+        ensures { IfOk result (λ found. found ≡ is_displayed_differently_by (D.source data_source.now) line.now) }
+    {
+        if !has_control(data_source, line) {
+            return Ok(false);
+        }
+        if self.is_reordered(alloc, data_source, Base::Ltr, line)? {
+            return Ok(true);
+        }
+        self.is_reordered(alloc, data_source, Base::Auto, line)
+    }
+}
