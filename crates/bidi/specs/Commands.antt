@@ -5,7 +5,7 @@ use Rattle.bidi_terminal.specs.Bases.{base_named}
 use Rattle.bidi_terminal.specs.Numbers.{number_of}
 use Rattle.bidi_terminal.specs.declared.base.Base.TheVariants.{Auto}
 use Rattle.bidi_controls.specs.declared.finding.Wanted.{Wanted}
-use Rattle.bidi_controls.specs.declared.finding.Wanted.TheVariants.{Unmatched, Misleading, EveryControl}
+use Rattle.bidi_controls.specs.declared.finding.Wanted.TheVariants.{Unmatched, Misleading, Everything}
 use Rattle.bidi_stages.specs.Explained.{first_stage_view}
 use Rattle.bidi_stages.specs.declared.view.Form.TheVariants.{Page}
 use Rattle.bidi_stages.specs.declared.view.StageView.{StageView}
@@ -54,7 +54,7 @@ over_files command (Err refusal) = Err refusal
 -- the findings that an option of `check` wants, if it is one
 abbrev pub wanted_by_option : List ℕ → Option Wanted
 wanted_by_option option =
-    if bytes_eq option (codes "--any") then Some EveryControl
+    if bytes_eq option (codes "--any") then Some Everything
     else if bytes_eq option (codes "--unmatched") then Some Unmatched
     else None
 

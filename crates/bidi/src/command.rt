@@ -137,7 +137,7 @@ fn wanted_by(option: &str) -> Option<Wanted>
     ensures { result ≡ wanted_by_option option.now }
 {
     match option {
-        "--any" => Some(Wanted::EveryControl),
+        "--any" => Some(Wanted::Everything),
         "--unmatched" => Some(Wanted::Unmatched),
         _ => None,
     }

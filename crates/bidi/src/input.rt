@@ -14,7 +14,7 @@ use crate::names::shown_name;
 use crate::paragraphs::show;
 use crate::status::Status;
 use crate::view::View;
-use bidi_controls::check::findings_in;
+use bidi_controls::check::findings_wanted;
 use bidi_controls::finding::Wanted;
 use bidi_controls::report::report;
 use bidi_stages::explain::explain;
@@ -94,7 +94,7 @@ pub fn check_input(
 {
     let text = text_of(bytes)?;
     let chars = chars_of(alloc, text)?;
-    let findings = findings_in(alloc, &UnicodeData, wanted, chars.as_slice())?;
+    let findings = findings_wanted(alloc, &UnicodeData, wanted, chars.as_slice())?;
     let found = findings.as_slice();
     let shown = shown_name(alloc, name)?;
     Ok(Checked {

@@ -13,11 +13,12 @@ use Rattle.bidi_controls.specs.declared.finding.Finding.{Finding}
 use Rattle.bidi_controls.specs.declared.finding.Trouble.{Trouble}
 use Rattle.bidi_controls.specs.declared.finding.Trouble.TheVariants.{NotClosed, ClosesNothing, Present, DisplayedDifferently}
 use Rattle.bidi_controls.specs.declared.finding.Wanted.{Wanted}
-use Rattle.bidi_controls.specs.declared.finding.Wanted.TheVariants.{Unmatched, Misleading, EveryControl}
+use Rattle.bidi_controls.specs.declared.finding.Wanted.TheVariants.{Unmatched, Misleading, EveryControl, Everything}
 
 -- every control and mark is wanted
 abbrev pub wants_every_control : Wanted → Bool
 wants_every_control EveryControl = true
+wants_every_control Everything = true
 wants_every_control Unmatched = false
 wants_every_control Misleading = false
 
@@ -25,7 +26,12 @@ wants_every_control Misleading = false
 abbrev pub wants_lines : Wanted → Bool
 wants_lines Unmatched = false
 wants_lines Misleading = true
-wants_lines EveryControl = true
+wants_lines Everything = true
+wants_lines EveryControl = false
+
+-- controls without a match, or with `any` every control and mark, and no lines
+abbrev pub controls_wanted : Bool → Wanted
+controls_wanted any = if any then EveryControl else Unmatched
 
 -- what is the matter with a control of this class
 abbrev pub trouble_of : Bool → BidiClass → Trouble

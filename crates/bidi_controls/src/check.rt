@@ -2,7 +2,7 @@
 ghost use Rattle.std.specs.Prelude.{◌≡◌, ◌+◌, ◌<◌, ◌^◌, ◌++◌, map, flat_map, position, IfOk, OnOk};
 ghost use Rattle.std.specs.Option.{option_to_list};
 ghost use Rattle.bidi_base.specs.Places.{holds_number, indexes};
-ghost use Rattle.bidi_controls.specs.Findings.{finding_of, line_finding_of, findings_at, findings_of, differing_place as differing_place_of};
+ghost use Rattle.bidi_controls.specs.Findings.{finding_of, line_finding_of, findings_at, findings_of, controls_wanted, differing_place as differing_place_of};
 ghost use Rattle.bidi_controls.specs.Matches.{is_control, is_unmatched};
 
 use crate::displayed::DisplayComparison;
@@ -125,13 +125,13 @@ fn push_findings<D: BidiDataSource>(
 
 /// What is found in a text, in order.
 ///
-/// These are direction controls that have no match on their line, or with `EveryControl` every control and mark. An
+/// These are direction controls that have no match on their line, or with `EveryControl` and `Everything` every control and mark. An
 /// embedding or an override wants its PDF (BD11), an isolate initiator its PDI (BD9), and a PDF or a PDI what it
-/// closes. Unless `wanted` is `Unmatched`, a line that is displayed differently from how it reads is found too, at its
+/// closes. With `Misleading` and `Everything`, a line that is displayed differently from how it reads is found too, at its
 /// first control (see `DisplayComparison`).
 ///
 /// Lines and columns are counted from 1, columns in characters. Lines end after a paragraph separator, CR LF as one.
-pub fn findings_in<D: BidiDataSource>(
+pub fn findings_wanted<D: BidiDataSource>(
     alloc: Global,
     data_source: &D,
     wanted: Wanted,
@@ -166,4 +166,23 @@ pub fn findings_in<D: BidiDataSource>(
         rest = after;
     }
     Ok(findings)
+}
+
+/// Returns the direction controls of a text that have no match on their line, or with `any` every control and mark.
+///
+/// These are the findings of [`findings_wanted`] without those of lines.
+pub fn findings_in<D: BidiDataSource>(
+    alloc: Global,
+    data_source: &D,
+    any: bool,
+    chars: &[char],
+) -> Result<Vec<Finding>, AllocError>
+    ensures { IfOk result (λ found. found.items ≡ findings_of (D.source data_source.now) (controls_wanted any) chars.now) }
+{
+    let wanted = if any {
+        Wanted::EveryControl
+    } else {
+        Wanted::Unmatched
+    };
+    findings_wanted(alloc, data_source, wanted, chars)
 }

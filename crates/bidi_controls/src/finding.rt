@@ -10,8 +10,10 @@ pub enum Wanted {
     Unmatched,
     /// Controls without a match, and lines that are displayed differently from how they read.
     Misleading,
-    /// Every control and mark, and lines that are displayed differently from how they read.
+    /// Every control and mark.
     EveryControl,
+    /// Every control and mark, and lines that are displayed differently from how they read.
+    Everything,
 }
 
 impl Wanted {
@@ -22,14 +24,14 @@ impl Wanted {
     pub fn wants_every_control(self) -> bool
         ensures { result ≡ wants_every_control self }
     {
-        matches!(self, Wanted::EveryControl)
+        matches!(self, Wanted::EveryControl | Wanted::Everything)
     }
 
     /// Returns whether lines are wanted that are displayed differently from how they read.
     pub fn wants_lines(self) -> bool
         ensures { result ≡ wants_lines self }
     {
-        !matches!(self, Wanted::Unmatched)
+        matches!(self, Wanted::Misleading | Wanted::Everything)
     }
 }
 

@@ -9,7 +9,6 @@ use crate::random::Random;
 use crate::texts::{self, Sentences};
 use bidi_base::level::{LTR_LEVEL, Level, RTL_LEVEL};
 use bidi_controls::check::findings_in;
-use bidi_controls::finding::Wanted;
 use bidi_controls::report::report;
 use bidi_text::text::{StrText, is_line};
 use bidi_unicode::UnicodeData;
@@ -297,12 +296,8 @@ fn sources(
     for index in 0..amount.count {
         let lines = amount.size.saturating_add(random.below(200));
         let file = texts::source_file(alloc, random, lines)?;
-        let wanted = if index % 2 == 1 {
-            Wanted::EveryControl
-        } else {
-            Wanted::Misleading
-        };
-        let found = findings_in(alloc, &UnicodeData, wanted, file.as_slice())?;
+        let any = index % 2 == 1;
+        let found = findings_in(alloc, &UnicodeData, any, file.as_slice())?;
         let told = report(alloc, "source", found.as_slice())?;
         digest.add_bytes(told.as_str().as_bytes());
     }

@@ -1,4 +1,4 @@
-use Rattle.bidi_base.proofs.Common.{◌≡◌, ℕ, Bool, true, List, Option, ◌∙◌, sym, Source}
+use Rattle.bidi_base.proofs.Common.{◌≡◌, ℕ, true, List, Option, ◌∙◌, sym, Source}
 use Rattle.std.specs.Prelude.{position}
 use Rattle.bidi_controls.specs.Displayed.{is_displayed_differently}
 use Rattle.bidi_controls.specs.Findings.{wants_lines, differing_place}

@@ -1,4 +1,4 @@
-use Rattle.bidi_base.proofs.Common.{◌≡◌, ◌≤◌, None, ap, sym, ◌∙◌, arith, first_or, line_levels, one_unit}
+use Rattle.bidi_base.proofs.Common.{◌≤◌, None, ap, sym, ◌∙◌, arith, first_or, line_levels, one_unit}
 use Rattle.std.specs.Prelude.{IfSome}
 use Rattle.bidi_base.proofs.PlaceLemmas.{text_len-one_unit}
 use Rattle.bidi_terminal.specs.Bases.{level_of_base}

@@ -1,4 +1,4 @@
-use Rattle.bidi_base.proofs.Common.{◌≡◌, ap, ◌∙◌, arith}
+use Rattle.bidi_base.proofs.Common.{arith}
 use Rattle.bidi_controls.specs.Displayed.{displayed_order}
 use Rattle.bidi_controls.proofs.LineLevels.{length-displayed_levels, order-within}
 use Rattle.bidi_controls.proofs.displayed.DisplayedOrder.find.Goals as goal

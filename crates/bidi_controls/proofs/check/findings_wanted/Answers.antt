@@ -4,8 +4,8 @@ use Rattle.bidi_controls.specs.Findings.{wants_every_control, findings_of, findi
 use Rattle.bidi_controls.specs.Lines.{lines_of}
 use Rattle.bidi_controls.specs.declared.finding.Finding.{Finding}
 use Rattle.bidi_controls.specs.declared.finding.Wanted.{Wanted}
-use Rattle.bidi_controls.proofs.check.findings_in.Goals as goal
-use Rattle.bidi_controls.proofs.check.findings_in.Goals.{then-not-first+in_ok-find_unmatched+in_ok-differing+in_ok-push_findings, else-not-first}
+use Rattle.bidi_controls.proofs.check.findings_wanted.Goals as goal
+use Rattle.bidi_controls.proofs.check.findings_wanted.Goals.{then-not-first+in_ok-find_unmatched+in_ok-differing+in_ok-push_findings, else-not-first}
 
 pub loop-rest-init : goal.loop-rest-init
 unfolding findings_of

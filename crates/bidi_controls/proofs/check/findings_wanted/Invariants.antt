@@ -1,7 +1,7 @@
 use Rattle.bidi_base.proofs.Common.{◌≡◌, ◌+◌, ◌++◌, ◌≤◌, length}
 use Rattle.bidi_controls.specs.Findings.{findings_from, findings_of}
 use Rattle.bidi_controls.specs.Lines.{lines_of}
-use Rattle.bidi_controls.proofs.check.findings_in.Given as goal
+use Rattle.bidi_controls.proofs.check.findings_wanted.Given as goal
 
 abbrev pub invariant-loop-rest : goal.invariant-loop-rest
 invariant-loop-rest g l = record {
