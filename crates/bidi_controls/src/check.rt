@@ -123,12 +123,63 @@ fn push_findings<D: BidiDataSource>(
     Ok(())
 }
 
-/// What is found in a text, in order.
+/// What the search through a text keeps from line to line, so that its memory is reused.
+#[derive(Drop)]
+struct LineSearch {
+    openers: Openers,
+    unmatched: Vec<bool>,
+    comparison: DisplayComparison,
+}
+
+impl LineSearch {
+    ghost use Rattle.bidi_controls.specs.Findings.{findings_in_line};
+
+    /// Returns a search that has seen no line. Allocates nothing.
+    fn new(alloc: Global) -> LineSearch {
+        LineSearch {
+            openers: Openers::new(alloc),
+            unmatched: Vec::new(alloc),
+            comparison: DisplayComparison::new(alloc),
+        }
+    }
+
+    /// Appends the findings in a line, whose number this is.
+    // Few lines have controls. Inlined, this takes the registers of the loop that passes over the others.
+    #[inline(never)]
+    fn push_found_in<D: BidiDataSource>(
+        &mut self,
+        alloc: Global,
+        data_source: &D,
+        wanted: Wanted,
+        number: usize,
+        line: &[char],
+        findings: &mut Vec<Finding>,
+    ) -> Result<(), AllocError>
+        ensures { OnOk result (findings.new.items
+            ≡ findings.old.items ++ findings_in_line (D.source data_source.now) wanted number line.now) }
+    {
+        find_unmatched(data_source, line, &mut self.openers, &mut self.unmatched)?;
+        let differing = differing_place(&mut self.comparison, alloc, data_source, wanted, line)?;
+        let any = wanted.wants_every_control();
+        let unmatched = self.unmatched.as_slice();
+        push_findings(
+            findings,
+            data_source,
+            any,
+            number,
+            differing,
+            line,
+            unmatched,
+        )
+    }
+}
+
+/// Returns what is found in a text, in order.
 ///
-/// These are direction controls that have no match on their line, or with `EveryControl` and `Everything` every control and mark. An
-/// embedding or an override wants its PDF (BD11), an isolate initiator its PDI (BD9), and a PDF or a PDI what it
-/// closes. With `Misleading` and `Everything`, a line that is displayed differently from how it reads is found too, at its
-/// first control (see `DisplayComparison`).
+/// These are direction controls that have no match on their line, or with `EveryControl` and `Everything` every control
+/// and mark. An embedding or an override wants its PDF (BD11), an isolate initiator its PDI (BD9), and a PDF or a PDI
+/// what it closes. With `Misleading` and `Everything`, a line that is displayed differently from how it reads is found
+/// too, at its first control (see `DisplayComparison`).
 ///
 /// Lines and columns are counted from 1, columns in characters. Lines end after a paragraph separator, CR LF as one.
 pub fn findings_wanted<D: BidiDataSource>(
@@ -140,9 +191,7 @@ pub fn findings_wanted<D: BidiDataSource>(
     ensures { IfOk result (λ found. found.items ≡ findings_of (D.source data_source.now) wanted chars.now) }
 {
     let mut findings = Vec::new(alloc);
-    let mut openers = Openers::new(alloc);
-    let mut unmatched = Vec::new(alloc);
-    let mut comparison = DisplayComparison::new(alloc);
+    let mut search = LineSearch::new(alloc);
     let mut lines_before = 0;
     let mut rest = chars;
     while !rest.is_empty() {
@@ -150,17 +199,8 @@ pub fn findings_wanted<D: BidiDataSource>(
         let (line, after) = rest.split_at(first.len);
         // In a line without controls and marks nothing is found.
         if !first.is_quiet {
-            find_unmatched(data_source, line, &mut openers, &mut unmatched)?;
-            let differing = differing_place(&mut comparison, alloc, data_source, wanted, line)?;
-            push_findings(
-                &mut findings,
-                data_source,
-                wanted.wants_every_control(),
-                lines_before + 1,
-                differing,
-                line,
-                unmatched.as_slice(),
-            )?;
+            let number = lines_before + 1;
+            search.push_found_in(alloc, data_source, wanted, number, line, &mut findings)?;
         }
         lines_before += 1;
         rest = after;
