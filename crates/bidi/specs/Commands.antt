@@ -14,6 +14,7 @@ use Rattle.bidi.specs.declared.refusal.Refusal.{Refusal}
 use Rattle.bidi.specs.declared.refusal.Refusal.TheVariants.{NoSubcommand, NotASubcommand, NotAnOption, LateOption, NotAlone, NoValue, NotABase, NotAWidth, NoText}
 use Rattle.bidi.specs.declared.refusal.Subcommand.{Subcommand}
 use Rattle.bidi.specs.declared.refusal.Subcommand.TheVariants.{Checking, Showing, Explaining}
+use Rattle.bidi.specs.declared.search.Search.{Search}
 use Rattle.bidi.specs.declared.view.View.{View}
 
 -- the only argument behind a subcommand asks for help
@@ -49,12 +50,26 @@ abbrev pub over_files : (List (List ℕ) → Command) → Result (List (List ℕ
 over_files command (Ok files) = Ok (command files)
 over_files command (Err refusal) = Err refusal
 
--- behind `check`, and behind `--any` or not: further options, and files
-abbrev pub check_of : Bool → List (List ℕ) → Result Command Refusal
-check_of any [] = Ok (Check any [])
-check_of any (word ∷ words) =
-    if bytes_eq word (codes "--any") then check_of true words
-    else over_files (Check any) (file_words Checking (word ∷ words))
+-- what `check` searches without options
+abbrev pub first_search : Search
+first_search = record { hidden = false; text = false; list = None }
+
+-- behind `check` and options that ask for this search, with `--any` among them or not: further options, in any order,
+-- and files
+abbrev pub check_of : Bool → Search → List (List ℕ) → Result Command Refusal
+check_of any search [] = Ok (Check any search [])
+check_of any search (word ∷ []) =
+    if bytes_eq word (codes "--any") then check_of true search []
+    else if bytes_eq word (codes "--hidden") then check_of any (record search { hidden = true }) []
+    else if bytes_eq word (codes "--text") then check_of any (record search { text = true }) []
+    else if bytes_eq word (codes "--files-from") then Err (NoValue Checking word)
+    else over_files (Check any search) (file_words Checking (word ∷ []))
+check_of any search (word ∷ value ∷ words) =
+    if bytes_eq word (codes "--any") then check_of true search (value ∷ words)
+    else if bytes_eq word (codes "--hidden") then check_of any (record search { hidden = true }) (value ∷ words)
+    else if bytes_eq word (codes "--text") then check_of any (record search { text = true }) (value ∷ words)
+    else if bytes_eq word (codes "--files-from") then check_of any (record search { list = Some value }) words
+    else over_files (Check any search) (file_words Checking (word ∷ value ∷ words))
 
 -- what `show` does without options
 abbrev pub first_view : View
@@ -114,7 +129,7 @@ alone_of name words =
 abbrev pub command_of : List (List ℕ) → Result Command Refusal
 command_of [] = Err NoSubcommand
 command_of (name ∷ words) =
-    if bytes_eq name (codes "check") then (if asks_help words then Ok (Help (Some Checking)) else check_of false words)
+    if bytes_eq name (codes "check") then (if asks_help words then Ok (Help (Some Checking)) else check_of false first_search words)
     else if bytes_eq name (codes "show") then (if asks_help words then Ok (Help (Some Showing)) else show_of first_view words)
     else if bytes_eq name (codes "explain")
     then (if asks_help words then Ok (Help (Some Explaining)) else explain_of first_stage_view words)

@@ -4,6 +4,7 @@ ghost use Rattle.bidi.specs.Commands.{asks_help, unknown_option, late_option};
 ghost use Rattle.bidi.specs.Options.{is_option};
 
 use crate::refusal::{Refusal, Subcommand, Word};
+use crate::search::Search;
 use crate::view::View;
 use bidi_stages::view::{Form, StageView};
 use bidi_terminal::{Base, parse_number};
@@ -109,9 +110,11 @@ impl<'w> FileWords<'w> {
 /// A form of the program.
 #[derive(Drop)]
 pub enum Command<'w> {
-    /// `check [--any] [FILE..]`: the direction controls without a match on their line, or all.
+    /// `check [--any] [--hidden] [--text] [--files-from LIST] [FILE..]`: the direction controls without a
+    /// match on their line, or all.
     Check {
         any: bool,
+        search: Search<'w>,
         files: FileWords<'w>,
     },
     /// `explain [--base auto|ltr|rtl] [--html] TEXT..`: what each stage makes of the characters.
@@ -131,19 +134,64 @@ pub enum Command<'w> {
 }
 
 impl<'w> Command<'w> {
-    ghost use Rattle.bidi.specs.Commands.{command_of, check_of, explain_of, show_of, alone_of};
+    ghost use Rattle.bidi.specs.Commands.{command_of, check_of, explain_of, show_of, alone_of, file_words, over_files};
+    ghost use Rattle.bidi.specs.declared.command.Command.TheVariants.{Check};
+    ghost use Rattle.bidi.specs.declared.refusal.Subcommand.TheVariants.{Checking};
 
-    /// What words behind `check` ask for, where there was `--any` before them, or not.
-    fn parse_check(any: bool, words: &'w [String]) -> Result<Command<'w>, Refusal<'w>>
-        ensures { result ≡ check_of any (map string_bytes words.now) }
+    /// What words behind the options of `check` ask for.
+    fn over_files(
+        any: bool,
+        search: Search<'w>,
+        words: &'w [String],
+    ) -> Result<Command<'w>, Refusal<'w>>
+        ensures { result ≡ over_files (Check any search.entry) (file_words Checking (map string_bytes words.now)) }
     {
-        match words {
-            [option, rest @ ..] if option.as_str() == "--any" => Command::parse_check(true, rest),
-            _ => match FileWords::parse(Subcommand::Checking, words) {
-                Ok(files) => Ok(Command::Check { any, files }),
-                Err(refusal) => Err(refusal),
-            },
+        match FileWords::parse(Subcommand::Checking, words) {
+            Ok(files) => Ok(Command::Check { any, search, files }),
+            Err(refusal) => Err(refusal),
         }
+    }
+
+    /// What words behind `check` ask for, where the options before them ask for this search, with `--any`
+    /// among them or not.
+    fn parse_check(
+        any: bool,
+        search: Search<'w>,
+        words: &'w [String],
+    ) -> Result<Command<'w>, Refusal<'w>>
+        ensures { result ≡ check_of any search.entry (map string_bytes words.now) }
+    {
+        let [first, rest @ ..] = words else {
+            return Command::over_files(any, search, words);
+        };
+        let option = first.as_str();
+        if option == "--any" {
+            return Command::parse_check(true, search, rest);
+        }
+        if option == "--hidden" {
+            let search = Search {
+                hidden: true,
+                ..search
+            };
+            return Command::parse_check(any, search, rest);
+        }
+        if option == "--text" {
+            let search = Search {
+                text: true,
+                ..search
+            };
+            return Command::parse_check(any, search, rest);
+        }
+        if option == "--files-from" {
+            return match rest {
+                [] => Err(Refusal::NoValue(Subcommand::Checking, Word::new(option))),
+                [list, rest @ ..] => {
+                    let list = Some(Word::new(list.as_str()));
+                    Command::parse_check(any, Search { list, ..search }, rest)
+                }
+            };
+        }
+        Command::over_files(any, search, words)
     }
 
     /// What words behind `show` ask for, where the options before them ask for this view.
@@ -246,7 +294,7 @@ impl<'w> Command<'w> {
                 if asks_help(rest) {
                     return Ok(Command::Help(Some(Subcommand::Checking)));
                 }
-                Command::parse_check(false, rest)
+                Command::parse_check(false, Search::default(), rest)
             }
             [name, rest @ ..] if name.as_str() == "show" => {
                 if asks_help(rest) {
