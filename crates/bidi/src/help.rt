@@ -25,7 +25,8 @@ const PROGRAM: &str = "bidi: the Unicode Bidirectional Algorithm for text in UTF
     \u{20}       4 reading or writing failed, or the arguments could not be read\n\
     If several apply, the highest counts.\n";
 
-const CHECK: &str = "usage: bidi check [--any] [--hidden] [--text] [--files-from LIST] [--] [FILE..]\n\
+const CHECK: &str =
+    "usage: bidi check [--any] [--hidden] [--text] [--files-from LIST] [--] [FILE..]\n\
     \n\
     Finds the direction controls that have no match on their line. They can make source code\n\
     display differently from how it is compiled. Writes a line for each, such as\n\

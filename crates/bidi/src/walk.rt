@@ -23,8 +23,13 @@ struct Run<'s, 'w> {
 }
 
 impl Run<'_, '_> {
+    ghost use Rattle.std.specs.Prelude.{◌≡◌, max};
+    ghost use Rattle.bidi.specs.Statuses.{status_number};
+
     // Keeps what became of an input.
-    fn note(&mut self, next: Status) {
+    fn note(&mut self, next: Status)
+        ensures { status_number self.new.status ≡ max (status_number self.old.status) (status_number next) }
+    {
         self.status = self.status.worse(next);
     }
 }
