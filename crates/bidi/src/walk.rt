@@ -1,5 +1,5 @@
-//! The files of `check`: those that its arguments and its list name, and those below directories. They are
-//! read and searched one after the other, and no fault of one keeps the next from being searched.
+//! The files that `check` searches: its arguments and its list name them, or they are below a directory. They
+//! are searched one after the other. A fault of one does not keep the next from being searched.
 use crate::decode::{BINARY_PREFIX, is_binary};
 use crate::entries::{listed_names, names_in_order, path_below};
 use crate::files::{
@@ -34,7 +34,7 @@ impl Run<'_, '_> {
     }
 }
 
-// What ends the run because an allocation failed.
+// Ends the run if an allocation failed.
 fn or_end<T: Drop>(rt: &impl Eprint, made: Result<T, AllocError>) -> Result<T, Status> {
     match made {
         Ok(value) => Ok(value),
@@ -42,7 +42,7 @@ fn or_end<T: Drop>(rt: &impl Eprint, made: Result<T, AllocError>) -> Result<T, S
     }
 }
 
-// Tells that a name is not UTF-8.
+// Reports a name that is not UTF-8.
 fn refuse_name(
     rt: &(impl Eprint + AllocGlobal),
     run: &mut Run<'_, '_>,
@@ -89,7 +89,7 @@ fn check_standard_input(
     }
 }
 
-// The bytes of a file, unless it is binary and those are not wanted.
+// Reads a file, but of a binary file only the first bytes, unless binary files are searched too.
 fn read_file(
     rt: &(impl Files + AllocGlobal),
     text: bool,
@@ -139,8 +139,8 @@ fn read_directory(rt: &(impl Files + AllocGlobal), dir: &str) -> io::Result<Vec<
     Ok(listing)
 }
 
-// Searches a file of a directory, and keeps a directory for later. Links are skipped, and so is what is
-// neither a file nor a directory.
+// Searches a file of a directory, and keeps a directory for later. Skips links, pipes, sockets and
+// devices.
 fn visit_path(
     rt: &(impl Files + Print + Eprint + AllocGlobal),
     run: &mut Run<'_, '_>,
@@ -290,9 +290,9 @@ fn check_all(
     }
 }
 
-/// Searches the files of these names and of the list, and those below directories; standard input where
-/// there are no names and no list, and for the name `-` of an argument. What cannot be read is told on
-/// standard error, and the next one is read.
+/// Searches the files and directories of these names, and then those of the list. Searches standard input if
+/// there are neither names nor a list, and for an argument `-`. Reports what it cannot read on standard
+/// error, and goes on with the next.
 pub fn check_files(
     rt: &(impl Files + Input + Print + Eprint + AllocGlobal),
     any: bool,
