@@ -158,6 +158,12 @@ def own_run(program, files):
     return [run]
 
 
+def write_file(path, held):
+    """Writes a file, and makes the folders above it."""
+    path.parent.mkdir(parents=True, exist_ok=True)
+    path.write_bytes(held)
+
+
 def make(program, runs, files, refused=None):
     """Makes runs, all by one call of 'rt try', and writes into each what was found."""
     with tempfile.TemporaryDirectory() as folder:
@@ -166,7 +172,7 @@ def make(program, runs, files, refused=None):
         data.mkdir()
         command = ["rt", "try", "--seconds", "600"] + (["--fail-alloc", str(refused)] if refused else [])
         for name, held in files.items():
-            (data / name).write_bytes(held)
+            write_file(data / name, held)
             command += ["--data", f"{name}={data / name}"]
         for number, run in enumerate(runs):
             case = cases / f"run{number}"
@@ -194,7 +200,7 @@ def make_built(program, runs, files):
     """Makes runs of the program that was proved and built, and writes into each what was found."""
     with tempfile.TemporaryDirectory() as folder:
         for name, held in files.items():
-            pathlib.Path(folder, name).write_bytes(held)
+            write_file(pathlib.Path(folder, name), held)
         for run in runs:
             command = [TOP / "crates" / program / "out" / program] + run.words
             ended = subprocess.run(command, input=run.input, cwd=folder, env={}, capture_output=True, timeout=60)

@@ -1,4 +1,5 @@
 pub mod CharactersLemmas
+pub mod DecodedLemmas
 pub mod OptionsLemmas
 pub mod ParagraphLemmas
 pub mod ShownLemmas

@@ -16,6 +16,7 @@ use Rattle.bidi.specs.declared.refusal.Refusal.{Refusal}
 use Rattle.bidi.specs.declared.refusal.Refusal.TheVariants.{NoSubcommand, NotASubcommand, NotAnOption, LateOption, NotAlone, NoValue, NotABase, NotAWidth, NoText}
 use Rattle.bidi.specs.declared.refusal.Subcommand.{Subcommand}
 use Rattle.bidi.specs.declared.refusal.Subcommand.TheVariants.{Checking, Showing, Explaining}
+use Rattle.bidi.specs.declared.search.Search.{Search}
 use Rattle.bidi.specs.declared.view.View.{View}
 
 -- the only argument behind a subcommand asks for help
@@ -51,24 +52,27 @@ abbrev pub over_files : (List (List ℕ) → Command) → Result (List (List ℕ
 over_files command (Ok files) = Ok (command files)
 over_files command (Err refusal) = Err refusal
 
--- the findings that an option of `check` wants, if it is one
-abbrev pub wanted_by_option : List ℕ → Option Wanted
-wanted_by_option option =
-    if bytes_eq option (codes "--any") then Some Everything
-    else if bytes_eq option (codes "--unmatched") then Some Unmatched
-    else None
+-- what `check` searches without options
+abbrev pub first_search : Search
+first_search = record { hidden = false; text = false; list = None }
 
--- what follows of an option, or of a word that is none
-abbrev pub by_option : {A : Type 0} → Result Command Refusal → (A → Result Command Refusal) → Option A → Result Command Refusal
-by_option other next None = other
-by_option other next (Some value) = next value
-
--- behind `check` and options that want these findings: further options, in any order, and files
-abbrev pub check_of : Wanted → List (List ℕ) → Result Command Refusal
-check_of wanted [] = Ok (Check wanted [])
-check_of wanted (word ∷ words) =
-    by_option (over_files (Check wanted) (file_words Checking (word ∷ words))) (λ asked. check_of asked words)
-    (wanted_by_option word)
+-- behind `check` and options that want these findings and ask for this search: further options, in any order, and files
+abbrev pub check_of : Wanted → Search → List (List ℕ) → Result Command Refusal
+check_of wanted search [] = Ok (Check wanted search [])
+check_of wanted search (word ∷ []) =
+    if bytes_eq word (codes "--any") then check_of Everything search []
+    else if bytes_eq word (codes "--unmatched") then check_of Unmatched search []
+    else if bytes_eq word (codes "--hidden") then check_of wanted (record search { hidden = true }) []
+    else if bytes_eq word (codes "--text") then check_of wanted (record search { text = true }) []
+    else if bytes_eq word (codes "--files-from") then Err (NoValue Checking word)
+    else over_files (Check wanted search) (file_words Checking (word ∷ []))
+check_of wanted search (word ∷ value ∷ words) =
+    if bytes_eq word (codes "--any") then check_of Everything search (value ∷ words)
+    else if bytes_eq word (codes "--unmatched") then check_of Unmatched search (value ∷ words)
+    else if bytes_eq word (codes "--hidden") then check_of wanted (record search { hidden = true }) (value ∷ words)
+    else if bytes_eq word (codes "--text") then check_of wanted (record search { text = true }) (value ∷ words)
+    else if bytes_eq word (codes "--files-from") then check_of wanted (record search { list = Some value }) words
+    else over_files (Check wanted search) (file_words Checking (word ∷ value ∷ words))
 
 -- what `show` does without options
 abbrev pub first_view : View
@@ -128,7 +132,7 @@ alone_of name words =
 abbrev pub command_of : List (List ℕ) → Result Command Refusal
 command_of [] = Err NoSubcommand
 command_of (name ∷ words) =
-    if bytes_eq name (codes "check") then (if asks_help words then Ok (Help (Some Checking)) else check_of Misleading words)
+    if bytes_eq name (codes "check") then (if asks_help words then Ok (Help (Some Checking)) else check_of Misleading first_search words)
     else if bytes_eq name (codes "show") then (if asks_help words then Ok (Help (Some Showing)) else show_of first_view words)
     else if bytes_eq name (codes "explain")
     then (if asks_help words then Ok (Help (Some Explaining)) else explain_of first_stage_view words)

@@ -1,9 +1,10 @@
 //! What the words of a call ask for.
 ghost use Rattle.std.specs.Prelude.{◌≡◌, find, map, string_bytes};
-ghost use Rattle.bidi.specs.Commands.{asks_help, unknown_option, late_option, wanted_by_option};
+ghost use Rattle.bidi.specs.Commands.{asks_help, unknown_option, late_option};
 ghost use Rattle.bidi.specs.Options.{is_option};
 
 use crate::refusal::{Refusal, Subcommand, Word};
+use crate::search::Search;
 use crate::view::View;
 use bidi_controls::finding::Wanted;
 use bidi_stages::view::{Form, StageView};
@@ -110,10 +111,11 @@ impl<'w> FileWords<'w> {
 /// A form of the program.
 #[derive(Drop)]
 pub enum Command<'w> {
-    /// `check [--any|--unmatched] [FILE..]`: direction controls without a match on their line, or all controls, and
-    /// lines that are displayed differently from how they read.
+    /// `check [--any|--unmatched] [--hidden] [--text] [--files-from LIST] [FILE..]`: direction controls without
+    /// a match on their line, or all controls, and lines that are displayed differently from how they read.
     Check {
         wanted: Wanted,
+        search: Search<'w>,
         files: FileWords<'w>,
     },
     /// `explain [--base auto|ltr|rtl] [--html] TEXT..`: what each stage makes of the characters.
@@ -132,43 +134,72 @@ pub enum Command<'w> {
     Version,
 }
 
-/// The findings that an option of `check` wants, if it is one.
-fn wanted_by(option: &str) -> Option<Wanted>
-    ensures { result ≡ wanted_by_option option.now }
-{
-    match option {
-        "--any" => Some(Wanted::Everything),
-        "--unmatched" => Some(Wanted::Unmatched),
-        _ => None,
-    }
-}
-
 impl<'w> Command<'w> {
-    ghost use Rattle.bidi.specs.Commands.{command_of, check_of, explain_of, show_of, alone_of, over_files, file_words};
+    ghost use Rattle.bidi.specs.Commands.{command_of, check_of, explain_of, show_of, alone_of, file_words, over_files};
     ghost use Rattle.bidi.specs.declared.command.Command.TheVariants.{Check};
     ghost use Rattle.bidi.specs.declared.refusal.Subcommand.TheVariants.{Checking};
 
-    /// What `check` does with files that words name, if these findings are wanted.
-    fn check_files(wanted: Wanted, words: &'w [String]) -> Result<Command<'w>, Refusal<'w>>
-        ensures { result ≡ over_files (Check wanted) (file_words Checking (map string_bytes words.now)) }
+    /// What words behind the options of `check` ask for.
+    fn over_files(
+        wanted: Wanted,
+        search: Search<'w>,
+        words: &'w [String],
+    ) -> Result<Command<'w>, Refusal<'w>>
+        ensures { result ≡ over_files (Check wanted search.entry) (file_words Checking (map string_bytes words.now)) }
     {
         match FileWords::parse(Subcommand::Checking, words) {
-            Ok(files) => Ok(Command::Check { wanted, files }),
+            Ok(files) => Ok(Command::Check {
+                wanted,
+                search,
+                files,
+            }),
             Err(refusal) => Err(refusal),
         }
     }
 
-    /// What words behind `check` ask for, if the options before them want these findings.
-    fn parse_check(wanted: Wanted, words: &'w [String]) -> Result<Command<'w>, Refusal<'w>>
-        ensures { result ≡ check_of wanted (map string_bytes words.now) }
+    /// What words behind `check` ask for, where the options before them want these findings and ask for this
+    /// search.
+    fn parse_check(
+        wanted: Wanted,
+        search: Search<'w>,
+        words: &'w [String],
+    ) -> Result<Command<'w>, Refusal<'w>>
+        ensures { result ≡ check_of wanted search.entry (map string_bytes words.now) }
     {
-        match words {
-            [option, rest @ ..] => match wanted_by(option.as_str()) {
-                Some(wanted) => Command::parse_check(wanted, rest),
-                None => Command::check_files(wanted, words),
-            },
-            [] => Command::check_files(wanted, words),
+        let [first, rest @ ..] = words else {
+            return Command::over_files(wanted, search, words);
+        };
+        let option = first.as_str();
+        if option == "--any" {
+            return Command::parse_check(Wanted::Everything, search, rest);
         }
+        if option == "--unmatched" {
+            return Command::parse_check(Wanted::Unmatched, search, rest);
+        }
+        if option == "--hidden" {
+            let search = Search {
+                hidden: true,
+                ..search
+            };
+            return Command::parse_check(wanted, search, rest);
+        }
+        if option == "--text" {
+            let search = Search {
+                text: true,
+                ..search
+            };
+            return Command::parse_check(wanted, search, rest);
+        }
+        if option == "--files-from" {
+            return match rest {
+                [] => Err(Refusal::NoValue(Subcommand::Checking, Word::new(option))),
+                [list, rest @ ..] => {
+                    let list = Some(Word::new(list.as_str()));
+                    Command::parse_check(wanted, Search { list, ..search }, rest)
+                }
+            };
+        }
+        Command::over_files(wanted, search, words)
     }
 
     /// What words behind `show` ask for, where the options before them ask for this view.
@@ -271,7 +302,7 @@ impl<'w> Command<'w> {
                 if asks_help(rest) {
                     return Ok(Command::Help(Some(Subcommand::Checking)));
                 }
-                Command::parse_check(Wanted::Misleading, rest)
+                Command::parse_check(Wanted::Misleading, Search::default(), rest)
             }
             [name, rest @ ..] if name.as_str() == "show" => {
                 if asks_help(rest) {

@@ -1,11 +1,10 @@
-//! The files of a call: they are read and answered one after the other.
+//! What is read and written: the files of `show`, the texts of `explain`, help and versions.
 use crate::help::help;
-use crate::input::{InputFault, check_input, explain_text, show_input};
+use crate::input::{InputFault, explain_text, show_input};
 use crate::names::shown_name;
 use crate::refusal::Subcommand;
 use crate::status::Status;
 use crate::view::View;
-use bidi_controls::finding::Wanted;
 use bidi_stages::page;
 use bidi_stages::view::{Form, StageView};
 use bidi_unicode::UNICODE_VERSION;
@@ -14,11 +13,11 @@ use std::io::{self, ErrorKind, Read, Write};
 use std::rt::Files;
 use unicode_bidi::VERSION;
 
-// What standard input is called in a report.
-const STANDARD_INPUT: &str = "<stdin>";
+/// What standard input is called in a report.
+pub const STANDARD_INPUT: &str = "<stdin>";
 
-// The name of a file that stands for standard input.
-const STANDARD_INPUT_NAME: &str = "-";
+/// The name of a file that stands for standard input.
+pub const STANDARD_INPUT_NAME: &str = "-";
 
 // What a write to standard output means for the run. What fails ends it, quietly where nobody reads on.
 fn after_write(rt: &impl Eprint, written: io::Result<()>) -> Result<(), Status> {
@@ -32,13 +31,13 @@ fn after_write(rt: &impl Eprint, written: io::Result<()>) -> Result<(), Status> 
     Err(Status::Device)
 }
 
-// Writes a text to standard output.
-fn write_out(rt: &(impl Print + Eprint), text: &str) -> Result<(), Status> {
+/// Writes a text to standard output.
+pub fn write_out(rt: &(impl Print + Eprint), text: &str) -> Result<(), Status> {
     after_write(rt, io::writer(rt).write_all(text.as_bytes()))
 }
 
-// Tells that an input was not read, and goes on to the next; if an allocation fails, the run ends.
-fn refuse(
+/// Tells that an input was not read, and goes on to the next; if an allocation fails, the run ends.
+pub fn refuse(
     rt: &(impl Print + Eprint + AllocGlobal),
     name: &str,
     error: &io::Error,
@@ -81,82 +80,66 @@ fn refuse_bytes(
     }
 }
 
-/// What is done with each input.
-#[derive(Clone, Copy)]
-pub enum Task {
-    Check(Wanted),
-    Show(View),
-}
-
-// Writes what is found in an input, or its lines.
-fn answer_bytes(
+// Writes the lines of an input.
+fn show_bytes(
     rt: &(impl Print + Eprint + AllocGlobal),
-    task: Task,
+    view: View,
     name: &str,
     bytes: &[u8],
 ) -> Result<Status, Status> {
-    match task {
-        Task::Check(wanted) => match check_input(rt.alloc(), wanted, name, bytes) {
-            Ok(checked) => {
-                write_out(rt, checked.report.as_str())?;
-                Ok(checked.status())
-            }
-            Err(fault) => refuse_bytes(rt, name, fault),
-        },
-        Task::Show(view) => match show_input(rt.alloc(), view, bytes) {
-            Ok(shown) => {
-                write_out(rt, shown.as_str())?;
-                Ok(Status::Clean)
-            }
-            Err(fault) => refuse_bytes(rt, name, fault),
-        },
+    match show_input(rt.alloc(), view, bytes) {
+        Ok(shown) => {
+            write_out(rt, shown.as_str())?;
+            Ok(Status::Clean)
+        }
+        Err(fault) => refuse_bytes(rt, name, fault),
     }
 }
 
-// The bytes of standard input.
-fn read_standard_input(rt: &(impl Input + AllocGlobal)) -> io::Result<Vec<u8>> {
+/// The bytes of standard input.
+pub fn read_standard_input(rt: &(impl Input + AllocGlobal)) -> io::Result<Vec<u8>> {
     let mut bytes = Vec::new(rt.alloc());
     rt.reader().read_to_end(&mut bytes)?;
     Ok(bytes)
 }
 
-fn answer_standard_input(
+fn show_standard_input(
     rt: &(impl Input + Print + Eprint + AllocGlobal),
-    task: Task,
+    view: View,
 ) -> Result<Status, Status> {
     match read_standard_input(rt) {
-        Ok(bytes) => answer_bytes(rt, task, STANDARD_INPUT, bytes.as_slice()),
+        Ok(bytes) => show_bytes(rt, view, STANDARD_INPUT, bytes.as_slice()),
         Err(error) => refuse(rt, STANDARD_INPUT, &error),
     }
 }
 
-fn answer_file(
+fn show_file(
     rt: &(impl Files + Input + Print + Eprint + AllocGlobal),
-    task: Task,
+    view: View,
     name: &str,
 ) -> Result<Status, Status> {
     if name == STANDARD_INPUT_NAME {
-        return answer_standard_input(rt, task);
+        return show_standard_input(rt, view);
     }
     match fs::read(rt, name) {
-        Ok(bytes) => answer_bytes(rt, task, name, bytes.as_slice()),
+        Ok(bytes) => show_bytes(rt, view, name, bytes.as_slice()),
         Err(error) => refuse(rt, name, &error),
     }
 }
 
-/// Answers the files of these names, or standard input where there are none and for the name `-`. A
-/// file that cannot be read or is not UTF-8 is told on standard error, and the next one is read.
-pub fn answer_files(
+/// Shows the files of these names, or standard input where there are none and for the name `-`. A file
+/// that cannot be read or is not UTF-8 is told on standard error, and the next one is read.
+pub fn show_files(
     rt: &(impl Files + Input + Print + Eprint + AllocGlobal),
-    task: Task,
+    view: View,
     names: &[String],
 ) -> Status {
     if names.is_empty() {
-        return answer_standard_input(rt, task).unwrap_or_else(|ended| ended);
+        return show_standard_input(rt, view).unwrap_or_else(|ended| ended);
     }
     let mut status = Status::Clean;
     for name in names {
-        match answer_file(rt, task, name.as_str()) {
+        match show_file(rt, view, name.as_str()) {
             Ok(next) => status = status.worse(next),
             Err(ended) => return status.worse(ended),
         }

@@ -3,7 +3,7 @@ use crate::refusal::Subcommand;
 
 const PROGRAM: &str = "bidi: the Unicode Bidirectional Algorithm for text in UTF-8\n\
     \n\
-    usage: bidi check [--any | --unmatched] [--] [FILE..]\n\
+    usage: bidi check [--any | --unmatched] [--hidden] [--text] [--files-from LIST] [--] [FILE..]\n\
     \u{20}      bidi show [--base auto|ltr|rtl] [--width N] [--plain] [--] [FILE..]\n\
     \u{20}      bidi explain [--base auto|ltr|rtl] [--html] [--] TEXT..\n\
     \u{20}      bidi --help | --version\n\
@@ -20,12 +20,13 @@ const PROGRAM: &str = "bidi: the Unicode Bidirectional Algorithm for text in UTF
     \n\
     Status: 0 nothing was found, or all was written\n\
     \u{20}       1 check found something\n\
-    \u{20}       2 the arguments are wrong, or an argument or a file is not UTF-8\n\
+    \u{20}       2 the arguments are wrong, or an argument, a name or a file is not UTF-8\n\
     \u{20}       3 out of memory\n\
     \u{20}       4 reading or writing failed, or the arguments could not be read\n\
     If several apply, the highest counts.\n";
 
-const CHECK: &str = "usage: bidi check [--any | --unmatched] [--] [FILE..]\n\
+const CHECK: &str =
+    "usage: bidi check [--any | --unmatched] [--hidden] [--text] [--files-from LIST] [--] [FILE..]\n\
     \n\
     Finds the direction controls that have no match on their line, and the lines that controls\n\
     make display differently from how they read. Both can make source code display differently\n\
@@ -36,15 +37,24 @@ const CHECK: &str = "usage: bidi check [--any | --unmatched] [--] [FILE..]\n\
     \n\
     with file, line and column. Lines and columns count from 1, columns in characters.\n\
     \n\
-    --any        finds every direction control and mark too, also those that have a match\n\
-    --unmatched  finds only controls that have no match\n\
-    --help       writes this text, if it is the only argument behind check\n\
-    --           ends the options: what follows are files\n\
-    FILE         a file in UTF-8; - or no file at all is standard input\n\
+    --any         finds every direction control and mark too, also those that have a match\n\
+    --unmatched   finds only controls that have no match\n\
+    --hidden      also searches hidden files below a directory, whose names begin with a dot\n\
+    --text        also searches binary files, which have a NUL in their first 8,000 bytes\n\
+    --files-from  also searches the files that LIST names; - is standard input\n\
+    --help        writes this text, if it is the only argument behind check\n\
+    --            ends the options: what follows are files\n\
+    FILE          a file, or a directory for all files below it; - is standard input\n\
+    \n\
+    Without FILE and LIST, reads standard input. NUL bytes separate the names in LIST, or line\n\
+    feeds if it has no NUL. Below a directory, links are not followed.\n\
+    \n\
+    A file is in UTF-8, or in UTF-16 with a byte order mark. Any other file is searched too, but\n\
+    it is reported, and the status is 2.\n\
     \n\
     A gate, such as a hook or a build step, that accepts no control uses --any:\n\
     \n\
-    git ls-files -z '*.c' '*.h' | xargs -0 bidi check --any --\n\
+    git ls-files -z | bidi check --any --files-from -\n\
     \n\
     Without --any, controls pass that are closed on their line, if its ASCII displays in the\n\
     order in which it reads, or as it would without them.\n\

@@ -4,12 +4,14 @@ ghost use Rattle.std.specs.Str.{chars, IsUtf8};
 ghost use Rattle.bidi_unicode.specs.Unicode.{unicode_source};
 ghost use Rattle.bidi_controls.specs.Findings.{findings_of, report_of};
 ghost use Rattle.bidi_stages.specs.Explained.{AreTold};
+ghost use Rattle.bidi.specs.Decoded.{decoded as decoded_chars, first_invalid as first_invalid_of};
 ghost use Rattle.bidi.specs.Inputs.{TellsInput};
 ghost use Rattle.bidi.specs.Names.{shown_name as shown_name_of};
 ghost use Rattle.bidi.specs.Shown.{shown_text};
 ghost use Rattle.bidi.specs.declared.input.InputFault.TheVariants.{Memory};
 
 use crate::characters::chars_of;
+use crate::decode::{decoded, first_invalid};
 use crate::names::shown_name;
 use crate::paragraphs::show;
 use crate::status::Status;
@@ -49,17 +51,21 @@ pub struct Checked {
     pub report: String,
     /// Whether there is one.
     pub found: bool,
+    /// Where the input stops being UTF-8, if it does.
+    pub invalid: Option<usize>,
 }
 
 impl Checked {
-    ghost use Rattle.std.specs.Prelude.{if◌then◌else◌};
-    ghost use Rattle.bidi.specs.declared.status.Status.TheVariants.{Clean, Found};
+    ghost use Rattle.std.specs.Prelude.{if◌then◌else◌, is_some};
+    ghost use Rattle.bidi.specs.declared.status.Status.TheVariants.{Clean, Found, Refused};
 
     /// What that means for the run.
     pub fn status(&self) -> Status
-        ensures { result ≡ (if self.now.found then Found else Clean) }
+        ensures { result ≡ (if is_some self.now.invalid then Refused else if self.now.found then Found else Clean) }
     {
-        if self.found {
+        if self.invalid.is_some() {
+            Status::Refused
+        } else if self.found {
             Status::Found
         } else {
             Status::Clean
@@ -80,26 +86,29 @@ fn text_of(bytes: &[u8]) -> Result<&str, InputFault>
 }
 
 /// What `check` finds in an input of this name, if these findings are wanted. Hidden characters of the name are
-/// escaped. Returns an error if the input is not UTF-8, or if an allocation fails.
+/// escaped. An input that is not UTF-8 is read as `decoded` says. Returns an error if an allocation fails.
 pub fn check_input(
     alloc: Global,
     wanted: Wanted,
     name: &str,
     bytes: &[u8],
-) -> Result<Checked, InputFault>
-    ensures text { IfOk result (λ checked. IsUtf8 bytes.now
-        × (string_bytes checked.report ≡ report_of (shown_name_of (chars name.now)) (findings_of unicode_source wanted (chars bytes.now)))
+) -> Result<Checked, AllocError>
+    ensures text { IfOk result (λ checked.
+        (string_bytes checked.report ≡ report_of (shown_name_of (chars name.now)) (findings_of unicode_source wanted (decoded_chars bytes.now)))
+        × (checked.found ≡ not (length (findings_of unicode_source wanted (decoded_chars bytes.now)) == 0))) }
+    ensures utf8 { IfOk result (λ checked. IsUtf8 bytes.now
+        → (string_bytes checked.report ≡ report_of (shown_name_of (chars name.now)) (findings_of unicode_source wanted (chars bytes.now)))
         × (checked.found ≡ not (length (findings_of unicode_source wanted (chars bytes.now)) == 0))) }
-    ensures fault { IfErr result (TellsInput bytes.now) }
+    ensures invalid { IfOk result (λ checked. checked.invalid ≡ first_invalid_of bytes.now) }
 {
-    let text = text_of(bytes)?;
-    let chars = chars_of(alloc, text)?;
+    let chars = decoded(alloc, bytes)?;
     let findings = findings_wanted(alloc, &UnicodeData, wanted, chars.as_slice())?;
     let found = findings.as_slice();
     let shown = shown_name(alloc, name)?;
     Ok(Checked {
         report: report(alloc, shown.as_str(), found)?,
         found: !found.is_empty(),
+        invalid: first_invalid(bytes),
     })
 }
 

@@ -6,18 +6,22 @@
 
 mod characters;
 mod command;
+mod decode;
+mod entries;
 mod files;
 mod help;
 mod input;
 mod names;
 mod paragraphs;
 mod refusal;
+mod search;
 mod show;
 mod status;
 mod view;
+mod walk;
 
 use command::Command;
-use files::{Task, answer_files, answer_texts, end_without_memory, write_help, write_versions};
+use files::{answer_texts, end_without_memory, show_files, write_help, write_versions};
 use names::{shown_bytes, shown_name};
 use refusal::Refusal;
 use status::Status;
@@ -26,6 +30,7 @@ use std::env::{self, FillError};
 use std::io::{self, ErrorKind};
 use std::process::ExitCode;
 use std::rt::{Env, Files};
+use walk::check_files;
 
 // The arguments after the program's name.
 fn arguments(rt: &(impl Env + AllocGlobal)) -> io::Result<Vec<String>> {
@@ -87,10 +92,14 @@ fn answer(
     command: Command<'_>,
 ) -> Status {
     match command {
-        Command::Check { wanted, files } => { answer_files(rt, Task::Check(wanted), files.words()) }
+        Command::Check {
+            wanted,
+            search,
+            files,
+        } => check_files(rt, wanted, &search, files.words()),
         Command::Explain { view, texts } => answer_texts(rt, view, texts.words()),
         Command::Help(subcommand) => write_help(rt, subcommand),
-        Command::Show { view, files } => answer_files(rt, Task::Show(view), files.words()),
+        Command::Show { view, files } => show_files(rt, view, files.words()),
         Command::Version => write_versions(rt),
     }
 }

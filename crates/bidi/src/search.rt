@@ -1,0 +1,29 @@
+//! Which files `check` searches.
+use crate::refusal::Word;
+
+/// Which files `check` searches besides those of its arguments, and how.
+#[derive(Drop)]
+pub struct Search<'w> {
+    /// Whether files and directories whose names begin with `.` are searched below a directory.
+    pub hidden: bool,
+    /// Whether binary files are searched.
+    pub text: bool,
+    /// The file that lists further names, or `-` for standard input.
+    pub list: Option<Word<'w>>,
+}
+
+impl<'w> Default for Search<'w> {
+    ghost use Rattle.std.specs.Prelude.{◌≡◌};
+    ghost use Rattle.bidi.specs.Commands.{first_search};
+
+    /// Neither hidden nor binary files, and no list.
+    fn default() -> Search<'w>
+        ensures { result ≡ first_search }
+    {
+        Search {
+            hidden: false,
+            text: false,
+            list: None,
+        }
+    }
+}

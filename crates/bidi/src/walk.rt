@@ -1,0 +1,312 @@
+//! The files that `check` searches: its arguments and its list name them, or they are below a directory. They
+//! are searched one after the other. A fault of one does not keep the next from being searched.
+use crate::decode::{BINARY_PREFIX, is_binary};
+use crate::entries::{listed_names, names_in_order, path_below};
+use crate::files::{
+    STANDARD_INPUT, STANDARD_INPUT_NAME, end_without_memory, read_standard_input, refuse, write_out,
+};
+use crate::input::check_input;
+use crate::names::{shown_bytes, shown_name};
+use crate::search::Search;
+use crate::status::Status;
+use bidi_controls::finding::Wanted;
+use std::alloc::AllocError;
+use std::fs;
+use std::io::{self, ErrorKind, Read};
+use std::rt::Files;
+
+// What `check` looks for and where, and how the run has gone so far.
+#[derive(Drop)]
+struct Run<'s, 'w> {
+    wanted: Wanted,
+    search: &'s Search<'w>,
+    status: Status,
+}
+
+impl Run<'_, '_> {
+    ghost use Rattle.std.specs.Prelude.{◌≡◌, max};
+    ghost use Rattle.bidi.specs.Statuses.{status_number};
+
+    // Keeps what became of an input.
+    fn note(&mut self, next: Status)
+        ensures { status_number self.new.status ≡ max (status_number self.old.status) (status_number next) }
+    {
+        self.status = self.status.worse(next);
+    }
+}
+
+// Ends the run if an allocation failed.
+fn or_end<T: Drop>(rt: &impl Eprint, made: Result<T, AllocError>) -> Result<T, Status> {
+    match made {
+        Ok(value) => Ok(value),
+        Err(AllocError) => Err(end_without_memory(rt)),
+    }
+}
+
+// Reports a name that is not UTF-8.
+fn refuse_name(
+    rt: &(impl Eprint + AllocGlobal),
+    run: &mut Run<'_, '_>,
+    name: &[u8],
+) -> Result<(), Status> {
+    let shown = or_end(rt, shown_bytes(rt.alloc(), name))?;
+    let _ = eprintln!(rt;
+        "bidi: {shown}: this name is not UTF-8, so it was not searched; rename it, or pass the file on \
+         standard input"
+    );
+    run.note(Status::Refused);
+    Ok(())
+}
+
+// Writes what is found in the bytes of an input.
+fn check_bytes(
+    rt: &(impl Print + Eprint + AllocGlobal),
+    run: &mut Run<'_, '_>,
+    name: &str,
+    bytes: &[u8],
+) -> Result<(), Status> {
+    let checked = or_end(rt, check_input(rt.alloc(), run.wanted, name, bytes))?;
+    if let Some(at) = checked.invalid {
+        let shown = or_end(rt, shown_name(rt.alloc(), name))?;
+        let _ = eprintln!(rt;
+            "bidi: {shown}: not UTF-8 from byte {at} on; invalid bytes are read as U+FFFD"
+        );
+    }
+    write_out(rt, checked.report.as_str())?;
+    run.note(checked.status());
+    Ok(())
+}
+
+fn check_standard_input(
+    rt: &(impl Input + Print + Eprint + AllocGlobal),
+    run: &mut Run<'_, '_>,
+) -> Result<(), Status> {
+    match read_standard_input(rt) {
+        Ok(bytes) => check_bytes(rt, run, STANDARD_INPUT, bytes.as_slice()),
+        Err(error) => {
+            run.note(refuse(rt, STANDARD_INPUT, &error)?);
+            Ok(())
+        }
+    }
+}
+
+// Reads a file, but of a binary file only the first bytes, unless binary files are searched too.
+fn read_file(
+    rt: &(impl Files + AllocGlobal),
+    text: bool,
+    name: &str,
+) -> io::Result<Option<Vec<u8>>> {
+    let mut file = fs::open(rt, name)?;
+    let mut bytes = Vec::new(rt.alloc());
+    (&mut file)
+        .take(BINARY_PREFIX as u64)
+        .read_to_end(&mut bytes)?;
+    if !text && is_binary(bytes.as_slice()) {
+        return Ok(None);
+    }
+    file.read_to_end(&mut bytes)?;
+    Ok(Some(bytes))
+}
+
+fn check_file(
+    rt: &(impl Files + Print + Eprint + AllocGlobal),
+    run: &mut Run<'_, '_>,
+    name: &str,
+) -> Result<(), Status> {
+    match read_file(rt, run.search.text, name) {
+        Ok(Some(bytes)) => check_bytes(rt, run, name, bytes.as_slice()),
+        Ok(None) => Ok(()),
+        Err(error) => {
+            run.note(refuse(rt, name, &error)?);
+            Ok(())
+        }
+    }
+}
+
+// The names of a directory, each ended by a NUL.
+fn read_directory(rt: &(impl Files + AllocGlobal), dir: &str) -> io::Result<Vec<u8>> {
+    let path = path_below(rt.alloc(), dir.as_bytes(), b"")?;
+    let path = str::from_utf8(path.as_slice()).map_err(|_| ErrorKind::InvalidFilename)?;
+    let mut names = rt.open_dir(path)?;
+    let mut listing = Vec::new(rt.alloc());
+    let mut buffer = [0u8; 8192];
+    for _ in 0..u64::MAX {
+        let len = names.read(&mut buffer)?;
+        if len == 0 {
+            break;
+        }
+        listing.extend_from_slice(&buffer[..len])?;
+    }
+    Ok(listing)
+}
+
+// Searches a file of a directory, and keeps a directory for later. Skips links, pipes, sockets and
+// devices.
+fn visit_path(
+    rt: &(impl Files + Print + Eprint + AllocGlobal),
+    run: &mut Run<'_, '_>,
+    path: &str,
+    below: &mut Vec<String>,
+) -> Result<(), Status> {
+    match fs::symlink_metadata(rt, path) {
+        Ok(metadata) if metadata.is_file() => check_file(rt, run, path),
+        Ok(metadata) if metadata.is_dir() => or_end(rt, push_path(rt, below, path)),
+        Ok(_) => Ok(()),
+        Err(error) => {
+            run.note(refuse(rt, path, &error)?);
+            Ok(())
+        }
+    }
+}
+
+// Keeps a path.
+fn push_path(rt: &impl AllocGlobal, paths: &mut Vec<String>, path: &str) -> Result<(), AllocError> {
+    paths.push(String::from_str(rt.alloc(), path)?)?;
+    Ok(())
+}
+
+// Searches the files of a directory in the order of their names, and puts the directories below it on the
+// list of those that wait, the first name last.
+fn visit_directory(
+    rt: &(impl Files + Print + Eprint + AllocGlobal),
+    run: &mut Run<'_, '_>,
+    dir: &str,
+    waiting: &mut Vec<String>,
+) -> Result<(), Status> {
+    let listing = match read_directory(rt, dir) {
+        Ok(listing) => listing,
+        Err(error) => {
+            run.note(refuse(rt, dir, &error)?);
+            return Ok(());
+        }
+    };
+    let names = or_end(
+        rt,
+        names_in_order(rt.alloc(), run.search.hidden, listing.as_slice()),
+    )?;
+    let mut below = Vec::new(rt.alloc());
+    for name in names.as_slice() {
+        let path = or_end(rt, path_below(rt.alloc(), dir.as_bytes(), name))?;
+        match str::from_utf8(path.as_slice()) {
+            Ok(path) => visit_path(rt, run, path, &mut below)?,
+            Err(_) => refuse_name(rt, run, path.as_slice())?,
+        }
+    }
+    while let Some(path) = below.pop() {
+        or_end(rt, waiting.push(path).map_err(AllocError::from))?;
+    }
+    Ok(())
+}
+
+// Searches the files below a directory: its own, and then those of each directory below it.
+fn walk(
+    rt: &(impl Files + Print + Eprint + AllocGlobal),
+    run: &mut Run<'_, '_>,
+    top: &str,
+) -> Result<(), Status> {
+    let mut waiting = Vec::new(rt.alloc());
+    or_end(rt, push_path(rt, &mut waiting, top))?;
+    for _ in 0..u64::MAX {
+        let Some(dir) = waiting.pop() else {
+            break;
+        };
+        visit_directory(rt, run, dir.as_str(), &mut waiting)?;
+    }
+    Ok(())
+}
+
+// Searches a file, or the files below a directory. A link is followed.
+fn check_path(
+    rt: &(impl Files + Print + Eprint + AllocGlobal),
+    run: &mut Run<'_, '_>,
+    name: &str,
+) -> Result<(), Status> {
+    match fs::metadata(rt, name) {
+        Ok(metadata) if metadata.is_dir() => walk(rt, run, name),
+        _ => check_file(rt, run, name),
+    }
+}
+
+// Searches the files and directories that the arguments name.
+fn check_arguments(
+    rt: &(impl Files + Input + Print + Eprint + AllocGlobal),
+    run: &mut Run<'_, '_>,
+    names: &[String],
+) -> Result<(), Status> {
+    for name in names {
+        if name.as_str() == STANDARD_INPUT_NAME {
+            check_standard_input(rt, run)?;
+        } else {
+            check_path(rt, run, name.as_str())?;
+        }
+    }
+    Ok(())
+}
+
+// The bytes of a list of names.
+fn read_list(rt: &(impl Files + Input + AllocGlobal), list: &str) -> io::Result<Vec<u8>> {
+    if list == STANDARD_INPUT_NAME {
+        read_standard_input(rt)
+    } else {
+        fs::read(rt, list)
+    }
+}
+
+// Searches the files and directories that a list names.
+fn check_list(
+    rt: &(impl Files + Input + Print + Eprint + AllocGlobal),
+    run: &mut Run<'_, '_>,
+    list: &str,
+) -> Result<(), Status> {
+    let bytes = match read_list(rt, list) {
+        Ok(bytes) => bytes,
+        Err(error) => {
+            run.note(refuse(rt, list, &error)?);
+            return Ok(());
+        }
+    };
+    let names = or_end(rt, listed_names(rt.alloc(), bytes.as_slice()))?;
+    for name in names.as_slice() {
+        match str::from_utf8(name) {
+            Ok(name) => check_path(rt, run, name)?,
+            Err(_) => refuse_name(rt, run, name)?,
+        }
+    }
+    Ok(())
+}
+
+// Searches all that the arguments and the list name, or standard input if there is neither.
+fn check_all(
+    rt: &(impl Files + Input + Print + Eprint + AllocGlobal),
+    run: &mut Run<'_, '_>,
+    names: &[String],
+) -> Result<(), Status> {
+    match &run.search.list {
+        None if names.is_empty() => check_standard_input(rt, run),
+        None => check_arguments(rt, run, names),
+        Some(list) => {
+            check_arguments(rt, run, names)?;
+            check_list(rt, run, list.text())
+        }
+    }
+}
+
+/// Searches the files and directories of these names, and then those of the list. Searches standard input if
+/// there are neither names nor a list, and for an argument `-`. Reports what it cannot read on standard
+/// error, and goes on with the next.
+pub fn check_files(
+    rt: &(impl Files + Input + Print + Eprint + AllocGlobal),
+    wanted: Wanted,
+    search: &Search<'_>,
+    names: &[String],
+) -> Status {
+    let mut run = Run {
+        wanted,
+        search,
+        status: Status::Clean,
+    };
+    match check_all(rt, &mut run, names) {
+        Ok(()) => run.status,
+        Err(ended) => run.status.worse(ended),
+    }
+}
