@@ -1,5 +1,6 @@
 //! Where the lines of a text end.
-ghost use Rattle.std.specs.Prelude.{◌≡◌, ◌<◌, ◌≤◌, ◌∷◌, true, length, take, drop};
+ghost use Rattle.std.specs.Prelude.{◌≡◌, ◌<◌, ◌≤◌, ◌∷◌, ◌&&◌, not, is_none, true, length, take, drop};
+ghost use Rattle.bidi_controls.specs.Controls.{control_of};
 ghost use Rattle.bidi_base.specs.Classes.{is_paragraph_separator};
 ghost use Rattle.bidi_base.specs.Paragraphs.{begins_with_line_feed, cr_lf_together};
 ghost use Rattle.bidi_controls.specs.Lines.{lines_of};
@@ -36,6 +37,15 @@ fn ends_line<D: BidiDataSource>(data_source: &D, c: char, class: BidiClass, afte
     is_paragraph_separator(class) && !(c == '\r' && begins_with_line_feed(data_source, after))
 }
 
+/// Whether a character is no control, no mark, and separates no paragraphs.
+fn is_plain<D: BidiDataSource>(data_source: &D, c: char) -> bool
+    ensures { let class = (D.source data_source.now).class_of c in
+        result ≡ (not (is_paragraph_separator class) && is_none (control_of class c)) }
+{
+    let class = data_source.bidi_class(c);
+    !is_paragraph_separator(class) && Control::of(class, c).is_none()
+}
+
 /// The first line of a text.
 #[derive(Clone, Copy)]
 pub(crate) struct FirstLine {
@@ -54,19 +64,24 @@ pub(crate) fn first_line<D: BidiDataSource>(data_source: &D, chars: &[char]) -> 
         ≡ take result.len chars.now ∷ lines_of (D.source data_source.now) (drop result.len chars.now) }
     ensures quiet { result.is_quiet ≡ true → AreQuiet (D.source data_source.now) (take result.len chars.now) }
 {
+    let mut at = 0;
+    // Few lines have controls or marks. This loop passes over the others, up to their separator.
+    while at < chars.len() && is_plain(data_source, chars[at]) {
+        at += 1;
+    }
     let mut is_quiet = true;
-    for (at, c) in chars.iter().enumerate() {
-        let class = data_source.bidi_class(*c);
-        if Control::of(class, *c).is_some() {
+    while at < chars.len() {
+        let c = chars[at];
+        let class = data_source.bidi_class(c);
+        if Control::of(class, c).is_some() {
             is_quiet = false;
         }
-        if ends_line(data_source, *c, class, &chars[at + 1..]) {
-            let len = at + 1;
-            return FirstLine { len, is_quiet };
+        at += 1;
+        if ends_line(data_source, c, class, &chars[at..]) {
+            return FirstLine { len: at, is_quiet };
         }
     }
-    let len = chars.len();
-    FirstLine { len, is_quiet }
+    FirstLine { len: at, is_quiet }
 }
 
 /// How many characters the first line of a text has, with the separator that ends it, CR LF as one. The
