@@ -43,7 +43,7 @@ fn is_plain<D: BidiDataSource>(data_source: &D, c: char) -> bool
         result ≡ (not (is_paragraph_separator class) && is_none (control_of class c)) }
 {
     let class = data_source.bidi_class(c);
-    !is_paragraph_separator(class) && Control::of(class, c).is_none()
+    !is_paragraph_separator(class) & Control::of(class, c).is_none()
 }
 
 /// The first line of a text.
@@ -56,6 +56,8 @@ pub(crate) struct FirstLine {
 }
 
 /// The first line of a text that is not empty.
+// Inlined, its loops run slower: they share their registers with the loop over the lines.
+#[inline(never)]
 pub(crate) fn first_line<D: BidiDataSource>(data_source: &D, chars: &[char]) -> FirstLine
     requires { 0 < length chars.now }
     ensures some { 0 < result.len }
