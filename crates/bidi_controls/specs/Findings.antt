@@ -1,5 +1,5 @@
 -- What `check` finds in a text, and how it is told.
-use Rattle.std.specs.Prelude.{ℕ, ◌+◌, Bool, true, false, ◌&&◌, ◌||◌, if◌then◌else◌, List, [], ◌∷◌, ◌++◌, get_or, map, flat_map, position, codes, decimal, Option, None, option_map}
+use Rattle.std.specs.Prelude.{ℕ, ◌+◌, Bool, true, false, ◌&&◌, ◌||◌, if◌then◌else◌, List, [], ◌∷◌, ◌++◌, get_or, length, map, flat_map, position, codes, decimal, Option, None, option_map}
 use Rattle.std.specs.Option.{option_to_list}
 use Rattle.bidi_base.specs.declared.char_data.BidiClass.{BidiClass}
 use Rattle.bidi_base.specs.Classes.{is_opener}
@@ -7,7 +7,7 @@ use Rattle.bidi_base.specs.Places.{indexes, class_at, holds_number}
 use Rattle.bidi_base.specs.Source.{Source}
 use Rattle.bidi_controls.specs.Controls.{control_of, control_name}
 use Rattle.bidi_controls.specs.Displayed.{is_displayed_differently}
-use Rattle.bidi_controls.specs.Lines.{lines_of, own_chars}
+use Rattle.bidi_controls.specs.Lines.{file_lines_of, lines_of, own_chars}
 use Rattle.bidi_controls.specs.Matches.{is_control, is_unmatched}
 use Rattle.bidi_controls.specs.declared.finding.Finding.{Finding}
 use Rattle.bidi_controls.specs.declared.finding.Trouble.{Trouble}
@@ -48,37 +48,50 @@ abbrev pub finding_of : Bool → ℕ → ℕ → Bool → BidiClass → ℕ → 
 finding_of any line place unmatched class c =
     if any || unmatched then finding_with (trouble_of unmatched class) line place class c else None
 
--- the same of the character at an index of the line
-abbrev pub finding_at : Bool → ℕ → List BidiClass → List ℕ → ℕ → Option Finding
-finding_at any line classes chars k = finding_of any line k (is_unmatched classes k) (class_at classes k) (get_or chars k 0)
+-- the same of the character at an index of a paragraph, which begins at this place of its line
+abbrev pub finding_at : Bool → ℕ → ℕ → List BidiClass → List ℕ → ℕ → Option Finding
+finding_at any line from classes chars k =
+    finding_of any line (from + k) (is_unmatched classes k) (class_at classes k) (get_or chars k 0)
 
 -- what is found at a place of a line if this is where the line tells that it is displayed differently from how it reads
 abbrev pub line_finding_of : Bool → ℕ → ℕ → BidiClass → ℕ → Option Finding
 line_finding_of here line place class c = if here then finding_with DisplayedDifferently line place class c else None
 
--- the same of the character at an index of the line
-abbrev pub line_finding_at : Option ℕ → ℕ → List BidiClass → List ℕ → ℕ → Option Finding
-line_finding_at differing line classes chars k =
-    line_finding_of (holds_number differing k) line k (class_at classes k) (get_or chars k 0)
+-- the same of the character at an index of a paragraph, which begins at this place of its line
+abbrev pub line_finding_at : Option ℕ → ℕ → ℕ → List BidiClass → List ℕ → ℕ → Option Finding
+line_finding_at differing line from classes chars k =
+    line_finding_of (holds_number differing k) line (from + k) (class_at classes k) (get_or chars k 0)
 
--- all that is found at an index of a line: first what is found of the line, then what is found of the character
-abbrev pub findings_at : Bool → Option ℕ → ℕ → List BidiClass → List ℕ → ℕ → List Finding
-findings_at any differing line classes chars k =
-    option_to_list (line_finding_at differing line classes chars k) ++ option_to_list (finding_at any line classes chars k)
+-- all that is found at an index of a paragraph: first what is found of the paragraph, then what is found of the
+-- character
+abbrev pub findings_at : Bool → Option ℕ → ℕ → ℕ → List BidiClass → List ℕ → ℕ → List Finding
+findings_at any differing line from classes chars k =
+    option_to_list (line_finding_at differing line from classes chars k) ++ option_to_list (finding_at any line from classes chars k)
 
--- where a line tells that it is displayed differently from how it reads, if it is so and this is wanted: at its first
--- control
+-- where a paragraph tells that it is displayed differently from how it reads, if it is so and this is wanted: at its
+-- first control
 abbrev pub differing_place : Source → Wanted → List ℕ → Option ℕ
 differing_place source wanted chars =
     if wants_lines wanted && is_displayed_differently source (own_chars source chars)
     then position (λ c. is_control (source.class_of c)) chars else None
 
--- the findings in a line, in the order of their columns
-abbrev pub findings_in_line : Source → Wanted → ℕ → List ℕ → List Finding
-findings_in_line source wanted line chars =
+-- the findings in a paragraph, which begins at this place of the line of this number, in the order of their columns
+abbrev pub findings_in_paragraph : Source → Wanted → ℕ → ℕ → List ℕ → List Finding
+findings_in_paragraph source wanted line from chars =
     flat_map
-    (findings_at (wants_every_control wanted) (differing_place source wanted chars) line (map source.class_of chars) chars)
+    (findings_at (wants_every_control wanted) (differing_place source wanted chars) line from (map source.class_of chars) chars)
     (indexes chars)
+
+-- the same for paragraphs, of which the first begins at this place of the line
+abbrev pub findings_in_paragraphs : Source → Wanted → ℕ → ℕ → List (List ℕ) → List Finding
+findings_in_paragraphs source wanted line from [] = []
+findings_in_paragraphs source wanted line from (chars ∷ paragraphs) =
+    findings_in_paragraph source wanted line from chars
+    ++ findings_in_paragraphs source wanted line (from + length chars) paragraphs
+
+-- the findings in a line of a file
+unfoldable pub findings_in_line : Source → Wanted → ℕ → List ℕ → List Finding
+findings_in_line source wanted line chars = findings_in_paragraphs source wanted line 0 (lines_of source chars)
 
 -- the same for lines, of which the first has this number
 abbrev pub findings_from : Source → Wanted → ℕ → List (List ℕ) → List Finding
@@ -88,7 +101,7 @@ findings_from source wanted line (chars ∷ lines) =
 
 -- the findings in a text, in order
 unfoldable pub findings_of : Source → Wanted → List ℕ → List Finding
-findings_of source wanted chars = findings_from source wanted 1 (lines_of source chars)
+findings_of source wanted chars = findings_from source wanted 1 (file_lines_of chars)
 
 -- ---- how a finding is told
 
