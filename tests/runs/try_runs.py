@@ -234,6 +234,9 @@ def first_difference(what, wanted, found):
 
 
 def main(words):
+    if words in ([], ["-h"], ["--help"]):
+        print(__doc__.strip())
+        return 0 if words else 1
     failures = 0
     is_built = words[:1] == ["--built"]
     for program in words[is_built:]:
