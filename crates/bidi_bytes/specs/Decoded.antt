@@ -26,13 +26,17 @@ units_of high_first (first ∷ second ∷ bytes) = unit_of high_first first seco
 abbrev pub utf16_decoded : Bool → List ℕ → List ℕ
 utf16_decoded high_first bytes = utf16_lossy_chars (units_of high_first bytes)
 
--- the characters of a file: of UTF-16 behind a byte order mark, which is not one of them, and else of UTF-8, where each
--- sequence of bytes that is not UTF-8 is one U+FFFD (as `String::from_utf8_lossy` of Rust divides them)
+-- the characters of UTF-8, where each sequence of bytes that is not UTF-8 is one U+FFFD (as `String::from_utf8_lossy` of
+-- Rust divides them)
+abbrev pub utf8_decoded : List ℕ → List ℕ
+utf8_decoded bytes = chars (utf8_lossy bytes)
+
+-- the characters of a file: of UTF-16 behind a byte order mark, which is not one of them, and else of UTF-8
 abbrev pub decoded : List ℕ → List ℕ
 decoded bytes =
     if has_low_first bytes then utf16_decoded false (drop 2 bytes)
     else if has_high_first bytes then utf16_decoded true (drop 2 bytes)
-    else chars (utf8_lossy bytes)
+    else utf8_decoded bytes
 
 -- where a file without a byte order mark of UTF-16 stops being UTF-8
 abbrev pub first_invalid : List ℕ → Option ℕ

@@ -1,0 +1,6 @@
+pub mod ControlBytesLemmas
+pub mod ControlChars
+pub mod CutLemmas
+pub mod DecodedLemmas
+pub mod FileLinesLemmas
+pub mod LossyLemmas
