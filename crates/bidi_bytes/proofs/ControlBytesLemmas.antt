@@ -1,6 +1,7 @@
 -- Bytes without the UTF-8 of a direction control or mark decode to other characters.
-use Rattle.bidi_base.proofs.Common.{◌≡◌, ℕ, zero, suc, ◌+◌, ◌*◌, ◌/◌, ◌%◌, ◌<◌, ◌≤◌, Bool, true, false, ◌||◌, ◌&&◌, ◌==◌, List, [], ◌∷◌, ◌++◌, Option, None, Some, length, get_or, drop, refl, sym, ap, subst, ◌∙◌, arith, All, nat_le, cases_Bool, cases_eq, inl, inr, and_parts, or_cases, leb-true, eqb-true}
+use Rattle.bidi_base.proofs.Common.{◌≡◌, ℕ, zero, suc, ◌+◌, ◌*◌, ◌/◌, ◌%◌, ◌<◌, ◌≤◌, Bool, true, false, ◌||◌, ◌&&◌, ◌==◌, List, [], ◌∷◌, ◌++◌, Option, None, Some, length, get_or, drop, refl, sym, ap, subst, ◌∙◌, arith, All, nat_le, cases_Bool, cases_eq, inl, inr, and_parts, or_cases, leb-true, eqb-true, false_from_ne_true, drop_all, drop_more, nat_tests}
 use Rattle.std.proofs.Common.{⊎_elim}
+use Rattle.memchr.specs.Find.{IsFirstByte, is_byte2}
 use Rattle.std.specs.Char.{encode_utf8}
 use Rattle.bstr.specs.Utf8.{decoded, or_replacement}
 use Rattle.bstr.proofs.lemmas.SoundLemmas.{SpellsChar-decoded}
@@ -78,3 +79,55 @@ pub utf8_decoded-other : (bytes : List ℕ) → holds_control bytes ≡ false �
 utf8_decoded-other bytes h =
     rw (utf8_decoded-pieces bytes)
     (each_char (λ c. is_control_char c ≡ false) (λ bs. holds_control bs ≡ false) (λ bs h some. replaced-other bs (decoded bs).char refl (begins-false bs h)) holds_control-drop bytes h)
+
+-- ---- the search for one
+
+-- no first byte of one stands before an index
+abbrev NoneLeads : List ℕ → ℕ → Type 0
+NoneLeads bytes end = (k : ℕ) → k < end → is_byte2 0xD8 0xE2 (get_or bytes k 0) ≡ true → ⊥
+
+no_lead : (b second third : ℕ) → is_byte2 0xD8 0xE2 b ≡ false → is_control_begun b second third ≡ false
+no_lead b second third h = grind (arith, nat_tests)
+
+holds_control-skip : (bytes : List ℕ) (end : ℕ) → NoneLeads bytes end → holds_control bytes ≡ holds_control (drop end bytes)
+unfolding holds_control
+holds_control-skip bytes zero none = refl
+holds_control-skip [] (suc end) none = refl
+holds_control-skip (b ∷ bytes) (suc end) none =
+    let other : is_byte2 0xD8 0xE2 b ≡ false = false_from_ne_true (is_byte2 0xD8 0xE2 b) (none 0 (omega arith)) in
+    ap (λ t. t || holds_control bytes) (no_lead b (get_or bytes 0 0) (get_or bytes 1 0) other) ∙ holds_control-skip bytes end (λ k below. none (suc k) (omega arith))
+
+holds_control-none : (bytes : List ℕ) → NoneLeads bytes (length bytes) → holds_control bytes ≡ false
+unfolding holds_control
+holds_control-none bytes none = holds_control-skip bytes (length bytes) none ∙ ap holds_control (drop_all (length bytes) bytes (omega arith))
+
+holds_control-here : (bytes : List ℕ) → begins_with_control bytes ≡ true → holds_control bytes ≡ true
+unfolding holds_control
+holds_control-here [] h = h
+holds_control-here (b ∷ bytes) h = ap (λ t. t || holds_control bytes) h
+
+holds_control-behind : (bytes : List ℕ) (at : ℕ) → at < length bytes → begins_with_control (drop at bytes) ≡ false → holds_control (drop at bytes) ≡ holds_control (drop (at + 1) bytes)
+unfolding holds_control
+holds_control-behind bytes at within h =
+    let e = drop_more bytes at 0 within in
+    ap holds_control e ∙ ap (λ t. t || holds_control (drop (at + 1) bytes)) (ap begins_with_control (sym e) ∙ h)
+
+-- ---- what the search for a first byte found
+
+abbrev pub IsFirstLead : List ℕ → Option ℕ → Type 0
+IsFirstLead bytes found = IsFirstByte (is_byte2 0xD8 0xE2) bytes found
+
+pub found-within : (bytes : List ℕ) (at : ℕ) → IsFirstLead bytes (Some at) → at < length bytes
+found-within bytes at h = h.0.high
+
+found-skip : (bytes : List ℕ) (at : ℕ) → IsFirstLead bytes (Some at) → holds_control bytes ≡ holds_control (drop at bytes)
+found-skip bytes at h = holds_control-skip bytes at (λ k below. h.0.before k (omega arith) below)
+
+pub found-here : (bytes : List ℕ) (at : ℕ) → IsFirstLead bytes (Some at) → begins_with_control (drop at bytes) ≡ true → holds_control bytes ≡ true
+found-here bytes at h begins = found-skip bytes at h ∙ holds_control-here (drop at bytes) begins
+
+pub found-other : (bytes : List ℕ) (at : ℕ) → IsFirstLead bytes (Some at) → begins_with_control (drop at bytes) ≡ false → holds_control bytes ≡ holds_control (drop (at + 1) bytes)
+found-other bytes at h other = found-skip bytes at h ∙ holds_control-behind bytes at h.0.high other
+
+pub found-none : (bytes : List ℕ) → IsFirstLead bytes None → holds_control bytes ≡ false
+found-none bytes h = holds_control-none bytes (λ k below. h k (omega arith) below)

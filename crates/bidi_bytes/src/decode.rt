@@ -1,7 +1,7 @@
 //! The characters that the bytes of a file are.
 ghost use Rattle.std.specs.Prelude.{◌≡◌, ◌||◌, IfOk};
 ghost use Rattle.std.specs.Str.{chars};
-ghost use Rattle.bidi_bytes.specs.Decoded.{unit_of, units_of, utf8_decoded, utf16_decoded, decoded, first_invalid, prefix_of, is_binary, has_low_first, has_high_first};
+ghost use Rattle.bidi_bytes.specs.Decoded.{unit_of, units_of, utf8_decoded, utf16_decoded, decoded, utf8_fault, first_invalid, prefix_of, is_binary, has_low_first, has_high_first};
 
 use std::alloc::{AllocError, Global};
 
@@ -80,16 +80,24 @@ pub fn is_utf16(bytes: &[u8]) -> bool
     matches!(bytes, [0xFF, 0xFE, ..] | [0xFE, 0xFF, ..])
 }
 
+/// Returns the first byte that is not UTF-8.
+pub fn utf8_fault(bytes: &[u8]) -> Option<usize>
+    ensures { result ≡ utf8_fault bytes.now }
+{
+    match simdutf8::compat::from_utf8(bytes) {
+        Ok(_) => None,
+        Err(error) => Some(error.valid_up_to()),
+    }
+}
+
 /// The first byte of a file that is neither UTF-8 nor after a byte order mark of UTF-16.
 pub fn first_invalid(bytes: &[u8]) -> Option<usize>
     ensures { result ≡ first_invalid bytes.now }
 {
     if is_utf16(bytes) {
-        return None;
-    }
-    match str::from_utf8(bytes) {
-        Ok(_) => None,
-        Err(error) => Some(error.valid_up_to()),
+        None
+    } else {
+        utf8_fault(bytes)
     }
 }
 

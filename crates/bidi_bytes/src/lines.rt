@@ -1,6 +1,6 @@
 //! Where the lines of bytes end.
 ghost use Rattle.std.specs.Prelude.{◌≡◌, ◌+◌, ◌<◌, ◌≤◌, ◌∷◌, ◌++◌, true, List, ℕ, length, take, drop, slice_index};
-ghost use Rattle.bidi_bytes.specs.Decoded.{utf8_decoded};
+ghost use Rattle.bidi_bytes.specs.Decoded.{utf8_decoded, utf8_fault, fault_from};
 ghost use Rattle.bidi_bytes.specs.FileLines.{is_break, break_end, file_lines_of};
 
 use memchr::{memchr2, memrchr2};
@@ -50,6 +50,8 @@ pub fn whole_lines_len(bytes: &[u8]) -> usize
     ensures within { result ≤ length bytes.now }
     ensures cut { (more : List ℕ) → file_lines_of (utf8_decoded (bytes.now ++ more))
         ≡ file_lines_of (utf8_decoded (take result bytes.now)) ++ file_lines_of (utf8_decoded (drop result bytes.now ++ more)) }
+    ensures fault { (more : List ℕ) → utf8_fault (bytes.now ++ more)
+        ≡ fault_from (utf8_fault (take result bytes.now)) result (drop result bytes.now ++ more) }
 {
     let Some((_, front)) = bytes.split_last() else {
         return 0;
