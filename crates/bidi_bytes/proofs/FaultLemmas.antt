@@ -1,9 +1,9 @@
 -- Where bytes stop being UTF-8 that are cut behind an ASCII byte.
-use Rattle.bidi_base.proofs.Common.{◌≡◌, ℕ, ◌+◌, ◌-◌, ◌<◌, ◌≤◌, Bool, true, false, ◌==◌, List, [], ◌∷◌, ◌++◌, Option, None, Some, length, get_or, take, drop, refl, sym, ap, subst, ◌∙◌, arith, length-append, IsUtf8, append_assoc, take_all, cases_lt, cases_eq, cond-true, cond-false, eq-eqb, nat_tests, get_or-append_seam}
-use Rattle.std.proofs.Common.{⊎_elim}
+use Rattle.bidi_base.proofs.Common.{◌≡◌, ℕ, ◌+◌, ◌-◌, ◌<◌, ◌≤◌, Bool, true, false, ◌==◌, List, [], ◌∷◌, ◌++◌, Option, None, Some, length, get_or, take, drop, refl, sym, ap, subst, ◌∙◌, arith, length-append, IsUtf8, append_assoc, take_all, cases_lt, cases_eq, cond-true, cond-false, eq-eqb, nat_tests, get_or-append_seam, length-take-le, take-append-drop, option_map}
+use Rattle.std.proofs.Common.{⊎_elim, zero-add}
 use Rattle.std.proofs.Math.Seq.{take-append-add, take-append_seam, drop-append_seam}
 use Rattle.std.proofs.lemmas.List.{take-append-le}
-use Rattle.std.proofs.lemmas.Str.{IsUtf8-append, IsUtf8-take, IsUtf8-drop, IsCharBoundary-from_take, IsCharBoundary-after_ascii, utf8_valid_len-IsUtf8, utf8_valid_len-IsValidUpTo}
+use Rattle.std.proofs.lemmas.Str.{IsUtf8-nil, IsUtf8-append, IsUtf8-take, IsUtf8-drop, IsCharBoundary-from_take, IsCharBoundary-after_ascii, utf8_valid_len-IsUtf8, utf8_valid_len-IsValidUpTo}
 use Rattle.std.specs.Str.{IsValidUpTo, IsCharBoundary}
 use Rattle.std.specs.Str.Lossy.{utf8_valid_len}
 use Rattle.bstr.proofs.lemmas.LossyLemmas.{utf8_valid_len-cases}
@@ -84,3 +84,22 @@ utf8_fault-cut before a after low =
     (λ u. rw (fault-none xs u) (fault-behind xs after u))
     (λ v. let n = utf8_valid_len xs in rw (fault-some xs n v) (fault-some (xs ++ after) n (IsValidUpTo-before before a low after n v)))
     (utf8_valid_len-cases xs)
+
+-- the same of bytes whose first n end with an ASCII byte
+pub utf8_fault-at : (bytes more before : List ℕ) (n a : ℕ) → take n bytes ≡ before ++ a ∷ [] → a < 128 → n ≤ length bytes
+    → utf8_fault (bytes ++ more) ≡ fault_from (utf8_fault (take n bytes)) n (drop n bytes ++ more)
+utf8_fault-at bytes more before n a front low within =
+    let long : length (before ++ a ∷ []) ≡ n = ap length (sym front) ∙ length-take-le n bytes within in
+    let whole : bytes ++ more ≡ (before ++ a ∷ []) ++ (drop n bytes ++ more) =
+    ap (λ t. t ++ more) (sym (take-append-drop n bytes)) ∙ append_assoc (take n bytes) (drop n bytes) more ∙ ap (λ t. t ++ (drop n bytes ++ more)) front in
+    ap utf8_fault whole ∙ utf8_fault-cut before a (drop n bytes ++ more) low
+    ∙ ap (λ t. fault_from (utf8_fault t) (length (before ++ a ∷ [])) (drop n bytes ++ more)) (sym front)
+    ∙ ap (λ k. fault_from (utf8_fault (take n bytes)) k (drop n bytes ++ more)) long
+
+from_start : (found : Option ℕ) → option_map (λ at. 0 + at) found ≡ found
+from_start None = refl
+from_start (Some at) = ap Some (zero-add at)
+
+-- nothing stands before them
+pub utf8_fault-start : (bytes : List ℕ) → utf8_fault bytes ≡ fault_from (utf8_fault []) 0 bytes
+utf8_fault-start bytes = rw (fault-none [] IsUtf8-nil) (sym (from_start (utf8_fault bytes)))

@@ -4,9 +4,10 @@ use Rattle.std.proofs.Common.{⊎_elim}
 use Rattle.memchr.specs.Find.{IsFirstByte, IsLastByte, is_byte2}
 use Rattle.std.proofs.lemmas.List.Elements.{All-drop}
 use Rattle.bstr.specs.Utf8.{decoded}
-use Rattle.bidi_bytes.specs.Decoded.{utf8_decoded}
+use Rattle.bidi_bytes.specs.Decoded.{utf8_decoded, utf8_fault, fault_from}
 use Rattle.bidi_bytes.specs.FileLines.{is_break, is_before_line_feed, ends_file_line, break_end, file_lines_of}
 use Rattle.bidi_bytes.proofs.CutLemmas.{HasNoBreak, file_lines-append, file_lines-one, file_lines-whole}
+use Rattle.bidi_bytes.proofs.FaultLemmas.{utf8_fault-at}
 use Rattle.bidi_bytes.proofs.LossyLemmas.{first_char, first_char-low, first_char-byte, each_char, utf8_decoded-pieces, utf8_decoded-at, utf8_decoded-nil, utf8_decoded-first}
 
 high-no_break : (c : ℕ) → 128 ≤ c → is_break c ≡ false
@@ -167,6 +168,16 @@ module _ (bytes : List ℕ) (at : ℕ) (within : at < length bytes) (is : is_bre
       | inr single ↦ rw (end-single single)
           (cut-single single more
           (before_line_feed-append (drop (at + 1) bytes) more (omega (arith, length-drop (at + 1) bytes)) ∙ before_line_feed-read (drop (at + 1) bytes) ∙ ap (λ x. x == 0x0A) behind)) ]
+
+  abbrev FaultIsCut : List ℕ → ℕ → Type 0
+  FaultIsCut more n = utf8_fault (bytes ++ more) ≡ fault_from (utf8_fault (take n bytes)) n (drop n bytes ++ more)
+
+  -- and so is where they stop being UTF-8
+  pub fault-at : at + 1 < length bytes → (more : List ℕ) → FaultIsCut more (break_end bytes at)
+  fault-at more_within more = elim (cases_Bool (a == 0x0D && next == 0x0A)) [
+      inl pair ↦ rw (end-pair pair)
+          (utf8_fault-at bytes more (take at bytes ++ 0x0D ∷ []) (at + 2) 0x0A (front-pair pair) (omega arith) (omega arith))
+      | inr single ↦ rw (end-single single) (utf8_fault-at bytes more (take at bytes) (at + 1) a front (break-low a is) (omega arith)) ]
 
   abbrev FirstIs : ℕ → Type 0
   FirstIs n = file_lines_of (utf8_decoded bytes) ≡ utf8_decoded (take n bytes) ∷ file_lines_of (utf8_decoded (drop n bytes))
