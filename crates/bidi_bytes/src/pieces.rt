@@ -1,7 +1,6 @@
 //! The bytes of a file, read in pieces.
-ghost use Rattle.std.specs.Prelude.{◌≡◌, ◌≤◌, ◌++◌, List, ℕ, drop, length, vec_len, IfOk, IsTrue};
-ghost use Rattle.std.specs.Io.{StartsWith, appended_bytes};
-ghost use Rattle.std.specs.Io.KnownBytes.{Consumes};
+ghost use Rattle.std.specs.Prelude.{◌≡◌, ◌≤◌, ◌++◌, List, ℕ, take, drop, length, vec_len, max, nat_lt, IfOk, IfSome, OnOk};
+ghost use Rattle.std.specs.Io.{StartsWith};
 
 use std::io::{self, Read};
 
@@ -12,6 +11,10 @@ const PIECE: usize = 256 * 1024;
 /// are read again, so that a long line is read in few pieces. If reading fails, the bytes before are appended.
 pub fn read_piece<R: Read>(reader: &mut R, bytes: &mut Vec<u8>) -> io::Result<bool>
     ensures appends { StartsWith bytes.new.items bytes.old.items }
+    ensures piece { OnOk result (IfSome (R.remaining reader.old)
+        (λ all. bytes.new.items ≡ bytes.old.items ++ take (max PIECE (vec_len bytes.old)) all)) }
+    ensures end { IfOk result (λ at_end. IfSome (R.remaining reader.old)
+        (λ all. at_end ≡ nat_lt (length all) (max PIECE (vec_len bytes.old)))) }
 {
     let most = PIECE.max(bytes.len());
     let len = reader.take(most as u64).read_to_end(bytes)?;

@@ -1,12 +1,12 @@
 //! A search through the bytes of a file.
 ghost use Rattle.std.specs.Prelude.{◌≡◌, ◌+◌, ◌<◌, ◌≤◌, ◌^◌, ◌++◌, List, ℕ, drop, length, map, IfOk, OnOk, IsTrue};
 ghost use Rattle.bidi_unicode.specs.Unicode.{unicode_source};
-ghost use Rattle.bidi_bytes.specs.Decoded.{utf8_decoded};
+ghost use Rattle.bidi_bytes.specs.Decoded.{utf8_decoded, decoded, first_invalid};
 ghost use Rattle.bidi_bytes.specs.FileLines.{file_lines_of};
-ghost use Rattle.bidi_scan.specs.FileSearch.{found_in, line_of, still_found, still_invalid, HasRoom};
+ghost use Rattle.bidi_scan.specs.FileSearch.{found_in, found_from, line_of, still_found, still_invalid, HasRoom};
 
 use bidi_bytes::controls::holds_control;
-use bidi_bytes::decode::{utf8_decoded, utf8_fault};
+use bidi_bytes::decode::{utf8_decoded, utf8_fault, utf16_text};
 use bidi_bytes::lines::{count_lines, first_line_len, whole_lines_len};
 use bidi_controls::check::LineSearch;
 use bidi_controls::finding::{Finding, Wanted};
@@ -204,4 +204,32 @@ impl FileSearch {
         self.push_last(alloc, lines, found)?;
         Ok(len)
     }
+}
+
+/// What is found in a file.
+#[derive(Drop)]
+pub struct Searched {
+    /// The lines in which something is found.
+    pub lines: Vec<FoundLine>,
+    /// Where the file stops being UTF-8, if it does.
+    pub invalid: Option<usize>,
+}
+
+/// Returns what is found in all bytes of a file, which may be in UTF-16 after a byte order mark. A file that is not UTF-8
+/// is read as `decoded` says.
+pub fn found_lines(alloc: Global, wanted: Wanted, bytes: &[u8]) -> Result<Searched, AllocError>
+    ensures lines { IfOk result (λ searched. map line_of searched.lines.items
+        ≡ found_from unicode_source wanted 1 (file_lines_of (decoded bytes.now))) }
+    ensures invalid { IfOk result (λ searched. searched.invalid ≡ first_invalid bytes.now) }
+{
+    let mut search = FileSearch::new(alloc, wanted);
+    let mut lines = Vec::new(alloc);
+    match utf16_text(alloc, bytes)? {
+        Some(text) => search.push_last(alloc, text.as_bytes(), &mut lines)?,
+        None => search.push_last(alloc, bytes, &mut lines)?,
+    }
+    Ok(Searched {
+        lines,
+        invalid: search.invalid,
+    })
 }
