@@ -1,5 +1,5 @@
 //! The characters that the bytes of a file are.
-ghost use Rattle.std.specs.Prelude.{◌≡◌, false, true, IfOk, MatchOption, string_bytes};
+ghost use Rattle.std.specs.Prelude.{◌≡◌, ◌≤◌, false, true, length, IfOk, IfSome, MatchOption, string_bytes};
 ghost use Rattle.std.specs.Str.{chars};
 ghost use Rattle.bidi_bytes.specs.Decoded.{unit_of, units_of, utf8_decoded, utf16_decoded, decoded, utf8_fault, prefix_of, is_binary, is_utf16};
 
@@ -82,7 +82,8 @@ pub fn is_utf16(bytes: &[u8]) -> bool
 
 /// Returns the first byte that is not UTF-8.
 pub fn utf8_fault(bytes: &[u8]) -> Option<usize>
-    ensures { result ≡ utf8_fault bytes.now }
+    ensures fault { result ≡ utf8_fault bytes.now }
+    ensures within { IfSome result (λ at. at ≤ length bytes.now) }
 {
     match simdutf8::compat::from_utf8(bytes) {
         Ok(_) => None,

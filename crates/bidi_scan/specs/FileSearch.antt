@@ -1,5 +1,5 @@
 -- What is found in the lines of a file.
-use Rattle.std.specs.Prelude.{ℕ, ◌+◌, ◌<◌, ◌^◌, ◌==◌, if◌then◌else◌, List, [], ◌∷◌, ◌++◌, length, Option}
+use Rattle.std.specs.Prelude.{ℕ, ◌+◌, ◌<◌, ◌^◌, List, [], ◌∷◌, ◌++◌, Option}
 use Rattle.bidi_base.specs.Source.{Source}
 use Rattle.bidi_unicode.specs.Unicode.{unicode_source}
 use Rattle.bidi_controls.specs.Findings.{findings_in_line}

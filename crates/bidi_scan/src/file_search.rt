@@ -1,7 +1,7 @@
 //! A search through the bytes of a file.
 ghost use Rattle.std.specs.Prelude.{◌≡◌, ◌+◌, ◌<◌, ◌≤◌, ◌^◌, ◌++◌, List, ℕ, drop, length, map, IfOk, OnOk, IsTrue};
 ghost use Rattle.bidi_unicode.specs.Unicode.{unicode_source};
-ghost use Rattle.bidi_bytes.specs.Decoded.{utf8_decoded, decoded, first_invalid};
+ghost use Rattle.bidi_bytes.specs.Decoded.{utf8_decoded, decoded, utf8_fault, first_invalid};
 ghost use Rattle.bidi_bytes.specs.FileLines.{file_lines_of};
 ghost use Rattle.bidi_scan.specs.FileSearch.{found_in, found_from, line_of, still_found, still_invalid, HasRoom};
 
@@ -177,6 +177,9 @@ impl FileSearch {
         ensures found { OnOk result
             (map line_of found.new.items ≡ map line_of found.old.items ++ still_found self.old bytes.now) }
         ensures invalid { OnOk result (self.new.invalid ≡ still_invalid self.old bytes.now) }
+        ensures wanted { self.new.wanted ≡ self.old.wanted }
+        ensures lines { OnOk result (self.new.lines ≡ self.old.lines + length (file_lines_of (utf8_decoded bytes.now))) }
+        ensures offset { OnOk result (self.new.offset ≡ self.old.offset + length bytes.now) }
     {
         self.note_bytes(bytes);
         self.push_lines(alloc, bytes, found)
@@ -215,6 +218,21 @@ pub struct Searched {
     pub invalid: Option<usize>,
 }
 
+/// Returns what is found in UTF-8.
+fn found_lines_of_utf8(alloc: Global, wanted: Wanted, bytes: &[u8]) -> Result<Searched, AllocError>
+    ensures lines { IfOk result (λ searched. map line_of searched.lines.items
+        ≡ found_from unicode_source wanted 1 (file_lines_of (utf8_decoded bytes.now))) }
+    ensures invalid { IfOk result (λ searched. searched.invalid ≡ utf8_fault bytes.now) }
+{
+    let mut search = FileSearch::new(alloc, wanted);
+    let mut lines = Vec::new(alloc);
+    search.push_last(alloc, bytes, &mut lines)?;
+    Ok(Searched {
+        lines,
+        invalid: search.invalid,
+    })
+}
+
 /// Returns what is found in all bytes of a file, which may be in UTF-16 after a byte order mark. A file that is not UTF-8
 /// is read as `decoded` says.
 pub fn found_lines(alloc: Global, wanted: Wanted, bytes: &[u8]) -> Result<Searched, AllocError>
@@ -222,14 +240,8 @@ pub fn found_lines(alloc: Global, wanted: Wanted, bytes: &[u8]) -> Result<Search
         ≡ found_from unicode_source wanted 1 (file_lines_of (decoded bytes.now))) }
     ensures invalid { IfOk result (λ searched. searched.invalid ≡ first_invalid bytes.now) }
 {
-    let mut search = FileSearch::new(alloc, wanted);
-    let mut lines = Vec::new(alloc);
     match utf16_text(alloc, bytes)? {
-        Some(text) => search.push_last(alloc, text.as_bytes(), &mut lines)?,
-        None => search.push_last(alloc, bytes, &mut lines)?,
+        Some(text) => found_lines_of_utf8(alloc, wanted, text.as_bytes()),
+        None => found_lines_of_utf8(alloc, wanted, bytes),
     }
-    Ok(Searched {
-        lines,
-        invalid: search.invalid,
-    })
 }
