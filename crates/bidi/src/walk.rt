@@ -9,7 +9,7 @@ use crate::names::{shown_bytes, shown_name};
 use crate::search::Search;
 use crate::status::Status;
 use bidi_bytes::decode::{BINARY_PREFIX, is_binary, is_utf16};
-use bidi_bytes::pieces::{drop_front, read_piece};
+use bidi_bytes::pieces::read_piece;
 use bidi_controls::finding::Wanted;
 use bidi_scan::file_search::{FileSearch, FoundLine};
 use std::alloc::AllocError;
@@ -109,24 +109,6 @@ fn report_found(
     Ok(())
 }
 
-// Searches the lines that end in the bytes that are read, and lets these bytes go. The last bytes are lines too.
-fn search_bytes(
-    rt: &(impl Eprint + AllocGlobal),
-    search: &mut FileSearch,
-    at_end: bool,
-    bytes: &mut Vec<u8>,
-    found: &mut Vec<FoundLine>,
-) -> Result<(), Status> {
-    let len = if at_end {
-        or_end(rt, search.push_last(rt.alloc(), bytes.as_slice(), found))?;
-        bytes.len()
-    } else {
-        or_end(rt, search.push_whole_lines(rt.alloc(), bytes.as_slice(), found))?
-    };
-    drop_front(bytes, len);
-    Ok(())
-}
-
 // Searches an input in UTF-8 of which these bytes are read, piece by piece. If reading fails, reports what was found
 // before.
 fn check_pieces(
@@ -143,7 +125,7 @@ fn check_pieces(
         let mut read = read_piece(reader, bytes);
         if search.has_room(bytes.len()) {
             let at_end = matches!(read, Ok(true));
-            search_bytes(rt, &mut search, at_end, bytes, &mut found)?;
+            or_end(rt, search.push_read(rt.alloc(), at_end, bytes, &mut found))?;
             report_found(rt, run, shown.as_str(), &mut found)?;
         } else {
             read = Err(ErrorKind::FileTooLarge.into());

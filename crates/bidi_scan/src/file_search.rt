@@ -1,5 +1,5 @@
 //! A search through the bytes of a file.
-ghost use Rattle.std.specs.Prelude.{◌≡◌, ◌+◌, ◌<◌, ◌≤◌, ◌^◌, ◌++◌, List, ℕ, drop, length, map, IfOk, OnOk, IsTrue};
+ghost use Rattle.std.specs.Prelude.{◌≡◌, ◌+◌, ◌<◌, ◌≤◌, ◌^◌, ◌++◌, List, ℕ, drop, length, map, IfOk, OnOk, IsTrue, vec_len, false};
 ghost use Rattle.bidi_unicode.specs.Unicode.{unicode_source};
 ghost use Rattle.bidi_bytes.specs.Decoded.{utf8_decoded, decoded, utf8_fault, first_invalid};
 ghost use Rattle.bidi_bytes.specs.FileLines.{file_lines_of};
@@ -8,6 +8,7 @@ ghost use Rattle.bidi_scan.specs.FileSearch.{found_in, found_from, line_of, stil
 use bidi_bytes::controls::holds_control;
 use bidi_bytes::decode::{utf8_decoded, utf8_fault, utf16_text};
 use bidi_bytes::lines::{count_lines, first_line_len, whole_lines_len};
+use bidi_bytes::pieces::drop_front;
 use bidi_controls::check::LineSearch;
 use bidi_controls::finding::{Finding, Wanted};
 use bidi_unicode::UnicodeData;
@@ -206,6 +207,36 @@ impl FileSearch {
         let (lines, _) = bytes.split_at(len);
         self.push_last(alloc, lines, found)?;
         Ok(len)
+    }
+
+    /// Searches the lines that end in the bytes that are read, and deletes these bytes. At the end of the file it
+    /// searches all bytes.
+    pub fn push_read(
+        &mut self,
+        alloc: Global,
+        at_end: bool,
+        bytes: &mut Vec<u8>,
+        found: &mut Vec<FoundLine>,
+    ) -> Result<(), AllocError>
+        requires { HasRoom self.old (vec_len bytes.old) }
+        ensures last { OnOk result (IsTrue at_end → (map line_of found.new.items
+            ≡ map line_of found.old.items ++ still_found self.old bytes.old.items)
+            × (self.new.invalid ≡ still_invalid self.old bytes.old.items)) }
+        // Before the end, whatever follows, the same is found in it and in these bytes.
+        ensures found { OnOk result (at_end ≡ false → (more : List ℕ)
+            → map line_of found.new.items ++ still_found self.new (bytes.new.items ++ more)
+            ≡ map line_of found.old.items ++ still_found self.old (bytes.old.items ++ more)) }
+        ensures invalid { OnOk result (at_end ≡ false → (more : List ℕ)
+            → still_invalid self.new (bytes.new.items ++ more) ≡ still_invalid self.old (bytes.old.items ++ more)) }
+    {
+        if at_end {
+            self.push_last(alloc, bytes.as_slice(), found)?;
+            bytes.truncate(0);
+            return Ok(());
+        }
+        let len = self.push_whole_lines(alloc, bytes.as_slice(), found)?;
+        drop_front(bytes, len);
+        Ok(())
     }
 }
 
