@@ -1,5 +1,4 @@
 pub mod Commands
-pub mod Decoded
 pub mod Entries
 pub mod Inputs
 pub mod Names

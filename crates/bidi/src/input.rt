@@ -1,24 +1,23 @@
 //! What becomes of an input.
-ghost use Rattle.std.specs.Prelude.{◌≡◌, ◌==◌, not, length, IfOk, IfErr, IsErrOf, string_bytes};
+ghost use Rattle.std.specs.Prelude.{◌≡◌, ◌==◌, ◌++◌, not, length, flat_map, IfOk, IfErr, IsErrOf, OnOk, string_bytes};
 ghost use Rattle.std.specs.Str.{chars, IsUtf8};
 ghost use Rattle.bidi_unicode.specs.Unicode.{unicode_source};
 ghost use Rattle.bidi_controls.specs.Findings.{findings_of, report_of};
 ghost use Rattle.bidi_stages.specs.Explained.{AreTold};
-ghost use Rattle.bidi.specs.Decoded.{decoded as decoded_chars, first_invalid as first_invalid_of};
+ghost use Rattle.bidi_bytes.specs.Decoded.{decoded as decoded_chars, first_invalid as first_invalid_of};
 ghost use Rattle.bidi.specs.Inputs.{TellsInput};
 ghost use Rattle.bidi.specs.Names.{shown_name as shown_name_of};
 ghost use Rattle.bidi.specs.Shown.{shown_text};
 ghost use Rattle.bidi.specs.declared.input.InputFault.TheVariants.{Memory};
 
 use crate::characters::chars_of;
-use crate::decode::{decoded, first_invalid};
 use crate::names::shown_name;
 use crate::paragraphs::show;
 use crate::status::Status;
 use crate::view::View;
-use bidi_controls::check::findings_wanted;
 use bidi_controls::finding::Wanted;
 use bidi_controls::report::report;
+use bidi_scan::file_search::{FoundLine, found_lines};
 use bidi_stages::explain::explain;
 use bidi_stages::view::StageView;
 use bidi_unicode::UnicodeData;
@@ -85,6 +84,26 @@ fn text_of(bytes: &[u8]) -> Result<&str, InputFault>
     }
 }
 
+/// Appends what `check` says of a line of the file of this name.
+fn push_line_report(alloc: Global, out: &mut String, name: &str, line: &FoundLine) -> Result<(), AllocError>
+    ensures { OnOk result (string_bytes out.new ≡ string_bytes out.old ++ report_of name.now line.now.findings.items) }
+{
+    let told = report(alloc, name, line.findings.as_slice())?;
+    out.push_str(told.as_str())
+}
+
+/// What `check` says of the lines of the file of this name in which it has found something.
+pub fn report_lines(alloc: Global, name: &str, lines: &[FoundLine]) -> Result<String, AllocError>
+    ensures { IfOk result (λ out. string_bytes out
+        ≡ report_of name.now (flat_map (λ line. line.findings.items) lines.now)) }
+{
+    let mut out = String::new(alloc);
+    for line in lines {
+        push_line_report(alloc, &mut out, name, line)?;
+    }
+    Ok(out)
+}
+
 /// What `check` finds in an input of this name, if these findings are wanted. Hidden characters of the name are
 /// escaped. An input that is not UTF-8 is read as `decoded` says. Returns an error if an allocation fails.
 pub fn check_input(
@@ -101,14 +120,12 @@ pub fn check_input(
         × (checked.found ≡ not (length (findings_of unicode_source wanted (chars bytes.now)) == 0))) }
     ensures invalid { IfOk result (λ checked. checked.invalid ≡ first_invalid_of bytes.now) }
 {
-    let chars = decoded(alloc, bytes)?;
-    let findings = findings_wanted(alloc, &UnicodeData, wanted, chars.as_slice())?;
-    let found = findings.as_slice();
+    let searched = found_lines(alloc, wanted, bytes)?;
     let shown = shown_name(alloc, name)?;
     Ok(Checked {
-        report: report(alloc, shown.as_str(), found)?,
-        found: !found.is_empty(),
-        invalid: first_invalid(bytes),
+        report: report_lines(alloc, shown.as_str(), searched.lines.as_slice())?,
+        found: !searched.lines.is_empty(),
+        invalid: searched.invalid,
     })
 }
 

@@ -6,7 +6,6 @@
 
 mod characters;
 mod command;
-mod decode;
 mod entries;
 mod files;
 mod help;

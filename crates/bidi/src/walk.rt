@@ -1,15 +1,17 @@
 //! The files that `check` searches: its arguments and its list name them, or they are below a directory. They
 //! are searched one after the other. A fault of one does not keep the next from being searched.
-use crate::decode::{BINARY_PREFIX, is_binary};
 use crate::entries::{listed_names, names_in_order, path_below};
 use crate::files::{
     STANDARD_INPUT, STANDARD_INPUT_NAME, end_without_memory, read_standard_input, refuse, write_out,
 };
-use crate::input::check_input;
+use crate::input::{check_input, report_lines};
 use crate::names::{shown_bytes, shown_name};
 use crate::search::Search;
 use crate::status::Status;
+use bidi_bytes::decode::{BINARY_PREFIX, is_binary, is_utf16};
+use bidi_bytes::pieces::read_piece;
 use bidi_controls::finding::Wanted;
+use bidi_scan::file_search::{FileSearch, FoundLine};
 use std::alloc::AllocError;
 use std::fs;
 use std::io::{self, ErrorKind, Read};
@@ -58,7 +60,25 @@ fn refuse_name(
     Ok(())
 }
 
-// Writes what is found in the bytes of an input.
+// Tells where an input stops being UTF-8, if it does.
+fn tell_invalid(
+    rt: &(impl Eprint + AllocGlobal),
+    run: &mut Run<'_, '_>,
+    name: &str,
+    invalid: Option<usize>,
+) -> Result<(), Status> {
+    let Some(at) = invalid else {
+        return Ok(());
+    };
+    let shown = or_end(rt, shown_name(rt.alloc(), name))?;
+    let _ = eprintln!(rt;
+        "bidi: {shown}: not UTF-8 from byte {at} on; invalid bytes are read as U+FFFD"
+    );
+    run.note(Status::Refused);
+    Ok(())
+}
+
+// Writes what is found in all bytes of an input.
 fn check_bytes(
     rt: &(impl Print + Eprint + AllocGlobal),
     run: &mut Run<'_, '_>,
@@ -66,46 +86,95 @@ fn check_bytes(
     bytes: &[u8],
 ) -> Result<(), Status> {
     let checked = or_end(rt, check_input(rt.alloc(), run.wanted, name, bytes))?;
-    if let Some(at) = checked.invalid {
-        let shown = or_end(rt, shown_name(rt.alloc(), name))?;
-        let _ = eprintln!(rt;
-            "bidi: {shown}: not UTF-8 from byte {at} on; invalid bytes are read as U+FFFD"
-        );
-    }
+    tell_invalid(rt, run, name, checked.invalid)?;
     write_out(rt, checked.report.as_str())?;
     run.note(checked.status());
     Ok(())
+}
+
+// Writes what is found in some lines, and lets them go. The name has no hidden characters.
+fn report_found(
+    rt: &(impl Print + Eprint + AllocGlobal),
+    run: &mut Run<'_, '_>,
+    name: &str,
+    found: &mut Vec<FoundLine>,
+) -> Result<(), Status> {
+    if found.is_empty() {
+        return Ok(());
+    }
+    let report = or_end(rt, report_lines(rt.alloc(), name, found.as_slice()))?;
+    found.truncate(0);
+    write_out(rt, report.as_str())?;
+    run.note(Status::Found);
+    Ok(())
+}
+
+// Searches an input in UTF-8 of which these bytes are read, piece by piece. If reading fails, reports what was found
+// before.
+fn check_pieces(
+    rt: &(impl Print + Eprint + AllocGlobal),
+    run: &mut Run<'_, '_>,
+    name: &str,
+    reader: &mut impl Read,
+    bytes: &mut Vec<u8>,
+) -> Result<(), Status> {
+    let shown = or_end(rt, shown_name(rt.alloc(), name))?;
+    let mut search = FileSearch::new(rt.alloc(), run.wanted);
+    let mut found = Vec::new(rt.alloc());
+    for _ in 0..u64::MAX {
+        let mut read = read_piece(reader, bytes);
+        if search.has_room(bytes.len()) {
+            let at_end = matches!(read, Ok(true));
+            or_end(rt, search.push_read(rt.alloc(), at_end, bytes, &mut found))?;
+            report_found(rt, run, shown.as_str(), &mut found)?;
+        } else {
+            read = Err(ErrorKind::FileTooLarge.into());
+        }
+        match read {
+            Ok(true) => break,
+            Ok(false) => {}
+            Err(error) => {
+                run.note(refuse(rt, name, &error)?);
+                break;
+            }
+        }
+    }
+    tell_invalid(rt, run, name, search.invalid)
+}
+
+// Searches an input. Of a binary one only the first bytes are read, unless binary ones are searched too.
+fn check_reader(
+    rt: &(impl Print + Eprint + AllocGlobal),
+    run: &mut Run<'_, '_>,
+    text: bool,
+    name: &str,
+    reader: &mut impl Read,
+) -> Result<(), Status> {
+    let mut bytes = Vec::new(rt.alloc());
+    if let Err(error) = reader.take(BINARY_PREFIX as u64).read_to_end(&mut bytes) {
+        run.note(refuse(rt, name, &error)?);
+        return Ok(());
+    }
+    if !text && is_binary(bytes.as_slice()) {
+        return Ok(());
+    }
+    if !is_utf16(bytes.as_slice()) {
+        return check_pieces(rt, run, name, reader, &mut bytes);
+    }
+    match reader.read_to_end(&mut bytes) {
+        Ok(_) => check_bytes(rt, run, name, bytes.as_slice()),
+        Err(error) => {
+            run.note(refuse(rt, name, &error)?);
+            Ok(())
+        }
+    }
 }
 
 fn check_standard_input(
     rt: &(impl Input + Print + Eprint + AllocGlobal),
     run: &mut Run<'_, '_>,
 ) -> Result<(), Status> {
-    match read_standard_input(rt) {
-        Ok(bytes) => check_bytes(rt, run, STANDARD_INPUT, bytes.as_slice()),
-        Err(error) => {
-            run.note(refuse(rt, STANDARD_INPUT, &error)?);
-            Ok(())
-        }
-    }
-}
-
-// Reads a file, but of a binary file only the first bytes, unless binary files are searched too.
-fn read_file(
-    rt: &(impl Files + AllocGlobal),
-    text: bool,
-    name: &str,
-) -> io::Result<Option<Vec<u8>>> {
-    let mut file = fs::open(rt, name)?;
-    let mut bytes = Vec::new(rt.alloc());
-    (&mut file)
-        .take(BINARY_PREFIX as u64)
-        .read_to_end(&mut bytes)?;
-    if !text && is_binary(bytes.as_slice()) {
-        return Ok(None);
-    }
-    file.read_to_end(&mut bytes)?;
-    Ok(Some(bytes))
+    check_reader(rt, run, true, STANDARD_INPUT, &mut rt.reader())
 }
 
 fn check_file(
@@ -113,9 +182,8 @@ fn check_file(
     run: &mut Run<'_, '_>,
     name: &str,
 ) -> Result<(), Status> {
-    match read_file(rt, run.search.text, name) {
-        Ok(Some(bytes)) => check_bytes(rt, run, name, bytes.as_slice()),
-        Ok(None) => Ok(()),
+    match fs::open(rt, name) {
+        Ok(mut file) => check_reader(rt, run, run.search.text, name, &mut file),
         Err(error) => {
             run.note(refuse(rt, name, &error)?);
             Ok(())

@@ -1,13 +1,13 @@
 -- Bytes without the UTF-8 of a direction control or mark decode to other characters.
-use Rattle.bidi_base.proofs.Common.{◌≡◌, ℕ, zero, suc, ◌+◌, ◌*◌, ◌/◌, ◌%◌, ◌<◌, ◌≤◌, Bool, true, false, ◌||◌, ◌&&◌, ◌==◌, List, [], ◌∷◌, ◌++◌, Option, None, Some, length, get_or, drop, refl, sym, ap, subst, ◌∙◌, arith, All, nat_le, cases_Bool, cases_eq, inl, inr, and_parts, or_cases, leb-true, eqb-true, false_from_ne_true, drop_all, drop_more, nat_tests}
+use Rattle.bidi_base.proofs.Common.{◌≡◌, ℕ, zero, suc, ◌+◌, ◌<◌, ◌≤◌, true, false, ◌||◌, ◌==◌, List, [], ◌∷◌, ◌++◌, Option, None, Some, length, get_or, drop, refl, sym, ap, subst, ◌∙◌, arith, All, nat_le, cases_Bool, cases_eq, inl, inr, and_parts, or_cases, leb-true, eqb-true, false_from_ne_true, drop_all, drop_more, nat_tests}
 use Rattle.std.proofs.Common.{⊎_elim}
 use Rattle.memchr.specs.Find.{IsFirstByte, is_byte2}
 use Rattle.std.specs.Char.{encode_utf8}
 use Rattle.bstr.specs.Utf8.{decoded, or_replacement}
 use Rattle.bstr.proofs.lemmas.SoundLemmas.{SpellsChar-decoded}
-use Rattle.bidi_bytes.specs.ControlBytes.{is_from_to, is_control_char, is_control_tail, is_control_begun, begins_with_control, holds_control}
+use Rattle.bidi_bytes.specs.ControlBytes.{is_from_to, is_control_char, is_control_begun, begins_with_control, holds_control}
 use Rattle.bidi_bytes.specs.Decoded.{utf8_decoded}
-use Rattle.bidi_bytes.proofs.LossyLemmas.{first_char, each_char, utf8_decoded-pieces}
+use Rattle.bidi_bytes.proofs.LossyLemmas.{each_char, utf8_decoded-pieces}
 use lib.Utf8.{encode}
 
 -- a fact of each number up from the first
@@ -45,12 +45,12 @@ control-begins : (c : ℕ) (rest : List ℕ) → is_control_char c ≡ true → 
 control-begins c rest is =
     ⊎_elim
     (λ low. ⊎_elim
-        (λ low. ⊎_elim
-            (λ letter. subst (Begins rest) (sym (eqb-true c 0x061C letter)) (letter_mark-begins rest))
-            (λ mark. let bounds = is_from_to-le 0x200E 0x200F c mark in marks-begin rest c bounds.0 bounds.1)
-            (or_cases (c == 0x061C) (is_from_to 0x200E 0x200F c) low))
-        (λ embedding. let bounds = is_from_to-le 0x202A 0x202E c embedding in embeddings-begin rest c bounds.0 bounds.1)
-        (or_cases (c == 0x061C || is_from_to 0x200E 0x200F c) (is_from_to 0x202A 0x202E c) low))
+    (λ low. ⊎_elim
+    (λ letter. subst (Begins rest) (sym (eqb-true c 0x061C letter)) (letter_mark-begins rest))
+    (λ mark. let bounds = is_from_to-le 0x200E 0x200F c mark in marks-begin rest c bounds.0 bounds.1)
+    (or_cases (c == 0x061C) (is_from_to 0x200E 0x200F c) low))
+    (λ embedding. let bounds = is_from_to-le 0x202A 0x202E c embedding in embeddings-begin rest c bounds.0 bounds.1)
+    (or_cases (c == 0x061C || is_from_to 0x200E 0x200F c) (is_from_to 0x202A 0x202E c) low))
     (λ isolate. let bounds = is_from_to-le 0x2066 0x2069 c isolate in isolates-begin rest c bounds.0 bounds.1)
     (or_cases (c == 0x061C || is_from_to 0x200E 0x200F c || is_from_to 0x202A 0x202E c) (is_from_to 0x2066 0x2069 c) is)
 
@@ -68,11 +68,12 @@ begins-false (b ∷ bytes) h = grind arith
 replaced-other : (bytes : List ℕ) (char : Option ℕ) → (decoded bytes).char ≡ char → begins_with_control bytes ≡ false → is_control_char (or_replacement char) ≡ false
 replaced-other bytes None is h = refl
 replaced-other bytes (Some c) is h = elim (cases_Bool (is_control_char c)) [
-    inl held ↦
-        let spelt = (SpellsChar-decoded bytes c is).bytes in
-        let begun = control-begins c (drop (decoded bytes).size bytes) held in
-        let begun_here : begins_with_control bytes ≡ true = ap begins_with_control spelt ∙ begun in cc
-    | inr other ↦ other ]
+  | inl held ↦
+      let spelt = (SpellsChar-decoded bytes c is).bytes in
+      let begun = control-begins c (drop (decoded bytes).size bytes) held in
+      let begun_here : begins_with_control bytes ≡ true = ap begins_with_control spelt ∙ begun in cc
+  | inr other ↦ other
+]
 
 -- the characters of such bytes are no controls and no marks
 pub utf8_decoded-other : (bytes : List ℕ) → holds_control bytes ≡ false → All (λ c. is_control_char c ≡ false) (utf8_decoded bytes)

@@ -1,5 +1,5 @@
 -- Which characters have the class of a direction control, by Unicode's data.
-use Rattle.bidi_base.proofs.Common.{◌≡◌, ℕ, Bool, true, false, ◌||◌, ◌&&◌, ◌==◌, List, [], ◌∷◌, refl, ap, ◌∙◌, arith, beq, is_opener, is_pdi, is_pdf, nat_tests}
+use Rattle.bidi_base.proofs.Common.{◌≡◌, ℕ, Bool, true, false, ◌||◌, List, [], ◌∷◌, refl, ◌∙◌, arith, beq, is_opener, is_pdi, is_pdf, nat_tests}
 use Rattle.bidi_base.specs.declared.char_data.BidiClass.{BidiClass}
 use Rattle.ucd_table.specs.Rows.{in_ranges}
 use Rattle.ucd_table.proofs.Computing.{tables}

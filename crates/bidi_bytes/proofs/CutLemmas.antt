@@ -1,6 +1,6 @@
 -- Lines of a list: where it is cut, and lists that are one line.
-use Rattle.bidi_base.proofs.Common.{◌≡◌, ℕ, ◌+◌, ◌<◌, Bool, true, false, ◌||◌, ◌==◌, List, [], ◌∷◌, ◌++◌, length, refl, sym, ap, ◌∙◌, arith, All, All-head, All-tail, onto_first, cut_after, cases_Bool, inl, inr, nat_tests}
-use Rattle.bidi_bytes.specs.FileLines.{is_break, is_before_line_feed, ends_file_line, file_lines_of}
+use Rattle.bidi_base.proofs.Common.{◌≡◌, ℕ, ◌<◌, true, false, List, [], ◌∷◌, ◌++◌, length, refl, arith, All, All-head, All-tail, onto_first, nat_tests}
+use Rattle.bidi_bytes.specs.FileLines.{is_break, ends_file_line, file_lines_of}
 
 -- no element is one
 abbrev pub HasNoBreak : List ℕ → Type 0

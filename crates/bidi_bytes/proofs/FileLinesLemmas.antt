@@ -1,9 +1,8 @@
 -- The lines of decoded bytes.
-use Rattle.bidi_base.proofs.Common.{◌≡◌, ℕ, zero, suc, ◌+◌, ◌<◌, ◌≤◌, Bool, true, false, ◌||◌, ◌&&◌, ◌==◌, not, List, [], ◌∷◌, ◌++◌, length, get_or, take, drop, refl, sym, ap, subst, ◌∙◌, arith, All, append_assoc, cases_lt, inl, inr, nat_tests, take_more, drop_more, take_all, drop_all, take-append-drop, append-nil, add-zero, get_or-drop, get_or-take, get_or_default, length-drop, length-take, cases_Bool, cond-true, cond-false, eqb-true, and_parts, false_from_ne_true, Some, None, nil_from_length, length-append, get_or_append_left}
+use Rattle.bidi_base.proofs.Common.{◌≡◌, ℕ, zero, suc, ◌+◌, ◌<◌, ◌≤◌, true, false, ◌||◌, ◌&&◌, ◌==◌, not, List, [], ◌∷◌, ◌++◌, length, get_or, take, drop, refl, sym, ap, ◌∙◌, arith, append_assoc, cases_lt, inl, inr, nat_tests, take_more, drop_more, take_all, drop_all, take-append-drop, append-nil, add-zero, get_or-drop, get_or-take, get_or_default, length-drop, length-take, cases_Bool, cond-true, cond-false, eqb-true, and_parts, false_from_ne_true, Some, None, nil_from_length, length-append, get_or_append_left}
 use Rattle.std.proofs.Common.{⊎_elim}
 use Rattle.memchr.specs.Find.{IsFirstByte, IsLastByte, is_byte2}
 use Rattle.std.proofs.lemmas.List.Elements.{All-drop}
-use Rattle.bstr.specs.Utf8.{decoded}
 use Rattle.bidi_bytes.specs.Decoded.{utf8_decoded, utf8_fault, fault_from}
 use Rattle.bidi_bytes.specs.FileLines.{is_break, is_before_line_feed, ends_file_line, break_end, file_lines_of}
 use Rattle.bidi_bytes.proofs.CutLemmas.{HasNoBreak, file_lines-append, file_lines-one, file_lines-whole}
@@ -164,10 +163,11 @@ module _ (bytes : List ℕ) (at : ℕ) (within : at < length bytes) (is : is_bre
   pub cut-at : at + 1 < length bytes → (more : List ℕ)
       → file_lines_of (utf8_decoded (bytes ++ more)) ≡ file_lines_of (utf8_decoded (take (break_end bytes at) bytes)) ++ file_lines_of (utf8_decoded (drop (break_end bytes at) bytes ++ more))
   cut-at more_within more = elim (cases_Bool (a == 0x0D && next == 0x0A)) [
-      inl pair ↦ rw (end-pair pair) (cut-pair pair more)
-      | inr single ↦ rw (end-single single)
-          (cut-single single more
-          (before_line_feed-append (drop (at + 1) bytes) more (omega (arith, length-drop (at + 1) bytes)) ∙ before_line_feed-read (drop (at + 1) bytes) ∙ ap (λ x. x == 0x0A) behind)) ]
+    | inl pair ↦ rw (end-pair pair) (cut-pair pair more)
+    | inr single ↦ rw (end-single single)
+        (cut-single single more
+        (before_line_feed-append (drop (at + 1) bytes) more (omega (arith, length-drop (at + 1) bytes)) ∙ before_line_feed-read (drop (at + 1) bytes) ∙ ap (λ x. x == 0x0A) behind))
+  ]
 
   abbrev FaultIsCut : List ℕ → ℕ → Type 0
   FaultIsCut more n = utf8_fault (bytes ++ more) ≡ fault_from (utf8_fault (take n bytes)) n (drop n bytes ++ more)
@@ -175,9 +175,10 @@ module _ (bytes : List ℕ) (at : ℕ) (within : at < length bytes) (is : is_bre
   -- and so is where they stop being UTF-8
   pub fault-at : at + 1 < length bytes → (more : List ℕ) → FaultIsCut more (break_end bytes at)
   fault-at more_within more = elim (cases_Bool (a == 0x0D && next == 0x0A)) [
-      inl pair ↦ rw (end-pair pair)
-          (utf8_fault-at bytes more (take at bytes ++ 0x0D ∷ []) (at + 2) 0x0A (front-pair pair) (omega arith) (omega arith))
-      | inr single ↦ rw (end-single single) (utf8_fault-at bytes more (take at bytes) (at + 1) a front (break-low a is) (omega arith)) ]
+    | inl pair ↦ rw (end-pair pair)
+        (utf8_fault-at bytes more (take at bytes ++ 0x0D ∷ []) (at + 2) 0x0A (front-pair pair) (omega arith) (omega arith))
+    | inr single ↦ rw (end-single single) (utf8_fault-at bytes more (take at bytes) (at + 1) a front (break-low a is) (omega arith))
+  ]
 
   abbrev FirstIs : ℕ → Type 0
   FirstIs n = file_lines_of (utf8_decoded bytes) ≡ utf8_decoded (take n bytes) ∷ file_lines_of (utf8_decoded (drop n bytes))
@@ -185,11 +186,12 @@ module _ (bytes : List ℕ) (at : ℕ) (within : at < length bytes) (is : is_bre
   -- the first line ends there, if none ends before
   pub first-at : HasNoBreak (take at bytes) → FirstIs (break_end bytes at)
   first-at h = elim (cases_Bool (a == 0x0D && next == 0x0A)) [
-      inl pair ↦ rw (end-pair pair)
-          (let e = cut-pair pair [] in let one = one-pair pair h in grind (arith, append-nil, e, one))
-      | inr single ↦ rw (end-single single)
-          (let e = cut-single single [] (ap is_before_line_feed (append-nil (drop (at + 1) bytes)) ∙ before_line_feed-read (drop (at + 1) bytes) ∙ ap (λ x. x == 0x0A) behind) in
-          let one = one-single single h in grind (arith, append-nil, e, one)) ]
+    | inl pair ↦ rw (end-pair pair)
+        (let e = cut-pair pair [] in let one = one-pair pair h in grind (arith, append-nil, e, one))
+    | inr single ↦ rw (end-single single)
+        (let e = cut-single single [] (ap is_before_line_feed (append-nil (drop (at + 1) bytes)) ∙ before_line_feed-read (drop (at + 1) bytes) ∙ ap (λ x. x == 0x0A) behind) in
+        let one = one-single single h in grind (arith, append-nil, e, one))
+  ]
 
 -- bytes without the end of a line are one
 pub first-whole : (bytes : List ℕ) → 0 < length bytes → HasNoBreak bytes

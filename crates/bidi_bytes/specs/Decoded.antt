@@ -13,6 +13,9 @@ has_low_first bytes = slice_index bytes 0 == 0xFF && slice_index bytes 1 == 0xFE
 abbrev pub has_high_first : List ℕ → Bool
 has_high_first bytes = slice_index bytes 0 == 0xFE && slice_index bytes 1 == 0xFF
 
+abbrev pub is_utf16 : List ℕ → Bool
+is_utf16 bytes = has_low_first bytes || has_high_first bytes
+
 -- a code unit of UTF-16, from its bytes
 abbrev pub unit_of : Bool → ℕ → ℕ → ℕ
 unit_of high_first first second = if high_first then first * 256 + second else second * 256 + first
@@ -49,7 +52,7 @@ fault_from before offset bytes = option_or before (option_map (λ at. offset + a
 
 -- where a file without a byte order mark of UTF-16 stops being UTF-8
 abbrev pub first_invalid : List ℕ → Option ℕ
-first_invalid bytes = if has_low_first bytes || has_high_first bytes then None else utf8_fault bytes
+first_invalid bytes = if is_utf16 bytes then None else utf8_fault bytes
 
 -- the bytes of a file that decide whether it is binary
 unfoldable pub prefix_of : List ℕ → List ℕ
@@ -57,4 +60,4 @@ prefix_of bytes = take 8000 bytes
 
 -- a binary file: a NUL is among those bytes, and no byte order mark of UTF-16 before it
 abbrev pub is_binary : List ℕ → Bool
-is_binary bytes = not (has_low_first bytes || has_high_first bytes) && list_any (λ byte. nat_eq byte 0) (prefix_of bytes)
+is_binary bytes = not (is_utf16 bytes) && list_any (λ byte. nat_eq byte 0) (prefix_of bytes)

@@ -1,7 +1,7 @@
 //! The characters that the bytes of a file are.
-ghost use Rattle.std.specs.Prelude.{◌≡◌, ◌||◌, IfOk};
+ghost use Rattle.std.specs.Prelude.{◌≡◌, ◌≤◌, false, true, length, IfOk, IfSome, MatchOption, string_bytes};
 ghost use Rattle.std.specs.Str.{chars};
-ghost use Rattle.bidi_bytes.specs.Decoded.{unit_of, units_of, utf8_decoded, utf16_decoded, decoded, utf8_fault, first_invalid, prefix_of, is_binary, has_low_first, has_high_first};
+ghost use Rattle.bidi_bytes.specs.Decoded.{unit_of, units_of, utf8_decoded, utf16_decoded, decoded, utf8_fault, prefix_of, is_binary, is_utf16};
 
 use std::alloc::{AllocError, Global};
 
@@ -43,13 +43,26 @@ fn chars_of(alloc: Global, text: &str) -> Result<Vec<char>, AllocError>
     text.chars().collect(alloc)
 }
 
-/// The characters of UTF-16.
-fn utf16_decoded(alloc: Global, high_first: bool, bytes: &[u8]) -> Result<Vec<char>, AllocError>
-    ensures { IfOk result (λ v. v.items ≡ utf16_decoded high_first bytes.now) }
+/// The text of UTF-16.
+fn text_of_utf16(alloc: Global, high_first: bool, bytes: &[u8]) -> Result<String, AllocError>
+    ensures { IfOk result (λ text. chars (string_bytes text) ≡ utf16_decoded high_first bytes.now) }
 {
     let units = units_of(alloc, high_first, bytes)?;
     let text = String::from_utf16_lossy(alloc, units.as_slice())?;
-    chars_of(alloc, text.as_str())
+    Ok(text)
+}
+
+/// Returns the text of a file that begins with a byte order mark of UTF-16, and `None` for any other. U+FFFD stands for
+/// each surrogate that has no partner, and for a byte that is left over. The byte order mark is not in the text.
+pub fn utf16_text(alloc: Global, bytes: &[u8]) -> Result<Option<String>, AllocError>
+    ensures { IfOk result (λ text. MatchOption text (is_utf16 bytes.now ≡ false)
+        (λ text. (is_utf16 bytes.now ≡ true) × (chars (string_bytes text) ≡ decoded bytes.now))) }
+{
+    match bytes {
+        [0xFF, 0xFE, rest @ ..] => Ok(Some(text_of_utf16(alloc, false, rest)?)),
+        [0xFE, 0xFF, rest @ ..] => Ok(Some(text_of_utf16(alloc, true, rest)?)),
+        _ => Ok(None),
+    }
 }
 
 /// The characters of UTF-8, with U+FFFD for each sequence of bytes that is not UTF-8.
@@ -60,44 +73,21 @@ pub fn utf8_decoded(alloc: Global, bytes: &[u8]) -> Result<Vec<char>, AllocError
     chars_of(alloc, text.as_str())
 }
 
-/// The characters of a file. After a byte order mark of UTF-16 they are those of UTF-16, with U+FFFD for
-/// each surrogate that has no partner; any other file is read as UTF-8, with U+FFFD for each
-/// sequence of bytes that is not UTF-8.
-pub fn decoded(alloc: Global, bytes: &[u8]) -> Result<Vec<char>, AllocError>
-    ensures { IfOk result (λ v. v.items ≡ decoded bytes.now) }
-{
-    match bytes {
-        [0xFF, 0xFE, rest @ ..] => utf16_decoded(alloc, false, rest),
-        [0xFE, 0xFF, rest @ ..] => utf16_decoded(alloc, true, rest),
-        _ => utf8_decoded(alloc, bytes),
-    }
-}
-
 /// Whether a file begins with a byte order mark of UTF-16.
 pub fn is_utf16(bytes: &[u8]) -> bool
-    ensures { result ≡ (has_low_first bytes.now || has_high_first bytes.now) }
+    ensures { result ≡ is_utf16 bytes.now }
 {
     matches!(bytes, [0xFF, 0xFE, ..] | [0xFE, 0xFF, ..])
 }
 
 /// Returns the first byte that is not UTF-8.
 pub fn utf8_fault(bytes: &[u8]) -> Option<usize>
-    ensures { result ≡ utf8_fault bytes.now }
+    ensures fault { result ≡ utf8_fault bytes.now }
+    ensures within { IfSome result (λ at. at ≤ length bytes.now) }
 {
     match simdutf8::compat::from_utf8(bytes) {
         Ok(_) => None,
         Err(error) => Some(error.valid_up_to()),
-    }
-}
-
-/// The first byte of a file that is neither UTF-8 nor after a byte order mark of UTF-16.
-pub fn first_invalid(bytes: &[u8]) -> Option<usize>
-    ensures { result ≡ first_invalid bytes.now }
-{
-    if is_utf16(bytes) {
-        None
-    } else {
-        utf8_fault(bytes)
     }
 }
 

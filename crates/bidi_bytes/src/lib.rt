@@ -4,3 +4,4 @@
 pub mod controls;
 pub mod decode;
 pub mod lines;
+pub mod pieces;

@@ -33,7 +33,8 @@ pub fn first_line_len(bytes: &[u8]) -> usize
 
 /// Returns how many lines bytes have.
 pub fn count_lines(bytes: &[u8]) -> usize
-    ensures { result ≡ length (file_lines_of (utf8_decoded bytes.now)) }
+    ensures count { result ≡ length (file_lines_of (utf8_decoded bytes.now)) }
+    ensures few { result ≤ length bytes.now }
 {
     let mut count = 0;
     let mut rest = bytes;

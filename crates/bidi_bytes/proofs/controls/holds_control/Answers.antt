@@ -1,4 +1,4 @@
-use Rattle.bidi_base.proofs.Common.{◌≡◌, ◌∙◌, sym, ap, ◌+◌, arith, length, drop, take_rest, length-drop}
+use Rattle.bidi_base.proofs.Common.{◌∙◌, sym, ap, ◌+◌, arith, take_rest, length-drop}
 use Rattle.bidi_bytes.specs.ControlBytes.{begins_with_control}
 use Rattle.bidi_bytes.proofs.ControlBytesLemmas.{found-within, found-here, found-other, found-none}
 use Rattle.bidi_bytes.proofs.controls.holds_control.Goals as goal

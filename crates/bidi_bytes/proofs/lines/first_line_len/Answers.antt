@@ -1,4 +1,3 @@
-use Rattle.bidi_base.proofs.Common.{arith, refl}
 use Rattle.bidi_bytes.proofs.FileLinesLemmas.{first-at, first-whole, none-before, none-at_all}
 use Rattle.bidi_bytes.proofs.lines.first_line_len.Goals as goal
 

@@ -1,5 +1,4 @@
-use Rattle.bidi_base.proofs.Common.{◌≡◌, ◌++◌, [], arith, refl, ap, sym}
-use Rattle.bidi_bytes.specs.FileLines.{file_lines_of}
+use Rattle.bidi_base.proofs.Common.{◌++◌, arith, refl}
 use Rattle.bidi_bytes.proofs.LossyLemmas.{utf8_decoded-nil}
 use Rattle.bidi_bytes.proofs.FaultLemmas.{utf8_fault-start}
 use Rattle.bidi_bytes.proofs.FileLinesLemmas.{cut-at, fault-at, break-in_front}

@@ -1,0 +1,38 @@
+use Rattle.bidi_base.proofs.Common.{◌≡◌, ◌+◌, ◌++◌, ◌∙◌, ◌∷◌, false, sym, ap, arith, append-nil, map}
+use Rattle.bidi_bytes.specs.ControlBytes.{holds_control}
+use Rattle.bidi_bytes.specs.Decoded.{utf8_decoded}
+use Rattle.bidi_bytes.specs.FileLines.{file_lines_of}
+use Rattle.bidi_bytes.proofs.FileLinesLemmas.{no_lines}
+use Rattle.bidi_scan.specs.FileSearch.{line_of}
+use Rattle.bidi_scan.proofs.FoundLemmas.{first-quiet, first-count, nothing-left}
+use Rattle.bidi_scan.proofs.file_search.FileSearch.push_each_line.Goals as goal
+
+pub loop-rest-preserved : goal.loop-rest-preserved
+loop-rest-preserved c =
+    let h = c.loop-rest.invariant.0 in
+    let wanted = c.args.self.now.wanted in
+    let number = c.loop-rest.self.lines + 1 in
+    let rest = c.loop-rest.rest.now in let line = c.split_at.result.0.now in let after = c.split_at.result.1.now in
+    let first : file_lines_of (utf8_decoded rest) ≡ utf8_decoded line ∷ file_lines_of (utf8_decoded after) =
+    rw (c.split_at.ensures.front, c.split_at.ensures.back) c.first_line_len.ensures.first in
+    let none : holds_control line ≡ false = sym c.holds_control.ensures ∙ c.if-holds_control.false in
+    let same = first-quiet wanted number rest line after first none in
+    let count = first-count wanted number rest line after first in (
+      record {
+        all = ap (λ t. map line_of c.loop-rest.found.items ++ t) (sym same) ∙ h.all;
+        count = let before = h.count in omega arith;
+        few = let before = h.few in omega (arith, c.split_at.ensures.back_len, c.first_line_len.ensures.some);
+      },
+      c.loop-rest.invariant.1,
+      c.loop-rest.invariant.2,
+      c.loop-rest.invariant.3,
+    )
+
+pub returns-clause-found : goal.returns-clause-found
+returns-clause-found c =
+    let none = nothing-left c.args.self.now.wanted (c.loop-rest.self.lines + 1) c.loop-rest.rest.now (grind arith) in
+    sym (append-nil (map line_of c.loop-rest.found.items)) ∙ ap (λ t. map line_of c.loop-rest.found.items ++ t) (sym none) ∙ c.loop-rest.invariant.0.all
+
+pub returns-clause-lines : goal.returns-clause-lines
+returns-clause-lines c =
+    let none = no_lines c.loop-rest.rest.now (grind arith) in let all = c.loop-rest.invariant.0.count in omega arith

@@ -1,0 +1,46 @@
+-- What is found in the lines of a file.
+use Rattle.std.specs.Prelude.{ℕ, ◌+◌, ◌<◌, ◌^◌, List, [], ◌∷◌, ◌++◌, Option}
+use Rattle.bidi_base.specs.Source.{Source}
+use Rattle.bidi_unicode.specs.Unicode.{unicode_source}
+use Rattle.bidi_controls.specs.Findings.{findings_in_line}
+use Rattle.bidi_controls.specs.declared.finding.Finding.{Finding}
+use Rattle.bidi_controls.specs.declared.finding.Wanted.{Wanted}
+use Rattle.bidi_bytes.specs.Decoded.{utf8_decoded, fault_from}
+use Rattle.bidi_bytes.specs.FileLines.{file_lines_of}
+use Rattle.bidi_scan.specs.declared.file_search.FoundLine.{FoundLine}
+use Rattle.bidi_scan.specs.declared.file_search.FileSearch.{FileSearch}
+
+-- the number of a line, its characters, and what is found in it
+abbrev pub FoundAt : Type 0
+FoundAt = ℕ × List ℕ × List Finding
+
+-- those of a value of the code
+abbrev pub line_of : FoundLine → FoundAt
+line_of line = (line.number, line.chars.items, line.findings.items)
+
+-- those of a line, if something is found in it
+abbrev pub with_findings : ℕ → List ℕ → List Finding → List FoundAt
+with_findings number chars [] = []
+with_findings number chars (finding ∷ findings) = (number, chars, finding ∷ findings) ∷ []
+
+abbrev pub found_in : Source → Wanted → ℕ → List ℕ → List FoundAt
+found_in source wanted number chars = with_findings number chars (findings_in_line source wanted number chars)
+
+-- those of lines, of which the first has this number
+abbrev pub found_from : Source → Wanted → ℕ → List (List ℕ) → List FoundAt
+found_from source wanted number [] = []
+found_from source wanted number (chars ∷ lines) =
+    found_in source wanted number chars ++ found_from source wanted (number + 1) lines
+
+-- what is found in bytes that follow those that are searched
+abbrev pub still_found : FileSearch → List ℕ → List FoundAt
+still_found search bytes =
+    found_from unicode_source search.wanted (search.lines + 1) (file_lines_of (utf8_decoded bytes))
+
+-- where they or those before them stop being UTF-8
+abbrev pub still_invalid : FileSearch → List ℕ → Option ℕ
+still_invalid search bytes = fault_from search.invalid search.offset bytes
+
+-- lines and bytes can be counted over this many bytes more
+abbrev pub HasRoom : FileSearch → ℕ → Type 0
+HasRoom search len = (search.lines + len < 2 ^ 64) × (search.offset + len < 2 ^ 64)

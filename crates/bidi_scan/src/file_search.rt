@@ -1,0 +1,278 @@
+//! A search through the bytes of a file.
+ghost use Rattle.std.specs.Prelude.{◌≡◌, ◌+◌, ◌<◌, ◌≤◌, ◌^◌, ◌++◌, List, ℕ, drop, length, map, IfOk, OnOk, IsTrue, vec_len, false};
+ghost use Rattle.bidi_unicode.specs.Unicode.{unicode_source};
+ghost use Rattle.bidi_bytes.specs.Decoded.{utf8_decoded, decoded, utf8_fault, first_invalid};
+ghost use Rattle.bidi_bytes.specs.FileLines.{file_lines_of};
+ghost use Rattle.bidi_scan.specs.FileSearch.{found_in, found_from, line_of, still_found, still_invalid, HasRoom};
+
+use bidi_bytes::controls::holds_control;
+use bidi_bytes::decode::{utf8_decoded, utf8_fault, utf16_text};
+use bidi_bytes::lines::{count_lines, first_line_len, whole_lines_len};
+use bidi_bytes::pieces::drop_front;
+use bidi_controls::check::LineSearch;
+use bidi_controls::finding::{Finding, Wanted};
+use bidi_unicode::UnicodeData;
+use std::alloc::{AllocError, Global};
+
+/// A line of a file in which something is found.
+#[derive(Drop)]
+pub struct FoundLine {
+    /// Its number, counted from 1.
+    pub number: usize,
+    /// Its characters, with the LF, CR LF or CR that ends it.
+    pub chars: Vec<char>,
+    /// What is found in it.
+    pub findings: Vec<Finding>,
+}
+
+/// A search through a file in UTF-8 that is read in pieces.
+#[derive(Drop)]
+pub struct FileSearch {
+    /// What is searched for.
+    pub wanted: Wanted,
+    /// How many lines are searched.
+    pub lines: usize,
+    /// How many bytes these have.
+    pub offset: usize,
+    /// Where they stop being UTF-8.
+    pub invalid: Option<usize>,
+    line_search: LineSearch,
+}
+
+impl FileSearch {
+    ghost use Rattle.std.specs.Prelude.{None};
+
+    /// Returns a search that is at the start of a file. Allocates nothing.
+    pub fn new(alloc: Global, wanted: Wanted) -> FileSearch
+        ensures wanted { result.wanted ≡ wanted }
+        ensures lines { result.lines ≡ 0 }
+        ensures offset { result.offset ≡ 0 }
+        ensures invalid { result.invalid ≡ None }
+    {
+        FileSearch {
+            wanted,
+            lines: 0,
+            offset: 0,
+            invalid: None,
+            line_search: LineSearch::new(alloc),
+        }
+    }
+
+    /// Returns whether the numbers of lines and bytes can be counted over this many bytes more.
+    pub fn has_room(&self, len: usize) -> bool
+        ensures { IsTrue result → HasRoom self.now len }
+    {
+        self.lines.checked_add(len).is_some() && self.offset.checked_add(len).is_some()
+    }
+
+    /// Appends the line of this number, if something is found in it.
+    fn push_line(
+        &mut self,
+        alloc: Global,
+        number: usize,
+        line: &[u8],
+        found: &mut Vec<FoundLine>,
+    ) -> Result<(), AllocError>
+        ensures found { OnOk result (map line_of found.new.items ≡ map line_of found.old.items
+            ++ found_in unicode_source self.old.wanted number (utf8_decoded line.now)) }
+        ensures wanted { self.new.wanted ≡ self.old.wanted }
+        ensures lines { self.new.lines ≡ self.old.lines }
+        ensures offset { self.new.offset ≡ self.old.offset }
+        ensures invalid { self.new.invalid ≡ self.old.invalid }
+    {
+        let chars = utf8_decoded(alloc, line)?;
+        let mut findings = Vec::new(alloc);
+        self.line_search.push_found_in(
+            alloc,
+            &UnicodeData,
+            self.wanted,
+            number,
+            chars.as_slice(),
+            &mut findings,
+        )?;
+        if !findings.is_empty() {
+            found.push(FoundLine {
+                number,
+                chars,
+                findings,
+            })?;
+        }
+        Ok(())
+    }
+
+    /// Searches lines one by one.
+    fn push_each_line(
+        &mut self,
+        alloc: Global,
+        bytes: &[u8],
+        found: &mut Vec<FoundLine>,
+    ) -> Result<(), AllocError>
+        requires { self.old.lines + length bytes.now < 2 ^ 64 }
+        ensures found { OnOk result
+            (map line_of found.new.items ≡ map line_of found.old.items ++ still_found self.old bytes.now) }
+        ensures lines { OnOk result (self.new.lines ≡ self.old.lines + length (file_lines_of (utf8_decoded bytes.now))) }
+        ensures wanted { self.new.wanted ≡ self.old.wanted }
+        ensures offset { self.new.offset ≡ self.old.offset }
+        ensures invalid { self.new.invalid ≡ self.old.invalid }
+    {
+        let mut rest = bytes;
+        while !rest.is_empty() {
+            let (line, after) = rest.split_at(first_line_len(rest));
+            self.lines += 1;
+            let number = self.lines;
+            // Only a line with a control or mark is decoded.
+            if holds_control(line) {
+                self.push_line(alloc, number, line, found)?;
+            }
+            rest = after;
+        }
+        Ok(())
+    }
+
+    /// Searches lines.
+    fn push_lines(
+        &mut self,
+        alloc: Global,
+        bytes: &[u8],
+        found: &mut Vec<FoundLine>,
+    ) -> Result<(), AllocError>
+        requires { self.old.lines + length bytes.now < 2 ^ 64 }
+        ensures found { OnOk result
+            (map line_of found.new.items ≡ map line_of found.old.items ++ still_found self.old bytes.now) }
+        ensures lines { OnOk result (self.new.lines ≡ self.old.lines + length (file_lines_of (utf8_decoded bytes.now))) }
+        ensures wanted { self.new.wanted ≡ self.old.wanted }
+        ensures offset { self.new.offset ≡ self.old.offset }
+        ensures invalid { self.new.invalid ≡ self.old.invalid }
+    {
+        if holds_control(bytes) {
+            return self.push_each_line(alloc, bytes, found);
+        }
+        self.lines += count_lines(bytes);
+        Ok(())
+    }
+
+    /// Notes where bytes stop being UTF-8, if no bytes before them do, and passes over them.
+    fn note_bytes(&mut self, bytes: &[u8])
+        requires { self.old.offset + length bytes.now < 2 ^ 64 }
+        ensures invalid { self.new.invalid ≡ still_invalid self.old bytes.now }
+        ensures offset { self.new.offset ≡ self.old.offset + length bytes.now }
+        ensures wanted { self.new.wanted ≡ self.old.wanted }
+        ensures lines { self.new.lines ≡ self.old.lines }
+    {
+        if self.invalid.is_none()
+            && let Some(at) = utf8_fault(bytes)
+        {
+            self.invalid = Some(self.offset + at);
+        }
+        self.offset += bytes.len();
+    }
+
+    /// Searches the last bytes of the file, and appends the lines in which something is found.
+    pub fn push_last(
+        &mut self,
+        alloc: Global,
+        bytes: &[u8],
+        found: &mut Vec<FoundLine>,
+    ) -> Result<(), AllocError>
+        requires { HasRoom self.old (length bytes.now) }
+        ensures found { OnOk result
+            (map line_of found.new.items ≡ map line_of found.old.items ++ still_found self.old bytes.now) }
+        ensures invalid { OnOk result (self.new.invalid ≡ still_invalid self.old bytes.now) }
+        ensures wanted { self.new.wanted ≡ self.old.wanted }
+        ensures lines { OnOk result (self.new.lines ≡ self.old.lines + length (file_lines_of (utf8_decoded bytes.now))) }
+        ensures offset { OnOk result (self.new.offset ≡ self.old.offset + length bytes.now) }
+    {
+        self.note_bytes(bytes);
+        self.push_lines(alloc, bytes, found)
+    }
+
+    /// Searches the lines that end in the next bytes of the file, and appends those in which something is found. Returns
+    /// how many bytes these lines have. The next call wants the bytes behind them.
+    pub fn push_whole_lines(
+        &mut self,
+        alloc: Global,
+        bytes: &[u8],
+        found: &mut Vec<FoundLine>,
+    ) -> Result<usize, AllocError>
+        requires { HasRoom self.old (length bytes.now) }
+        ensures within { IfOk result (λ len. len ≤ length bytes.now) }
+        // Whatever follows, the same is found in it and in these bytes.
+        ensures found { IfOk result (λ len. (more : List ℕ)
+            → map line_of found.new.items ++ still_found self.new (drop len bytes.now ++ more)
+            ≡ map line_of found.old.items ++ still_found self.old (bytes.now ++ more)) }
+        ensures invalid { IfOk result (λ len. (more : List ℕ)
+            → still_invalid self.new (drop len bytes.now ++ more) ≡ still_invalid self.old (bytes.now ++ more)) }
+    {
+        let len = whole_lines_len(bytes);
+        let (lines, _) = bytes.split_at(len);
+        self.push_last(alloc, lines, found)?;
+        Ok(len)
+    }
+
+    /// Searches the lines that end in the bytes that are read, and deletes these bytes. At the end of the file it
+    /// searches all bytes.
+    pub fn push_read(
+        &mut self,
+        alloc: Global,
+        at_end: bool,
+        bytes: &mut Vec<u8>,
+        found: &mut Vec<FoundLine>,
+    ) -> Result<(), AllocError>
+        requires { HasRoom self.old (vec_len bytes.old) }
+        ensures last { OnOk result (IsTrue at_end → (map line_of found.new.items
+            ≡ map line_of found.old.items ++ still_found self.old bytes.old.items)
+            × (self.new.invalid ≡ still_invalid self.old bytes.old.items)) }
+        // Before the end, whatever follows, the same is found in it and in these bytes.
+        ensures found { OnOk result (at_end ≡ false → (more : List ℕ)
+            → map line_of found.new.items ++ still_found self.new (bytes.new.items ++ more)
+            ≡ map line_of found.old.items ++ still_found self.old (bytes.old.items ++ more)) }
+        ensures invalid { OnOk result (at_end ≡ false → (more : List ℕ)
+            → still_invalid self.new (bytes.new.items ++ more) ≡ still_invalid self.old (bytes.old.items ++ more)) }
+    {
+        if at_end {
+            self.push_last(alloc, bytes.as_slice(), found)?;
+            bytes.truncate(0);
+            return Ok(());
+        }
+        let len = self.push_whole_lines(alloc, bytes.as_slice(), found)?;
+        drop_front(bytes, len);
+        Ok(())
+    }
+}
+
+/// What is found in a file.
+#[derive(Drop)]
+pub struct Searched {
+    /// The lines in which something is found.
+    pub lines: Vec<FoundLine>,
+    /// Where the file stops being UTF-8, if it does.
+    pub invalid: Option<usize>,
+}
+
+/// Returns what is found in UTF-8.
+fn found_lines_of_utf8(alloc: Global, wanted: Wanted, bytes: &[u8]) -> Result<Searched, AllocError>
+    ensures lines { IfOk result (λ searched. map line_of searched.lines.items
+        ≡ found_from unicode_source wanted 1 (file_lines_of (utf8_decoded bytes.now))) }
+    ensures invalid { IfOk result (λ searched. searched.invalid ≡ utf8_fault bytes.now) }
+{
+    let mut search = FileSearch::new(alloc, wanted);
+    let mut lines = Vec::new(alloc);
+    search.push_last(alloc, bytes, &mut lines)?;
+    Ok(Searched {
+        lines,
+        invalid: search.invalid,
+    })
+}
+
+/// Returns what is found in all bytes of a file, which may be in UTF-16 after a byte order mark. A file that is not UTF-8
+/// is read as `decoded` says.
+pub fn found_lines(alloc: Global, wanted: Wanted, bytes: &[u8]) -> Result<Searched, AllocError>
+    ensures lines { IfOk result (λ searched. map line_of searched.lines.items
+        ≡ found_from unicode_source wanted 1 (file_lines_of (decoded bytes.now))) }
+    ensures invalid { IfOk result (λ searched. searched.invalid ≡ first_invalid bytes.now) }
+{
+    match utf16_text(alloc, bytes)? {
+        Some(text) => found_lines_of_utf8(alloc, wanted, text.as_bytes()),
+        None => found_lines_of_utf8(alloc, wanted, bytes),
+    }
+}
