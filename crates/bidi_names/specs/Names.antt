@@ -1,4 +1,4 @@
--- How names and other arguments are written in a report.
+-- How names, other arguments and lines are written in a report.
 use Rattle.std.specs.Prelude.{ℕ, ◌/◌, ◌%◌, Bool, nat_le, ◌==◌, ◌&&◌, ◌||◌, if◌then◌else◌, List, [], ◌∷◌, ◌++◌, flat_map, codes, encode_utf8}
 
 -- a character from one code point to another
@@ -65,3 +65,14 @@ shown_byte byte =
 -- a name that is not UTF-8, from its bytes
 abbrev pub shown_bytes : List ℕ → List ℕ
 shown_bytes bytes = flat_map shown_byte bytes
+
+-- a character of a line
+abbrev pub quoted_char : ℕ → List ℕ
+quoted_char c =
+    if c == 9 then codes " "
+    else if is_hidden c then codes "<U+" ++ (hex c ++ codes ">")
+    else encode_utf8 c
+
+-- a line, from its characters
+abbrev pub quoted_line : List ℕ → List ℕ
+quoted_line chars = flat_map quoted_char chars

@@ -1,13 +1,12 @@
-//! How names and other arguments are written in a report.
+//! How names, other arguments and lines are written in a report.
 ghost use Rattle.std.specs.Prelude.{◌≡◌, ◌++◌, IfOk, OnOk, string_bytes};
 ghost use Rattle.std.specs.Str.{chars};
-ghost use Rattle.bidi.specs.Names.{is_hidden, hex_digit, hex, code_escape, byte_escape, shown_char, shown_name as shown_name_of, shown_byte, shown_bytes as shown_bytes_of};
+ghost use Rattle.bidi_names.specs.Names.{is_hidden, hex_digit, hex, code_escape, byte_escape, shown_char, shown_name as shown_name_of, shown_byte, shown_bytes as shown_bytes_of, quoted_char, quoted_line};
 
-use crate::characters::chars_of;
 use std::alloc::{AllocError, Global};
 
-/// Whether a character could end a line, control a terminal or change the order of a line.
-fn is_hidden(c: char) -> bool
+/// Returns whether a character could end a line, control a terminal or change the order of a line.
+pub fn is_hidden(c: char) -> bool
     ensures { result ≡ is_hidden c }
 {
     matches!(
@@ -48,7 +47,7 @@ fn push_digit(out: &mut String, digit: u32) -> Result<(), AllocError>
 
 /// Appends the last four hexadecimal digits of a code point.
 #[tactic(auto, unfolding(crate::specs::Names::hex))]
-fn push_hex(out: &mut String, c: char) -> Result<(), AllocError>
+pub fn push_hex(out: &mut String, c: char) -> Result<(), AllocError>
     ensures { OnOk result (string_bytes out.new ≡ string_bytes out.old ++ hex c) }
 {
     let code = u32::from(c);
@@ -57,6 +56,13 @@ fn push_hex(out: &mut String, c: char) -> Result<(), AllocError>
     push_digit(out, code / 0x10 % 16)?;
     push_digit(out, code % 16)?;
     Ok(())
+}
+
+/// Returns the characters of a text.
+pub fn chars_of(alloc: Global, text: &str) -> Result<Vec<char>, AllocError>
+    ensures { IfOk result (λ v. v.items ≡ chars text.now) }
+{
+    text.chars().collect(alloc)
 }
 
 /// Appends a character by its code point.
@@ -135,4 +141,31 @@ pub fn shown_bytes(alloc: Global, bytes: &[u8]) -> Result<String, AllocError>
         push_byte(&mut out, *byte)?;
     }
     Ok(out)
+}
+
+/// Appends a character of a line. Unlike in a name, a backslash is not doubled, since lines of source code have many. A
+/// character that could end a line, control a terminal or change the order of a line is written as in `<U+202E>`, and a
+/// tab as a space.
+pub fn push_quoted(out: &mut String, c: char) -> Result<(), AllocError>
+    ensures { OnOk result (string_bytes out.new ≡ string_bytes out.old ++ quoted_char c) }
+{
+    if c == '\t' {
+        return out.push_str(" ");
+    }
+    if !is_hidden(c) {
+        return out.push(c);
+    }
+    out.push_str("<U+")?;
+    push_hex(out, c)?;
+    out.push_str(">")
+}
+
+/// Appends characters of a line, each as [`push_quoted`] does.
+pub fn push_quoted_line(out: &mut String, chars: &[char]) -> Result<(), AllocError>
+    ensures { OnOk result (string_bytes out.new ≡ string_bytes out.old ++ quoted_line chars.now) }
+{
+    for c in chars {
+        push_quoted(out, *c)?;
+    }
+    Ok(())
 }
