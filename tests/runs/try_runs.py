@@ -1,11 +1,11 @@
 #!/usr/bin/env python3
-"""Makes runs of programs and tells those that end otherwise than they should:
+"""Makes runs of programs, and reports those that differ from what is wanted:
 tests/runs/try_runs.py [--built] PROGRAM..
 
-Of each program these are the runs of tests/runs/PROGRAM.runs (README, beside this file, says how they are written)
-and, where crates/PROGRAM has a file stdout, the run that the gate makes by the files there. 'rt try' builds the
-program with checks and with no proof: once for all its runs, and once more for each request for memory that
-some of them are refused. The exit status is 0 where all runs passed.
+The runs of a program are those of tests/runs/PROGRAM.runs (README, beside this file, describes the format). If
+crates/PROGRAM has a file stdout, the run that the gate makes is one too. 'rt try' builds the program with checks and
+without a proof: once for all runs, and once more for each number of an allocation that fails. With --built, the runs are
+those of the proved program. The exit status is 0 if all runs passed.
 """
 import copy
 import pathlib
@@ -234,6 +234,9 @@ def first_difference(what, wanted, found):
 
 
 def main(words):
+    if words in ([], ["-h"], ["--help"]):
+        print(__doc__.strip())
+        return 0 if words else 1
     failures = 0
     is_built = words[:1] == ["--built"]
     for program in words[is_built:]:

@@ -1,5 +1,5 @@
--- The first line of a text, character by character.
-use Rattle.bidi_base.proofs.Common.{◌≡◌, ℕ, ◌+◌, ◌<◌, true, false, List, [], ◌∷◌, ◌++◌, length, get_or, take, drop, refl, sym, ap, ◌∙◌, arith, drop-cons, add-one, onto_first, take_more, drop_all, SplitTest, cut_after}
+-- The first line or paragraph of a text, character by character.
+use Rattle.bidi_base.proofs.Common.{◌≡◌, ℕ, zero, suc, ◌+◌, ◌<◌, ◌≤◌, true, false, List, [], ◌∷◌, ◌++◌, length, get_or, take, drop, refl, sym, ap, subst, get_or_default, ◌∙◌, arith, drop-cons, add-one, onto_first, take_more, drop_all, SplitTest, cut_after}
 
 -- characters put before the first of some lines
 abbrev onto_front : List ℕ → List (List ℕ) → List (List ℕ)
@@ -36,6 +36,16 @@ module _ (ends : SplitTest) (chars : List ℕ) (n c : ℕ) (fits : n < length ch
   -- the next one ends it
   pub IsUnbroken-ended : ends c (drop (n + 1) chars) ≡ true → IsUnbroken ends chars n → cut_after ends chars ≡ take (n + 1) chars ∷ cut_after ends (drop (n + 1) chars)
   IsUnbroken-ended stops h = grind (arith, from_here, onto_front-line, with_it)
+
+-- nor do the next k, which end no line whatever stands behind them
+pub IsUnbroken-plain : (ends : SplitTest) (chars : List ℕ) (n k : ℕ) → n + k ≤ length chars → ((i : ℕ) → n ≤ i → i < n + k → (after : List ℕ) → ends (get_or chars i 0) after ≡ false)
+    → IsUnbroken ends chars n → IsUnbroken ends chars (n + k)
+IsUnbroken-plain ends chars n zero fits plain h = subst (IsUnbroken ends chars) (omega arith) h
+IsUnbroken-plain ends chars n (suc k) fits plain h =
+    let before = IsUnbroken-plain ends chars n k (omega (arith, fits)) (λ i low high. plain i low (omega (arith, high))) h in
+    subst (IsUnbroken ends chars) (omega arith)
+    (IsUnbroken-more ends chars (n + k) (get_or chars (n + k) 0) (omega (arith, fits)) (get_or_default chars (n + k) 0 (get_or chars (n + k) 0) (omega (arith, fits)))
+    (plain (n + k) (omega arith) (omega arith) (drop (n + k + 1) chars)) before)
 
 -- the text's end does
 pub IsUnbroken-whole : (ends : SplitTest) (chars : List ℕ) (n : ℕ) → n ≡ length chars → 0 < n → IsUnbroken ends chars n → cut_after ends chars ≡ take n chars ∷ cut_after ends (drop n chars)

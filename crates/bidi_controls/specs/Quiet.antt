@@ -1,8 +1,13 @@
 -- Texts without direction controls and marks.
-use Rattle.std.specs.Prelude.{◌≡◌, ℕ, List, All, None}
+use Rattle.std.specs.Prelude.{◌≡◌, ℕ, true, List, All, None}
 use Rattle.bidi_base.specs.Source.{Source}
 use Rattle.bidi_controls.specs.Controls.{control_of}
+use Rattle.bidi_controls.specs.Lines.{is_printable_ascii}
 
 -- none of the characters is a control or a mark
 abbrev pub AreQuiet : Source → List ℕ → Type 0
 AreQuiet source chars = All (λ c. control_of (source.class_of c) c ≡ None) chars
+
+-- no printable ASCII character is a control
+abbrev pub HasQuietAscii : Source → Type 0
+HasQuietAscii source = (c : ℕ) → is_printable_ascii c ≡ true → control_of (source.class_of c) c ≡ None

@@ -1,5 +1,5 @@
 //! What `check` finds in a text.
-ghost use Rattle.std.specs.Prelude.{◌≡◌, ◌+◌, ◌<◌, ◌^◌, ◌++◌, map, flat_map, position, IfOk, OnOk};
+ghost use Rattle.std.specs.Prelude.{◌≡◌, ◌+◌, ◌<◌, ◌^◌, ◌++◌, length, map, flat_map, position, IfOk, OnOk};
 ghost use Rattle.std.specs.Option.{option_to_list};
 ghost use Rattle.bidi_base.specs.Places.{holds_number, indexes};
 ghost use Rattle.bidi_controls.specs.Findings.{finding_of, line_finding_of, findings_at, findings_of, controls_wanted, differing_place as differing_place_of};
@@ -7,7 +7,7 @@ ghost use Rattle.bidi_controls.specs.Matches.{is_control, is_unmatched};
 
 use crate::displayed::DisplayComparison;
 use crate::finding::{Finding, Trouble, Wanted};
-use crate::lines::{first_line, own_chars};
+use crate::lines::{first_file_line, first_line_len, has_quiet_ascii, own_chars};
 use crate::openers::Openers;
 use crate::unmatched::{find_unmatched, is_control};
 use bidi_base::char_data::BidiClass;
@@ -33,8 +33,8 @@ fn first_control<D: BidiDataSource>(data_source: &D, chars: &[char]) -> Option<u
         .position(|c| is_control(data_source.bidi_class(*c)))
 }
 
-/// Returns where a line tells that it is displayed differently from how it reads, if it is so and this is wanted: the
-/// index of its first control.
+/// Returns where a paragraph tells that it is displayed differently from how it reads, if it is so and this is wanted:
+/// the index of its first control.
 fn differing_place<D: BidiDataSource>(
     comparison: &mut DisplayComparison,
     alloc: Global,
@@ -64,7 +64,7 @@ fn is_at(place: Option<usize>, index: usize) -> bool
     }
 }
 
-/// Appends what is found at an index of a line, whose number this is.
+/// Appends what is found at a place of a line, whose number this is.
 fn push_findings_at(
     findings: &mut Vec<Finding>,
     any: bool,
@@ -90,32 +90,44 @@ fn push_findings_at(
     )
 }
 
-/// Appends the findings in a line, whose number this is: at an index that is handed in, that the line is displayed
-/// differently from how it reads; of the characters, those that are controls without a match, or with `any` all
-/// controls and marks.
+/// Where a paragraph begins.
+#[derive(Clone, Copy)]
+struct Start {
+    /// The number of its line in the file, from 1.
+    line: usize,
+    /// How many characters of its line precede it.
+    place: usize,
+}
+
+/// Appends the findings in a paragraph: at an index that is handed in, that it is displayed differently from how it
+/// reads; of the characters, those that are controls without a match, or with `any` all controls and marks.
 fn push_findings<D: BidiDataSource>(
     findings: &mut Vec<Finding>,
     data_source: &D,
     any: bool,
-    number: usize,
+    start: Start,
     differing: Option<usize>,
-    line: &[char],
+    paragraph: &[char],
     unmatched: &[bool],
 ) -> Result<(), AllocError>
-    requires { unmatched.now ≡ map (is_unmatched (map (D.source data_source.now).class_of line.now)) (indexes line.now) }
+    requires room { start.place + length paragraph.now < 2 ^ 64 }
+    requires flags { unmatched.now
+        ≡ map (is_unmatched (map (D.source data_source.now).class_of paragraph.now)) (indexes paragraph.now) }
     ensures { OnOk result (findings.new.items ≡ findings.old.items
-        ++ flat_map (findings_at any differing number (map (D.source data_source.now).class_of line.now) line.now)
-        (indexes line.now)) }
+        ++ flat_map
+        (findings_at any differing start.line start.place (map (D.source data_source.now).class_of paragraph.now)
+        paragraph.now)
+        (indexes paragraph.now)) }
 {
-    for (place, c) in line.iter().enumerate() {
+    for (index, c) in paragraph.iter().enumerate() {
         let class = data_source.bidi_class(*c);
         push_findings_at(
             findings,
             any,
-            number,
-            is_at(differing, place),
-            unmatched[place],
-            place,
+            start.line,
+            is_at(differing, index),
+            unmatched[index],
+            start.place + index,
             class,
             *c,
         )?;
@@ -123,19 +135,19 @@ fn push_findings<D: BidiDataSource>(
     Ok(())
 }
 
-/// What the search through a text keeps from line to line, so that its memory is reused.
+/// A search for findings, one line of a file after another. Reuses its memory.
 #[derive(Drop)]
-struct LineSearch {
+pub struct LineSearch {
     openers: Openers,
     unmatched: Vec<bool>,
     comparison: DisplayComparison,
 }
 
 impl LineSearch {
-    ghost use Rattle.bidi_controls.specs.Findings.{findings_in_line};
+    ghost use Rattle.bidi_controls.specs.Findings.{findings_in_line, findings_in_paragraph};
 
     /// Returns a search that has seen no line. Allocates nothing.
-    fn new(alloc: Global) -> LineSearch {
+    pub fn new(alloc: Global) -> LineSearch {
         LineSearch {
             openers: Openers::new(alloc),
             unmatched: Vec::new(alloc),
@@ -143,10 +155,47 @@ impl LineSearch {
         }
     }
 
-    /// Appends the findings in a line, whose number this is.
+    /// Appends the findings in a paragraph, which begins here.
+    fn push_found_in_paragraph<D: BidiDataSource>(
+        &mut self,
+        alloc: Global,
+        data_source: &D,
+        wanted: Wanted,
+        start: Start,
+        paragraph: &[char],
+        findings: &mut Vec<Finding>,
+    ) -> Result<(), AllocError>
+        requires { start.place + length paragraph.now < 2 ^ 64 }
+        ensures { OnOk result (findings.new.items ≡ findings.old.items
+            ++ findings_in_paragraph (D.source data_source.now) wanted start.line start.place paragraph.now) }
+    {
+        find_unmatched(
+            data_source,
+            paragraph,
+            &mut self.openers,
+            &mut self.unmatched,
+        )?;
+        let comparison = &mut self.comparison;
+        let differing = differing_place(comparison, alloc, data_source, wanted, paragraph)?;
+        let any = wanted.wants_every_control();
+        let unmatched = self.unmatched.as_slice();
+        push_findings(
+            findings,
+            data_source,
+            any,
+            start,
+            differing,
+            paragraph,
+            unmatched,
+        )
+    }
+
+    /// Appends the findings in a line of a file, whose number this is.
+    ///
+    /// If an allocation fails, some of them may be appended.
     // Few lines have controls. Inlined, this takes the registers of the loop that passes over the others.
     #[inline(never)]
-    fn push_found_in<D: BidiDataSource>(
+    pub fn push_found_in<D: BidiDataSource>(
         &mut self,
         alloc: Global,
         data_source: &D,
@@ -158,30 +207,32 @@ impl LineSearch {
         ensures { OnOk result (findings.new.items
             ≡ findings.old.items ++ findings_in_line (D.source data_source.now) wanted number line.now) }
     {
-        find_unmatched(data_source, line, &mut self.openers, &mut self.unmatched)?;
-        let differing = differing_place(&mut self.comparison, alloc, data_source, wanted, line)?;
-        let any = wanted.wants_every_control();
-        let unmatched = self.unmatched.as_slice();
-        push_findings(
-            findings,
-            data_source,
-            any,
-            number,
-            differing,
-            line,
-            unmatched,
-        )
+        let mut rest = line;
+        while !rest.is_empty() {
+            let (paragraph, after) = rest.split_at(first_line_len(data_source, rest));
+            let start = Start {
+                line: number,
+                place: line.len() - rest.len(),
+            };
+            self.push_found_in_paragraph(alloc, data_source, wanted, start, paragraph, findings)?;
+            rest = after;
+        }
+        Ok(())
     }
 }
 
+/// How many characters a text has at least for which the classes of ASCII are looked up first.
+const LONG: usize = 1024;
+
 /// Returns what is found in a text, in order.
 ///
-/// These are direction controls that have no match on their line, or with `EveryControl` and `Everything` every control
-/// and mark. An embedding or an override wants its PDF (BD11), an isolate initiator its PDI (BD9), and a PDF or a PDI
-/// what it closes. With `Misleading` and `Everything`, a line that is displayed differently from how it reads is found
-/// too, at its first control (see `DisplayComparison`).
+/// These are direction controls that have no match on their paragraph, or with `EveryControl` and `Everything` every
+/// control and mark. An embedding or an override wants its PDF (BD11), an isolate initiator its PDI (BD9), and a PDF or a
+/// PDI what it closes. With `Misleading` and `Everything`, a paragraph that is displayed differently from how it reads is
+/// found too, at its first control (see `DisplayComparison`).
 ///
-/// Lines and columns are counted from 1, columns in characters. Lines end after a paragraph separator, CR LF as one.
+/// Lines and columns are counted from 1, columns in characters. Lines end where editors end them: after a line feed, a
+/// CR LF or a carriage return. Another paragraph separator ends a paragraph, but not the line.
 pub fn findings_wanted<D: BidiDataSource>(
     alloc: Global,
     data_source: &D,
@@ -192,10 +243,11 @@ pub fn findings_wanted<D: BidiDataSource>(
 {
     let mut findings = Vec::new(alloc);
     let mut search = LineSearch::new(alloc);
+    let ascii_is_quiet = chars.len() >= LONG && has_quiet_ascii(data_source);
     let mut lines_before = 0;
     let mut rest = chars;
     while !rest.is_empty() {
-        let first = first_line(data_source, rest);
+        let first = first_file_line(data_source, ascii_is_quiet, rest);
         let (line, after) = rest.split_at(first.len);
         // In a line without controls and marks nothing is found.
         if !first.is_quiet {

@@ -1,25 +1,24 @@
-//! Where the lines of a text end.
-ghost use Rattle.std.specs.Prelude.{◌≡◌, ◌<◌, ◌≤◌, ◌∷◌, ◌&&◌, not, is_none, true, length, take, drop};
+//! Where the lines of a file and the paragraphs of a text end.
+ghost use Rattle.std.specs.Prelude.{◌≡◌, ◌<◌, ◌≤◌, ◌∷◌, All, is_some, true, length, take, drop};
 ghost use Rattle.bidi_controls.specs.Controls.{control_of};
 ghost use Rattle.bidi_base.specs.Classes.{is_paragraph_separator};
 ghost use Rattle.bidi_base.specs.Paragraphs.{begins_with_line_feed, cr_lf_together};
-ghost use Rattle.bidi_controls.specs.Lines.{lines_of};
-ghost use Rattle.bidi_controls.specs.Quiet.{AreQuiet};
+ghost use Rattle.bidi_controls.specs.Lines.{lines_of, file_lines_of, ends_file_line, is_before_line_feed, is_printable_ascii};
+ghost use Rattle.bidi_controls.specs.Quiet.{AreQuiet, HasQuietAscii};
 ghost use Rattle.bidi_controls.specs.Lines.{own_chars as own_chars_of};
 
 use crate::control::Control;
-use bidi_base::char_data::BidiClass;
 use bidi_base::classes::is_paragraph_separator;
 use bidi_base::data_source::BidiDataSource;
 
-/// Whether a character separates paragraphs.
+/// Returns whether a character separates paragraphs.
 fn separates_paragraphs<D: BidiDataSource>(data_source: &D, c: char) -> bool
     ensures { result ≡ is_paragraph_separator ((D.source data_source.now).class_of c) }
 {
     is_paragraph_separator(data_source.bidi_class(c))
 }
 
-/// Whether a text begins with a line feed that separates paragraphs.
+/// Returns whether a text begins with a line feed that separates paragraphs.
 fn begins_with_line_feed<D: BidiDataSource>(data_source: &D, chars: &[char]) -> bool
     ensures { result ≡ begins_with_line_feed (D.source data_source.now) chars.now }
 {
@@ -29,64 +28,15 @@ fn begins_with_line_feed<D: BidiDataSource>(data_source: &D, chars: &[char]) -> 
     }
 }
 
-/// Whether a line ends after a character, with its class and with these behind it.
-fn ends_line<D: BidiDataSource>(data_source: &D, c: char, class: BidiClass, after: &[char]) -> bool
-    requires { class ≡ (D.source data_source.now).class_of c }
+/// Returns whether a paragraph ends after a character, with these behind it.
+fn ends_paragraph<D: BidiDataSource>(data_source: &D, c: char, after: &[char]) -> bool
     ensures { result ≡ cr_lf_together (D.source data_source.now) c after.now }
 {
-    is_paragraph_separator(class) && !(c == '\r' && begins_with_line_feed(data_source, after))
+    separates_paragraphs(data_source, c)
+        && !(c == '\r' && begins_with_line_feed(data_source, after))
 }
 
-/// Whether a character is no control, no mark, and separates no paragraphs.
-fn is_plain<D: BidiDataSource>(data_source: &D, c: char) -> bool
-    ensures { let class = (D.source data_source.now).class_of c in
-        result ≡ (not (is_paragraph_separator class) && is_none (control_of class c)) }
-{
-    let class = data_source.bidi_class(c);
-    !is_paragraph_separator(class) & Control::of(class, c).is_none()
-}
-
-/// The first line of a text.
-#[derive(Clone, Copy)]
-pub(crate) struct FirstLine {
-    /// How many characters it has, with the separator that ends it, CR LF as one.
-    pub len: usize,
-    /// True only where no control and no mark stands in it.
-    pub is_quiet: bool,
-}
-
-/// The first line of a text that is not empty.
-// Inlined, its loops run slower: they share their registers with the loop over the lines.
-#[inline(never)]
-pub(crate) fn first_line<D: BidiDataSource>(data_source: &D, chars: &[char]) -> FirstLine
-    requires { 0 < length chars.now }
-    ensures some { 0 < result.len }
-    ensures within { result.len ≤ length chars.now }
-    ensures first { lines_of (D.source data_source.now) chars.now
-        ≡ take result.len chars.now ∷ lines_of (D.source data_source.now) (drop result.len chars.now) }
-    ensures quiet { result.is_quiet ≡ true → AreQuiet (D.source data_source.now) (take result.len chars.now) }
-{
-    let mut at = 0;
-    // Few lines have controls or marks. This loop passes over the others, up to their separator.
-    while at < chars.len() && is_plain(data_source, chars[at]) {
-        at += 1;
-    }
-    let mut is_quiet = true;
-    while at < chars.len() {
-        let c = chars[at];
-        let class = data_source.bidi_class(c);
-        if Control::of(class, c).is_some() {
-            is_quiet = false;
-        }
-        at += 1;
-        if ends_line(data_source, c, class, &chars[at..]) {
-            return FirstLine { len: at, is_quiet };
-        }
-    }
-    FirstLine { len: at, is_quiet }
-}
-
-/// How many characters the first line of a text has, with the separator that ends it, CR LF as one. The
+/// Returns how many characters the first paragraph of a text has, with the separator that ends it, CR LF as one. The
 /// text is not empty.
 pub fn first_line_len<D: BidiDataSource>(data_source: &D, chars: &[char]) -> usize
     requires { 0 < length chars.now }
@@ -95,10 +45,18 @@ pub fn first_line_len<D: BidiDataSource>(data_source: &D, chars: &[char]) -> usi
     ensures first { lines_of (D.source data_source.now) chars.now
         ≡ take result chars.now ∷ lines_of (D.source data_source.now) (drop result chars.now) }
 {
-    first_line(data_source, chars).len
+    let mut at = 0;
+    while at < chars.len() {
+        let c = chars[at];
+        at += 1;
+        if ends_paragraph(data_source, c, &chars[at..]) {
+            return at;
+        }
+    }
+    at
 }
 
-/// The characters of a line before the separator that ends it (P1).
+/// Returns the characters of a paragraph before the separator that ends it (P1).
 pub fn own_chars<'t, D: BidiDataSource>(data_source: &D, line: &'t [char]) -> &'t [char]
     ensures { result.now ≡ own_chars_of (D.source data_source.now) line.now }
 {
@@ -108,4 +66,101 @@ pub fn own_chars<'t, D: BidiDataSource>(data_source: &D, line: &'t [char]) -> &'
         }
     }
     line
+}
+
+/// Returns whether a line of a file ends after a character, with these behind it.
+fn ends_file_line(c: char, after: &[char]) -> bool
+    ensures { result ≡ ends_file_line c after.now }
+{
+    c == '\n' || (c == '\r' && !matches!(after, ['\n', ..]))
+}
+
+/// Returns whether a character is a control or a mark.
+fn is_sign<D: BidiDataSource>(data_source: &D, c: char) -> bool
+    ensures { result ≡ is_some (control_of ((D.source data_source.now).class_of c) c) }
+{
+    Control::of(data_source.bidi_class(c), c).is_some()
+}
+
+/// Returns whether a character is printable ASCII, U+0020 to U+007E.
+fn is_printable_ascii(c: char) -> bool
+    ensures { result ≡ is_printable_ascii c }
+{
+    c == ' ' || c.is_ascii_graphic()
+}
+
+/// Returns true only if no printable ASCII character is a control.
+///
+/// Data sources may give such a character any class, but hardly one does.
+pub(crate) fn has_quiet_ascii<D: BidiDataSource>(data_source: &D) -> bool
+    ensures { result ≡ true → HasQuietAscii (D.source data_source.now) }
+{
+    for code in b' '..0x7F {
+        if is_sign(data_source, char::from(code)) {
+            return false;
+        }
+    }
+    true
+}
+
+/// How many characters are tested at once.
+const BLOCK: usize = 16;
+
+/// Returns true only if some characters are all printable ASCII.
+fn are_printable_ascii(chars: &[char]) -> bool
+    ensures { result ≡ true → All (λ c. is_printable_ascii c ≡ true) chars.now }
+{
+    let mut are_printable = true;
+    // Without a branch for each character, so that a few instructions test a block.
+    for c in chars {
+        are_printable &= is_printable_ascii(*c);
+    }
+    are_printable
+}
+
+/// The first line of a file.
+#[derive(Clone, Copy)]
+pub(crate) struct FirstLine {
+    /// How many characters it has, with those that end it.
+    pub len: usize,
+    /// True only where no control and no mark stands in it.
+    pub is_quiet: bool,
+}
+
+/// Returns the first line of a file that is not empty. With `ascii_is_quiet`, printable ASCII is passed over in blocks.
+#[inline(never)]
+pub(crate) fn first_file_line<D: BidiDataSource>(
+    data_source: &D,
+    ascii_is_quiet: bool,
+    chars: &[char],
+) -> FirstLine
+    requires some { 0 < length chars.now }
+    requires quiet_ascii { ascii_is_quiet ≡ true → HasQuietAscii (D.source data_source.now) }
+    ensures some { 0 < result.len }
+    ensures within { result.len ≤ length chars.now }
+    ensures first { file_lines_of chars.now ≡ take result.len chars.now ∷ file_lines_of (drop result.len chars.now) }
+    ensures quiet { result.is_quiet ≡ true → AreQuiet (D.source data_source.now) (take result.len chars.now) }
+{
+    let mut at = 0;
+    let mut is_quiet = true;
+    // Characters before this index are read one by one: the block that has them is not all printable ASCII.
+    let mut tested = 0;
+    while at < chars.len() {
+        if ascii_is_quiet && at >= tested && chars.len() - at >= BLOCK {
+            tested = at + BLOCK;
+            if are_printable_ascii(&chars[at..tested]) {
+                at = tested;
+                continue;
+            }
+        }
+        let c = chars[at];
+        at += 1;
+        if is_sign(data_source, c) {
+            is_quiet = false;
+        }
+        if ends_file_line(c, &chars[at..]) {
+            return FirstLine { len: at, is_quiet };
+        }
+    }
+    FirstLine { len: at, is_quiet }
 }

@@ -1,7 +1,7 @@
 use Rattle.bidi_base.proofs.Common.{◌≡◌, ℕ, ◌+◌, ◌++◌, List, ◌∷◌, take, sym, ap, arith, append_assoc, append-nil, ◌∙◌, Source}
 use Rattle.bidi_controls.proofs.QuietLines.{findings_in_line-quiet}
 use Rattle.bidi_controls.specs.Findings.{findings_of, findings_from, findings_in_line}
-use Rattle.bidi_controls.specs.Lines.{lines_of}
+use Rattle.bidi_controls.specs.Lines.{file_lines_of}
 use Rattle.bidi_controls.specs.declared.finding.Finding.{Finding}
 use Rattle.bidi_controls.specs.declared.finding.Wanted.{Wanted}
 use Rattle.bidi_controls.proofs.check.findings_wanted.Goals as goal
@@ -12,16 +12,16 @@ unfolding findings_of
 loop-rest-init g c = grind arith
 
 -- the findings in a line go before those in the lines behind it
-with_line : (source : Source) (wanted : Wanted) (n : ℕ) (rest line after : List ℕ) (old new all : List Finding) → lines_of source rest ≡ line ∷ lines_of source after
-    → old ++ findings_from source wanted (n + 1) (lines_of source rest) ≡ all → new ≡ old ++ findings_in_line source wanted (n + 1) line
-    → new ++ findings_from source wanted (n + 1 + 1) (lines_of source after) ≡ all
+with_line : (source : Source) (wanted : Wanted) (n : ℕ) (rest line after : List ℕ) (old new all : List Finding) → file_lines_of rest ≡ line ∷ file_lines_of after
+    → old ++ findings_from source wanted (n + 1) (file_lines_of rest) ≡ all → new ≡ old ++ findings_in_line source wanted (n + 1) line
+    → new ++ findings_from source wanted (n + 1 + 1) (file_lines_of after) ≡ all
 with_line source wanted n rest line after old new all first before here = grind (arith, append_assoc)
 
 pub loop-rest-preserved : goal.loop-rest-preserved
 loop-rest-preserved g c =
     let source = g.D.BidiDataSource.source c.args.data_source.now in
-    let first = c.first_line-first.ensures in
-    let line = take c.first_line-first.result.len c.loop-rest.rest.now in
+    let first = c.first_file_line-first.ensures in
+    let line = take c.first_file_line-first.result.len c.loop-rest.rest.now in
     let here : c.if-not-first.findings.items ≡ c.loop-rest.findings.items ++ findings_in_line source c.args.wanted (c.loop-rest.lines_before + 1) line = elim c.if-not-first.branch [
       | then-not-first+in_ok-push_found_in w ↦
           ap (λ found. found.items) w.findings-is
@@ -31,5 +31,5 @@ loop-rest-preserved g c =
     record {
       few = grind arith;
       found = with_line source c.args.wanted c.loop-rest.lines_before c.loop-rest.rest.now line c.split_at.result.1.now _ _ _
-          (first.first ∙ ap (λ after. line ∷ lines_of source after) (sym c.split_at.ensures.back)) c.loop-rest.invariant.found here;
+          (first.first ∙ ap (λ after. line ∷ file_lines_of after) (sym c.split_at.ensures.back)) c.loop-rest.invariant.found here;
     }
