@@ -1,7 +1,9 @@
 -- What the options of `check` ask for.
-use Rattle.std.specs.Prelude.{ℕ, true, false, if◌then◌else◌, List, Option, Some, None, Result, Ok, Err, codes}
+use Rattle.std.specs.Prelude.{ℕ, Bool, true, false, not, ◌&&◌, if◌then◌else◌, List, Option, Some, None, Result, Ok, Err, codes}
 use Rattle.std.specs.Str.{bytes_eq}
 use Rattle.bidi_controls.specs.declared.finding.Wanted.TheVariants.{Unmatched, Misleading, Everything}
+use Rattle.bidi_reports.specs.declared.form.Form.{Form}
+use Rattle.bidi_reports.specs.declared.form.Form.TheVariants as form
 use Rattle.bidi.specs.declared.check_options.CheckOptions.{CheckOptions}
 use Rattle.bidi.specs.declared.check_options.Color.{Color}
 use Rattle.bidi.specs.declared.check_options.Color.TheVariants.{Auto, Always, Never}
@@ -81,3 +83,20 @@ with_setting Allow value options = Ok (record options { report = record options.
 with_setting ColorOf value options = with_color value options (color_named value)
 with_setting FilesFrom value options = Ok (record options { search = record options.search { list = Some value } })
 with_setting FormatOf value options = with_format value options (format_named value)
+
+-- ---- how the report is written
+
+-- text has excerpts if standard output is a terminal, and colours if the environment does not ask for none
+abbrev pub text_form : Color → Bool → Bool → Form
+text_form Auto terminal no_color = form.Text terminal (terminal && not no_color)
+text_form Always terminal no_color = form.Text true true
+text_form Never terminal no_color = form.Text terminal false
+
+abbrev pub format_form : Format → Color → Bool → Bool → Form
+format_form Text color terminal no_color = text_form color terminal no_color
+format_form Json color terminal no_color = form.Json
+format_form Sarif color terminal no_color = form.Sarif
+
+abbrev pub form_of : ReportOptions → Bool → Bool → Form
+form_of options terminal no_color =
+    if options.quiet then form.Quiet else format_form options.format options.color terminal no_color

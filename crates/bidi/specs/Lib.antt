@@ -6,3 +6,4 @@ pub mod Inputs
 pub mod Options
 pub mod Shown
 pub mod Statuses
+pub mod Told

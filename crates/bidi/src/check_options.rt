@@ -1,10 +1,11 @@
 //! What the options of `check` ask for.
 ghost use Rattle.std.specs.Prelude.{◌≡◌};
-ghost use Rattle.bidi.specs.Checks.{first_check, first_report, format_named, color_named, flag_named, setting_named, with_flag, with_setting, with_format, with_color};
+ghost use Rattle.bidi.specs.Checks.{first_check, first_report, format_named, color_named, flag_named, setting_named, with_flag, with_setting, with_format, with_color, form_of};
 
 use crate::refusal::{Refusal, Word};
 use crate::search::Search;
 use bidi_controls::finding::Wanted;
+use bidi_reports::form::Form;
 
 /// How findings are written.
 #[derive(Clone, Copy, Debug, PartialEq)]
@@ -79,6 +80,28 @@ impl<'w> Default for ReportOptions<'w> {
             format: Format::Text,
             color: Color::Auto,
             allow: None,
+        }
+    }
+}
+
+impl ReportOptions<'_> {
+    /// Returns the form of the report, where standard output may be a terminal, and where the environment may ask for no
+    /// colours.
+    pub fn form(&self, is_terminal: bool, no_color: bool) -> Form
+        ensures { result ≡ form_of self.now is_terminal no_color }
+    {
+        if self.quiet {
+            return Form::Quiet;
+        }
+        let always = self.color == Color::Always;
+        let never = self.color == Color::Never;
+        match self.format {
+            Format::Text => Form::Text {
+                excerpts: always || is_terminal,
+                colors: always || is_terminal && !no_color && !never,
+            },
+            Format::Json => Form::Json,
+            Format::Sarif => Form::Sarif,
         }
     }
 }

@@ -2,7 +2,7 @@
 ghost use Rattle.std.specs.Prelude.{◌≡◌, ◌||◌, IfOk};
 ghost use Rattle.bidi.specs.Decoded.{unit_of, units_of, utf16_decoded, decoded, first_invalid, prefix_of, is_binary, has_low_first, has_high_first};
 
-use crate::characters::chars_of;
+use bidi_names::names::chars_of;
 use std::alloc::{AllocError, Global};
 
 /// How many bytes of a file decide whether it is binary.

@@ -2,23 +2,22 @@
 ghost use Rattle.std.specs.Prelude.{◌≡◌, ◌==◌, not, length, IfOk, IfErr, IsErrOf, string_bytes};
 ghost use Rattle.std.specs.Str.{chars, IsUtf8};
 ghost use Rattle.bidi_unicode.specs.Unicode.{unicode_source};
-ghost use Rattle.bidi_controls.specs.Findings.{findings_of, report_of};
 ghost use Rattle.bidi_stages.specs.Explained.{AreTold};
-ghost use Rattle.bidi.specs.Decoded.{decoded as decoded_chars, first_invalid as first_invalid_of};
+ghost use Rattle.bidi.specs.Decoded.{first_invalid as first_invalid_of};
 ghost use Rattle.bidi.specs.Inputs.{TellsInput};
-ghost use Rattle.bidi.specs.Names.{shown_name as shown_name_of};
 ghost use Rattle.bidi.specs.Shown.{shown_text};
 ghost use Rattle.bidi.specs.declared.input.InputFault.TheVariants.{Memory};
 
-use crate::characters::chars_of;
 use crate::decode::{decoded, first_invalid};
-use crate::names::shown_name;
 use crate::paragraphs::show;
 use crate::status::Status;
+use crate::told::push_told;
 use crate::view::View;
-use bidi_controls::check::findings_wanted;
+use bidi_allowed::allowed::AllowList;
+use bidi_controls::check::LineSearch;
 use bidi_controls::finding::Wanted;
-use bidi_controls::report::report;
+use bidi_names::names::chars_of;
+use bidi_reports::report::Report;
 use bidi_stages::explain::explain;
 use bidi_stages::view::StageView;
 use bidi_unicode::UnicodeData;
@@ -85,29 +84,56 @@ fn text_of(bytes: &[u8]) -> Result<&str, InputFault>
     }
 }
 
-/// What `check` finds in an input of this name, if these findings are wanted. Hidden characters of the name are
-/// escaped. An input that is not UTF-8 is read as `decoded` says. Returns an error if an allocation fails.
+// Returns how many characters the first line of a text has, with those that end it.
+fn first_line_len(chars: &[char]) -> usize {
+    for (at, c) in chars.iter().enumerate() {
+        let next = chars.get(at + 1);
+        if *c == '\n' || *c == '\r' && next != Some(&'\n') {
+            return at + 1;
+        }
+    }
+    chars.len()
+}
+
+/// What `check` finds in an input of this name, if these findings are wanted, without those that are allowed. An input
+/// that is not UTF-8 is read as `decoded` says. Returns an error if an allocation fails.
 pub fn check_input(
     alloc: Global,
+    report: &mut Report,
+    allowed: &AllowList<'_>,
     wanted: Wanted,
     name: &str,
     bytes: &[u8],
 ) -> Result<Checked, AllocError>
-    ensures text { IfOk result (λ checked.
-        (string_bytes checked.report ≡ report_of (shown_name_of (chars name.now)) (findings_of unicode_source wanted (decoded_chars bytes.now)))
-        × (checked.found ≡ not (length (findings_of unicode_source wanted (decoded_chars bytes.now)) == 0))) }
-    ensures utf8 { IfOk result (λ checked. IsUtf8 bytes.now
-        → (string_bytes checked.report ≡ report_of (shown_name_of (chars name.now)) (findings_of unicode_source wanted (chars bytes.now)))
-        × (checked.found ≡ not (length (findings_of unicode_source wanted (chars bytes.now)) == 0))) }
     ensures invalid { IfOk result (λ checked. checked.invalid ≡ first_invalid_of bytes.now) }
 {
     let chars = decoded(alloc, bytes)?;
-    let findings = findings_wanted(alloc, &UnicodeData, wanted, chars.as_slice())?;
-    let found = findings.as_slice();
-    let shown = shown_name(alloc, name)?;
+    let mut search = LineSearch::new(alloc);
+    let mut out = String::new(alloc);
+    let mut found = false;
+    let mut rest = chars.as_slice();
+    let mut number = 1;
+    while !rest.is_empty() {
+        let (line, after) = rest.split_at(first_line_len(rest));
+        let mut findings = Vec::new(alloc);
+        search.push_found_in(alloc, &UnicodeData, wanted, number, line, &mut findings)?;
+        let is_found = push_told(
+            alloc,
+            report,
+            allowed,
+            &mut out,
+            name,
+            number,
+            line,
+            findings.as_slice(),
+        )?;
+        found = found || is_found;
+        number += 1;
+        rest = after;
+    }
     Ok(Checked {
-        report: report(alloc, shown.as_str(), found)?,
-        found: !found.is_empty(),
+        report: out,
+        found,
         invalid: first_invalid(bytes),
     })
 }
