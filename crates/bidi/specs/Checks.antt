@@ -44,7 +44,7 @@ color_named word =
     else None
 
 -- the options without a value
-abbrev pub flag_named : List ℕ → Option Flag
+unfoldable pub flag_named : List ℕ → Option Flag
 flag_named word =
     if bytes_eq word (codes "--any") then Some Any
     else if bytes_eq word (codes "--hidden") then Some Hidden
@@ -54,7 +54,7 @@ flag_named word =
     else None
 
 -- the options with a value
-abbrev pub setting_named : List ℕ → Option Setting
+unfoldable pub setting_named : List ℕ → Option Setting
 setting_named word =
     if bytes_eq word (codes "--allow") then Some Allow
     else if bytes_eq word (codes "--color") then Some ColorOf
@@ -63,7 +63,7 @@ setting_named word =
     else None
 
 -- what options ask for with one more; of options that exclude each other the last counts
-abbrev pub with_flag : Flag → CheckOptions → CheckOptions
+unfoldable pub with_flag : Flag → CheckOptions → CheckOptions
 with_flag Any options = record options { wanted = Everything }
 with_flag Hidden options = record options { search = record options.search { hidden = true } }
 with_flag Quiet options = record options { report = record options.report { quiet = true } }
@@ -78,7 +78,7 @@ abbrev pub with_color : List ℕ → CheckOptions → Option Color → Result Ch
 with_color value options None = Err (NotAColor value)
 with_color value options (Some color) = Ok (record options { report = record options.report { color = color } })
 
-abbrev pub with_setting : Setting → List ℕ → CheckOptions → Result CheckOptions Refusal
+unfoldable pub with_setting : Setting → List ℕ → CheckOptions → Result CheckOptions Refusal
 with_setting Allow value options = Ok (record options { report = record options.report { allow = Some value } })
 with_setting ColorOf value options = with_color value options (color_named value)
 with_setting FilesFrom value options = Ok (record options { search = record options.search { list = Some value } })

@@ -123,6 +123,7 @@ pub enum Flag {
 
 impl Flag {
     /// Returns the option that an argument is. Returns `None` for any other argument.
+    #[tactic(auto, unfolding(crate::specs::Checks::flag_named))]
     pub fn parse(word: &str) -> Option<Flag>
         ensures { result ≡ flag_named word.now }
     {
@@ -152,6 +153,7 @@ pub enum Setting {
 
 impl Setting {
     /// Returns the option that an argument is. Returns `None` for any other argument.
+    #[tactic(auto, unfolding(crate::specs::Checks::setting_named))]
     pub fn parse(word: &str) -> Option<Setting>
         ensures { result ≡ setting_named word.now }
     {
@@ -191,6 +193,7 @@ impl<'w> Default for CheckOptions<'w> {
 
 impl<'w> CheckOptions<'w> {
     /// Returns the options with one more that has no value.
+    #[tactic(auto, unfolding(crate::specs::Checks::with_flag))]
     pub fn with_flag(mut self, flag: Flag) -> CheckOptions<'w>
         ensures { result ≡ with_flag flag self.entry }
     {
@@ -231,6 +234,7 @@ impl<'w> CheckOptions<'w> {
     }
 
     /// Returns the options with one more that has a value, unless it does not take this value.
+    #[tactic(auto, unfolding(crate::specs::Checks::with_setting))]
     pub fn with_setting(
         mut self,
         setting: Setting,
