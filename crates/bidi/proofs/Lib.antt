@@ -1,5 +1,4 @@
 pub mod CharactersLemmas
-pub mod DecodedLemmas
 pub mod OptionsLemmas
 pub mod ParagraphLemmas
 pub mod ShownLemmas

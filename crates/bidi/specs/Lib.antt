@@ -1,6 +1,5 @@
 pub mod Checks
 pub mod Commands
-pub mod Decoded
 pub mod Entries
 pub mod Inputs
 pub mod Options

@@ -25,8 +25,7 @@ const PROGRAM: &str = "bidi: the Unicode Bidirectional Algorithm for text in UTF
     \u{20}       4 reading or writing failed, or the arguments could not be read\n\
     If several apply, the highest counts.\n";
 
-const CHECK: &str =
-    "usage: bidi check [OPTION..] [--] [FILE..]\n\
+const CHECK: &str = "usage: bidi check [OPTION..] [--] [FILE..]\n\
     \n\
     Finds the direction controls that have no match on their line, and the lines that controls\n\
     make display differently from how they read. Both can make source code display differently\n\

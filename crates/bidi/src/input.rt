@@ -3,17 +3,17 @@ ghost use Rattle.std.specs.Prelude.{◌≡◌, ◌==◌, not, length, IfOk, IfEr
 ghost use Rattle.std.specs.Str.{chars, IsUtf8};
 ghost use Rattle.bidi_unicode.specs.Unicode.{unicode_source};
 ghost use Rattle.bidi_stages.specs.Explained.{AreTold};
-ghost use Rattle.bidi.specs.Decoded.{first_invalid as first_invalid_of};
+ghost use Rattle.bidi_bytes.specs.Decoded.{first_invalid as first_invalid_of};
 ghost use Rattle.bidi.specs.Inputs.{TellsInput};
 ghost use Rattle.bidi.specs.Shown.{shown_text};
 ghost use Rattle.bidi.specs.declared.input.InputFault.TheVariants.{Memory};
 
-use crate::decode::{decoded, first_invalid};
 use crate::paragraphs::show;
 use crate::status::Status;
 use crate::told::push_told;
 use crate::view::View;
 use bidi_allowed::allowed::AllowList;
+use bidi_bytes::decode::{decoded, first_invalid};
 use bidi_controls::check::LineSearch;
 use bidi_controls::finding::Wanted;
 use bidi_names::names::chars_of;

@@ -7,7 +7,6 @@
 mod characters;
 mod check_options;
 mod command;
-mod decode;
 mod entries;
 mod files;
 mod help;

@@ -1,7 +1,6 @@
 //! The files that `check` searches: its arguments and its list name them, or they are below a directory. They
 //! are searched one after the other. A fault of one does not keep the next from being searched.
 use crate::check_options::CheckOptions;
-use crate::decode::{BINARY_PREFIX, is_binary};
 use crate::entries::{listed_names, names_in_order, path_below};
 use crate::files::{
     STANDARD_INPUT, STANDARD_INPUT_NAME, end_without_memory, read_standard_input, refuse, write_out,
@@ -9,6 +8,7 @@ use crate::files::{
 use crate::input::check_input;
 use crate::status::Status;
 use bidi_allowed::allowed::{AllowList, ListFault};
+use bidi_bytes::decode::{BINARY_PREFIX, is_binary};
 use bidi_names::names::{shown_bytes, shown_name};
 use bidi_reports::form::Form;
 use bidi_reports::report::Report;

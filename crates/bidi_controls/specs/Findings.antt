@@ -7,7 +7,8 @@ use Rattle.bidi_base.specs.Places.{indexes, class_at, holds_number}
 use Rattle.bidi_base.specs.Source.{Source}
 use Rattle.bidi_controls.specs.Controls.{control_of, control_name}
 use Rattle.bidi_controls.specs.Displayed.{is_displayed_differently}
-use Rattle.bidi_controls.specs.Lines.{file_lines_of, lines_of, own_chars}
+use Rattle.bidi_bytes.specs.FileLines.{file_lines_of}
+use Rattle.bidi_controls.specs.Lines.{lines_of, own_chars}
 use Rattle.bidi_controls.specs.Matches.{is_control, is_unmatched}
 use Rattle.bidi_controls.specs.declared.finding.Finding.{Finding}
 use Rattle.bidi_controls.specs.declared.finding.Trouble.{Trouble}

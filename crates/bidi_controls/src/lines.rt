@@ -3,7 +3,8 @@ ghost use Rattle.std.specs.Prelude.{◌≡◌, ◌<◌, ◌≤◌, ◌∷◌, Al
 ghost use Rattle.bidi_controls.specs.Controls.{control_of};
 ghost use Rattle.bidi_base.specs.Classes.{is_paragraph_separator};
 ghost use Rattle.bidi_base.specs.Paragraphs.{begins_with_line_feed, cr_lf_together};
-ghost use Rattle.bidi_controls.specs.Lines.{lines_of, file_lines_of, ends_file_line, is_before_line_feed, is_printable_ascii};
+ghost use Rattle.bidi_bytes.specs.FileLines.{ends_file_line, file_lines_of};
+ghost use Rattle.bidi_controls.specs.Lines.{is_printable_ascii, lines_of};
 ghost use Rattle.bidi_controls.specs.Quiet.{AreQuiet, HasQuietAscii};
 ghost use Rattle.bidi_controls.specs.Lines.{own_chars as own_chars_of};
 

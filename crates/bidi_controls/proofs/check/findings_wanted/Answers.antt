@@ -1,7 +1,7 @@
 use Rattle.bidi_base.proofs.Common.{◌≡◌, ℕ, ◌+◌, ◌++◌, List, ◌∷◌, take, sym, ap, arith, append_assoc, append-nil, ◌∙◌, Source}
 use Rattle.bidi_controls.proofs.QuietLines.{findings_in_line-quiet}
 use Rattle.bidi_controls.specs.Findings.{findings_of, findings_from, findings_in_line}
-use Rattle.bidi_controls.specs.Lines.{file_lines_of}
+use Rattle.bidi_bytes.specs.FileLines.{file_lines_of}
 use Rattle.bidi_controls.specs.declared.finding.Finding.{Finding}
 use Rattle.bidi_controls.specs.declared.finding.Wanted.{Wanted}
 use Rattle.bidi_controls.proofs.check.findings_wanted.Goals as goal

@@ -1,6 +1,6 @@
 use Rattle.bidi_base.proofs.Common.{◌≡◌, ◌+◌, ◌++◌, ◌≤◌, length}
 use Rattle.bidi_controls.specs.Findings.{findings_from, findings_of}
-use Rattle.bidi_controls.specs.Lines.{file_lines_of}
+use Rattle.bidi_bytes.specs.FileLines.{file_lines_of}
 use Rattle.bidi_controls.proofs.check.findings_wanted.Given as goal
 
 abbrev pub invariant-loop-rest : goal.invariant-loop-rest

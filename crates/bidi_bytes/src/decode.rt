@@ -1,8 +1,8 @@
 //! The characters that the bytes of a file are.
 ghost use Rattle.std.specs.Prelude.{◌≡◌, ◌||◌, IfOk};
-ghost use Rattle.bidi.specs.Decoded.{unit_of, units_of, utf16_decoded, decoded, first_invalid, prefix_of, is_binary, has_low_first, has_high_first};
+ghost use Rattle.std.specs.Str.{chars};
+ghost use Rattle.bidi_bytes.specs.Decoded.{unit_of, units_of, utf8_decoded, utf16_decoded, decoded, utf8_fault, first_invalid, prefix_of, is_binary, has_low_first, has_high_first};
 
-use bidi_names::names::chars_of;
 use std::alloc::{AllocError, Global};
 
 /// How many bytes of a file decide whether it is binary.
@@ -36,6 +36,13 @@ fn units_of(alloc: Global, high_first: bool, bytes: &[u8]) -> Result<Vec<u16>, A
     Ok(units)
 }
 
+/// The characters of a text.
+fn chars_of(alloc: Global, text: &str) -> Result<Vec<char>, AllocError>
+    ensures { IfOk result (λ v. v.items ≡ chars text.now) }
+{
+    text.chars().collect(alloc)
+}
+
 /// The characters of UTF-16.
 fn utf16_decoded(alloc: Global, high_first: bool, bytes: &[u8]) -> Result<Vec<char>, AllocError>
     ensures { IfOk result (λ v. v.items ≡ utf16_decoded high_first bytes.now) }
@@ -45,27 +52,42 @@ fn utf16_decoded(alloc: Global, high_first: bool, bytes: &[u8]) -> Result<Vec<ch
     chars_of(alloc, text.as_str())
 }
 
+/// The characters of UTF-8, with U+FFFD for each sequence of bytes that is not UTF-8.
+pub fn utf8_decoded(alloc: Global, bytes: &[u8]) -> Result<Vec<char>, AllocError>
+    ensures { IfOk result (λ v. v.items ≡ utf8_decoded bytes.now) }
+{
+    let text = String::from_utf8_lossy(alloc, bytes)?;
+    chars_of(alloc, text.as_str())
+}
+
 /// The characters of a file. After a byte order mark of UTF-16 they are those of UTF-16, with U+FFFD for
-/// each surrogate that has no partner; any other file is read as UTF-8, with U+FFFD for each sequence
-/// of bytes that is not UTF-8.
+/// each surrogate that has no partner; any other file is read as UTF-8, with U+FFFD for each
+/// sequence of bytes that is not UTF-8.
 pub fn decoded(alloc: Global, bytes: &[u8]) -> Result<Vec<char>, AllocError>
     ensures { IfOk result (λ v. v.items ≡ decoded bytes.now) }
 {
     match bytes {
         [0xFF, 0xFE, rest @ ..] => utf16_decoded(alloc, false, rest),
         [0xFE, 0xFF, rest @ ..] => utf16_decoded(alloc, true, rest),
-        _ => {
-            let text = String::from_utf8_lossy(alloc, bytes)?;
-            chars_of(alloc, text.as_str())
-        }
+        _ => utf8_decoded(alloc, bytes),
     }
 }
 
 /// Whether a file begins with a byte order mark of UTF-16.
-fn is_utf16(bytes: &[u8]) -> bool
+pub fn is_utf16(bytes: &[u8]) -> bool
     ensures { result ≡ (has_low_first bytes.now || has_high_first bytes.now) }
 {
     matches!(bytes, [0xFF, 0xFE, ..] | [0xFE, 0xFF, ..])
+}
+
+/// Returns the first byte that is not UTF-8.
+pub fn utf8_fault(bytes: &[u8]) -> Option<usize>
+    ensures { result ≡ utf8_fault bytes.now }
+{
+    match simdutf8::compat::from_utf8(bytes) {
+        Ok(_) => None,
+        Err(error) => Some(error.valid_up_to()),
+    }
 }
 
 /// The first byte of a file that is neither UTF-8 nor after a byte order mark of UTF-16.
@@ -73,11 +95,9 @@ pub fn first_invalid(bytes: &[u8]) -> Option<usize>
     ensures { result ≡ first_invalid bytes.now }
 {
     if is_utf16(bytes) {
-        return None;
-    }
-    match str::from_utf8(bytes) {
-        Ok(_) => None,
-        Err(error) => Some(error.valid_up_to()),
+        None
+    } else {
+        utf8_fault(bytes)
     }
 }
 

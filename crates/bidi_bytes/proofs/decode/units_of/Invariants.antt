@@ -1,6 +1,6 @@
 use Rattle.bidi_base.proofs.Common.{◌≡◌, ◌++◌, length}
-use Rattle.bidi.specs.Decoded.{units_of}
-use Rattle.bidi.proofs.decode.units_of.Given as goal
+use Rattle.bidi_bytes.specs.Decoded.{units_of}
+use Rattle.bidi_bytes.proofs.decode.units_of.Given as goal
 
 abbrev pub invariant-loop-rest : goal.invariant-loop-rest
 invariant-loop-rest l = l.units.items ++ units_of l.high_first l.rest ≡ units_of l.high_first l.bytes

@@ -5,7 +5,7 @@ use Rattle.std.specs.Str.{all_scalars}
 use Rattle.std.specs.Char.{encode_utf8}
 use Rattle.std.proofs.lemmas.Str.{utf8_lossy-IsUtf8}
 use lib.Utf8.{encode, scalar, scalar_cases}
-use Rattle.bidi.specs.Decoded.{decoded}
+use Rattle.bidi_bytes.specs.Decoded.{decoded}
 
 -- the first byte of a character
 first_byte : (c : ℕ) (rest : List ℕ) → c < 1114112 → get_or (encode_utf8 c ++ rest) 0 0 < 254

@@ -1,6 +1,6 @@
 use Rattle.std.proofs.lemmas.List.{take_min}
-use Rattle.bidi.specs.Decoded.{prefix_of}
-use Rattle.bidi.proofs.decode.prefix_of.Goals as goal
+use Rattle.bidi_bytes.specs.Decoded.{prefix_of}
+use Rattle.bidi_bytes.proofs.decode.prefix_of.Goals as goal
 
 pub returns : goal.returns
 unfolding prefix_of

@@ -1,5 +1,6 @@
 -- The characters that the bytes of a file are.
-use Rattle.std.specs.Prelude.{ℕ, ◌+◌, ◌*◌, Bool, true, false, not, ◌==◌, ◌&&◌, ◌||◌, if◌then◌else◌, List, [], ◌∷◌, take, drop, length, slice_index, nat_eq, Option, Some, None}
+use Rattle.std.specs.Prelude.{ℕ, ◌+◌, ◌*◌, Bool, true, false, not, ◌==◌, ◌&&◌, ◌||◌, if◌then◌else◌, List, [], ◌∷◌, take, drop, length, slice_index, nat_eq, Option, Some, None, option_map}
+use Rattle.std.specs.Option.{option_or}
 use Rattle.std.specs.Char.Utf16.{utf16_lossy_chars}
 use Rattle.std.specs.List.{list_any}
 use Rattle.std.specs.Str.{chars}
@@ -26,20 +27,29 @@ units_of high_first (first ∷ second ∷ bytes) = unit_of high_first first seco
 abbrev pub utf16_decoded : Bool → List ℕ → List ℕ
 utf16_decoded high_first bytes = utf16_lossy_chars (units_of high_first bytes)
 
--- the characters of a file: of UTF-16 behind a byte order mark, which is not one of them, and else of UTF-8, where each
--- sequence of bytes that is not UTF-8 is one U+FFFD (as `String::from_utf8_lossy` of Rust divides them)
+-- the characters of UTF-8, where each sequence of bytes that is not UTF-8 is one U+FFFD (as `String::from_utf8_lossy` of
+-- Rust divides them)
+abbrev pub utf8_decoded : List ℕ → List ℕ
+utf8_decoded bytes = chars (utf8_lossy bytes)
+
+-- the characters of a file: of UTF-16 behind a byte order mark, which is not one of them, and else of UTF-8
 abbrev pub decoded : List ℕ → List ℕ
 decoded bytes =
     if has_low_first bytes then utf16_decoded false (drop 2 bytes)
     else if has_high_first bytes then utf16_decoded true (drop 2 bytes)
-    else chars (utf8_lossy bytes)
+    else utf8_decoded bytes
+
+-- where bytes stop being UTF-8
+abbrev pub utf8_fault : List ℕ → Option ℕ
+utf8_fault bytes = if utf8_valid_len bytes == length bytes then None else Some (utf8_valid_len bytes)
+
+-- the same for bytes that begin at this offset, if no fault came before them
+abbrev pub fault_from : Option ℕ → ℕ → List ℕ → Option ℕ
+fault_from before offset bytes = option_or before (option_map (λ at. offset + at) (utf8_fault bytes))
 
 -- where a file without a byte order mark of UTF-16 stops being UTF-8
 abbrev pub first_invalid : List ℕ → Option ℕ
-first_invalid bytes =
-    if has_low_first bytes || has_high_first bytes then None
-    else if utf8_valid_len bytes == length bytes then None
-    else Some (utf8_valid_len bytes)
+first_invalid bytes = if has_low_first bytes || has_high_first bytes then None else utf8_fault bytes
 
 -- the bytes of a file that decide whether it is binary
 unfoldable pub prefix_of : List ℕ → List ℕ

@@ -1,0 +1,3 @@
+pub mod ControlBytes
+pub mod Decoded
+pub mod FileLines

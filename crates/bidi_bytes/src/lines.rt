@@ -1,0 +1,63 @@
+//! Where the lines of bytes end.
+ghost use Rattle.std.specs.Prelude.{◌≡◌, ◌+◌, ◌<◌, ◌≤◌, ◌∷◌, ◌++◌, true, List, ℕ, length, take, drop, slice_index};
+ghost use Rattle.bidi_bytes.specs.Decoded.{utf8_decoded, utf8_fault, fault_from};
+ghost use Rattle.bidi_bytes.specs.FileLines.{is_break, break_end, file_lines_of};
+
+use memchr::{memchr2, memrchr2};
+
+/// Where the line feed, the CR LF or the carriage return at an index ends.
+fn break_end(bytes: &[u8], at: usize) -> usize
+    requires within { at < length bytes.now }
+    ensures end { result ≡ break_end bytes.now at }
+    ensures within { result ≤ length bytes.now }
+{
+    match &bytes[at..] {
+        [b'\r', b'\n', ..] => at + 2,
+        _ => at + 1,
+    }
+}
+
+/// Returns how many bytes the first line of some bytes has, with the LF, CR LF or CR that ends it. There are bytes.
+pub fn first_line_len(bytes: &[u8]) -> usize
+    requires { 0 < length bytes.now }
+    ensures some { 0 < result }
+    ensures within { result ≤ length bytes.now }
+    ensures first { file_lines_of (utf8_decoded bytes.now)
+        ≡ utf8_decoded (take result bytes.now) ∷ file_lines_of (utf8_decoded (drop result bytes.now)) }
+{
+    match memchr2(b'\n', b'\r', bytes) {
+        Some(at) => break_end(bytes, at),
+        None => bytes.len(),
+    }
+}
+
+/// Returns how many lines bytes have.
+pub fn count_lines(bytes: &[u8]) -> usize
+    ensures { result ≡ length (file_lines_of (utf8_decoded bytes.now)) }
+{
+    let mut count = 0;
+    let mut rest = bytes;
+    while !rest.is_empty() {
+        rest = &rest[first_line_len(rest)..];
+        count += 1;
+    }
+    count
+}
+
+/// Returns how many bytes the lines have that end in some bytes, whatever follows these. A carriage return at the end
+/// does not end a line here, since a line feed may follow.
+pub fn whole_lines_len(bytes: &[u8]) -> usize
+    ensures within { result ≤ length bytes.now }
+    ensures cut { (more : List ℕ) → file_lines_of (utf8_decoded (bytes.now ++ more))
+        ≡ file_lines_of (utf8_decoded (take result bytes.now)) ++ file_lines_of (utf8_decoded (drop result bytes.now ++ more)) }
+    ensures fault { (more : List ℕ) → utf8_fault (bytes.now ++ more)
+        ≡ fault_from (utf8_fault (take result bytes.now)) result (drop result bytes.now ++ more) }
+{
+    let Some((_, front)) = bytes.split_last() else {
+        return 0;
+    };
+    match memrchr2(b'\n', b'\r', front) {
+        Some(at) => break_end(bytes, at),
+        None => 0,
+    }
+}

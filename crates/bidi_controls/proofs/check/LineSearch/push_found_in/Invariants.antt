@@ -1,0 +1,18 @@
+use Rattle.bidi_base.proofs.Common.{◌≡◌, ◌++◌, ◌-◌, ◌≤◌, length}
+use Rattle.bidi_controls.specs.Findings.{findings_in_paragraphs}
+use Rattle.bidi_controls.specs.Lines.{lines_of}
+use Rattle.bidi_controls.proofs.check.LineSearch.push_found_in.Given as goal
+
+abbrev pub invariant-loop-rest : goal.invariant-loop-rest
+invariant-loop-rest g l = record {
+  fits : length l.rest ≤ length l.line;
+  found : l.findings.items
+      ++ findings_in_paragraphs (g.D.BidiDataSource.source l.fn.data_source) l.wanted l.number (length l.line - length l.rest)
+      (lines_of (g.D.BidiDataSource.source l.fn.data_source) l.rest)
+      ≡ l.fn.findings.items
+      ++ findings_in_paragraphs (g.D.BidiDataSource.source l.fn.data_source) l.wanted l.number 0
+      (lines_of (g.D.BidiDataSource.source l.fn.data_source) l.line);
+}
+
+abbrev pub decreases-loop-rest : goal.decreases-loop-rest
+decreases-loop-rest g l = length l.rest
