@@ -1,20 +1,22 @@
 -- What options before others ask for, where words are texts.
-use Rattle.bidi_base.proofs.Common.{◌≡◌, refl, sym, ap, ◌∙◌, ℕ, ◌-◌, ◌<◌, ◌≤◌, Bool, true, false, List, [], ◌∷◌, Some, Err, length, get_or, map, drop, string_bytes, arith, codes, slice_range, take_all}
+use Rattle.bidi_base.proofs.Common.{◌≡◌, refl, sym, ap, ◌∙◌, ℕ, ◌-◌, ◌<◌, ◌≤◌, Bool, true, false, List, [], ◌∷◌, Some, None, Ok, Err, length, get_or, map, drop, string_bytes, arith, codes, slice_range, take_all}
 use Rattle.std.specs.Str.{bytes_eq}
 use Rattle.std.specs.declared.string.String.{String}
 use Rattle.std.proofs.lemmas.List.{length-drop}
 use Rattle.bidi_terminal.specs.Bases.{base_named}
 use Rattle.bidi_terminal.specs.Numbers.{number_of}
 use Rattle.bidi_terminal.specs.declared.base.Base.{Base}
-use Rattle.bidi_controls.specs.declared.finding.Wanted.{Wanted}
-use Rattle.bidi_controls.specs.declared.finding.Wanted.TheVariants.{Unmatched, Everything}
-use Rattle.bidi.specs.Commands.{check_of, explain_of, file_words, over_files, show_of}
+use Rattle.bidi.specs.Checks.{flag_named, setting_named, with_flag, with_setting}
+use Rattle.bidi.specs.Commands.{by_options, check_of, explain_of, file_words, over_files, show_of}
 use Rattle.bidi_stages.specs.declared.view.Form.TheVariants.{Page}
 use Rattle.bidi_stages.specs.declared.view.StageView.{StageView}
+use Rattle.bidi.specs.declared.check_options.CheckOptions.{CheckOptions}
+use Rattle.bidi.specs.declared.check_options.Flag.{Flag}
+use Rattle.bidi.specs.declared.check_options.Setting.{Setting}
 use Rattle.bidi.specs.declared.command.Command.TheVariants.{Check}
+use Rattle.bidi.specs.declared.refusal.Refusal.{Refusal}
 use Rattle.bidi.specs.declared.refusal.Refusal.TheVariants.{NoValue}
 use Rattle.bidi.specs.declared.refusal.Subcommand.TheVariants.{Checking}
-use Rattle.bidi.specs.declared.search.Search.{Search}
 use Rattle.bidi.specs.declared.view.View.{View}
 
 module _ {Z : Type 0} where
@@ -81,72 +83,55 @@ module _ {Z : Type 0} where
   words-two words first second some is more is' =
       words-first words first some is ∙ ap (λ rest. string_bytes first ∷ rest) (words-first (slice_range words 1 (length words)) second more is')
 
-module _ (wanted : Wanted) (search : Search) where
-  pub check_of-any : (word : List ℕ) (words : List (List ℕ)) → bytes_eq word (codes "--any") ≡ true → check_of wanted search (word ∷ words) ≡ check_of Everything search words
-  check_of-any word [] named = simp named
-  check_of-any word (value ∷ words) named = simp named
+module _ (options : CheckOptions) where
+  check_of-flag : (word : List ℕ) (words : List (List ℕ)) (flag : Flag) → flag_named word ≡ Some flag → check_of (with_flag flag options) words ≡ check_of options (word ∷ words)
+  check_of-flag word [] flag named = simp named
+  check_of-flag word (value ∷ words) flag named = simp named
 
-  pub check_of-unmatched : (word : List ℕ) (words : List (List ℕ)) → bytes_eq word (codes "--any") ≡ false → bytes_eq word (codes "--unmatched") ≡ true
-      → check_of wanted search (word ∷ words) ≡ check_of Unmatched search words
-  check_of-unmatched word [] other named = simp (other, named)
-  check_of-unmatched word (value ∷ words) other named = simp (other, named)
+  check_of-files : (word : List ℕ) (words : List (List ℕ)) → flag_named word ≡ None → setting_named word ≡ None
+      → over_files (Check options) (file_words Checking (word ∷ words)) ≡ check_of options (word ∷ words)
+  check_of-files word [] not_flag not_setting = simp (not_flag, not_setting)
+  check_of-files word (value ∷ words) not_flag not_setting = simp (not_flag, not_setting)
 
-  pub check_of-hidden : (word : List ℕ) (words : List (List ℕ)) → bytes_eq word (codes "--any") ≡ false → bytes_eq word (codes "--unmatched") ≡ false → bytes_eq word (codes "--hidden") ≡ true
-      → check_of wanted search (word ∷ words) ≡ check_of wanted (record search { hidden = true }) words
-  check_of-hidden word [] not_any not_unmatched named = simp (not_any, not_unmatched, named)
-  check_of-hidden word (value ∷ words) not_any not_unmatched named = simp (not_any, not_unmatched, named)
+  check_of-no_value : (word : List ℕ) (setting : Setting) → flag_named word ≡ None → setting_named word ≡ Some setting → Err (NoValue Checking word) ≡ check_of options (word ∷ [])
+  check_of-no_value word setting not_flag named = simp (not_flag, named)
 
-  pub check_of-text : (word : List ℕ) (words : List (List ℕ)) → bytes_eq word (codes "--any") ≡ false → bytes_eq word (codes "--unmatched") ≡ false → bytes_eq word (codes "--hidden") ≡ false → bytes_eq word (codes "--text") ≡ true
-      → check_of wanted search (word ∷ words) ≡ check_of wanted (record search { text = true }) words
-  check_of-text word [] not_any not_unmatched not_hidden named = simp (not_any, not_unmatched, not_hidden, named)
-  check_of-text word (value ∷ words) not_any not_unmatched not_hidden named = simp (not_any, not_unmatched, not_hidden, named)
+  check_of-setting : (word value : List ℕ) (words : List (List ℕ)) (setting : Setting) → flag_named word ≡ None → setting_named word ≡ Some setting
+      → by_options (with_setting setting value options) (λ next. check_of next words) ≡ check_of options (word ∷ value ∷ words)
+  check_of-setting word value words setting not_flag named = simp (not_flag, named)
 
-  module _ (word : List ℕ) (not_any : bytes_eq word (codes "--any") ≡ false) (not_unmatched : bytes_eq word (codes "--unmatched") ≡ false) (not_hidden : bytes_eq word (codes "--hidden") ≡ false) (not_text : bytes_eq word (codes "--text") ≡ false) where
-    pub check_of-list : (value : List ℕ) (words : List (List ℕ)) → bytes_eq word (codes "--files-from") ≡ true
-        → check_of wanted search (word ∷ value ∷ words) ≡ check_of wanted (record search { list = Some value }) words
-    check_of-list value words named = simp (not_any, not_unmatched, not_hidden, not_text, named)
+  module _ {Z : Type 0} (words : List (String Z)) (first : String Z) (some : 1 ≤ length words) (is : first ≡ get_or words 0 first) where
+    abbrev rest : List (String Z)
+    rest = slice_range words 1 (length words)
 
-    pub check_of-no_list : bytes_eq word (codes "--files-from") ≡ true → check_of wanted search (word ∷ []) ≡ Err (NoValue Checking word)
-    check_of-no_list named = simp (not_any, not_unmatched, not_hidden, not_text, named)
+    pub words_of-flag : (flag : Flag) → flag_named (string_bytes first) ≡ Some flag → check_of (with_flag flag options) (map string_bytes rest) ≡ check_of options (map string_bytes words)
+    words_of-flag flag named =
+        check_of-flag (string_bytes first) (map string_bytes rest) flag named ∙ sym (ap (check_of options) (words-first words first some is))
 
-    pub check_of-files : (words : List (List ℕ)) → bytes_eq word (codes "--files-from") ≡ false
-        → check_of wanted search (word ∷ words) ≡ over_files (Check wanted search) (file_words Checking (word ∷ words))
-    check_of-files [] not_list = simp (not_any, not_unmatched, not_hidden, not_text, not_list)
-    check_of-files (value ∷ words) not_list = simp (not_any, not_unmatched, not_hidden, not_text, not_list)
+    module _ (not_flag : flag_named (string_bytes first) ≡ None) where
+      pub words_of-files : setting_named (string_bytes first) ≡ None → over_files (Check options) (file_words Checking (map string_bytes words)) ≡ check_of options (map string_bytes words)
+      words_of-files not_setting =
+          let e : map string_bytes words ≡ string_bytes first ∷ map string_bytes rest = words-first words first some is in
+          ap (λ l. over_files (Check options) (file_words Checking l)) e
+          ∙ check_of-files (string_bytes first) (map string_bytes rest) not_flag not_setting
+          ∙ sym (ap (check_of options) e)
 
-module _ {Z : Type 0} (wanted : Wanted) (search : Search) (words : List (String Z)) (first : String Z) (some : 1 ≤ length words) (is : first ≡ get_or words 0 first) (not_any : bytes_eq (string_bytes first) (codes "--any") ≡ false) where
-  pub words_of-unmatched : bytes_eq (string_bytes first) (codes "--unmatched") ≡ true → check_of Unmatched search (map string_bytes (slice_range words 1 (length words))) ≡ check_of wanted search (map string_bytes words)
-  words_of-unmatched named =
-      sym (ap (check_of wanted search) (words-first words first some is) ∙ check_of-unmatched wanted search (string_bytes first) (map string_bytes (slice_range words 1 (length words))) not_any named)
+      module _ (setting : Setting) (named : setting_named (string_bytes first) ≡ Some setting) where
+        pub words_of-no_value : length rest < 1 → Err (NoValue Checking (string_bytes first)) ≡ check_of options (map string_bytes words)
+        words_of-no_value none =
+            check_of-no_value (string_bytes first) setting not_flag named ∙ sym (ap (check_of options) (words-one words first some is none))
 
-  module _ (not_unmatched : bytes_eq (string_bytes first) (codes "--unmatched") ≡ false) where
-    pub words_of-hidden : bytes_eq (string_bytes first) (codes "--hidden") ≡ true → check_of wanted (record search { hidden = true }) (map string_bytes (slice_range words 1 (length words))) ≡ check_of wanted search (map string_bytes words)
-    words_of-hidden named =
-        sym (ap (check_of wanted search) (words-first words first some is) ∙ check_of-hidden wanted search (string_bytes first) (map string_bytes (slice_range words 1 (length words))) not_any not_unmatched named)
+        module _ (second : String Z) (more : 1 ≤ length rest) (is' : second ≡ get_or rest 0 second) where
+          words_of-setting : by_options (with_setting setting (string_bytes second) options) (λ next. check_of next (map string_bytes (slice_range rest 1 (length rest)))) ≡ check_of options (map string_bytes words)
+          words_of-setting =
+              check_of-setting (string_bytes first) (string_bytes second) (map string_bytes (slice_range rest 1 (length rest))) setting not_flag named
+              ∙ sym (ap (check_of options) (words-two words first second some is more is'))
 
-    module _ (not_hidden : bytes_eq (string_bytes first) (codes "--hidden") ≡ false) where
-      pub words_of-text : bytes_eq (string_bytes first) (codes "--text") ≡ true → check_of wanted (record search { text = true }) (map string_bytes (slice_range words 1 (length words))) ≡ check_of wanted search (map string_bytes words)
-      words_of-text named =
-          sym (ap (check_of wanted search) (words-first words first some is) ∙ check_of-text wanted search (string_bytes first) (map string_bytes (slice_range words 1 (length words))) not_any not_unmatched not_hidden named)
+          pub words_of-value : (next : CheckOptions) → with_setting setting (string_bytes second) options ≡ Ok next
+              → check_of next (map string_bytes (slice_range rest 1 (length rest))) ≡ check_of options (map string_bytes words)
+          words_of-value next taken =
+              sym (ap (λ r. by_options r (λ o. check_of o (map string_bytes (slice_range rest 1 (length rest))))) taken) ∙ words_of-setting
 
-      module _ (not_text : bytes_eq (string_bytes first) (codes "--text") ≡ false) where
-        pub words_of-list : (second : String Z) → bytes_eq (string_bytes first) (codes "--files-from") ≡ true → 1 ≤ length (slice_range words 1 (length words)) → second ≡ get_or (slice_range words 1 (length words)) 0 second
-            → check_of wanted (record search { list = Some (string_bytes second) }) (map string_bytes (slice_range (slice_range words 1 (length words)) 1 (length (slice_range words 1 (length words)))))
-            ≡ check_of wanted search (map string_bytes words)
-        words_of-list second named more is' =
-            let rest : List (String Z) = slice_range words 1 (length words) in
-            sym (ap (check_of wanted search) (words-two words first second some is more is')
-            ∙ check_of-list wanted search (string_bytes first) not_any not_unmatched not_hidden not_text (string_bytes second) (map string_bytes (slice_range rest 1 (length rest))) named)
-
-        pub words_of-no_list : bytes_eq (string_bytes first) (codes "--files-from") ≡ true → length (slice_range words 1 (length words)) < 1
-            → check_of wanted search (map string_bytes words) ≡ Err (NoValue Checking (string_bytes first))
-        words_of-no_list named none =
-            ap (check_of wanted search) (words-one words first some is none) ∙ check_of-no_list wanted search (string_bytes first) not_any not_unmatched not_hidden not_text named
-
-        pub words_of-files : bytes_eq (string_bytes first) (codes "--files-from") ≡ false
-            → check_of wanted search (map string_bytes words) ≡ over_files (Check wanted search) (file_words Checking (map string_bytes words))
-        words_of-files not_list =
-            let e : map string_bytes words ≡ string_bytes first ∷ map string_bytes (slice_range words 1 (length words)) = words-first words first some is in
-            ap (check_of wanted search) e
-            ∙ check_of-files wanted search (string_bytes first) not_any not_unmatched not_hidden not_text (map string_bytes (slice_range words 1 (length words))) not_list
-            ∙ ap (λ l. over_files (Check wanted search) (file_words Checking l)) (sym e)
+          pub words_of-refused : (refusal : Refusal) → with_setting setting (string_bytes second) options ≡ Err refusal → Err refusal ≡ check_of options (map string_bytes words)
+          words_of-refused refusal refused =
+              sym (ap (λ r. by_options r (λ o. check_of o (map string_bytes (slice_range rest 1 (length rest))))) refused) ∙ words_of-setting

@@ -1,22 +1,21 @@
 -- What words ask for.
-use Rattle.std.specs.Prelude.{ℕ, Bool, true, false, ◌||◌, if◌then◌else◌, List, [], ◌∷◌, find, Option, Some, None, Result, Ok, Err, codes}
+use Rattle.std.specs.Prelude.{ℕ, Bool, true, false, ◌||◌, is_some, if◌then◌else◌, List, [], ◌∷◌, find, Option, Some, None, Result, Ok, Err, codes}
 use Rattle.std.specs.Str.{bytes_eq}
 use Rattle.bidi_terminal.specs.Bases.{base_named}
 use Rattle.bidi_terminal.specs.Numbers.{number_of}
 use Rattle.bidi_terminal.specs.declared.base.Base.TheVariants.{Auto}
-use Rattle.bidi_controls.specs.declared.finding.Wanted.{Wanted}
-use Rattle.bidi_controls.specs.declared.finding.Wanted.TheVariants.{Unmatched, Misleading, Everything}
 use Rattle.bidi_stages.specs.Explained.{first_stage_view}
 use Rattle.bidi_stages.specs.declared.view.Form.TheVariants.{Page}
 use Rattle.bidi_stages.specs.declared.view.StageView.{StageView}
+use Rattle.bidi.specs.Checks.{first_check, flag_named, setting_named, with_flag, with_setting}
 use Rattle.bidi.specs.Options.{is_option, is_help, is_version}
+use Rattle.bidi.specs.declared.check_options.CheckOptions.{CheckOptions}
 use Rattle.bidi.specs.declared.command.Command.{Command}
 use Rattle.bidi.specs.declared.command.Command.TheVariants.{Check, Show, Explain, Help, Version}
 use Rattle.bidi.specs.declared.refusal.Refusal.{Refusal}
 use Rattle.bidi.specs.declared.refusal.Refusal.TheVariants.{NoSubcommand, NotASubcommand, NotAnOption, LateOption, NotAlone, NoValue, NotABase, NotAWidth, NoText}
 use Rattle.bidi.specs.declared.refusal.Subcommand.{Subcommand}
 use Rattle.bidi.specs.declared.refusal.Subcommand.TheVariants.{Checking, Showing, Explaining}
-use Rattle.bidi.specs.declared.search.Search.{Search}
 use Rattle.bidi.specs.declared.view.View.{View}
 
 -- the only argument behind a subcommand asks for help
@@ -52,27 +51,27 @@ abbrev pub over_files : (List (List ℕ) → Command) → Result (List (List ℕ
 over_files command (Ok files) = Ok (command files)
 over_files command (Err refusal) = Err refusal
 
--- what `check` searches without options
-abbrev pub first_search : Search
-first_search = record { hidden = false; text = false; list = None }
+-- what follows if there is a value, or else if there is none
+abbrev pub by_case : {A B : Type 0} → Option A → (A → B) → B → B
+by_case None next otherwise = otherwise
+by_case (Some value) next otherwise = next value
 
--- behind `check` and options that want these findings and ask for this search: further options, in any order, and files
-abbrev pub check_of : Wanted → Search → List (List ℕ) → Result Command Refusal
-check_of wanted search [] = Ok (Check wanted search [])
-check_of wanted search (word ∷ []) =
-    if bytes_eq word (codes "--any") then check_of Everything search []
-    else if bytes_eq word (codes "--unmatched") then check_of Unmatched search []
-    else if bytes_eq word (codes "--hidden") then check_of wanted (record search { hidden = true }) []
-    else if bytes_eq word (codes "--text") then check_of wanted (record search { text = true }) []
-    else if bytes_eq word (codes "--files-from") then Err (NoValue Checking word)
-    else over_files (Check wanted search) (file_words Checking (word ∷ []))
-check_of wanted search (word ∷ value ∷ words) =
-    if bytes_eq word (codes "--any") then check_of Everything search (value ∷ words)
-    else if bytes_eq word (codes "--unmatched") then check_of Unmatched search (value ∷ words)
-    else if bytes_eq word (codes "--hidden") then check_of wanted (record search { hidden = true }) (value ∷ words)
-    else if bytes_eq word (codes "--text") then check_of wanted (record search { text = true }) (value ∷ words)
-    else if bytes_eq word (codes "--files-from") then check_of wanted (record search { list = Some value }) words
-    else over_files (Check wanted search) (file_words Checking (word ∷ value ∷ words))
+-- what follows of options, unless one of them is refused
+abbrev pub by_options : Result CheckOptions Refusal → (CheckOptions → Result Command Refusal) → Result Command Refusal
+by_options (Err refusal) next = Err refusal
+by_options (Ok options) next = next options
+
+-- behind `check` and options that ask for this: further options, in any order, and files
+abbrev pub check_of : CheckOptions → List (List ℕ) → Result Command Refusal
+check_of options [] = Ok (Check options [])
+check_of options (word ∷ []) =
+    by_case (flag_named word) (λ flag. check_of (with_flag flag options) [])
+    (if is_some (setting_named word) then Err (NoValue Checking word)
+    else over_files (Check options) (file_words Checking (word ∷ [])))
+check_of options (word ∷ value ∷ words) =
+    by_case (flag_named word) (λ flag. check_of (with_flag flag options) (value ∷ words))
+    (by_case (setting_named word) (λ setting. by_options (with_setting setting value options) (λ next. check_of next words))
+    (over_files (Check options) (file_words Checking (word ∷ value ∷ words))))
 
 -- what `show` does without options
 abbrev pub first_view : View
@@ -132,7 +131,7 @@ alone_of name words =
 abbrev pub command_of : List (List ℕ) → Result Command Refusal
 command_of [] = Err NoSubcommand
 command_of (name ∷ words) =
-    if bytes_eq name (codes "check") then (if asks_help words then Ok (Help (Some Checking)) else check_of Misleading first_search words)
+    if bytes_eq name (codes "check") then (if asks_help words then Ok (Help (Some Checking)) else check_of first_check words)
     else if bytes_eq name (codes "show") then (if asks_help words then Ok (Help (Some Showing)) else show_of first_view words)
     else if bytes_eq name (codes "explain")
     then (if asks_help words then Ok (Help (Some Explaining)) else explain_of first_stage_view words)

@@ -27,13 +27,6 @@ pub fn text_of(alloc: Global, characters: &[char]) -> Result<String, AllocError>
     Ok(text)
 }
 
-/// The characters of a text.
-pub fn chars_of(alloc: Global, text: &str) -> Result<Vec<char>, AllocError>
-    ensures { IfOk result (λ v. v.items ≡ chars text.now) }
-{
-    text.chars().collect(alloc)
-}
-
 /// The text of a line.
 pub fn text_of_line(text: &str, start: usize, end: usize) -> &str
     requires { IsLine len_utf8 (chars text.now) start end }

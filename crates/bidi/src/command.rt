@@ -3,10 +3,9 @@ ghost use Rattle.std.specs.Prelude.{◌≡◌, find, map, string_bytes};
 ghost use Rattle.bidi.specs.Commands.{asks_help, unknown_option, late_option};
 ghost use Rattle.bidi.specs.Options.{is_option};
 
+use crate::check_options::{CheckOptions, Flag, Setting};
 use crate::refusal::{Refusal, Subcommand, Word};
-use crate::search::Search;
 use crate::view::View;
-use bidi_controls::finding::Wanted;
 use bidi_stages::view::{Form, StageView};
 use bidi_terminal::{Base, parse_number};
 use std::marker::Model;
@@ -111,11 +110,10 @@ impl<'w> FileWords<'w> {
 /// A form of the program.
 #[derive(Drop)]
 pub enum Command<'w> {
-    /// `check [--any|--unmatched] [--hidden] [--text] [--files-from LIST] [FILE..]`: direction controls without
-    /// a match on their line, or all controls, and lines that are displayed differently from how they read.
+    /// `check [OPTION..] [FILE..]`: direction controls without a match on their line, or all controls, and lines that are
+    /// displayed differently from how they read.
     Check {
-        wanted: Wanted,
-        search: Search<'w>,
+        options: CheckOptions<'w>,
         files: FileWords<'w>,
     },
     /// `explain [--base auto|ltr|rtl] [--html] TEXT..`: what each stage makes of the characters.
@@ -141,65 +139,40 @@ impl<'w> Command<'w> {
 
     /// What words behind the options of `check` ask for.
     fn over_files(
-        wanted: Wanted,
-        search: Search<'w>,
+        options: CheckOptions<'w>,
         words: &'w [String],
     ) -> Result<Command<'w>, Refusal<'w>>
-        ensures { result ≡ over_files (Check wanted search.entry) (file_words Checking (map string_bytes words.now)) }
+        ensures { result ≡ over_files (Check options.entry) (file_words Checking (map string_bytes words.now)) }
     {
         match FileWords::parse(Subcommand::Checking, words) {
-            Ok(files) => Ok(Command::Check {
-                wanted,
-                search,
-                files,
-            }),
+            Ok(files) => Ok(Command::Check { options, files }),
             Err(refusal) => Err(refusal),
         }
     }
 
-    /// What words behind `check` ask for, where the options before them want these findings and ask for this
-    /// search.
+    /// What words behind `check` ask for, where the options before them ask for this.
     fn parse_check(
-        wanted: Wanted,
-        search: Search<'w>,
+        options: CheckOptions<'w>,
         words: &'w [String],
     ) -> Result<Command<'w>, Refusal<'w>>
-        ensures { result ≡ check_of wanted search.entry (map string_bytes words.now) }
+        ensures { result ≡ check_of options.entry (map string_bytes words.now) }
     {
         let [first, rest @ ..] = words else {
-            return Command::over_files(wanted, search, words);
+            return Command::over_files(options, words);
         };
-        let option = first.as_str();
-        if option == "--any" {
-            return Command::parse_check(Wanted::Everything, search, rest);
+        if let Some(flag) = Flag::parse(first.as_str()) {
+            return Command::parse_check(options.with_flag(flag), rest);
         }
-        if option == "--unmatched" {
-            return Command::parse_check(Wanted::Unmatched, search, rest);
+        let Some(setting) = Setting::parse(first.as_str()) else {
+            return Command::over_files(options, words);
+        };
+        let [value, rest @ ..] = rest else {
+            return Err(Refusal::NoValue(Subcommand::Checking, Word::new(first.as_str())));
+        };
+        match options.with_setting(setting, value.as_str()) {
+            Ok(options) => Command::parse_check(options, rest),
+            Err(refusal) => Err(refusal),
         }
-        if option == "--hidden" {
-            let search = Search {
-                hidden: true,
-                ..search
-            };
-            return Command::parse_check(wanted, search, rest);
-        }
-        if option == "--text" {
-            let search = Search {
-                text: true,
-                ..search
-            };
-            return Command::parse_check(wanted, search, rest);
-        }
-        if option == "--files-from" {
-            return match rest {
-                [] => Err(Refusal::NoValue(Subcommand::Checking, Word::new(option))),
-                [list, rest @ ..] => {
-                    let list = Some(Word::new(list.as_str()));
-                    Command::parse_check(wanted, Search { list, ..search }, rest)
-                }
-            };
-        }
-        Command::over_files(wanted, search, words)
     }
 
     /// What words behind `show` ask for, where the options before them ask for this view.
@@ -302,7 +275,7 @@ impl<'w> Command<'w> {
                 if asks_help(rest) {
                     return Ok(Command::Help(Some(Subcommand::Checking)));
                 }
-                Command::parse_check(Wanted::Misleading, Search::default(), rest)
+                Command::parse_check(CheckOptions::default(), rest)
             }
             [name, rest @ ..] if name.as_str() == "show" => {
                 if asks_help(rest) {

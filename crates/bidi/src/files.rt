@@ -1,10 +1,10 @@
 //! What is read and written: the files of `show`, the texts of `explain`, help and versions.
 use crate::help::help;
 use crate::input::{InputFault, explain_text, show_input};
-use crate::names::shown_name;
 use crate::refusal::Subcommand;
 use crate::status::Status;
 use crate::view::View;
+use bidi_names::names::shown_name;
 use bidi_stages::page;
 use bidi_stages::view::{Form, StageView};
 use bidi_unicode::UNICODE_VERSION;

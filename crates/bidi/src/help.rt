@@ -3,7 +3,7 @@ use crate::refusal::Subcommand;
 
 const PROGRAM: &str = "bidi: the Unicode Bidirectional Algorithm for text in UTF-8\n\
     \n\
-    usage: bidi check [--any | --unmatched] [--hidden] [--text] [--files-from LIST] [--] [FILE..]\n\
+    usage: bidi check [OPTION..] [--] [FILE..]\n\
     \u{20}      bidi show [--base auto|ltr|rtl] [--width N] [--plain] [--] [FILE..]\n\
     \u{20}      bidi explain [--base auto|ltr|rtl] [--html] [--] TEXT..\n\
     \u{20}      bidi --help | --version\n\
@@ -25,8 +25,7 @@ const PROGRAM: &str = "bidi: the Unicode Bidirectional Algorithm for text in UTF
     \u{20}       4 reading or writing failed, or the arguments could not be read\n\
     If several apply, the highest counts.\n";
 
-const CHECK: &str =
-    "usage: bidi check [--any | --unmatched] [--hidden] [--text] [--files-from LIST] [--] [FILE..]\n\
+const CHECK: &str = "usage: bidi check [OPTION..] [--] [FILE..]\n\
     \n\
     Finds the direction controls that have no match on their line, and the lines that controls\n\
     make display differently from how they read. Both can make source code display differently\n\
@@ -34,6 +33,7 @@ const CHECK: &str =
     \n\
     main.c:7:18: U+202E RIGHT-TO-LEFT OVERRIDE is not closed on its line\n\
     main.c:9:3: U+2067 RIGHT-TO-LEFT ISOLATE is on a line displayed differently from how it reads\n\
+    main.c:9:3: note: displayed as: return 0; if (a)\n\
     \n\
     with file, line and column. Lines and columns count from 1, columns in characters.\n\
     \n\
@@ -41,7 +41,16 @@ const CHECK: &str =
     --unmatched   finds only controls that have no match\n\
     --hidden      also searches hidden files below a directory, whose names begin with a dot\n\
     --text        also searches binary files, which have a NUL in their first 8,000 bytes\n\
-    --files-from  also searches the files that LIST names; - is standard input\n\
+    --files-from LIST\n\
+    \u{20}             also searches the files that LIST names; - is standard input\n\
+    --allow LIST  leaves out what LIST allows: each of its lines is PATH, PATH:LINE, a directory\n\
+    \u{20}             with / at its end for all files below it, or a comment that begins with #\n\
+    --format text|json|sarif\n\
+    \u{20}             writes lines of text (the default), lines of JSON, or SARIF 2.1.0\n\
+    --color auto|always|never\n\
+    \u{20}             writes text in colours and shows the lines of the files: auto, the default, if\n\
+    \u{20}             standard output is a terminal and NO_COLOR is not set\n\
+    --quiet       writes no finding; the status tells\n\
     --help        writes this text, if it is the only argument behind check\n\
     --            ends the options: what follows are files\n\
     FILE          a file, or a directory for all files below it; - is standard input\n\

@@ -2,22 +2,24 @@
 ghost use Rattle.std.specs.Prelude.{◌≡◌, ◌==◌, ◌++◌, not, length, flat_map, IfOk, IfErr, IsErrOf, OnOk, string_bytes};
 ghost use Rattle.std.specs.Str.{chars, IsUtf8};
 ghost use Rattle.bidi_unicode.specs.Unicode.{unicode_source};
-ghost use Rattle.bidi_controls.specs.Findings.{findings_of, report_of};
 ghost use Rattle.bidi_stages.specs.Explained.{AreTold};
 ghost use Rattle.bidi_bytes.specs.Decoded.{decoded as decoded_chars, first_invalid as first_invalid_of};
+ghost use Rattle.bidi_bytes.specs.FileLines.{file_lines_of};
+ghost use Rattle.bidi_scan.specs.FileSearch.{found_from};
+ghost use Rattle.bidi.specs.Told.{is_any_told, told_report};
 ghost use Rattle.bidi.specs.Inputs.{TellsInput};
-ghost use Rattle.bidi.specs.Names.{shown_name as shown_name_of};
 ghost use Rattle.bidi.specs.Shown.{shown_text};
 ghost use Rattle.bidi.specs.declared.input.InputFault.TheVariants.{Memory};
 
-use crate::characters::chars_of;
-use crate::names::shown_name;
 use crate::paragraphs::show;
 use crate::status::Status;
+use crate::told::push_lines_told;
 use crate::view::View;
+use bidi_allowed::allowed::AllowList;
 use bidi_controls::finding::Wanted;
-use bidi_controls::report::report;
-use bidi_scan::file_search::{FoundLine, found_lines};
+use bidi_names::names::chars_of;
+use bidi_reports::report::Report;
+use bidi_scan::file_search::found_lines;
 use bidi_stages::explain::explain;
 use bidi_stages::view::StageView;
 use bidi_unicode::UnicodeData;
@@ -84,47 +86,36 @@ fn text_of(bytes: &[u8]) -> Result<&str, InputFault>
     }
 }
 
-/// Appends what `check` says of a line of the file of this name.
-fn push_line_report(alloc: Global, out: &mut String, name: &str, line: &FoundLine) -> Result<(), AllocError>
-    ensures { OnOk result (string_bytes out.new ≡ string_bytes out.old ++ report_of name.now line.now.findings.items) }
-{
-    let told = report(alloc, name, line.findings.as_slice())?;
-    out.push_str(told.as_str())
-}
-
-/// What `check` says of the lines of the file of this name in which it has found something.
-pub fn report_lines(alloc: Global, name: &str, lines: &[FoundLine]) -> Result<String, AllocError>
-    ensures { IfOk result (λ out. string_bytes out
-        ≡ report_of name.now (flat_map (λ line. line.findings.items) lines.now)) }
-{
-    let mut out = String::new(alloc);
-    for line in lines {
-        push_line_report(alloc, &mut out, name, line)?;
-    }
-    Ok(out)
-}
-
-/// What `check` finds in an input of this name, if these findings are wanted. Hidden characters of the name are
-/// escaped. An input that is not UTF-8 is read as `decoded` says. Returns an error if an allocation fails.
+/// What `check` finds in an input of this name, if these findings are wanted, without those that are allowed. An input
+/// that is not UTF-8 is read as `decoded` says. Returns an error if an allocation fails.
 pub fn check_input(
     alloc: Global,
+    report: &mut Report,
+    allowed: &AllowList<'_>,
     wanted: Wanted,
     name: &str,
     bytes: &[u8],
 ) -> Result<Checked, AllocError>
-    ensures text { IfOk result (λ checked.
-        (string_bytes checked.report ≡ report_of (shown_name_of (chars name.now)) (findings_of unicode_source wanted (decoded_chars bytes.now)))
-        × (checked.found ≡ not (length (findings_of unicode_source wanted (decoded_chars bytes.now)) == 0))) }
-    ensures utf8 { IfOk result (λ checked. IsUtf8 bytes.now
-        → (string_bytes checked.report ≡ report_of (shown_name_of (chars name.now)) (findings_of unicode_source wanted (chars bytes.now)))
-        × (checked.found ≡ not (length (findings_of unicode_source wanted (chars bytes.now)) == 0))) }
+    ensures report { let found = found_from unicode_source wanted 1 (file_lines_of (decoded_chars bytes.now)) in
+        IfOk result (λ checked. string_bytes checked.report
+        ≡ told_report unicode_source allowed.now report.old.form report.old.later name.now found) }
+    ensures found { let found = found_from unicode_source wanted 1 (file_lines_of (decoded_chars bytes.now)) in
+        IfOk result (λ checked. checked.found ≡ is_any_told allowed.now name.now found) }
     ensures invalid { IfOk result (λ checked. checked.invalid ≡ first_invalid_of bytes.now) }
 {
     let searched = found_lines(alloc, wanted, bytes)?;
-    let shown = shown_name(alloc, name)?;
+    let mut out = String::new(alloc);
+    let found = push_lines_told(
+        alloc,
+        report,
+        allowed,
+        &mut out,
+        name,
+        searched.lines.as_slice(),
+    )?;
     Ok(Checked {
-        report: report_lines(alloc, shown.as_str(), searched.lines.as_slice())?,
-        found: !searched.lines.is_empty(),
+        report: out,
+        found,
         invalid: searched.invalid,
     })
 }

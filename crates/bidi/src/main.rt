@@ -5,28 +5,29 @@
 #![tactic(auto)]
 
 mod characters;
+mod check_options;
 mod command;
 mod entries;
 mod files;
 mod help;
 mod input;
-mod names;
 mod paragraphs;
 mod refusal;
 mod search;
 mod show;
 mod status;
+mod told;
 mod view;
 mod walk;
 
+use bidi_names::names::{shown_bytes, shown_name};
 use command::Command;
 use files::{answer_texts, end_without_memory, show_files, write_help, write_versions};
-use names::{shown_bytes, shown_name};
 use refusal::Refusal;
 use status::Status;
 use std::alloc::AllocError;
-use std::env::{self, FillError};
-use std::io::{self, ErrorKind};
+use std::env::{self, FillError, VarError};
+use std::io::{self, ErrorKind, IsTerminal};
 use std::process::ExitCode;
 use std::rt::{Env, Files};
 use walk::check_files;
@@ -86,16 +87,25 @@ fn refuse(rt: &(impl Eprint + AllocGlobal), refusal: &Refusal<'_>) -> Result<(),
     Ok(())
 }
 
+// Returns whether the environment asks for no colours: by NO_COLOR, unless it is empty.
+fn has_no_color(rt: &(impl Env + AllocGlobal)) -> bool {
+    match env::var(rt, "NO_COLOR") {
+        Ok(value) => !value.is_empty(),
+        Err(VarError::NotPresent) => false,
+        Err(VarError::NotUnicode | VarError::OutOfMemory) => true,
+    }
+}
+
 fn answer(
-    rt: &(impl Files + Input + Print + Eprint + AllocGlobal),
+    rt: &(impl Env + Files + Input + Print + Eprint + AllocGlobal),
+    is_terminal: bool,
     command: Command<'_>,
 ) -> Status {
     match command {
-        Command::Check {
-            wanted,
-            search,
-            files,
-        } => check_files(rt, wanted, &search, files.words()),
+        Command::Check { options, files } => {
+            let form = options.report.form(is_terminal, has_no_color(rt));
+            check_files(rt, form, &options, files.words())
+        }
         Command::Explain { view, texts } => answer_texts(rt, view, texts.words()),
         Command::Help(subcommand) => write_help(rt, subcommand),
         Command::Show { view, files } => show_files(rt, view, files.words()),
@@ -103,13 +113,16 @@ fn answer(
     }
 }
 
-fn serve(rt: &(impl Env + Files + Input + Print + Eprint + AllocGlobal)) -> Status {
+fn serve(
+    rt: &(impl Env + Files + Input + Print + Eprint + AllocGlobal),
+    is_terminal: bool,
+) -> Status {
     let words = match arguments(rt) {
         Ok(words) => words,
         Err(error) => return refuse_arguments(rt, &error),
     };
     match Command::parse(words.as_slice()) {
-        Ok(command) => answer(rt, command),
+        Ok(command) => answer(rt, is_terminal, command),
         Err(refusal) => match refuse(rt, &refusal) {
             Ok(()) => Status::Refused,
             Err(AllocError) => end_without_memory(rt),
@@ -118,5 +131,6 @@ fn serve(rt: &(impl Env + Files + Input + Print + Eprint + AllocGlobal)) -> Stat
 }
 
 fn main(rt: HostRuntime) -> ExitCode {
-    ExitCode::from(serve(&rt).number())
+    let is_terminal = rt.stdout().is_terminal();
+    ExitCode::from(serve(&rt, is_terminal).number())
 }

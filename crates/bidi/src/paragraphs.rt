@@ -7,12 +7,13 @@ ghost use Rattle.bidi_controls.specs.Lines.{own_chars as own_chars_of};
 ghost use Rattle.unicode_bidi.specs.BidiInfo.{analysed as analysed_of};
 ghost use Rattle.unicode_bidi.specs.ParagraphInfo.{level_of, range_of};
 
-use crate::characters::{chars_of, text_of, text_of_line};
+use crate::characters::{text_of, text_of_line};
 use crate::show::push_line;
 use crate::view::View;
 use bidi_base::data_source::BidiDataSource;
 use bidi_controls::lines::{first_line_len, own_chars};
 use bidi_lines::line_levels::first_units;
+use bidi_names::names::chars_of;
 use bidi_terminal::Columns;
 use bidi_text::text::StrText;
 use std::alloc::{AllocError, Global};

@@ -89,6 +89,10 @@ pub enum Refusal<'w> {
     NotABase(Subcommand, Word<'w>),
     /// The value of `--width` is no number of one to three digits.
     NotAWidth(Word<'w>),
+    /// The value of `--format` is none of `text`, `json` and `sarif`.
+    NotAFormat(Word<'w>),
+    /// The value of `--color` is none of `auto`, `always` and `never`.
+    NotAColor(Word<'w>),
     /// `explain` has no text.
     NoText,
 }
@@ -133,6 +137,16 @@ impl<'w> fmt::Display for Refusal<'w> {
             Refusal::NotAWidth(word) => write!(
                 f,
                 "show: --width takes a number of one to three digits, not {}; see bidi show --help",
+                word.text
+            ),
+            Refusal::NotAFormat(word) => write!(
+                f,
+                "check: --format takes text, json or sarif, not {}; see bidi check --help",
+                word.text
+            ),
+            Refusal::NotAColor(word) => write!(
+                f,
+                "check: --color takes auto, always or never, not {}; see bidi check --help",
                 word.text
             ),
             Refusal::NoText => f.write_str("explain: no text; see bidi explain --help"),

@@ -1,16 +1,19 @@
 //! The files that `check` searches: its arguments and its list name them, or they are below a directory. They
 //! are searched one after the other. A fault of one does not keep the next from being searched.
+use crate::check_options::CheckOptions;
 use crate::entries::{listed_names, names_in_order, path_below};
 use crate::files::{
     STANDARD_INPUT, STANDARD_INPUT_NAME, end_without_memory, read_standard_input, refuse, write_out,
 };
-use crate::input::{check_input, report_lines};
-use crate::names::{shown_bytes, shown_name};
-use crate::search::Search;
+use crate::input::check_input;
 use crate::status::Status;
+use crate::told::push_lines_told;
+use bidi_allowed::allowed::{AllowList, ListFault};
 use bidi_bytes::decode::{BINARY_PREFIX, is_binary, is_utf16};
 use bidi_bytes::pieces::read_piece;
-use bidi_controls::finding::Wanted;
+use bidi_names::names::{shown_bytes, shown_name};
+use bidi_reports::form::Form;
+use bidi_reports::report::Report;
 use bidi_scan::file_search::{FileSearch, FoundLine};
 use std::alloc::AllocError;
 use std::fs;
@@ -19,13 +22,14 @@ use std::rt::Files;
 
 // What `check` looks for and where, and how the run has gone so far.
 #[derive(Drop)]
-struct Run<'s, 'w> {
-    wanted: Wanted,
-    search: &'s Search<'w>,
+struct Run<'s, 'w, 'l> {
+    options: &'s CheckOptions<'w>,
+    allowed: AllowList<'l>,
+    report: Report,
     status: Status,
 }
 
-impl Run<'_, '_> {
+impl Run<'_, '_, '_> {
     ghost use Rattle.std.specs.Prelude.{◌≡◌, max};
     ghost use Rattle.bidi.specs.Statuses.{status_number};
 
@@ -48,7 +52,7 @@ fn or_end<T: Drop>(rt: &impl Eprint, made: Result<T, AllocError>) -> Result<T, S
 // Reports a name that is not UTF-8.
 fn refuse_name(
     rt: &(impl Eprint + AllocGlobal),
-    run: &mut Run<'_, '_>,
+    run: &mut Run<'_, '_, '_>,
     name: &[u8],
 ) -> Result<(), Status> {
     let shown = or_end(rt, shown_bytes(rt.alloc(), name))?;
@@ -63,7 +67,7 @@ fn refuse_name(
 // Tells where an input stops being UTF-8, if it does.
 fn tell_invalid(
     rt: &(impl Eprint + AllocGlobal),
-    run: &mut Run<'_, '_>,
+    run: &mut Run<'_, '_, '_>,
     name: &str,
     invalid: Option<usize>,
 ) -> Result<(), Status> {
@@ -81,31 +85,52 @@ fn tell_invalid(
 // Writes what is found in all bytes of an input.
 fn check_bytes(
     rt: &(impl Print + Eprint + AllocGlobal),
-    run: &mut Run<'_, '_>,
+    run: &mut Run<'_, '_, '_>,
     name: &str,
     bytes: &[u8],
 ) -> Result<(), Status> {
-    let checked = or_end(rt, check_input(rt.alloc(), run.wanted, name, bytes))?;
+    let wanted = run.options.wanted;
+    let checked = check_input(
+        rt.alloc(),
+        &mut run.report,
+        &run.allowed,
+        wanted,
+        name,
+        bytes,
+    );
+    let checked = or_end(rt, checked)?;
     tell_invalid(rt, run, name, checked.invalid)?;
     write_out(rt, checked.report.as_str())?;
     run.note(checked.status());
     Ok(())
 }
 
-// Writes what is found in some lines, and lets them go. The name has no hidden characters.
+// Writes what is found in some lines, and lets them go.
 fn report_found(
     rt: &(impl Print + Eprint + AllocGlobal),
-    run: &mut Run<'_, '_>,
+    run: &mut Run<'_, '_, '_>,
     name: &str,
     found: &mut Vec<FoundLine>,
 ) -> Result<(), Status> {
     if found.is_empty() {
         return Ok(());
     }
-    let report = or_end(rt, report_lines(rt.alloc(), name, found.as_slice()))?;
+    let mut out = String::new(rt.alloc());
+    let lines = found.as_slice();
+    let told = push_lines_told(
+        rt.alloc(),
+        &mut run.report,
+        &run.allowed,
+        &mut out,
+        name,
+        lines,
+    );
+    let is_told = or_end(rt, told)?;
     found.truncate(0);
-    write_out(rt, report.as_str())?;
-    run.note(Status::Found);
+    write_out(rt, out.as_str())?;
+    if is_told {
+        run.note(Status::Found);
+    }
     Ok(())
 }
 
@@ -113,20 +138,19 @@ fn report_found(
 // before.
 fn check_pieces(
     rt: &(impl Print + Eprint + AllocGlobal),
-    run: &mut Run<'_, '_>,
+    run: &mut Run<'_, '_, '_>,
     name: &str,
     reader: &mut impl Read,
     bytes: &mut Vec<u8>,
 ) -> Result<(), Status> {
-    let shown = or_end(rt, shown_name(rt.alloc(), name))?;
-    let mut search = FileSearch::new(rt.alloc(), run.wanted);
+    let mut search = FileSearch::new(rt.alloc(), run.options.wanted);
     let mut found = Vec::new(rt.alloc());
     for _ in 0..u64::MAX {
         let mut read = read_piece(reader, bytes);
         if search.has_room(bytes.len()) {
             let at_end = matches!(read, Ok(true));
             or_end(rt, search.push_read(rt.alloc(), at_end, bytes, &mut found))?;
-            report_found(rt, run, shown.as_str(), &mut found)?;
+            report_found(rt, run, name, &mut found)?;
         } else {
             read = Err(ErrorKind::FileTooLarge.into());
         }
@@ -145,7 +169,7 @@ fn check_pieces(
 // Searches an input. Of a binary one only the first bytes are read, unless binary ones are searched too.
 fn check_reader(
     rt: &(impl Print + Eprint + AllocGlobal),
-    run: &mut Run<'_, '_>,
+    run: &mut Run<'_, '_, '_>,
     text: bool,
     name: &str,
     reader: &mut impl Read,
@@ -172,18 +196,18 @@ fn check_reader(
 
 fn check_standard_input(
     rt: &(impl Input + Print + Eprint + AllocGlobal),
-    run: &mut Run<'_, '_>,
+    run: &mut Run<'_, '_, '_>,
 ) -> Result<(), Status> {
     check_reader(rt, run, true, STANDARD_INPUT, &mut rt.reader())
 }
 
 fn check_file(
     rt: &(impl Files + Print + Eprint + AllocGlobal),
-    run: &mut Run<'_, '_>,
+    run: &mut Run<'_, '_, '_>,
     name: &str,
 ) -> Result<(), Status> {
     match fs::open(rt, name) {
-        Ok(mut file) => check_reader(rt, run, run.search.text, name, &mut file),
+        Ok(mut file) => check_reader(rt, run, run.options.search.text, name, &mut file),
         Err(error) => {
             run.note(refuse(rt, name, &error)?);
             Ok(())
@@ -212,7 +236,7 @@ fn read_directory(rt: &(impl Files + AllocGlobal), dir: &str) -> io::Result<Vec<
 // devices.
 fn visit_path(
     rt: &(impl Files + Print + Eprint + AllocGlobal),
-    run: &mut Run<'_, '_>,
+    run: &mut Run<'_, '_, '_>,
     path: &str,
     below: &mut Vec<String>,
 ) -> Result<(), Status> {
@@ -237,7 +261,7 @@ fn push_path(rt: &impl AllocGlobal, paths: &mut Vec<String>, path: &str) -> Resu
 // list of those that wait, the first name last.
 fn visit_directory(
     rt: &(impl Files + Print + Eprint + AllocGlobal),
-    run: &mut Run<'_, '_>,
+    run: &mut Run<'_, '_, '_>,
     dir: &str,
     waiting: &mut Vec<String>,
 ) -> Result<(), Status> {
@@ -250,7 +274,7 @@ fn visit_directory(
     };
     let names = or_end(
         rt,
-        names_in_order(rt.alloc(), run.search.hidden, listing.as_slice()),
+        names_in_order(rt.alloc(), run.options.search.hidden, listing.as_slice()),
     )?;
     let mut below = Vec::new(rt.alloc());
     for name in names.as_slice() {
@@ -269,7 +293,7 @@ fn visit_directory(
 // Searches the files below a directory: its own, and then those of each directory below it.
 fn walk(
     rt: &(impl Files + Print + Eprint + AllocGlobal),
-    run: &mut Run<'_, '_>,
+    run: &mut Run<'_, '_, '_>,
     top: &str,
 ) -> Result<(), Status> {
     let mut waiting = Vec::new(rt.alloc());
@@ -286,7 +310,7 @@ fn walk(
 // Searches a file, or the files below a directory. A link is followed.
 fn check_path(
     rt: &(impl Files + Print + Eprint + AllocGlobal),
-    run: &mut Run<'_, '_>,
+    run: &mut Run<'_, '_, '_>,
     name: &str,
 ) -> Result<(), Status> {
     match fs::metadata(rt, name) {
@@ -298,7 +322,7 @@ fn check_path(
 // Searches the files and directories that the arguments name.
 fn check_arguments(
     rt: &(impl Files + Input + Print + Eprint + AllocGlobal),
-    run: &mut Run<'_, '_>,
+    run: &mut Run<'_, '_, '_>,
     names: &[String],
 ) -> Result<(), Status> {
     for name in names {
@@ -323,7 +347,7 @@ fn read_list(rt: &(impl Files + Input + AllocGlobal), list: &str) -> io::Result<
 // Searches the files and directories that a list names.
 fn check_list(
     rt: &(impl Files + Input + Print + Eprint + AllocGlobal),
-    run: &mut Run<'_, '_>,
+    run: &mut Run<'_, '_, '_>,
     list: &str,
 ) -> Result<(), Status> {
     let bytes = match read_list(rt, list) {
@@ -346,10 +370,10 @@ fn check_list(
 // Searches all that the arguments and the list name, or standard input if there is neither.
 fn check_all(
     rt: &(impl Files + Input + Print + Eprint + AllocGlobal),
-    run: &mut Run<'_, '_>,
+    run: &mut Run<'_, '_, '_>,
     names: &[String],
 ) -> Result<(), Status> {
-    match &run.search.list {
+    match &run.options.search.list {
         None if names.is_empty() => check_standard_input(rt, run),
         None => check_arguments(rt, run, names),
         Some(list) => {
@@ -359,22 +383,89 @@ fn check_all(
     }
 }
 
+// Searches all of that, and writes what stands before and after the findings.
+fn report_all(
+    rt: &(impl Files + Input + Print + Eprint + AllocGlobal),
+    run: &mut Run<'_, '_, '_>,
+    names: &[String],
+) -> Result<(), Status> {
+    let mut out = String::new(rt.alloc());
+    or_end(rt, run.report.push_head(&mut out))?;
+    write_out(rt, out.as_str())?;
+    check_all(rt, run, names)?;
+    out.clear();
+    or_end(rt, run.report.push_foot(&mut out))?;
+    write_out(rt, out.as_str())
+}
+
+// Returns what the bytes of an allow-list allow. If a line is not an entry, the run ends.
+fn allow_list<'l>(
+    rt: &(impl Eprint + AllocGlobal),
+    list: &str,
+    bytes: &'l [u8],
+) -> Result<AllowList<'l>, Status> {
+    match AllowList::parse(rt.alloc(), bytes) {
+        Ok(allowed) => Ok(allowed),
+        Err(ListFault::NotAnEntry(number)) => {
+            let shown = or_end(rt, shown_name(rt.alloc(), list))?;
+            let _ = eprintln!(rt;
+                "bidi: {shown}:{number}: not PATH or PATH:LINE, so nothing was searched"
+            );
+            Err(Status::Refused)
+        }
+        Err(ListFault::Memory) => Err(end_without_memory(rt)),
+    }
+}
+
+// Returns the bytes of the allow-list, if there is one. If it cannot be read, the run ends.
+fn read_allowed(
+    rt: &(impl Files + Input + Print + Eprint + AllocGlobal),
+    list: &str,
+) -> Result<Vec<u8>, Status> {
+    match read_list(rt, list) {
+        Ok(bytes) => Ok(bytes),
+        Err(error) => Err(refuse(rt, list, &error)?),
+    }
+}
+
+// Searches all of that, without what a list allows.
+fn check_with_list(
+    rt: &(impl Files + Input + Print + Eprint + AllocGlobal),
+    form: Form,
+    options: &CheckOptions<'_>,
+    allowed: AllowList<'_>,
+    names: &[String],
+) -> Status {
+    let mut run = Run {
+        options,
+        allowed,
+        report: Report::new(rt.alloc(), form),
+        status: Status::Clean,
+    };
+    match report_all(rt, &mut run, names) {
+        Ok(()) => run.status,
+        Err(ended) => run.status.worse(ended),
+    }
+}
+
 /// Searches the files and directories of these names, and then those of the list. Searches standard input if
 /// there are neither names nor a list, and for an argument `-`. Reports what it cannot read on standard
 /// error, and goes on with the next.
 pub fn check_files(
     rt: &(impl Files + Input + Print + Eprint + AllocGlobal),
-    wanted: Wanted,
-    search: &Search<'_>,
+    form: Form,
+    options: &CheckOptions<'_>,
     names: &[String],
 ) -> Status {
-    let mut run = Run {
-        wanted,
-        search,
-        status: Status::Clean,
+    let Some(list) = &options.report.allow else {
+        return check_with_list(rt, form, options, AllowList::new(rt.alloc()), names);
     };
-    match check_all(rt, &mut run, names) {
-        Ok(()) => run.status,
-        Err(ended) => run.status.worse(ended),
+    let bytes = match read_allowed(rt, list.text()) {
+        Ok(bytes) => bytes,
+        Err(ended) => return ended,
+    };
+    match allow_list(rt, list.text(), bytes.as_slice()) {
+        Ok(allowed) => check_with_list(rt, form, options, allowed, names),
+        Err(ended) => ended,
     }
 }

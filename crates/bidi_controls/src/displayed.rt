@@ -349,10 +349,10 @@ impl DisplayComparison {
         Ok(self.shown.as_slice() == self.shown_without_controls.as_slice())
     }
 
-    // Returns whether, with a base level, the visible ASCII of a line is displayed neither as it is read nor as it is
-    // displayed without the controls.
+    /// Returns whether, with a base level, the visible ASCII of a line is displayed neither as it is read nor as it is
+    /// displayed without the controls.
     #[tactic(auto, unfolding(crate::specs::Displayed::is_reordered))]
-    fn is_reordered<D: BidiDataSource>(
+    pub fn is_reordered<D: BidiDataSource>(
         &mut self,
         alloc: Global,
         data_source: &D,

@@ -7,7 +7,7 @@ use bidi_terminal::push_number;
 use std::alloc::{AllocError, Global};
 
 /// Appends where a finding stands: its file, its line and its column.
-fn push_place(out: &mut String, name: &str, finding: &Finding) -> Result<(), AllocError>
+pub fn push_place(out: &mut String, name: &str, finding: &Finding) -> Result<(), AllocError>
     ensures { OnOk result (string_bytes out.new ≡ string_bytes out.old ++ place_text name.now finding.now) }
 {
     out.push_str(name)?;

@@ -1,0 +1,102 @@
+-- What the options of `check` ask for.
+use Rattle.std.specs.Prelude.{ℕ, Bool, true, false, not, ◌&&◌, if◌then◌else◌, List, Option, Some, None, Result, Ok, Err, codes}
+use Rattle.std.specs.Str.{bytes_eq}
+use Rattle.bidi_controls.specs.declared.finding.Wanted.TheVariants.{Unmatched, Misleading, Everything}
+use Rattle.bidi_reports.specs.declared.form.Form.{Form}
+use Rattle.bidi_reports.specs.declared.form.Form.TheVariants as form
+use Rattle.bidi.specs.declared.check_options.CheckOptions.{CheckOptions}
+use Rattle.bidi.specs.declared.check_options.Color.{Color}
+use Rattle.bidi.specs.declared.check_options.Color.TheVariants.{Auto, Always, Never}
+use Rattle.bidi.specs.declared.check_options.Flag.{Flag}
+use Rattle.bidi.specs.declared.check_options.Flag.TheVariants.{Any, Hidden, Quiet, Binary, OnlyUnmatched}
+use Rattle.bidi.specs.declared.check_options.Format.{Format}
+use Rattle.bidi.specs.declared.check_options.Format.TheVariants.{Text, Json, Sarif}
+use Rattle.bidi.specs.declared.check_options.ReportOptions.{ReportOptions}
+use Rattle.bidi.specs.declared.check_options.Setting.{Setting}
+use Rattle.bidi.specs.declared.check_options.Setting.TheVariants.{Allow, ColorOf, FilesFrom, FormatOf}
+use Rattle.bidi.specs.declared.refusal.Refusal.{Refusal}
+use Rattle.bidi.specs.declared.refusal.Refusal.TheVariants.{NotAFormat, NotAColor}
+use Rattle.bidi.specs.declared.search.Search.{Search}
+
+-- what `check` searches, how it reports and what it looks for without options
+abbrev pub first_search : Search
+first_search = record { hidden = false; text = false; list = None }
+
+abbrev pub first_report : ReportOptions
+first_report = record { quiet = false; format = Text; color = Auto; allow = None }
+
+abbrev pub first_check : CheckOptions
+first_check = record { wanted = Misleading; search = first_search; report = first_report }
+
+-- the values that words name
+abbrev pub format_named : List ℕ → Option Format
+format_named word =
+    if bytes_eq word (codes "text") then Some Text
+    else if bytes_eq word (codes "json") then Some Json
+    else if bytes_eq word (codes "sarif") then Some Sarif
+    else None
+
+abbrev pub color_named : List ℕ → Option Color
+color_named word =
+    if bytes_eq word (codes "auto") then Some Auto
+    else if bytes_eq word (codes "always") then Some Always
+    else if bytes_eq word (codes "never") then Some Never
+    else None
+
+-- the options without a value
+unfoldable pub flag_named : List ℕ → Option Flag
+flag_named word =
+    if bytes_eq word (codes "--any") then Some Any
+    else if bytes_eq word (codes "--hidden") then Some Hidden
+    else if bytes_eq word (codes "--quiet") then Some Quiet
+    else if bytes_eq word (codes "--text") then Some Binary
+    else if bytes_eq word (codes "--unmatched") then Some OnlyUnmatched
+    else None
+
+-- the options with a value
+unfoldable pub setting_named : List ℕ → Option Setting
+setting_named word =
+    if bytes_eq word (codes "--allow") then Some Allow
+    else if bytes_eq word (codes "--color") then Some ColorOf
+    else if bytes_eq word (codes "--files-from") then Some FilesFrom
+    else if bytes_eq word (codes "--format") then Some FormatOf
+    else None
+
+-- what options ask for with one more; of options that exclude each other the last counts
+unfoldable pub with_flag : Flag → CheckOptions → CheckOptions
+with_flag Any options = record options { wanted = Everything }
+with_flag Hidden options = record options { search = record options.search { hidden = true } }
+with_flag Quiet options = record options { report = record options.report { quiet = true } }
+with_flag Binary options = record options { search = record options.search { text = true } }
+with_flag OnlyUnmatched options = record options { wanted = Unmatched }
+
+abbrev pub with_format : List ℕ → CheckOptions → Option Format → Result CheckOptions Refusal
+with_format value options None = Err (NotAFormat value)
+with_format value options (Some format) = Ok (record options { report = record options.report { format = format } })
+
+abbrev pub with_color : List ℕ → CheckOptions → Option Color → Result CheckOptions Refusal
+with_color value options None = Err (NotAColor value)
+with_color value options (Some color) = Ok (record options { report = record options.report { color = color } })
+
+unfoldable pub with_setting : Setting → List ℕ → CheckOptions → Result CheckOptions Refusal
+with_setting Allow value options = Ok (record options { report = record options.report { allow = Some value } })
+with_setting ColorOf value options = with_color value options (color_named value)
+with_setting FilesFrom value options = Ok (record options { search = record options.search { list = Some value } })
+with_setting FormatOf value options = with_format value options (format_named value)
+
+-- ---- how the report is written
+
+-- text has excerpts if standard output is a terminal, and colours if the environment does not ask for none
+abbrev pub text_form : Color → Bool → Bool → Form
+text_form Auto terminal no_color = form.Text terminal (terminal && not no_color)
+text_form Always terminal no_color = form.Text true true
+text_form Never terminal no_color = form.Text terminal false
+
+abbrev pub format_form : Format → Color → Bool → Bool → Form
+format_form Text color terminal no_color = text_form color terminal no_color
+format_form Json color terminal no_color = form.Json
+format_form Sarif color terminal no_color = form.Sarif
+
+abbrev pub form_of : ReportOptions → Bool → Bool → Form
+form_of options terminal no_color =
+    if options.quiet then form.Quiet else format_form options.format options.color terminal no_color

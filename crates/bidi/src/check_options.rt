@@ -1,0 +1,258 @@
+//! What the options of `check` ask for.
+ghost use Rattle.std.specs.Prelude.{◌≡◌};
+ghost use Rattle.bidi.specs.Checks.{first_check, first_report, format_named, color_named, flag_named, setting_named, with_flag, with_setting, with_format, with_color, form_of};
+
+use crate::refusal::{Refusal, Word};
+use crate::search::Search;
+use bidi_controls::finding::Wanted;
+use bidi_reports::form::Form;
+
+/// How findings are written.
+#[derive(Clone, Copy, Debug, PartialEq)]
+pub enum Format {
+    /// As lines of text.
+    Text,
+    /// As lines of JSON.
+    Json,
+    /// As a document of SARIF.
+    Sarif,
+}
+
+impl Format {
+    /// Returns the format that an argument names. Returns `None` for any other argument.
+    pub fn parse(word: &str) -> Option<Format>
+        ensures { result ≡ format_named word.now }
+    {
+        match word {
+            "text" => Some(Format::Text),
+            "json" => Some(Format::Json),
+            "sarif" => Some(Format::Sarif),
+            _ => None,
+        }
+    }
+}
+
+/// When text is written as for a terminal: in colours, and with the line of each finding.
+#[derive(Clone, Copy, Debug, PartialEq)]
+pub enum Color {
+    /// If standard output is a terminal.
+    Auto,
+    /// Always.
+    Always,
+    /// Never in colours.
+    Never,
+}
+
+impl Color {
+    /// Returns the value of `--color` that an argument names. Returns `None` for any other argument.
+    pub fn parse(word: &str) -> Option<Color>
+        ensures { result ≡ color_named word.now }
+    {
+        match word {
+            "auto" => Some(Color::Auto),
+            "always" => Some(Color::Always),
+            "never" => Some(Color::Never),
+            _ => None,
+        }
+    }
+}
+
+/// How `check` reports, and which findings it does not.
+#[derive(Drop)]
+pub struct ReportOptions<'w> {
+    /// Whether no finding is written.
+    pub quiet: bool,
+    /// How findings are written.
+    pub format: Format,
+    /// When text is written as for a terminal.
+    pub color: Color,
+    /// The file that lists the findings that are allowed.
+    pub allow: Option<Word<'w>>,
+}
+
+impl<'w> Default for ReportOptions<'w> {
+    /// Lines of text, as for a terminal if standard output is one, and no list.
+    fn default() -> ReportOptions<'w>
+        ensures { result ≡ first_report }
+    {
+        ReportOptions {
+            quiet: false,
+            format: Format::Text,
+            color: Color::Auto,
+            allow: None,
+        }
+    }
+}
+
+impl ReportOptions<'_> {
+    /// Returns the form of the report, where standard output may be a terminal, and where the environment may ask for no
+    /// colours.
+    pub fn form(&self, is_terminal: bool, no_color: bool) -> Form
+        ensures { result ≡ form_of self.now is_terminal no_color }
+    {
+        if self.quiet {
+            return Form::Quiet;
+        }
+        let always = self.color == Color::Always;
+        let never = self.color == Color::Never;
+        match self.format {
+            Format::Text => Form::Text {
+                excerpts: always || is_terminal,
+                colors: always || is_terminal && !no_color && !never,
+            },
+            Format::Json => Form::Json,
+            Format::Sarif => Form::Sarif,
+        }
+    }
+}
+
+/// An option without a value.
+#[derive(Clone, Copy, Debug, PartialEq)]
+pub enum Flag {
+    /// `--any`.
+    Any,
+    /// `--hidden`.
+    Hidden,
+    /// `--quiet`.
+    Quiet,
+    /// `--text`.
+    Binary,
+    /// `--unmatched`.
+    OnlyUnmatched,
+}
+
+impl Flag {
+    /// Returns the option that an argument is. Returns `None` for any other argument.
+    #[tactic(auto, unfolding(crate::specs::Checks::flag_named))]
+    pub fn parse(word: &str) -> Option<Flag>
+        ensures { result ≡ flag_named word.now }
+    {
+        match word {
+            "--any" => Some(Flag::Any),
+            "--hidden" => Some(Flag::Hidden),
+            "--quiet" => Some(Flag::Quiet),
+            "--text" => Some(Flag::Binary),
+            "--unmatched" => Some(Flag::OnlyUnmatched),
+            _ => None,
+        }
+    }
+}
+
+/// An option with a value.
+#[derive(Clone, Copy, Debug, PartialEq)]
+pub enum Setting {
+    /// `--allow LIST`.
+    Allow,
+    /// `--color auto|always|never`.
+    ColorOf,
+    /// `--files-from LIST`.
+    FilesFrom,
+    /// `--format text|json|sarif`.
+    FormatOf,
+}
+
+impl Setting {
+    /// Returns the option that an argument is. Returns `None` for any other argument.
+    #[tactic(auto, unfolding(crate::specs::Checks::setting_named))]
+    pub fn parse(word: &str) -> Option<Setting>
+        ensures { result ≡ setting_named word.now }
+    {
+        match word {
+            "--allow" => Some(Setting::Allow),
+            "--color" => Some(Setting::ColorOf),
+            "--files-from" => Some(Setting::FilesFrom),
+            "--format" => Some(Setting::FormatOf),
+            _ => None,
+        }
+    }
+}
+
+/// What `check` looks for, where, and how it reports.
+#[derive(Drop)]
+pub struct CheckOptions<'w> {
+    /// Which findings are wanted.
+    pub wanted: Wanted,
+    /// Which files are searched.
+    pub search: Search<'w>,
+    /// How findings are reported.
+    pub report: ReportOptions<'w>,
+}
+
+impl<'w> Default for CheckOptions<'w> {
+    /// What `check` does without options.
+    fn default() -> CheckOptions<'w>
+        ensures { result ≡ first_check }
+    {
+        CheckOptions {
+            wanted: Wanted::Misleading,
+            search: Search::default(),
+            report: ReportOptions::default(),
+        }
+    }
+}
+
+impl<'w> CheckOptions<'w> {
+    /// Returns the options with one more that has no value.
+    #[tactic(auto, unfolding(crate::specs::Checks::with_flag))]
+    pub fn with_flag(mut self, flag: Flag) -> CheckOptions<'w>
+        ensures { result ≡ with_flag flag self.entry }
+    {
+        match flag {
+            Flag::Any => self.wanted = Wanted::Everything,
+            Flag::Hidden => self.search.hidden = true,
+            Flag::Quiet => self.report.quiet = true,
+            Flag::Binary => self.search.text = true,
+            Flag::OnlyUnmatched => self.wanted = Wanted::Unmatched,
+        }
+        self
+    }
+
+    // Returns the options with this format, which an argument names.
+    fn with_format(mut self, value: &'w str) -> Result<CheckOptions<'w>, Refusal<'w>>
+        ensures { result ≡ with_format value.now self.entry (format_named value.now) }
+    {
+        match Format::parse(value) {
+            Some(format) => {
+                self.report.format = format;
+                Ok(self)
+            }
+            None => Err(Refusal::NotAFormat(Word::new(value))),
+        }
+    }
+
+    // Returns the options with this value of `--color`, which an argument names.
+    fn with_color(mut self, value: &'w str) -> Result<CheckOptions<'w>, Refusal<'w>>
+        ensures { result ≡ with_color value.now self.entry (color_named value.now) }
+    {
+        match Color::parse(value) {
+            Some(color) => {
+                self.report.color = color;
+                Ok(self)
+            }
+            None => Err(Refusal::NotAColor(Word::new(value))),
+        }
+    }
+
+    /// Returns the options with one more that has a value, unless it does not take this value.
+    #[tactic(auto, unfolding(crate::specs::Checks::with_setting))]
+    pub fn with_setting(
+        mut self,
+        setting: Setting,
+        value: &'w str,
+    ) -> Result<CheckOptions<'w>, Refusal<'w>>
+        ensures { result ≡ with_setting setting value.now self.entry }
+    {
+        match setting {
+            Setting::Allow => {
+                self.report.allow = Some(Word::new(value));
+                Ok(self)
+            }
+            Setting::ColorOf => self.with_color(value),
+            Setting::FilesFrom => {
+                self.search.list = Some(Word::new(value));
+                Ok(self)
+            }
+            Setting::FormatOf => self.with_format(value),
+        }
+    }
+}

@@ -1,0 +1,88 @@
+//! What is told of the lines of a file.
+ghost use Rattle.std.specs.Prelude.{◌≡◌, ◌++◌, ◌==◌, ◌||◌, map, not, length, IfOk, OnOk, string_bytes};
+ghost use Rattle.bidi_unicode.specs.Unicode.{unicode_source};
+ghost use Rattle.bidi_reports.specs.Reports.{line_report};
+ghost use Rattle.bidi_scan.specs.FileSearch.{line_of};
+ghost use Rattle.bidi.specs.Told.{is_any_told, told_findings, told_report};
+
+use bidi_allowed::allowed::AllowList;
+use bidi_controls::finding::Finding;
+use bidi_reports::report::Report;
+use bidi_scan::file_search::FoundLine;
+use bidi_unicode::UnicodeData;
+use std::alloc::{AllocError, Global};
+
+// Returns the findings in a line of a file, or none if the list allows them.
+fn told_findings<'f>(
+    allowed: &AllowList<'_>,
+    name: &str,
+    number: usize,
+    findings: &'f [Finding],
+) -> &'f [Finding]
+    ensures { result.now ≡ told_findings allowed.now name.now number findings.now }
+{
+    if allowed.allows(name, number) {
+        &[]
+    } else {
+        findings
+    }
+}
+
+// Appends what is told of the findings in a line of a file, unless they are allowed. Returns whether something is told.
+fn push_told(
+    alloc: Global,
+    report: &mut Report,
+    allowed: &AllowList<'_>,
+    out: &mut String,
+    name: &str,
+    number: usize,
+    line: &[char],
+    findings: &[Finding],
+) -> Result<bool, AllocError>
+    ensures report { let told = told_findings allowed.now name.now number findings.now in
+        OnOk result (string_bytes out.new ≡ string_bytes out.old
+        ++ line_report unicode_source report.old.form report.old.later name.now line.now told) }
+    ensures found { IfOk result (λ found. found ≡ not (length (told_findings allowed.now name.now number findings.now) == 0)) }
+    ensures form { report.new.form ≡ report.old.form }
+    ensures later { let told = told_findings allowed.now name.now number findings.now in
+        OnOk result (report.new.later ≡ (report.old.later || not (length told == 0))) }
+{
+    let told = told_findings(allowed, name, number, findings);
+    report.push_line(alloc, &UnicodeData, out, name, line, told)?;
+    Ok(!told.is_empty())
+}
+
+/// Appends what is told of lines of a file in which something is found, without those that are allowed. Returns whether
+/// something is told.
+pub fn push_lines_told(
+    alloc: Global,
+    report: &mut Report,
+    allowed: &AllowList<'_>,
+    out: &mut String,
+    name: &str,
+    lines: &[FoundLine],
+) -> Result<bool, AllocError>
+    ensures report { OnOk result (string_bytes out.new ≡ string_bytes out.old
+        ++ told_report unicode_source allowed.now report.old.form report.old.later name.now (map line_of lines.now)) }
+    ensures found { IfOk result (λ found. found ≡ is_any_told allowed.now name.now (map line_of lines.now)) }
+    ensures form { report.new.form ≡ report.old.form }
+    ensures later { OnOk result
+        (report.new.later ≡ (report.old.later || is_any_told allowed.now name.now (map line_of lines.now))) }
+{
+    let mut found = false;
+    for line in lines {
+        let chars = line.chars.as_slice();
+        let findings = line.findings.as_slice();
+        found |= push_told(
+            alloc,
+            report,
+            allowed,
+            out,
+            name,
+            line.number,
+            chars,
+            findings,
+        )?;
+    }
+    Ok(found)
+}

@@ -1,0 +1,4 @@
+//! A list of findings that `bidi check` allows.
+#![tactic(auto)]
+
+pub mod allowed;

@@ -1,0 +1,62 @@
+-- The part of a line that a report shows.
+use Rattle.std.specs.Prelude.{ℕ, ◌+◌, ◌-◌, ◌==◌, Bool, not, nat_le, nat_lt, ◌&&◌, if◌then◌else◌, min, List, [], ◌∷◌, ◌++◌, length, flat_map, replicate, slice_range, codes}
+use Rattle.bidi_names.specs.Names.{is_hidden, quoted_char}
+use Rattle.bidi_terminal.specs.Columns.{columns}
+
+-- sequences that set how a terminal writes: in bold, in reverse video, in bold red, and as before
+abbrev pub bold : List ℕ
+bold = 27 ∷ codes "[1m"
+
+abbrev pub reverse_video : List ℕ
+reverse_video = 27 ∷ codes "[7m"
+
+abbrev pub bold_red : List ℕ
+bold_red = 27 ∷ codes "[1;31m"
+
+abbrev pub as_before : List ℕ
+as_before = 27 ∷ codes "[0m"
+
+-- a text in this style, if colours are wanted
+abbrev pub styled : Bool → List ℕ → List ℕ → List ℕ
+styled colors style text = if colors then style ++ (text ++ as_before) else text
+
+-- a hidden character that is written by its code point
+abbrev pub is_marked : ℕ → Bool
+is_marked c = is_hidden c && not (c == 9)
+
+-- a character of a line
+abbrev pub marked_char : Bool → ℕ → List ℕ
+marked_char colors c = styled (colors && is_marked c) reverse_video (quoted_char c)
+
+-- the index from which a line of this length is shown: of a line of more than 200 characters, 100 characters before the
+-- place that matters, but 200 before the end at least
+abbrev pub part_start : ℕ → ℕ → ℕ
+part_start size place = if nat_le size 200 then 0 else min (place - 100) (size - 200)
+
+-- the index up to which it is shown
+abbrev pub part_end : ℕ → ℕ → ℕ
+part_end size place = min (part_start size place + 200) size
+
+-- what stands for characters that are left out
+abbrev pub dots : Bool → List ℕ
+dots left_out = if left_out then codes "..." else []
+
+-- a line, or the part around an index
+abbrev pub marked_part : Bool → List ℕ → ℕ → List ℕ
+marked_part colors line place =
+    dots (nat_lt 0 (part_start (length line) place))
+    ++ (flat_map (marked_char colors) (slice_range line (part_start (length line) place) (part_end (length line) place))
+    ++ dots (nat_lt (part_end (length line) place) (length line)))
+
+-- the columns that a character of a line takes in a report
+abbrev pub shown_columns : ℕ → ℕ
+shown_columns c = if c == 9 then 1 else if is_hidden c then 8 else columns c
+
+abbrev pub blanks : ℕ → List ℕ
+blanks size = replicate size 32
+
+-- the blanks below the characters of a part that are before an index
+abbrev pub blank_part : List ℕ → ℕ → List ℕ
+blank_part line place =
+    blanks (length (dots (nat_lt 0 (part_start (length line) place))))
+    ++ flat_map (λ c. blanks (shown_columns c)) (slice_range line (part_start (length line) place) (min place (length line)))

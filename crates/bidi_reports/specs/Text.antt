@@ -1,0 +1,41 @@
+-- The report as lines of text.
+use Rattle.std.specs.Prelude.{ℕ, ◌-◌, ◌==◌, ◌&&◌, Bool, not, if◌then◌else◌, List, [], ◌∷◌, ◌++◌, length, take, get_or, codes}
+use Rattle.bidi_controls.specs.Controls.{control_name}
+use Rattle.bidi_controls.specs.Findings.{place_text, trouble_text}
+use Rattle.bidi_controls.specs.declared.finding.Finding.{Finding}
+use Rattle.bidi_reports.specs.Parts.{bold, bold_red, styled, marked_part, blank_part}
+use Rattle.bidi_reports.specs.Words.{is_about_line}
+
+-- a line without the line feed, the carriage return or both that end it
+abbrev pub ends_with_char : ℕ → List ℕ → Bool
+ends_with_char c line = not (length line == 0) && get_or line (length line - 1) 0 == c
+
+abbrev pub without_last : ℕ → List ℕ → List ℕ
+without_last c line = if ends_with_char c line then take (length line - 1) line else line
+
+abbrev pub without_end : List ℕ → List ℕ
+without_end line = without_last 13 (without_last 10 line)
+
+-- the line for a finding: its place, and what is found
+abbrev pub finding_text : Bool → List ℕ → Finding → List ℕ
+finding_text colors name finding =
+    styled colors bold (place_text name finding)
+    ++ (control_name finding.control ++ (codes " " ++ (trouble_text finding.trouble ++ codes "\n")))
+
+-- the line of the file, and below it a caret under the character at an index
+abbrev pub excerpt_text : Bool → List ℕ → ℕ → List ℕ
+excerpt_text colors line place =
+    codes "  " ++ (marked_part colors line place ++ (codes "\n  " ++ (blank_part line place ++ (styled colors bold_red (codes "^") ++ codes "\n"))))
+
+-- the line that tells how a line is displayed
+abbrev pub note_text : Bool → List ℕ → List ℕ → Finding → List ℕ
+note_text colors name displayed finding =
+    styled colors bold (place_text name finding)
+    ++ (codes "note: displayed as: " ++ (marked_part colors displayed (finding.column - 1) ++ codes "\n"))
+
+-- all of it: an excerpt if these are wanted, and the note of a finding that is about the line
+abbrev pub text_report : Bool → Bool → List ℕ → List ℕ → List ℕ → Finding → List ℕ
+text_report excerpts colors name line displayed finding =
+    finding_text colors name finding
+    ++ ((if excerpts then excerpt_text colors (without_end line) (finding.column - 1) else [])
+    ++ (if is_about_line finding.trouble then note_text colors name displayed finding else []))

@@ -1,0 +1,151 @@
+//! The part of a line that a report shows.
+ghost use Rattle.std.specs.Prelude.{◌≡◌, ◌++◌, ◌≤◌, ◌<◌, length, flat_map, min, slice_range, nat_lt, OnOk, string_bytes};
+ghost use Rattle.bidi_reports.specs.Parts.{bold, bold_red, as_before, styled, is_marked, marked_char, part_start, part_end, dots, marked_part, shown_columns, blanks, blank_part};
+
+use bidi_names::names::{is_hidden, push_quoted};
+use bidi_terminal::Columns;
+use std::alloc::AllocError;
+use unicode_bidi::layout::CharWidth;
+
+/// Sets bold letters.
+pub const BOLD: &str = "\u{1B}[1m";
+
+/// Sets bold red letters.
+pub const BOLD_RED: &str = "\u{1B}[1;31m";
+
+/// Sets reverse video.
+const REVERSE_VIDEO: &str = "\u{1B}[7m";
+
+/// Sets letters as before.
+pub const AS_BEFORE: &str = "\u{1B}[0m";
+
+// The most characters of a line that are shown, and how many of them are before the place that matters.
+const MOST_SHOWN: usize = 200;
+const SHOWN_BEFORE: usize = 100;
+
+/// Appends a sequence for a terminal, if colours are wanted.
+pub fn push_style(out: &mut String, colors: bool, style: &str) -> Result<(), AllocError>
+    ensures { OnOk result (string_bytes out.new ≡ string_bytes out.old ++ (if colors then style.now else [])) }
+{
+    if colors { out.push_str(style) } else { Ok(()) }
+}
+
+// Returns whether a character is hidden and is written by its code point.
+fn is_marked(c: char) -> bool
+    ensures { result ≡ is_marked c }
+{
+    is_hidden(c) && c != '\t'
+}
+
+// Appends a character of a line.
+fn push_marked(out: &mut String, colors: bool, c: char) -> Result<(), AllocError>
+    ensures { OnOk result (string_bytes out.new ≡ string_bytes out.old ++ marked_char colors c) }
+{
+    let styled = colors && is_marked(c);
+    push_style(out, styled, REVERSE_VIDEO)?;
+    push_quoted(out, c)?;
+    push_style(out, styled, AS_BEFORE)
+}
+
+// Appends characters of a line.
+fn push_marked_chars(out: &mut String, colors: bool, chars: &[char]) -> Result<(), AllocError>
+    ensures { OnOk result (string_bytes out.new ≡ string_bytes out.old ++ flat_map (marked_char colors) chars.now) }
+{
+    for c in chars {
+        push_marked(out, colors, *c)?;
+    }
+    Ok(())
+}
+
+// Returns the index from which a line of this length is shown, if an index matters.
+fn part_start(len: usize, place: usize) -> usize
+    ensures start { result ≡ part_start len place }
+    ensures within { result ≤ len }
+    ensures before { result ≤ place }
+{
+    if len <= MOST_SHOWN {
+        return 0;
+    }
+    place
+        .saturating_sub(SHOWN_BEFORE)
+        .min(len - MOST_SHOWN)
+}
+
+// Returns the index up to which a line of this length is shown.
+fn part_end(len: usize, place: usize) -> usize
+    ensures end { result ≡ part_end len place }
+    ensures within { result ≤ len }
+    ensures after { part_start len place ≤ result }
+{
+    let start = part_start(len, place);
+    start + MOST_SHOWN.min(len - start)
+}
+
+// Appends what stands for characters that are left out.
+fn push_dots(out: &mut String, left_out: bool) -> Result<(), AllocError>
+    ensures { OnOk result (string_bytes out.new ≡ string_bytes out.old ++ dots left_out) }
+{
+    if left_out {
+        out.push_str("...")
+    } else {
+        Ok(())
+    }
+}
+
+/// Appends a line, or of a long one the part around an index. Hidden characters are written by their code points.
+pub fn push_part(
+    out: &mut String,
+    colors: bool,
+    line: &[char],
+    place: usize,
+) -> Result<(), AllocError>
+    ensures { OnOk result (string_bytes out.new ≡ string_bytes out.old ++ marked_part colors line.now place) }
+{
+    let start = part_start(line.len(), place);
+    let end = part_end(line.len(), place);
+    push_dots(out, start > 0)?;
+    push_marked_chars(out, colors, &line[start..end])?;
+    push_dots(out, end < line.len())
+}
+
+// Returns how many columns a character of a line takes in a report.
+fn shown_columns(c: char) -> usize
+    ensures { result ≡ shown_columns c }
+{
+    if c == '\t' {
+        return 1;
+    }
+    if is_hidden(c) {
+        return 8;
+    }
+    Columns.width(c)
+}
+
+// Appends blanks.
+fn push_blanks(out: &mut String, count: usize) -> Result<(), AllocError>
+    ensures { OnOk result (string_bytes out.new ≡ string_bytes out.old ++ blanks count) }
+{
+    for _step in 0..count {
+        out.push(' ')?;
+    }
+    Ok(())
+}
+
+// Appends as many blanks as characters of a line take columns.
+fn push_blank_chars(out: &mut String, chars: &[char]) -> Result<(), AllocError>
+    ensures { OnOk result (string_bytes out.new ≡ string_bytes out.old ++ flat_map (λ c. blanks (shown_columns c)) chars.now) }
+{
+    for c in chars {
+        push_blanks(out, shown_columns(*c))?;
+    }
+    Ok(())
+}
+
+/// Appends as many blanks as the part of a line around an index takes columns before that index.
+pub fn push_blank_part(out: &mut String, line: &[char], place: usize) -> Result<(), AllocError>
+    ensures { OnOk result (string_bytes out.new ≡ string_bytes out.old ++ blank_part line.now place) }
+{
+    let start = part_start(line.len(), place);
+    push_blanks(out, if start > 0 { 3 } else { 0 })?;
+    push_blank_chars(out, &line[start..place.min(line.len())])
+}

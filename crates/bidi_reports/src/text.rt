@@ -1,0 +1,129 @@
+//! The report as lines of text.
+ghost use Rattle.std.specs.Prelude.{◌≡◌, ◌++◌, ◌-◌, [], if◌then◌else◌, codes, OnOk, string_bytes};
+ghost use Rattle.bidi_controls.specs.Findings.{place_text, trouble_text};
+ghost use Rattle.bidi_controls.specs.Controls.{control_name};
+ghost use Rattle.bidi_reports.specs.Parts.{bold, bold_red, styled};
+ghost use Rattle.bidi_reports.specs.Text.{without_last, without_end, finding_text, excerpt_text, note_text, text_report};
+ghost use Rattle.bidi_reports.specs.Words.{is_about_line};
+
+use crate::parts::{AS_BEFORE, BOLD, BOLD_RED, push_blank_part, push_part, push_style};
+use crate::words::{is_about_line, push_message};
+use bidi_controls::finding::Finding;
+use bidi_controls::report::push_place;
+use std::alloc::AllocError;
+
+// Returns characters without this one at their end, if it is there.
+fn without_last(c: char, chars: &[char]) -> &[char]
+    ensures { result.now ≡ without_last c chars.now }
+{
+    match chars {
+        [front @ .., last] if *last == c => front,
+        _ => chars,
+    }
+}
+
+// Returns a line without the line feed, the carriage return or both that end it.
+fn without_end(line: &[char]) -> &[char]
+    ensures { result.now ≡ without_end line.now }
+{
+    without_last('\r', without_last('\n', line))
+}
+
+// Appends where a finding is.
+fn push_styled_place(
+    out: &mut String,
+    colors: bool,
+    name: &str,
+    finding: &Finding,
+) -> Result<(), AllocError>
+    ensures { OnOk result (string_bytes out.new ≡ string_bytes out.old ++ styled colors bold (place_text name.now finding.now)) }
+{
+    push_style(out, colors, BOLD)?;
+    push_place(out, name, finding)?;
+    push_style(out, colors, AS_BEFORE)
+}
+
+// Appends the line for a finding.
+fn push_finding(
+    out: &mut String,
+    colors: bool,
+    name: &str,
+    finding: &Finding,
+) -> Result<(), AllocError>
+    ensures { OnOk result (string_bytes out.new ≡ string_bytes out.old ++ finding_text colors name.now finding.now) }
+{
+    push_styled_place(out, colors, name, finding)?;
+    push_message(out, finding)?;
+    out.push_str("\n")
+}
+
+// Appends the line of the file, and a caret under the character at an index.
+fn push_excerpt(
+    out: &mut String,
+    colors: bool,
+    line: &[char],
+    place: usize,
+) -> Result<(), AllocError>
+    ensures { OnOk result (string_bytes out.new ≡ string_bytes out.old ++ excerpt_text colors line.now place) }
+{
+    out.push_str("  ")?;
+    push_part(out, colors, line, place)?;
+    out.push_str("\n  ")?;
+    push_blank_part(out, line, place)?;
+    push_caret(out, colors)?;
+    out.push_str("\n")
+}
+
+// Appends a caret.
+fn push_caret(out: &mut String, colors: bool) -> Result<(), AllocError>
+    ensures { OnOk result (string_bytes out.new ≡ string_bytes out.old ++ styled colors bold_red (codes "^")) }
+{
+    push_style(out, colors, BOLD_RED)?;
+    out.push_str("^")?;
+    push_style(out, colors, AS_BEFORE)
+}
+
+// Appends the line that tells how the line of a finding is displayed.
+fn push_note(
+    out: &mut String,
+    colors: bool,
+    name: &str,
+    displayed: &[char],
+    finding: &Finding,
+) -> Result<(), AllocError>
+    ensures { OnOk result (string_bytes out.new ≡ string_bytes out.old ++ note_text colors name.now displayed.now finding.now) }
+{
+    push_styled_place(out, colors, name, finding)?;
+    out.push_str("note: displayed as: ")?;
+    push_part(out, colors, displayed, finding.column.saturating_sub(1))?;
+    out.push_str("\n")
+}
+
+/// Appends what is told of a finding: its line, an excerpt if these are wanted, and a note if it is about how its line is
+/// displayed.
+pub fn push_text(
+    out: &mut String,
+    excerpts: bool,
+    colors: bool,
+    name: &str,
+    line: &[char],
+    displayed: &[char],
+    finding: &Finding,
+) -> Result<(), AllocError>
+    ensures { OnOk result (string_bytes out.new ≡ string_bytes out.old
+        ++ text_report excerpts colors name.now line.now displayed.now finding.now) }
+{
+    push_finding(out, colors, name, finding)?;
+    if excerpts {
+        push_excerpt(
+            out,
+            colors,
+            without_end(line),
+            finding.column.saturating_sub(1),
+        )?;
+    }
+    if is_about_line(finding.trouble) {
+        push_note(out, colors, name, displayed, finding)?;
+    }
+    Ok(())
+}
