@@ -1,6 +1,2 @@
-pub mod CharactersLemmas
 pub mod DecodedLemmas
 pub mod OptionsLemmas
-pub mod ParagraphLemmas
-pub mod ShownLemmas
-pub mod TurnedLemmas

@@ -3,7 +3,6 @@ use Rattle.std.specs.Prelude.{ℕ, Bool, true, false, ◌||◌, if◌then◌else
 use Rattle.std.specs.Str.{bytes_eq}
 use Rattle.bidi_terminal.specs.Bases.{base_named}
 use Rattle.bidi_terminal.specs.Numbers.{number_of}
-use Rattle.bidi_terminal.specs.declared.base.Base.TheVariants.{Auto}
 use Rattle.bidi_controls.specs.declared.finding.Wanted.{Wanted}
 use Rattle.bidi_controls.specs.declared.finding.Wanted.TheVariants.{Unmatched, Misleading, Everything}
 use Rattle.bidi_stages.specs.Explained.{first_stage_view}
@@ -17,7 +16,8 @@ use Rattle.bidi.specs.declared.refusal.Refusal.TheVariants.{NoSubcommand, NotASu
 use Rattle.bidi.specs.declared.refusal.Subcommand.{Subcommand}
 use Rattle.bidi.specs.declared.refusal.Subcommand.TheVariants.{Checking, Showing, Explaining}
 use Rattle.bidi.specs.declared.search.Search.{Search}
-use Rattle.bidi.specs.declared.view.View.{View}
+use Rattle.bidi_visual.specs.Views.{first_view}
+use Rattle.bidi_visual.specs.declared.view.View.{View}
 
 -- the only argument behind a subcommand asks for help
 abbrev pub asks_help : List (List ℕ) → Bool
@@ -73,10 +73,6 @@ check_of wanted search (word ∷ value ∷ words) =
     else if bytes_eq word (codes "--text") then check_of wanted (record search { text = true }) (value ∷ words)
     else if bytes_eq word (codes "--files-from") then check_of wanted (record search { list = Some value }) words
     else over_files (Check wanted search) (file_words Checking (word ∷ value ∷ words))
-
--- what `show` does without options
-abbrev pub first_view : View
-first_view = record { base = Auto; width = None; plain = false }
 
 -- what follows of the value behind an option, or the refusal of one that it does not take
 abbrev pub by_value : {A : Type 0} → Refusal → (A → Result Command Refusal) → Option A → Result Command Refusal

@@ -1,8 +1,6 @@
 pub mod Commands
 pub mod Decoded
 pub mod Entries
-pub mod Inputs
 pub mod Names
 pub mod Options
-pub mod Shown
 pub mod Statuses

@@ -5,10 +5,10 @@ ghost use Rattle.bidi.specs.Options.{is_option};
 
 use crate::refusal::{Refusal, Subcommand, Word};
 use crate::search::Search;
-use crate::view::View;
 use bidi_controls::finding::Wanted;
 use bidi_stages::view::{Form, StageView};
 use bidi_terminal::{Base, parse_number};
+use bidi_visual::view::View;
 use std::marker::Model;
 
 /// Words that name files, or texts. In clauses they are their bytes.

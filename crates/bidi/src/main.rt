@@ -12,22 +12,20 @@ mod files;
 mod help;
 mod input;
 mod names;
-mod paragraphs;
 mod refusal;
 mod search;
-mod show;
 mod status;
-mod view;
 mod walk;
 
 use command::Command;
 use files::{answer_texts, end_without_memory, show_files, write_help, write_versions};
 use names::{shown_bytes, shown_name};
+use bidi_terminal::parse_number;
 use refusal::Refusal;
 use status::Status;
 use std::alloc::AllocError;
 use std::env::{self, FillError};
-use std::io::{self, ErrorKind};
+use std::io::{self, ErrorKind, IsTerminal};
 use std::process::ExitCode;
 use std::rt::{Env, Files};
 use walk::check_files;
@@ -87,9 +85,18 @@ fn refuse(rt: &(impl Eprint + AllocGlobal), refusal: &Refusal<'_>) -> Result<(),
     Ok(())
 }
 
+// The columns of the terminal that standard output is, if the environment tells them.
+fn default_width(rt: &(impl Env + AllocGlobal), to_terminal: bool) -> Option<u16> {
+    if !to_terminal {
+        return None;
+    }
+    parse_number(env::var(rt, "COLUMNS").ok()?.as_str())
+}
+
 fn answer(
-    rt: &(impl Files + Input + Print + Eprint + AllocGlobal),
+    rt: &(impl Env + Files + Input + Print + Eprint + AllocGlobal),
     command: Command<'_>,
+    to_terminal: bool,
 ) -> Status {
     match command {
         Command::Check {
@@ -99,18 +106,24 @@ fn answer(
         } => check_files(rt, wanted, &search, files.words()),
         Command::Explain { view, texts } => answer_texts(rt, view, texts.words()),
         Command::Help(subcommand) => write_help(rt, subcommand),
-        Command::Show { view, files } => show_files(rt, view, files.words()),
+        Command::Show { view, files } => {
+            let view = view.or_width(default_width(rt, to_terminal));
+            show_files(rt, view, files.words())
+        }
         Command::Version => write_versions(rt),
     }
 }
 
-fn serve(rt: &(impl Env + Files + Input + Print + Eprint + AllocGlobal)) -> Status {
+fn serve(
+    rt: &(impl Env + Files + Input + Print + Eprint + AllocGlobal),
+    to_terminal: bool,
+) -> Status {
     let words = match arguments(rt) {
         Ok(words) => words,
         Err(error) => return refuse_arguments(rt, &error),
     };
     match Command::parse(words.as_slice()) {
-        Ok(command) => answer(rt, command),
+        Ok(command) => answer(rt, command, to_terminal),
         Err(refusal) => match refuse(rt, &refusal) {
             Ok(()) => Status::Refused,
             Err(AllocError) => end_without_memory(rt),
@@ -119,5 +132,6 @@ fn serve(rt: &(impl Env + Files + Input + Print + Eprint + AllocGlobal)) -> Stat
 }
 
 fn main(rt: HostRuntime) -> ExitCode {
-    ExitCode::from(serve(&rt).number())
+    let to_terminal = rt.stdout().is_terminal();
+    ExitCode::from(serve(&rt, to_terminal).number())
 }

@@ -1,0 +1,33 @@
+//! The lines of a text from left to right.
+ghost use Rattle.std.specs.Prelude.{◌≡◌, ◌++◌, ◌≤◌, length, take, drop, OnOk, string_bytes};
+ghost use Rattle.std.specs.Str.{chars};
+ghost use Rattle.bidi_unicode.specs.Unicode.{unicode_source};
+ghost use Rattle.bidi_visual.specs.Shown.{shown_text};
+
+use crate::paragraph::{Memory, push_paragraph};
+use bidi_unicode::UnicodeData;
+use bidi_visual::first::first_paragraph;
+use bidi_visual::view::View;
+use std::alloc::{AllocError, Global};
+
+/// Appends the lines of a text, each from left to right and ended by a line feed.
+///
+/// Each paragraph of the text (P1) begins a new line, and is cut into several lines if the view has a width.
+pub fn push_text(
+    alloc: Global,
+    out: &mut String,
+    memory: &mut Memory,
+    view: View,
+    text: &str,
+) -> Result<(), AllocError>
+    ensures { OnOk result (string_bytes out.new
+        ≡ string_bytes out.old ++ shown_text unicode_source view (chars text.now)) }
+{
+    let mut rest = text;
+    while !rest.is_empty() {
+        let first = first_paragraph(&UnicodeData, rest);
+        push_paragraph(alloc, out, memory, &UnicodeData, view, first.own)?;
+        rest = first.rest;
+    }
+    Ok(())
+}
