@@ -4,5 +4,6 @@
 mod characters;
 pub mod first;
 pub mod line;
+pub mod quiet;
 mod show;
 pub mod view;
