@@ -1,13 +1,12 @@
 //! The lines of a paragraph from left to right.
-ghost use Rattle.std.specs.Prelude.{◌≡◌, ◌++◌, IsTrue, flat_map, map, All, OnOk, string_bytes, length};
-ghost use Rattle.std.specs.Char.{len_utf8};
+ghost use Rattle.std.specs.Prelude.{◌≡◌, ◌++◌, flat_map, map, All, IfOk, OnOk, string_bytes};
 ghost use Rattle.std.specs.Str.{chars};
+ghost use Rattle.bidi_base.specs.Analysed.{IsPerCharText};
 ghost use Rattle.bidi_base.specs.Display.{run_of};
-ghost use Rattle.bidi_base.specs.Text.{is_per_char};
 ghost use Rattle.bidi_columns.specs.Bounds.{IsRangeOf};
 ghost use Rattle.bidi_terminal.specs.Bases.{level_of_base};
-ghost use Rattle.bidi_visual.specs.Shown.{shown_paragraph};
-ghost use Rattle.bidi_shown.specs.Paragraph.{analysed, shown_in, IsAnalysed};
+ghost use Rattle.bidi_visual.specs.Shown.{shown_paragraph, shown_ranges};
+ghost use Rattle.bidi_shown.specs.Paragraph.{analysed_in, shown_in, IsAnalysed};
 
 use bidi_base::char_data::BidiClass;
 use bidi_base::data_source::BidiDataSource;
@@ -22,46 +21,37 @@ use std::alloc::{AllocError, Global};
 use std::ops::Range;
 use unicode_bidi::engine::Analyser;
 
-/// The memory in which one paragraph after another is analysed.
+/// The analysis of one paragraph after another, in the same memory.
 #[derive(Drop)]
 pub struct Memory {
     analyser: Analyser,
+    // The class and the level of each byte of the last paragraph, and its level.
     classes: Vec<BidiClass>,
     levels: Vec<Level>,
-}
-
-// A paragraph with the class and the level of each byte.
-#[derive(Drop)]
-struct Paragraph<'a> {
-    text: &'a str,
-    classes: &'a [BidiClass],
-    levels: &'a [Level],
     level: Level,
-    ghost classes_per_char: { IsTrue (is_per_char ⟦<BidiClass as PartialEq>⟧.eq len_utf8 (chars text.now) classes.now) },
-    ghost levels_per_char: { IsTrue (is_per_char ⟦<Level as PartialEq>⟧.eq len_utf8 (chars text.now) levels.now) },
 }
 
 impl Memory {
-    /// Returns empty memory. Does not allocate.
+    /// Returns the analysis of no paragraph. Does not allocate.
     pub fn new(alloc: Global) -> Memory {
         Memory {
             analyser: Analyser::new(alloc),
             classes: Vec::new(alloc),
             levels: Vec::new(alloc),
+            level: LTR_LEVEL,
         }
     }
 
-    // Returns a paragraph with its analysis.
-    fn analysed<'a, D: BidiDataSource>(
-        &'a mut self,
+    // Analyses a paragraph.
+    fn analyse<D: BidiDataSource>(
+        &mut self,
         alloc: Global,
         data_source: &D,
         base: Base,
-        text: &'a str,
-    ) -> Result<Paragraph<'a>, AllocError>
-        ensures text { IfOk result (λ p. p.text.now ≡ text.now) }
-        ensures analysis { IfOk result (λ p. IsAnalysed (D.source data_source.now) (level_of_base base) (chars text.now)
-            p.classes.now p.levels.now p.level) }
+        text: &str,
+    ) -> Result<(), AllocError>
+        ensures { OnOk result (IsAnalysed (D.source data_source.now) (level_of_base base) (chars text.now)
+            self.new.classes.items self.new.levels.items self.new.level) }
     {
         let len = text.len();
         self.classes.resize(len, BidiClass::L)?;
@@ -75,60 +65,74 @@ impl Memory {
             self.classes.as_mut_slice(),
             self.levels.as_mut_slice(),
         )?;
-        Ok(Paragraph {
-            text,
-            classes: self.classes.as_slice(),
-            levels: self.levels.as_slice(),
-            level: self.analyser.paragraphs()[0].level(),
-        })
+        self.level = self.analyser.paragraphs()[0].level();
+        Ok(())
     }
 }
 
-// Appends a line of a paragraph from left to right, ended by a line feed.
+// Appends a line of an analysed paragraph from left to right, ended by a line feed.
 fn push_line<D: BidiDataSource>(
     alloc: Global,
     out: &mut String,
+    memory: &Memory,
     data_source: &D,
     plain: bool,
-    paragraph: &Paragraph<'_>,
+    text: &str,
     line: &Range<usize>,
 ) -> Result<(), AllocError>
-    requires { IsRangeOf paragraph.now.text.now line.now }
+    requires per_char { IsPerCharText (analysed_in memory.now (chars text.now)) }
+    requires range { IsRangeOf text.now line.now }
     ensures { OnOk result (string_bytes out.new ≡ string_bytes out.old
-        ++ shown_in (D.source data_source.now) plain (analysed (chars paragraph.now.text.now) paragraph.now.classes.now paragraph.now.levels.now)
-        paragraph.now.level (run_of line.now)) }
+        ++ shown_in (D.source data_source.now) plain (analysed_in memory.now (chars text.now)) memory.now.level (run_of line.now)) }
 {
     let (start, end) = (line.start, line.end);
-    let text = &paragraph.text[start..end];
+    let part = &text[start..end];
+    let classes = &memory.classes.as_slice()[start..end];
+    let levels = &memory.levels.as_slice()[start..end];
     let mut shown = ShownLevels::new(alloc);
-    shown.show(
-        paragraph.level,
-        &paragraph.classes[start..end],
-        &paragraph.levels[start..end],
-    )?;
-    shown.keep_first_units(StrText::new(text));
-    push_text(alloc, out, data_source, plain, text, shown.as_slice())?;
-    out.push_str("\n")
+    shown.show(memory.level, classes, levels)?;
+    shown.keep_first_units(StrText::new(part));
+    push_text(alloc, out, data_source, plain, part, shown.as_slice())?;
+    out.push_str("\n")?;
+    Ok(())
 }
 
-// Appends lines of a paragraph.
+// Appends lines of an analysed paragraph.
 fn push_lines<D: BidiDataSource>(
     alloc: Global,
     out: &mut String,
+    memory: &Memory,
     data_source: &D,
     plain: bool,
-    paragraph: &Paragraph<'_>,
+    text: &str,
     lines: &[Range<usize>],
 ) -> Result<(), AllocError>
-    requires { All (IsRangeOf paragraph.now.text.now) lines.now }
+    requires per_char { IsPerCharText (analysed_in memory.now (chars text.now)) }
+    requires ranges { All (IsRangeOf text.now) lines.now }
     ensures { OnOk result (string_bytes out.new ≡ string_bytes out.old
-        ++ flat_map (λ r. shown_in (D.source data_source.now) plain (analysed (chars paragraph.now.text.now) paragraph.now.classes.now paragraph.now.levels.now)
-        paragraph.now.level (run_of r)) lines.now) }
+        ++ flat_map (λ r. shown_in (D.source data_source.now) plain (analysed_in memory.now (chars text.now)) memory.now.level (run_of r))
+        lines.now) }
 {
     for line in lines {
-        push_line(alloc, out, data_source, plain, paragraph, line)?;
+        push_line(alloc, out, memory, data_source, plain, text, line)?;
     }
     Ok(())
+}
+
+// Returns the lines of a paragraph, as ranges of its bytes: all of it, or those of the width.
+fn lines_of<D: BidiDataSource>(
+    alloc: Global,
+    data_source: &D,
+    width: Option<u16>,
+    text: &str,
+) -> Result<Vec<Range<usize>>, AllocError>
+    ensures lines { IfOk result (λ v. map run_of v.items ≡ shown_ranges (D.source data_source.now) width (chars text.now)) }
+    ensures ranges { IfOk result (λ v. All (IsRangeOf text.now) v.items) }
+{
+    match width {
+        Some(width) => lines(alloc, data_source, text, width),
+        None => Ok(vec![in alloc; 0..text.len()]?),
+    }
 }
 
 /// Appends the lines of a paragraph without separators, each from left to right and ended by a line feed.
@@ -143,12 +147,7 @@ pub fn push_paragraph<D: BidiDataSource>(
     ensures { OnOk result (string_bytes out.new
         ≡ string_bytes out.old ++ shown_paragraph (D.source data_source.now) view (chars text.now)) }
 {
-    let paragraph = memory.analysed(alloc, data_source, view.base, text)?;
-    match view.width {
-        Some(width) => {
-            let lines = lines(alloc, data_source, text, width)?;
-            push_lines(alloc, out, data_source, view.plain, &paragraph, lines.as_slice())
-        }
-        None => push_line(alloc, out, data_source, view.plain, &paragraph, &(0..text.len())),
-    }
+    memory.analyse(alloc, data_source, view.base, text)?;
+    let lines = lines_of(alloc, data_source, view.width, text)?;
+    push_lines(alloc, out, memory, data_source, view.plain, text, lines.as_slice())
 }

@@ -121,11 +121,14 @@ impl Stream {
         ensures shown { OnOk result (string_bytes out.new ≡ string_bytes out.old ++ shown_now view (pending_of self.old) piece.now) }
         ensures pending { OnOk result (pending_of self.new ≡ pending_after (pending_of self.old) piece.now) }
     {
-        let (lines, after) = piece.split_at(whole_lines(piece));
-        self.pending.extend_from_slice(lines)?;
-        if !lines.is_empty() {
-            self.show_pending(alloc, view, out)?;
+        let count = whole_lines(piece);
+        if count == 0 {
+            self.pending.extend_from_slice(piece)?;
+            return Ok(());
         }
+        let (lines, after) = piece.split_at(count);
+        self.pending.extend_from_slice(lines)?;
+        self.show_pending(alloc, view, out)?;
         self.pending.extend_from_slice(after)?;
         Ok(())
     }

@@ -1,5 +1,5 @@
 //! The lines of a text from left to right.
-ghost use Rattle.std.specs.Prelude.{◌≡◌, ◌++◌, ◌≤◌, length, take, drop, OnOk, string_bytes};
+ghost use Rattle.std.specs.Prelude.{◌≡◌, ◌++◌, ◌<◌, length, IfOk, OnOk, string_bytes};
 ghost use Rattle.std.specs.Str.{chars};
 ghost use Rattle.bidi_unicode.specs.Unicode.{unicode_source};
 ghost use Rattle.bidi_visual.specs.Shown.{shown_text};
@@ -7,8 +7,34 @@ ghost use Rattle.bidi_visual.specs.Shown.{shown_text};
 use crate::paragraph::{Memory, push_paragraph};
 use bidi_unicode::UnicodeData;
 use bidi_visual::first::first_paragraph;
+use bidi_visual::quiet::quiet_len;
 use bidi_visual::view::View;
 use std::alloc::{AllocError, Global};
+
+// Appends the lines at the start of a text: those that are shown unchanged, or those of the first paragraph. Returns
+// the rest of the text.
+fn push_first<'t>(
+    alloc: Global,
+    out: &mut String,
+    memory: &mut Memory,
+    view: View,
+    text: &'t str,
+) -> Result<&'t str, AllocError>
+    requires { 0 < length text.now }
+    ensures shown { IfOk result (λ rest. string_bytes out.new ++ shown_text unicode_source view (chars rest.now)
+        ≡ string_bytes out.old ++ shown_text unicode_source view (chars text.now)) }
+    ensures shorter { IfOk result (λ rest. length rest.now < length text.now) }
+{
+    let quiet = quiet_len(view, text);
+    if quiet > 0 {
+        let (lines, rest) = text.split_at(quiet);
+        out.push_str(lines)?;
+        return Ok(rest);
+    }
+    let first = first_paragraph(&UnicodeData, text);
+    push_paragraph(alloc, out, memory, &UnicodeData, view, first.own)?;
+    Ok(first.rest)
+}
 
 /// Appends the lines of a text, each from left to right and ended by a line feed.
 ///
@@ -25,9 +51,7 @@ pub fn push_text(
 {
     let mut rest = text;
     while !rest.is_empty() {
-        let first = first_paragraph(&UnicodeData, rest);
-        push_paragraph(alloc, out, memory, &UnicodeData, view, first.own)?;
-        rest = first.rest;
+        rest = push_first(alloc, out, memory, view, rest)?;
     }
     Ok(())
 }

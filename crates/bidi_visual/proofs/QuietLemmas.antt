@@ -57,7 +57,7 @@ quiet-own c quiet = not-true _ (and_parts (not (is_paragraph_separator (unicode_
 quiet-still : (c : ℕ) → is_quiet c ≡ true → may_turn (unicode_source.class_of c) ≡ false
 quiet-still c quiet = not-true _ (and_parts (not (is_paragraph_separator (unicode_source.class_of c))) (not (may_turn (unicode_source.class_of c))) (quiet-ordinary c quiet)).1
 
-feed-separates : is_paragraph_separator (unicode_source.class_of 0x0A) ≡ true
+pub feed-separates : is_paragraph_separator (unicode_source.class_of 0x0A) ≡ true
 unfolding unicode_source
 feed-separates = rw (bidi_class_stepped.gives 0x0A) feed_separates
 
