@@ -1,5 +1,1 @@
-pub mod CharactersLemmas
 pub mod OptionsLemmas
-pub mod ParagraphLemmas
-pub mod ShownLemmas
-pub mod TurnedLemmas

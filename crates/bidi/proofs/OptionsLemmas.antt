@@ -17,7 +17,7 @@ use Rattle.bidi.specs.declared.command.Command.TheVariants.{Check}
 use Rattle.bidi.specs.declared.refusal.Refusal.{Refusal}
 use Rattle.bidi.specs.declared.refusal.Refusal.TheVariants.{NoValue}
 use Rattle.bidi.specs.declared.refusal.Subcommand.TheVariants.{Checking}
-use Rattle.bidi.specs.declared.view.View.{View}
+use Rattle.bidi_visual.specs.declared.view.View.{View}
 
 module _ {Z : Type 0} where
   -- the words from the n-th on

@@ -3,7 +3,6 @@ use Rattle.std.specs.Prelude.{ℕ, Bool, true, false, ◌||◌, is_some, if◌th
 use Rattle.std.specs.Str.{bytes_eq}
 use Rattle.bidi_terminal.specs.Bases.{base_named}
 use Rattle.bidi_terminal.specs.Numbers.{number_of}
-use Rattle.bidi_terminal.specs.declared.base.Base.TheVariants.{Auto}
 use Rattle.bidi_stages.specs.Explained.{first_stage_view}
 use Rattle.bidi_stages.specs.declared.view.Form.TheVariants.{Page}
 use Rattle.bidi_stages.specs.declared.view.StageView.{StageView}
@@ -16,7 +15,8 @@ use Rattle.bidi.specs.declared.refusal.Refusal.{Refusal}
 use Rattle.bidi.specs.declared.refusal.Refusal.TheVariants.{NoSubcommand, NotASubcommand, NotAnOption, LateOption, NotAlone, NoValue, NotABase, NotAWidth, NoText}
 use Rattle.bidi.specs.declared.refusal.Subcommand.{Subcommand}
 use Rattle.bidi.specs.declared.refusal.Subcommand.TheVariants.{Checking, Showing, Explaining}
-use Rattle.bidi.specs.declared.view.View.{View}
+use Rattle.bidi_visual.specs.Views.{first_view}
+use Rattle.bidi_visual.specs.declared.view.View.{View}
 
 -- the only argument behind a subcommand asks for help
 abbrev pub asks_help : List (List ℕ) → Bool
@@ -72,10 +72,6 @@ check_of options (word ∷ value ∷ words) =
     by_case (flag_named word) (λ flag. check_of (with_flag flag options) (value ∷ words))
     (by_case (setting_named word) (λ setting. by_options (with_setting setting value options) (λ next. check_of next words))
     (over_files (Check options) (file_words Checking (word ∷ value ∷ words))))
-
--- what `show` does without options
-abbrev pub first_view : View
-first_view = record { base = Auto; width = None; plain = false }
 
 -- what follows of the value behind an option, or the refusal of one that it does not take
 abbrev pub by_value : {A : Type 0} → Refusal → (A → Result Command Refusal) → Option A → Result Command Refusal

@@ -5,9 +5,9 @@ ghost use Rattle.bidi.specs.Options.{is_option};
 
 use crate::check_options::{CheckOptions, Flag, Setting};
 use crate::refusal::{Refusal, Subcommand, Word};
-use crate::view::View;
 use bidi_stages::view::{Form, StageView};
 use bidi_terminal::{Base, parse_number};
+use bidi_visual::view::View;
 use std::marker::Model;
 
 /// Words that name files, or texts. In clauses they are their bytes.

@@ -1,13 +1,14 @@
 //! What is read and written: the files of `show`, the texts of `explain`, help and versions.
 use crate::help::help;
-use crate::input::{InputFault, explain_text, show_input};
+use crate::input::explain_text;
 use crate::refusal::Subcommand;
 use crate::status::Status;
-use crate::view::View;
 use bidi_names::names::shown_name;
+use bidi_shown::stream::{Stream, StreamFault};
 use bidi_stages::page;
 use bidi_stages::view::{Form, StageView};
 use bidi_unicode::UNICODE_VERSION;
+use bidi_visual::view::View;
 use std::fs;
 use std::io::{self, ErrorKind, Read, Write};
 use std::rt::Files;
@@ -62,38 +63,59 @@ fn out_of_memory(rt: &impl Eprint) -> Result<Status, Status> {
     Err(end_without_memory(rt))
 }
 
-// Tells why an input has no answer.
-fn refuse_bytes(
+// Tells why an input is not shown to its end.
+fn refuse_rest(
     rt: &(impl Eprint + AllocGlobal),
     name: &str,
-    fault: InputFault,
+    fault: StreamFault,
 ) -> Result<Status, Status> {
     match fault {
-        InputFault::NotUtf8(at) => {
+        StreamFault::NotUtf8(at) => {
             let Ok(shown) = shown_name(rt.alloc(), name) else {
                 return out_of_memory(rt);
             };
             let _ = eprintln!(rt; "bidi: {shown}: not UTF-8 from byte {at} on");
             Ok(Status::Refused)
         }
-        InputFault::Memory => out_of_memory(rt),
+        StreamFault::Memory => out_of_memory(rt),
     }
 }
 
-// Writes the lines of an input.
-fn show_bytes(
+// How many bytes of an input are read at once.
+const PIECE: usize = 0x1_0000;
+
+// Shows an input piece by piece, so that it takes the memory of its longest line.
+fn show_reader(
     rt: &(impl Print + Eprint + AllocGlobal),
     view: View,
     name: &str,
-    bytes: &[u8],
+    reader: &mut impl Read,
 ) -> Result<Status, Status> {
-    match show_input(rt.alloc(), view, bytes) {
-        Ok(shown) => {
-            write_out(rt, shown.as_str())?;
-            Ok(Status::Clean)
+    let Ok(mut piece) = vec![in rt.alloc(); 0; PIECE] else {
+        return out_of_memory(rt);
+    };
+    let mut stream = Stream::new(rt.alloc());
+    let mut out = String::new(rt.alloc());
+    for _ in 0..u64::MAX {
+        let count = match reader.read(piece.as_mut_slice()) {
+            Ok(count) => count,
+            Err(error) => return refuse(rt, name, &error),
+        };
+        let shown = if count == 0 {
+            stream.finish(rt.alloc(), view, &mut out)
+        } else {
+            stream.push(rt.alloc(), view, &piece.as_slice()[..count], &mut out)
+        };
+        write_out(rt, out.as_str())?;
+        out.clear();
+        if let Err(fault) = shown {
+            return refuse_rest(rt, name, fault);
         }
-        Err(fault) => refuse_bytes(rt, name, fault),
+        if count == 0 {
+            break;
+        }
     }
+    Ok(Status::Clean)
 }
 
 /// The bytes of standard input.
@@ -107,10 +129,7 @@ fn show_standard_input(
     rt: &(impl Input + Print + Eprint + AllocGlobal),
     view: View,
 ) -> Result<Status, Status> {
-    match read_standard_input(rt) {
-        Ok(bytes) => show_bytes(rt, view, STANDARD_INPUT, bytes.as_slice()),
-        Err(error) => refuse(rt, STANDARD_INPUT, &error),
-    }
+    show_reader(rt, view, STANDARD_INPUT, &mut rt.reader())
 }
 
 fn show_file(
@@ -121,8 +140,8 @@ fn show_file(
     if name == STANDARD_INPUT_NAME {
         return show_standard_input(rt, view);
     }
-    match fs::read(rt, name) {
-        Ok(bytes) => show_bytes(rt, view, name, bytes.as_slice()),
+    match fs::open(rt, name) {
+        Ok(mut file) => show_reader(rt, view, name, &mut file),
         Err(error) => refuse(rt, name, &error),
     }
 }

@@ -74,15 +74,20 @@ const CHECK: &str = "usage: bidi check [OPTION..] [--] [FILE..]\n\
 const SHOW: &str = "usage: bidi show [--base auto|ltr|rtl] [--width N] [--plain] [--] [FILE..]\n\
     \n\
     Writes the lines of files from left to right, for a terminal without bidirectional\n\
-    support. Mirrors characters at odd levels, and puts marks after their letters.\n\
+    support. Mirrors characters at odd levels, and puts marks after their letters. A tab becomes\n\
+    spaces up to the next multiple of eight columns.\n\
     \n\
     --base   the direction of each line: ltr is left to right, rtl is right to left, and auto,\n\
     \u{20}        the default, takes it from the first strong character of the line\n\
-    --width  cuts a line that takes more than N columns; N has one to three digits\n\
+    --width  cuts a line that takes more than N columns, at white space if it can; N has one to\n\
+    \u{20}        three digits. In a terminal, the default is the number in the variable COLUMNS\n\
     --plain  neither mirrors characters nor moves marks\n\
     --help   writes this text, if it is the only argument behind show\n\
     --       ends the options: what follows are files\n\
     FILE     a file in UTF-8; - or no file at all is standard input\n\
+    \n\
+    Of a file that is not UTF-8, writes the lines before the first byte that is not, and reports\n\
+    that byte. The status is 2.\n\
     \n\
     Status: 0 all was written; 'bidi --help' lists the others.\n";
 

@@ -1,5 +1,5 @@
 //! What becomes of an input.
-ghost use Rattle.std.specs.Prelude.{◌≡◌, ◌==◌, ◌++◌, not, length, flat_map, IfOk, IfErr, IsErrOf, OnOk, string_bytes};
+ghost use Rattle.std.specs.Prelude.{◌≡◌, IfOk, string_bytes};
 ghost use Rattle.std.specs.Str.{chars, IsUtf8};
 ghost use Rattle.bidi_unicode.specs.Unicode.{unicode_source};
 ghost use Rattle.bidi_stages.specs.Explained.{AreTold};
@@ -7,14 +7,9 @@ ghost use Rattle.bidi_bytes.specs.Decoded.{decoded as decoded_chars, first_inval
 ghost use Rattle.bidi_bytes.specs.FileLines.{file_lines_of};
 ghost use Rattle.bidi_scan.specs.FileSearch.{found_from};
 ghost use Rattle.bidi.specs.Told.{is_any_told, told_report};
-ghost use Rattle.bidi.specs.Inputs.{TellsInput};
-ghost use Rattle.bidi.specs.Shown.{shown_text};
-ghost use Rattle.bidi.specs.declared.input.InputFault.TheVariants.{Memory};
 
-use crate::paragraphs::show;
 use crate::status::Status;
 use crate::told::push_lines_told;
-use crate::view::View;
 use bidi_allowed::allowed::AllowList;
 use bidi_controls::finding::Wanted;
 use bidi_names::names::chars_of;
@@ -24,26 +19,6 @@ use bidi_stages::explain::explain;
 use bidi_stages::view::StageView;
 use bidi_unicode::UnicodeData;
 use std::alloc::{AllocError, Global};
-
-/// Why an input has no answer.
-#[derive(Clone, Copy, Debug, PartialEq)]
-pub enum InputFault {
-    /// It is UTF-8 up to this byte, counted from 0, and no further.
-    NotUtf8(usize),
-    /// Memory was refused.
-    Memory,
-}
-
-impl From<AllocError> for InputFault {
-    ghost use Rattle.std.specs.Prelude.{◌≡◌};
-    ghost use Rattle.bidi.specs.declared.input.InputFault.TheVariants.{Memory};
-
-    ghost from_gives = { λ _ fault. fault ≡ Memory };
-
-    fn from(_error: AllocError) -> InputFault {
-        InputFault::Memory
-    }
-}
 
 /// What `check` says of an input.
 #[derive(Drop)]
@@ -71,18 +46,6 @@ impl Checked {
         } else {
             Status::Clean
         }
-    }
-}
-
-/// The text that an input is.
-fn text_of(bytes: &[u8]) -> Result<&str, InputFault>
-    ensures text { IfOk result (λ text. (text.now ≡ bytes.now) × IsUtf8 bytes.now) }
-    ensures fault { IfErr result (TellsInput bytes.now) }
-    ensures memory { ¬ IsErrOf result Memory }
-{
-    match str::from_utf8(bytes) {
-        Ok(text) => Ok(text),
-        Err(error) => Err(InputFault::NotUtf8(error.valid_up_to())),
     }
 }
 
@@ -118,19 +81,6 @@ pub fn check_input(
         found,
         invalid: searched.invalid,
     })
-}
-
-/// The lines of an input from left to right. Refused where the input is not UTF-8, and for want of
-/// memory.
-pub fn show_input(alloc: Global, view: View, bytes: &[u8]) -> Result<String, InputFault>
-    ensures text { IfOk result (λ out. IsUtf8 bytes.now
-        × (string_bytes out ≡ shown_text unicode_source view (chars bytes.now))) }
-    ensures fault { IfErr result (TellsInput bytes.now) }
-{
-    let text = text_of(bytes)?;
-    let chars = chars_of(alloc, text)?;
-    let shown = show(alloc, &UnicodeData, view, chars.as_slice())?;
-    Ok(shown)
 }
 
 /// What the rules make of the lines of a text, as tables or as sections of a page.

@@ -4,25 +4,22 @@
 //! `bidi explain` shows what each stage of the rules makes of the characters of a text.
 #![tactic(auto)]
 
-mod characters;
 mod check_options;
 mod command;
 mod entries;
 mod files;
 mod help;
 mod input;
-mod paragraphs;
 mod refusal;
 mod search;
-mod show;
 mod status;
 mod told;
-mod view;
 mod walk;
 
 use bidi_names::names::{shown_bytes, shown_name};
 use command::Command;
 use files::{answer_texts, end_without_memory, show_files, write_help, write_versions};
+use bidi_terminal::parse_number;
 use refusal::Refusal;
 use status::Status;
 use std::alloc::AllocError;
@@ -96,33 +93,44 @@ fn has_no_color(rt: &(impl Env + AllocGlobal)) -> bool {
     }
 }
 
+// The columns of the terminal that standard output is, if the environment tells them.
+fn default_width(rt: &(impl Env + AllocGlobal), to_terminal: bool) -> Option<u16> {
+    if !to_terminal {
+        return None;
+    }
+    parse_number(env::var(rt, "COLUMNS").ok()?.as_str())
+}
+
 fn answer(
     rt: &(impl Env + Files + Input + Print + Eprint + AllocGlobal),
-    is_terminal: bool,
     command: Command<'_>,
+    to_terminal: bool,
 ) -> Status {
     match command {
         Command::Check { options, files } => {
-            let form = options.report.form(is_terminal, has_no_color(rt));
+            let form = options.report.form(to_terminal, has_no_color(rt));
             check_files(rt, form, &options, files.words())
         }
         Command::Explain { view, texts } => answer_texts(rt, view, texts.words()),
         Command::Help(subcommand) => write_help(rt, subcommand),
-        Command::Show { view, files } => show_files(rt, view, files.words()),
+        Command::Show { view, files } => {
+            let view = view.or_width(default_width(rt, to_terminal));
+            show_files(rt, view, files.words())
+        }
         Command::Version => write_versions(rt),
     }
 }
 
 fn serve(
     rt: &(impl Env + Files + Input + Print + Eprint + AllocGlobal),
-    is_terminal: bool,
+    to_terminal: bool,
 ) -> Status {
     let words = match arguments(rt) {
         Ok(words) => words,
         Err(error) => return refuse_arguments(rt, &error),
     };
     match Command::parse(words.as_slice()) {
-        Ok(command) => answer(rt, is_terminal, command),
+        Ok(command) => answer(rt, command, to_terminal),
         Err(refusal) => match refuse(rt, &refusal) {
             Ok(()) => Status::Refused,
             Err(AllocError) => end_without_memory(rt),
@@ -131,6 +139,6 @@ fn serve(
 }
 
 fn main(rt: HostRuntime) -> ExitCode {
-    let is_terminal = rt.stdout().is_terminal();
-    ExitCode::from(serve(&rt, is_terminal).number())
+    let to_terminal = rt.stdout().is_terminal();
+    ExitCode::from(serve(&rt, to_terminal).number())
 }

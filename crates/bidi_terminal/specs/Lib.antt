@@ -1,3 +1,2 @@
 pub mod Bases
-pub mod Columns
 pub mod Numbers

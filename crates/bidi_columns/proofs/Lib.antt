@@ -1,0 +1,2 @@
+pub mod ClusterLemmas
+pub mod LineLemmas

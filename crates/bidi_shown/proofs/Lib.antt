@@ -1,0 +1,3 @@
+pub mod BoundsLemmas
+pub mod ParagraphLemmas
+pub mod PiecesLemmas

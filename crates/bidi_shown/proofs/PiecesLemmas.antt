@@ -1,0 +1,163 @@
+-- In whatever pieces a text comes, the same is shown.
+use Rattle.bidi_base.proofs.Common.{◌≡◌, ◌≢◌, ◌∙◌, ℕ, suc, if◌then◌else◌, length-take, take_more, ◌+◌, ◌-◌, ◌<◌, ◌≤◌, ◌++◌, ◌==◌, nat_lt, true, false, Bool, List, [], ◌∷◌, length, take, drop, get_or, flat_map, refl, sym, ap, subst, arith, nat_tests, eqb-true, cases_Bool, inl, inr, append_assoc, append-nil, take-append-drop, take-append_seam, drop-append_seam, flat_map-append, length-append, get_or-append_seam, chars, chars-nil, encode_utf8, IsUtf8, IsUtf8-past_char, IsCharBoundary, Source, is_paragraph_separator, begins_with_line_feed, cr_lf_together, cut_after, onto_first}
+use Rattle.std.specs.List.{concat}
+use Rattle.std.proofs.lemmas.Str.{chars-append, chars_past_char, encode_ascii, IsCharBoundary-before_ascii, IsUtf8-drop, IsUtf8-from_is_utf8, IsUtf8-take}
+use Rattle.bidi_unicode.specs.Unicode.{unicode_source}
+use Rattle.bidi_visual.specs.Shown.{own_chars, paragraphs_in, shown_paragraph, shown_text}
+use Rattle.bidi_visual.specs.declared.view.View.{View}
+use Rattle.bidi_visual.proofs.QuietLemmas.{feed-separates}
+use Rattle.bidi_shown.specs.Streams.{whole_lines, shown_bytes, shown_now, pending_after, shown_pieces}
+
+-- ---- the paragraphs of a text that has a line feed
+
+onto-append : (c : ℕ) (xs ys : List (List ℕ)) → 0 < length xs → onto_first c (xs ++ ys) ≡ onto_first c xs ++ ys
+onto-append c [] ys some = absurd (omega arith)
+onto-append c (x ∷ xs) ys some = refl
+
+onto-some : (c : ℕ) (xs : List (List ℕ)) → 0 < length (onto_first c xs)
+onto-some c [] = omega arith
+onto-some c (x ∷ xs) = omega arith
+
+cut-some : (source : Source) (c : ℕ) (cs : List ℕ) → 0 < length (paragraphs_in source (c ∷ cs))
+cut-some source c cs = elim (cases_Bool (cr_lf_together source c cs)) [
+  | inl ends ↦ simp ends (omega arith)
+  | inr goes_on ↦ simp goes_on (onto-some c (paragraphs_in source cs))
+]
+
+some-before : (source : Source) (cs : List ℕ) → 0 < length (paragraphs_in source (cs ++ 0x0A ∷ []))
+some-before source [] = cut-some source 0x0A []
+some-before source (c ∷ cs) = cut-some source c (cs ++ 0x0A ∷ [])
+
+same-ends : (source : Source) (c : ℕ) (cs ds : List ℕ) → cr_lf_together source c (cs ++ 0x0A ∷ ds) ≡ cr_lf_together source c (cs ++ 0x0A ∷ [])
+same-ends source c [] ds = refl
+same-ends source c (d ∷ cs) ds = refl
+
+paragraphs-append : (source : Source) → is_paragraph_separator (source.class_of 0x0A) ≡ true → (cs ds : List ℕ)
+    → paragraphs_in source (cs ++ 0x0A ∷ ds) ≡ paragraphs_in source (cs ++ 0x0A ∷ []) ++ paragraphs_in source ds
+paragraphs-append source feed [] ds = simp feed
+paragraphs-append source feed (c ∷ cs) ds =
+    let later = paragraphs-append source feed cs ds in
+    elim (cases_Bool (cr_lf_together source c (cs ++ 0x0A ∷ []))) [
+      | inl ends ↦
+          let ends' : cr_lf_together source c (cs ++ 0x0A ∷ ds) ≡ true = same-ends source c cs ds ∙ ends in
+          simp (ends, ends', later)
+      | inr goes_on ↦
+          let goes_on' : cr_lf_together source c (cs ++ 0x0A ∷ ds) ≡ false = same-ends source c cs ds ∙ goes_on in
+          simp (goes_on, goes_on', later) (onto-append c (paragraphs_in source (cs ++ 0x0A ∷ [])) (paragraphs_in source ds) (some-before source cs))
+    ]
+
+pub shown_text-append : (view : View) (cs ds : List ℕ) → shown_text unicode_source view (cs ++ 0x0A ∷ ds) ≡ shown_text unicode_source view (cs ++ 0x0A ∷ []) ++ shown_text unicode_source view ds
+unfolding shown_text
+shown_text-append view cs ds =
+    let shown = λ (p : List ℕ). shown_paragraph unicode_source view (own_chars unicode_source p) in
+    ap (flat_map shown) (paragraphs-append unicode_source feed-separates cs ds) ∙ flat_map-append shown (paragraphs_in unicode_source (cs ++ 0x0A ∷ [])) (paragraphs_in unicode_source ds)
+
+-- ---- the same of bytes
+
+feed-chars : (rest : List ℕ) → IsUtf8 (0x0A ∷ rest) → (chars (0x0A ∷ rest) ≡ 0x0A ∷ chars rest) × IsUtf8 rest
+feed-chars rest utf8 =
+    let e : 0x0A ∷ rest ≡ encode_utf8 0x0A ++ rest = ap (λ l. l ++ rest) (sym (encode_ascii 0x0A (omega arith))) in
+    (chars_past_char (0x0A ∷ rest) rest 0x0A utf8 e, IsUtf8-past_char (0x0A ∷ rest) rest 0x0A utf8 e)
+
+-- before a line feed
+at-feed : (front rest : List ℕ) → IsUtf8 (front ++ 0x0A ∷ rest) → IsUtf8 front × IsUtf8 (0x0A ∷ rest)
+at-feed front rest utf8 =
+    let bs : List ℕ = front ++ 0x0A ∷ rest in
+    let within : length front < length bs = omega (arith, length-append front (0x0A ∷ rest)) in
+    let byte : get_or bs (length front) 0 ≡ 0x0A = get_or-append_seam front 0x0A rest 0 in
+    let boundary : IsCharBoundary bs (length front) = IsCharBoundary-before_ascii bs (length front) within (omega (arith, byte)) in
+    (
+      subst IsUtf8 (take-append_seam front (0x0A ∷ rest)) (IsUtf8-take bs (length front) utf8 boundary),
+      subst IsUtf8 (drop-append_seam front (0x0A ∷ rest)) (IsUtf8-drop bs (length front) utf8 boundary),
+    )
+
+chars-feed : (front rest : List ℕ) → IsUtf8 (front ++ 0x0A ∷ rest) → chars (front ++ 0x0A ∷ rest) ≡ chars front ++ 0x0A ∷ chars rest
+chars-feed front rest utf8 =
+    let parts = at-feed front rest utf8 in
+    chars-append front (0x0A ∷ rest) parts.0 ∙ ap (λ l. chars front ++ l) (feed-chars rest parts.1).0
+
+feed-alone : (front rest : List ℕ) → IsUtf8 (front ++ 0x0A ∷ rest) → chars (front ++ 0x0A ∷ []) ≡ chars front ++ 0x0A ∷ []
+feed-alone front rest utf8 =
+    let parts = at-feed front rest utf8 in
+    let alone : chars (0x0A ∷ []) ≡ 0x0A ∷ [] = (feed-chars [] (feed-utf8)).0 ∙ ap (λ l. 0x0A ∷ l) chars-nil in
+    chars-append front (0x0A ∷ []) parts.0 ∙ ap (λ l. chars front ++ l) alone
+  where
+    feed-utf8 : IsUtf8 (0x0A ∷ [])
+    feed-utf8 = IsUtf8-from_is_utf8 (0x0A ∷ []) refl
+
+pub shown_bytes-append : (view : View) (front rest : List ℕ) → IsUtf8 (front ++ 0x0A ∷ rest) → shown_bytes view (front ++ 0x0A ∷ rest) ≡ shown_bytes view (front ++ 0x0A ∷ []) ++ shown_bytes view rest
+shown_bytes-append view front rest utf8 =
+    simp (chars-feed front rest utf8, feed-alone front rest utf8) (shown_text-append view (chars front) (chars rest))
+
+-- ---- pieces
+
+-- the whole lines end with a line feed
+record EndsLine (bs : List ℕ) : Type 0 where
+  front : List ℕ
+  is : take (whole_lines bs) bs ≡ front ++ 0x0A ∷ []
+
+ends_line : (bs : List ℕ) → 0 < whole_lines bs → EndsLine bs
+ends_line [] some = absurd (omega arith)
+ends_line (b ∷ bs) some = elim (cases_Bool (nat_lt 0 (whole_lines bs))) [
+  | inl later ↦
+      let rest = ends_line bs (grind (arith, nat_tests, later)) in
+      let next : whole_lines bs + 1 ≡ suc (whole_lines bs) = omega arith in
+      record { front = b ∷ rest.front; is = simp (later, next, rest.is) }
+  | inr none ↦ elim (cases_Bool (b == 0x0A)) [
+    | inl here ↦ record { front = []; is = simp (none, here, eqb-true b 0x0A here) }
+    | inr other ↦ absurd (let no : whole_lines (b ∷ bs) ≡ 0 = simp (none, other) in omega arith)
+  ]
+]
+
+pub shown_pieces-whole : (view : View) (pieces : List (List ℕ)) (kept : List ℕ) → IsUtf8 (kept ++ concat pieces) → shown_pieces view kept pieces ≡ shown_bytes view (kept ++ concat pieces)
+shown_pieces-whole view [] kept utf8 = simp append-nil
+shown_pieces-whole view (piece ∷ pieces) kept utf8 = elim (cases_Bool (whole_lines piece == 0)) [
+  | inl none ↦
+      let same : kept ++ (piece ++ concat pieces) ≡ (kept ++ piece) ++ concat pieces = sym (append_assoc kept piece (concat pieces)) in
+      simp none (shown_pieces-whole view pieces (kept ++ piece) (subst IsUtf8 same utf8) ∙ ap (shown_bytes view) (sym same))
+  | inr some ↦
+      let end = ends_line piece (grind (arith, nat_tests, some)) in
+      let rest : List ℕ = drop (whole_lines piece) piece ++ concat pieces in
+      let front : List ℕ = kept ++ end.front in
+      let lines : kept ++ take (whole_lines piece) piece ≡ front ++ 0x0A ∷ [] = ap (λ l. kept ++ l) end.is ∙ sym (append_assoc kept end.front (0x0A ∷ [])) in
+      let cut : piece ≡ (end.front ++ 0x0A ∷ []) ++ drop (whole_lines piece) piece = sym (take-append-drop (whole_lines piece) piece) ∙ ap (λ l. l ++ drop (whole_lines piece) piece) end.is in
+      let whole : kept ++ (piece ++ concat pieces) ≡ front ++ 0x0A ∷ rest = ap (λ l. kept ++ (l ++ concat pieces)) cut ∙ simp append_assoc in
+      let valid : IsUtf8 (front ++ 0x0A ∷ rest) = subst IsUtf8 whole utf8 in
+      let later : shown_pieces view (drop (whole_lines piece) piece) pieces ≡ shown_bytes view rest = shown_pieces-whole view pieces (drop (whole_lines piece) piece) (feed-chars rest (at-feed front rest valid).1).1 in
+      simp (some, lines, later) (sym (shown_bytes-append view front rest valid) ∙ ap (shown_bytes view) (sym whole))
+]
+
+-- ---- the whole lines, read from the end
+
+whole_lines-push : (xs : List ℕ) (b : ℕ) → whole_lines (xs ++ b ∷ []) ≡ (if b == 0x0A then length xs + 1 else whole_lines xs)
+whole_lines-push [] b = elim (cases_Bool (b == 0x0A)) [ inl here ↦ simp here (omega arith) | inr other ↦ simp other ]
+whole_lines-push (x ∷ xs) b =
+    let later = whole_lines-push xs b in
+    elim (cases_Bool (b == 0x0A)) [
+      | inl here ↦
+          let all : whole_lines (xs ++ b ∷ []) ≡ length xs + 1 = simp here at later in
+          let some : nat_lt 0 (length xs + 1) ≡ true = grind (arith, nat_tests) in
+          simp (here, all, some) (omega arith)
+      | inr other ↦
+          let same : whole_lines (xs ++ b ∷ []) ≡ whole_lines xs = simp other at later in
+          simp (other, same)
+    ]
+
+module _ (bs : List ℕ) (end : ℕ) (some : 0 < end) (within : end ≤ length bs) where
+  last : take end bs ≡ take (end - 1) bs ++ get_or bs (end - 1) 0 ∷ []
+  last =
+      let next : end ≡ (end - 1) + 1 = omega arith in
+      ap (λ n. take n bs) next ∙ take_more bs (end - 1) 0 (omega arith)
+
+  front_len : length (take (end - 1) bs) + 1 ≡ end
+  front_len = omega (arith, length-take (end - 1) bs)
+
+  pub whole-at : get_or bs (end - 1) 0 ≡ 0x0A → whole_lines (take end bs) ≡ end
+  whole-at here =
+      let feed : (get_or bs (end - 1) 0 == 0x0A) ≡ true = grind (arith, nat_tests) in
+      ap whole_lines last ∙ whole_lines-push (take (end - 1) bs) (get_or bs (end - 1) 0) ∙ simp feed front_len
+
+  pub whole-before : get_or bs (end - 1) 0 ≢ 0x0A → whole_lines (take end bs) ≡ whole_lines (take (end - 1) bs)
+  whole-before other =
+      let none : (get_or bs (end - 1) 0 == 0x0A) ≡ false = grind (arith, nat_tests) in
+      ap whole_lines last ∙ whole_lines-push (take (end - 1) bs) (get_or bs (end - 1) 0) ∙ simp none

@@ -1,0 +1,34 @@
+-- A paragraph whose classes and levels are known, and what is shown of its lines.
+use Rattle.std.specs.Prelude.{◌≡◌, ℕ, Bool, List, ◌++◌, map, Option, codes}
+use Rattle.std.specs.Char.{len_utf8}
+use Rattle.std.specs.declared.ops.Range.{Range}
+use Rattle.bidi_base.specs.Analysed.{AnalysedText, IsPerCharText, line_levels_per_char}
+use Rattle.bidi_base.specs.Display.{Run}
+use Rattle.bidi_base.specs.Isolates.{paragraph_level, stored_classes}
+use Rattle.bidi_base.specs.Source.{Source}
+use Rattle.bidi_base.specs.Stored.{stored_levels}
+use Rattle.bidi_base.specs.Text.{per_unit, subrange}
+use Rattle.bidi_base.specs.declared.char_data.BidiClass.{BidiClass}
+use Rattle.bidi_visual.specs.Shown.{tabbed_line}
+use Rattle.bidi_shown.specs.declared.paragraph.Memory.{Memory}
+
+-- the characters of a text of UTF-8, with the class and the level of each byte
+abbrev pub analysed : List ℕ → List BidiClass → List ℕ → AnalysedText
+analysed chars classes levels = record { len_of = len_utf8; chars = chars; classes = classes; levels = levels }
+
+-- the characters of the text that was analysed last
+abbrev pub analysed_in : Memory → List ℕ → AnalysedText
+analysed_in memory chars = analysed chars memory.classes.items memory.levels.items
+
+-- these are the classes, the levels and the level of a paragraph
+pub record IsAnalysed (source : Source) (base : Option ℕ) (chars : List ℕ) (classes : List BidiClass) (levels : List ℕ) (level : ℕ) : Type 0 where
+  pub classes : classes ≡ per_unit len_utf8 chars (stored_classes (map source.class_of chars))
+  pub levels : levels ≡ per_unit len_utf8 chars (stored_levels source base chars)
+  pub level : level ≡ paragraph_level base (map source.class_of chars)
+  pub per_char : IsPerCharText (analysed chars classes levels)
+
+-- a line of an analysed text as it is shown, from the level of its paragraph and its range of bytes
+abbrev pub shown_in : Source → Bool → AnalysedText → ℕ → Run → List ℕ
+shown_in source plain a level run =
+    let line : Range ℕ = record { start = run.0; end = run.1 } in
+    tabbed_line source plain (subrange a.len_of a.chars run.0 run.1) (line_levels_per_char a level line) ++ codes "\n"

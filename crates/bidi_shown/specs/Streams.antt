@@ -1,0 +1,34 @@
+-- A text that comes in pieces: what is shown with each, and what is kept.
+use Rattle.std.specs.Prelude.{ℕ, ◌+◌, ◌==◌, nat_lt, if◌then◌else◌, List, [], ◌∷◌, ◌++◌, take, drop}
+use Rattle.std.specs.Str.{chars}
+use Rattle.bidi_unicode.specs.Unicode.{unicode_source}
+use Rattle.bidi_visual.specs.Shown.{shown_text}
+use Rattle.bidi_visual.specs.declared.view.View.{View}
+use Rattle.bidi_shown.specs.declared.stream.Stream.{Stream}
+
+-- the number of bytes up to the last line feed, this included; 0 where there is none
+abbrev pub whole_lines : List ℕ → ℕ
+whole_lines [] = 0
+whole_lines (b ∷ bs) = if nat_lt 0 (whole_lines bs) then whole_lines bs + 1 else (if b == 0x0A then 1 else 0)
+
+-- the bytes that have come and are not shown yet
+abbrev pub pending : Stream → List ℕ
+pending s = s.pending.items
+
+-- what is shown of a text as these bytes
+abbrev pub shown_bytes : View → List ℕ → List ℕ
+shown_bytes view bytes = shown_text unicode_source view (chars bytes)
+
+-- what is shown when a piece comes after bytes that are kept: the lines up to its last line feed, if it has one
+abbrev pub shown_now : View → List ℕ → List ℕ → List ℕ
+shown_now view kept piece =
+    if whole_lines piece == 0 then [] else shown_bytes view (kept ++ take (whole_lines piece) piece)
+
+-- what is kept then
+abbrev pub pending_after : List ℕ → List ℕ → List ℕ
+pending_after kept piece = if whole_lines piece == 0 then kept ++ piece else drop (whole_lines piece) piece
+
+-- what is shown of a text that comes in these pieces after bytes that are kept, up to its end
+abbrev pub shown_pieces : View → List ℕ → List (List ℕ) → List ℕ
+shown_pieces view kept [] = shown_bytes view kept
+shown_pieces view kept (piece ∷ pieces) = shown_now view kept piece ++ shown_pieces view (pending_after kept piece) pieces

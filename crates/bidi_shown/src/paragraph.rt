@@ -1,0 +1,153 @@
+//! The lines of a paragraph from left to right.
+ghost use Rattle.std.specs.Prelude.{◌≡◌, ◌++◌, flat_map, map, All, IfOk, OnOk, string_bytes};
+ghost use Rattle.std.specs.Str.{chars};
+ghost use Rattle.bidi_base.specs.Analysed.{IsPerCharText};
+ghost use Rattle.bidi_base.specs.Display.{run_of};
+ghost use Rattle.bidi_columns.specs.Bounds.{IsRangeOf};
+ghost use Rattle.bidi_terminal.specs.Bases.{level_of_base};
+ghost use Rattle.bidi_visual.specs.Shown.{shown_paragraph, shown_ranges};
+ghost use Rattle.bidi_shown.specs.Paragraph.{analysed_in, shown_in, IsAnalysed};
+
+use bidi_base::char_data::BidiClass;
+use bidi_base::data_source::BidiDataSource;
+use bidi_base::level::{LTR_LEVEL, Level};
+use bidi_columns::breaks::lines;
+use bidi_lines::shown_levels::ShownLevels;
+use bidi_terminal::Base;
+use bidi_text::text::StrText;
+use bidi_visual::line::push_text;
+use bidi_visual::view::View;
+use std::alloc::{AllocError, Global};
+use std::ops::Range;
+use unicode_bidi::engine::Analyser;
+
+/// The analysis of one paragraph after another, in the same memory.
+#[derive(Drop)]
+pub struct Memory {
+    analyser: Analyser,
+    // The class and the level of each byte of the last paragraph, and its level.
+    classes: Vec<BidiClass>,
+    levels: Vec<Level>,
+    level: Level,
+}
+
+impl Memory {
+    /// Returns the analysis of no paragraph. Does not allocate.
+    pub fn new(alloc: Global) -> Memory {
+        Memory {
+            analyser: Analyser::new(alloc),
+            classes: Vec::new(alloc),
+            levels: Vec::new(alloc),
+            level: LTR_LEVEL,
+        }
+    }
+
+    // Analyses a paragraph.
+    fn analyse<D: BidiDataSource>(
+        &mut self,
+        alloc: Global,
+        data_source: &D,
+        base: Base,
+        text: &str,
+    ) -> Result<(), AllocError>
+        ensures { OnOk result (IsAnalysed (D.source data_source.now) (level_of_base base) (chars text.now)
+            self.new.classes.items self.new.levels.items self.new.level) }
+    {
+        let len = text.len();
+        self.classes.resize(len, BidiClass::L)?;
+        self.levels.resize(len, LTR_LEVEL)?;
+        self.analyser.analyse(
+            alloc,
+            data_source,
+            StrText::new(text),
+            base.level(),
+            None,
+            self.classes.as_mut_slice(),
+            self.levels.as_mut_slice(),
+        )?;
+        self.level = self.analyser.paragraphs()[0].level();
+        Ok(())
+    }
+}
+
+// Appends a line of an analysed paragraph from left to right, ended by a line feed.
+fn push_line<D: BidiDataSource>(
+    alloc: Global,
+    out: &mut String,
+    memory: &Memory,
+    data_source: &D,
+    plain: bool,
+    text: &str,
+    line: &Range<usize>,
+) -> Result<(), AllocError>
+    requires per_char { IsPerCharText (analysed_in memory.now (chars text.now)) }
+    requires range { IsRangeOf text.now line.now }
+    ensures { OnOk result (string_bytes out.new ≡ string_bytes out.old
+        ++ shown_in (D.source data_source.now) plain (analysed_in memory.now (chars text.now)) memory.now.level (run_of line.now)) }
+{
+    let (start, end) = (line.start, line.end);
+    let part = &text[start..end];
+    let classes = &memory.classes.as_slice()[start..end];
+    let levels = &memory.levels.as_slice()[start..end];
+    let mut shown = ShownLevels::new(alloc);
+    shown.show(memory.level, classes, levels)?;
+    shown.keep_first_units(StrText::new(part));
+    push_text(alloc, out, data_source, plain, part, shown.as_slice())?;
+    out.push_str("\n")?;
+    Ok(())
+}
+
+// Appends lines of an analysed paragraph.
+fn push_lines<D: BidiDataSource>(
+    alloc: Global,
+    out: &mut String,
+    memory: &Memory,
+    data_source: &D,
+    plain: bool,
+    text: &str,
+    lines: &[Range<usize>],
+) -> Result<(), AllocError>
+    requires per_char { IsPerCharText (analysed_in memory.now (chars text.now)) }
+    requires ranges { All (IsRangeOf text.now) lines.now }
+    ensures { OnOk result (string_bytes out.new ≡ string_bytes out.old
+        ++ flat_map (λ r. shown_in (D.source data_source.now) plain (analysed_in memory.now (chars text.now)) memory.now.level (run_of r))
+        lines.now) }
+{
+    for line in lines {
+        push_line(alloc, out, memory, data_source, plain, text, line)?;
+    }
+    Ok(())
+}
+
+// Returns the lines of a paragraph, as ranges of its bytes: all of it, or those of the width.
+fn lines_of<D: BidiDataSource>(
+    alloc: Global,
+    data_source: &D,
+    width: Option<u16>,
+    text: &str,
+) -> Result<Vec<Range<usize>>, AllocError>
+    ensures lines { IfOk result (λ v. map run_of v.items ≡ shown_ranges (D.source data_source.now) width (chars text.now)) }
+    ensures ranges { IfOk result (λ v. All (IsRangeOf text.now) v.items) }
+{
+    match width {
+        Some(width) => lines(alloc, data_source, text, width),
+        None => Ok(vec![in alloc; 0..text.len()]?),
+    }
+}
+
+/// Appends the lines of a paragraph without separators, each from left to right and ended by a line feed.
+pub fn push_paragraph<D: BidiDataSource>(
+    alloc: Global,
+    out: &mut String,
+    memory: &mut Memory,
+    data_source: &D,
+    view: View,
+    text: &str,
+) -> Result<(), AllocError>
+    ensures { OnOk result (string_bytes out.new
+        ≡ string_bytes out.old ++ shown_paragraph (D.source data_source.now) view (chars text.now)) }
+{
+    memory.analyse(alloc, data_source, view.base, text)?;
+    let lines = lines_of(alloc, data_source, view.width, text)?;
+    push_lines(alloc, out, memory, data_source, view.plain, text, lines.as_slice())
+}

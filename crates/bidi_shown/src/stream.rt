@@ -1,0 +1,173 @@
+//! A text that comes in pieces, of which whole lines are shown at once.
+ghost use Rattle.std.specs.Prelude.{◌≡◌, ◌++◌, ◌≤◌, [], length, take, OnOk, IfErr, string_bytes};
+ghost use Rattle.std.specs.Str.{chars, IsUtf8};
+ghost use Rattle.bidi_unicode.specs.Unicode.{unicode_source};
+ghost use Rattle.bidi_visual.specs.Shown.{shown_text};
+ghost use Rattle.bidi_shown.specs.Faults.{TellsBytes};
+ghost use Rattle.bidi_shown.specs.Streams.{whole_lines as whole_lines_of};
+
+use crate::paragraph::Memory;
+use crate::text::push_text;
+use bidi_visual::view::View;
+use std::alloc::{AllocError, Global};
+
+/// Why a text is not shown to its end.
+#[derive(Clone, Copy, Debug, PartialEq, Drop)]
+pub enum StreamFault {
+    /// It is UTF-8 up to this byte, counted from 0, and no further.
+    NotUtf8(usize),
+    /// An allocation failed.
+    Memory,
+}
+
+impl From<AllocError> for StreamFault {
+    ghost use Rattle.std.specs.Prelude.{◌≡◌};
+    ghost use Rattle.bidi_shown.specs.declared.stream.StreamFault.TheVariants.{Memory};
+
+    ghost from_gives = { λ _ fault. fault ≡ Memory };
+
+    fn from(_error: AllocError) -> StreamFault {
+        StreamFault::Memory
+    }
+}
+
+impl StreamFault {
+    // Returns the fault of a text that has so many bytes before those in which it was found.
+    fn after(self, before: usize) -> StreamFault {
+        match self {
+            StreamFault::NotUtf8(at) => StreamFault::NotUtf8(before.saturating_add(at)),
+            StreamFault::Memory => StreamFault::Memory,
+        }
+    }
+}
+
+/// A text that comes in pieces.
+///
+/// It keeps the bytes after the last line feed that has come, and shows the lines before.
+#[derive(Drop)]
+pub struct Stream {
+    memory: Memory,
+    pending: Vec<u8>,
+    // The number of bytes that were shown.
+    before: usize,
+}
+
+// Returns the number of bytes up to the last line feed, this included, or 0.
+fn whole_lines(bytes: &[u8]) -> usize
+    ensures count { result ≡ whole_lines_of bytes.now }
+    ensures within { result ≤ length bytes.now }
+{
+    let mut end = bytes.len();
+    while end > 0 {
+        if bytes[end - 1] == b'\n' {
+            return end;
+        }
+        end -= 1;
+    }
+    0
+}
+
+// Appends the lines of a text. If it is not UTF-8, appends the whole lines before the first byte that is not.
+fn show_bytes(
+    alloc: Global,
+    memory: &mut Memory,
+    view: View,
+    bytes: &[u8],
+    out: &mut String,
+) -> Result<(), StreamFault>
+    ensures utf8 { OnOk result (IsUtf8 bytes.now) }
+    ensures shown { OnOk result (string_bytes out.new ≡ string_bytes out.old ++ shown_text unicode_source view (chars bytes.now)) }
+    ensures fault { IfErr result (TellsBytes bytes.now) }
+{
+    match str::from_utf8(bytes) {
+        Ok(text) => {
+            push_text(alloc, out, memory, view, text)?;
+            Ok(())
+        }
+        Err(error) => {
+            let valid = error.valid_up_to();
+            if let Ok(text) = str::from_utf8(&bytes[..whole_lines(&bytes[..valid])]) {
+                push_text(alloc, out, memory, view, text)?;
+            }
+            Err(StreamFault::NotUtf8(valid))
+        }
+    }
+}
+
+impl Stream {
+    ghost use Rattle.bidi_shown.specs.Streams.{pending as pending_of, shown_now, pending_after};
+
+    /// Returns a text of which nothing has come. Does not allocate.
+    pub fn new(alloc: Global) -> Stream
+        ensures { pending_of result ≡ [] }
+    {
+        Stream {
+            memory: Memory::new(alloc),
+            pending: Vec::new(alloc),
+            before: 0,
+        }
+    }
+
+    /// Takes the next piece of the text, and appends the whole lines that have come with it to `out`.
+    ///
+    /// If the text is not UTF-8, appends the whole lines before the first byte that is not, and returns its offset.
+    pub fn push(
+        &mut self,
+        alloc: Global,
+        view: View,
+        piece: &[u8],
+        out: &mut String,
+    ) -> Result<(), StreamFault>
+        ensures shown { OnOk result (string_bytes out.new ≡ string_bytes out.old ++ shown_now view (pending_of self.old) piece.now) }
+        ensures pending { OnOk result (pending_of self.new ≡ pending_after (pending_of self.old) piece.now) }
+    {
+        let count = whole_lines(piece);
+        if count == 0 {
+            self.pending.extend_from_slice(piece)?;
+            return Ok(());
+        }
+        let (lines, after) = piece.split_at(count);
+        self.pending.extend_from_slice(lines)?;
+        self.show_pending(alloc, view, out)?;
+        self.pending.extend_from_slice(after)?;
+        Ok(())
+    }
+
+    /// Ends the text: appends the last line to `out`, if it has no line feed.
+    pub fn finish(
+        &mut self,
+        alloc: Global,
+        view: View,
+        out: &mut String,
+    ) -> Result<(), StreamFault>
+        ensures utf8 { OnOk result (IsUtf8 (pending_of self.old)) }
+        ensures shown { OnOk result (string_bytes out.new
+            ≡ string_bytes out.old ++ shown_text unicode_source view (chars (pending_of self.old))) }
+    {
+        self.show_pending(alloc, view, out)
+    }
+
+    // Appends the lines of the bytes that are kept, and keeps none.
+    fn show_pending(
+        &mut self,
+        alloc: Global,
+        view: View,
+        out: &mut String,
+    ) -> Result<(), StreamFault>
+        ensures utf8 { OnOk result (IsUtf8 (pending_of self.old)) }
+        ensures shown { OnOk result (string_bytes out.new
+            ≡ string_bytes out.old ++ shown_text unicode_source view (chars (pending_of self.old))) }
+        ensures pending { OnOk result (pending_of self.new ≡ []) }
+    {
+        let bytes = self.pending.as_slice();
+        let len = bytes.len();
+        match show_bytes(alloc, &mut self.memory, view, bytes, out) {
+            Ok(()) => {
+                self.before = self.before.saturating_add(len);
+                self.pending.clear();
+                Ok(())
+            }
+            Err(fault) => Err(fault.after(self.before)),
+        }
+    }
+}

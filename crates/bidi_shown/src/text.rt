@@ -1,0 +1,57 @@
+//! The lines of a text from left to right.
+ghost use Rattle.std.specs.Prelude.{◌≡◌, ◌++◌, ◌<◌, length, IfOk, OnOk, string_bytes};
+ghost use Rattle.std.specs.Str.{chars};
+ghost use Rattle.bidi_unicode.specs.Unicode.{unicode_source};
+ghost use Rattle.bidi_visual.specs.Shown.{shown_text};
+
+use crate::paragraph::{Memory, push_paragraph};
+use bidi_unicode::UnicodeData;
+use bidi_visual::first::first_paragraph;
+use bidi_visual::quiet::quiet_len;
+use bidi_visual::view::View;
+use std::alloc::{AllocError, Global};
+
+// Appends the lines at the start of a text: those that are shown unchanged, or those of the first paragraph. Returns
+// the rest of the text.
+fn push_first<'t>(
+    alloc: Global,
+    out: &mut String,
+    memory: &mut Memory,
+    view: View,
+    text: &'t str,
+) -> Result<&'t str, AllocError>
+    requires { 0 < length text.now }
+    ensures shown { IfOk result (λ rest. string_bytes out.new ++ shown_text unicode_source view (chars rest.now)
+        ≡ string_bytes out.old ++ shown_text unicode_source view (chars text.now)) }
+    ensures shorter { IfOk result (λ rest. length rest.now < length text.now) }
+{
+    let quiet = quiet_len(view, text);
+    if quiet > 0 {
+        let (lines, rest) = text.split_at(quiet);
+        out.push_str(lines)?;
+        return Ok(rest);
+    }
+    let first = first_paragraph(&UnicodeData, text);
+    push_paragraph(alloc, out, memory, &UnicodeData, view, first.own)?;
+    Ok(first.rest)
+}
+
+/// Appends the lines of a text, each from left to right and ended by a line feed.
+///
+/// Each paragraph of the text (P1) begins a new line, and is cut into several lines if the view has a width.
+pub fn push_text(
+    alloc: Global,
+    out: &mut String,
+    memory: &mut Memory,
+    view: View,
+    text: &str,
+) -> Result<(), AllocError>
+    ensures { OnOk result (string_bytes out.new
+        ≡ string_bytes out.old ++ shown_text unicode_source view (chars text.now)) }
+{
+    let mut rest = text;
+    while !rest.is_empty() {
+        rest = push_first(alloc, out, memory, view, rest)?;
+    }
+    Ok(())
+}

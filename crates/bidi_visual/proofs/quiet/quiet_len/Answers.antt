@@ -1,0 +1,5 @@
+use Rattle.std.proofs.lemmas.Str.{IsCharBoundary-start}
+use Rattle.bidi_visual.proofs.quiet.quiet_len.Goals as goal
+
+pub returns-then-is_some-clause-boundary : goal.returns-then-is_some-clause-boundary
+returns-then-is_some-clause-boundary c = IsCharBoundary-start c.args.text.now c.utf8.text

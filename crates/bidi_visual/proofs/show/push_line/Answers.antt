@@ -1,0 +1,14 @@
+use Rattle.bidi_base.proofs.Common.{List, ℕ, Run, run_of, IsLevelRun, flat_map-map}
+use Rattle.bidi_visual.specs.Shown.{run_at, shown_line}
+use Rattle.bidi_visual.proofs.ShownLemmas.{All-from_map}
+use Rattle.bidi_visual.proofs.show.push_line.Goals as goal
+
+pub push_runs-requires-clause-runs : goal.push_runs-requires-clause-runs
+push_runs-requires-clause-runs g c =
+    rw c.as_slice.ensures.value (All-from_map (IsLevelRun 0 c.args.levels.now) run_of c.in_ok-runs.runs.items c.in_ok-runs.ensures.visual.are_runs)
+
+pub returns : goal.returns
+unfolding shown_line
+returns g c =
+    let at : Run → List ℕ = run_at (g.D.BidiDataSource.source c.args.data_source.now) c.args.plain c.args.chars.now c.args.levels.now in
+    rw (c.as_slice.ensures.value, ← (flat_map-map at run_of c.in_ok-runs.runs.items), c.in_ok-runs.ensures.runs) at c.in_ok-push_runs.ensures

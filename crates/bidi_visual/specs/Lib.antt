@@ -1,0 +1,3 @@
+pub mod Quiet
+pub mod Shown
+pub mod Views

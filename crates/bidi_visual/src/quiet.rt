@@ -1,0 +1,52 @@
+//! Lines that are shown unchanged, which most texts have.
+ghost use Rattle.std.specs.Prelude.{◌≡◌, ◌++◌, take, drop, None, nat_le, ◌&&◌};
+ghost use Rattle.std.specs.Str.{chars, IsCharBoundary};
+ghost use Rattle.bidi_terminal.specs.Bases.{level_of_base};
+ghost use Rattle.bidi_unicode.specs.Unicode.{unicode_source};
+ghost use Rattle.bidi_visual.specs.Quiet.{is_quiet as is_quiet_byte, IsQuietView};
+ghost use Rattle.bidi_visual.specs.Shown.{shown_text};
+
+use crate::view::View;
+use bidi_terminal::Base;
+
+// Returns whether a byte is a printable character of ASCII.
+fn is_quiet(byte: u8) -> bool
+    ensures { result ≡ is_quiet_byte byte }
+{
+    (0x20..=0x7E).contains(&byte)
+}
+
+// Returns the number of bytes of the lines at the start of a text that have only printable ASCII, up to the last line
+// feed.
+fn quiet_lines(view: View, text: &str) -> usize
+    requires { IsQuietView view }
+    ensures boundary { IsCharBoundary text.now result }
+    ensures shown { shown_text unicode_source view (chars text.now)
+        ≡ take result text.now ++ shown_text unicode_source view (chars (drop result text.now)) }
+{
+    let bytes = text.as_bytes();
+    let mut end = 0;
+    for (at, byte) in bytes.iter().enumerate() {
+        if *byte == b'\n' {
+            end = at + 1;
+        } else if !is_quiet(*byte) {
+            return end;
+        }
+    }
+    end
+}
+
+/// Returns the number of bytes at the start of a text that are shown unchanged, by Unicode's data.
+///
+/// They are whole lines of printable ASCII. There are none if the view has a width, or a base direction from right to
+/// left.
+pub fn quiet_len(view: View, text: &str) -> usize
+    ensures boundary { IsCharBoundary text.now result }
+    ensures shown { shown_text unicode_source view (chars text.now)
+        ≡ take result text.now ++ shown_text unicode_source view (chars (drop result text.now)) }
+{
+    if view.width.is_some() || view.base == Base::Rtl {
+        return 0;
+    }
+    quiet_lines(view, text)
+}
