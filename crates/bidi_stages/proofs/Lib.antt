@@ -1,1 +1,2 @@
+pub mod BlocksLemmas
 pub mod PagesLemmas

@@ -1,6 +1,7 @@
 //! What each stage of the rules makes of the characters of a text, as tables and as a page of HTML.
 #![tactic(auto)]
 
+mod blocks;
 pub mod explain;
 pub mod page;
 mod rows;

@@ -1,0 +1,6 @@
+use Rattle.bidi_base.proofs.Common.{map-append}
+use Rattle.bidi_controls.proofs.IndexLemmas.{next_index}
+use Rattle.bidi_stages.proofs.blocks.blocks.Goals as goal
+
+pub loop-index-preserved : goal.loop-index-preserved
+loop-index-preserved c = simp (next_index, map-append, c.in_ok-push.ensures.items, c.loop-index.invariant)
