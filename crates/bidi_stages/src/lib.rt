@@ -3,7 +3,8 @@
 
 mod blocks;
 pub mod explain;
-pub mod page;
+pub mod frame;
+mod page;
 mod rows;
 mod table;
 pub mod view;
