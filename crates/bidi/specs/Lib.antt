@@ -6,3 +6,4 @@ pub mod Names
 pub mod Options
 pub mod Shown
 pub mod Statuses
+pub mod Widths

@@ -1,12 +1,10 @@
-//! What is read and written: the files of `show`, the texts of `explain`, help and versions.
+//! What is read and written: the files of `show`, help and versions.
 use crate::help::help;
-use crate::input::{InputFault, explain_text, show_input};
+use crate::input::{InputFault, show_input};
 use crate::names::shown_name;
 use crate::refusal::Subcommand;
 use crate::status::Status;
 use crate::view::View;
-use bidi_stages::page;
-use bidi_stages::view::{Form, StageView};
 use bidi_unicode::UNICODE_VERSION;
 use std::fs;
 use std::io::{self, ErrorKind, Read, Write};
@@ -62,8 +60,8 @@ fn out_of_memory(rt: &impl Eprint) -> Result<Status, Status> {
     Err(end_without_memory(rt))
 }
 
-// Tells why an input has no answer.
-fn refuse_bytes(
+/// Tells why an input has no answer.
+pub fn refuse_bytes(
     rt: &(impl Eprint + AllocGlobal),
     name: &str,
     fault: InputFault,
@@ -145,45 +143,6 @@ pub fn show_files(
         }
     }
     status
-}
-
-// Writes what the rules make of each text.
-fn write_texts(
-    rt: &(impl Print + Eprint + AllocGlobal),
-    view: StageView,
-    texts: &[String],
-) -> Result<(), Status> {
-    for text in texts {
-        let Ok(told) = explain_text(rt.alloc(), view, text.as_str()) else {
-            return Err(end_without_memory(rt));
-        };
-        write_out(rt, told.as_str())?;
-    }
-    Ok(())
-}
-
-// The same as one page of HTML.
-fn write_page(
-    rt: &(impl Print + Eprint + AllocGlobal),
-    view: StageView,
-    texts: &[String],
-) -> Result<(), Status> {
-    write_out(rt, page::HEAD)?;
-    write_texts(rt, view, texts)?;
-    write_out(rt, page::FOOT)
-}
-
-/// Writes what the rules make of texts. What fails ends the run.
-pub fn answer_texts(
-    rt: &(impl Print + Eprint + AllocGlobal),
-    view: StageView,
-    texts: &[String],
-) -> Status {
-    let written = match view.form {
-        Form::Table => write_texts(rt, view, texts),
-        Form::Page => write_page(rt, view, texts),
-    };
-    status_of(written)
 }
 
 // How a run ends that only writes.

@@ -133,3 +133,14 @@ pub fn explain_text(alloc: Global, view: StageView, text: &str) -> Result<String
     let told = explain(alloc, &UnicodeData, view, chars.as_slice())?;
     Ok(told)
 }
+
+/// The same of the lines of an input. Refused where the input is not UTF-8, and for want of memory.
+pub fn explain_input(alloc: Global, view: StageView, bytes: &[u8]) -> Result<String, InputFault>
+    ensures text { IfOk result (λ out. IsUtf8 bytes.now
+        × AreTold unicode_source view (chars bytes.now) (string_bytes out)) }
+    ensures fault { IfErr result (TellsInput bytes.now) }
+{
+    let text = text_of(bytes)?;
+    let told = explain_text(alloc, view, text)?;
+    Ok(told)
+}

@@ -8,28 +8,34 @@ mod characters;
 mod command;
 mod decode;
 mod entries;
+mod explain;
 mod files;
 mod help;
 mod input;
 mod names;
+mod operands;
 mod paragraphs;
 mod refusal;
 mod search;
 mod show;
 mod status;
+mod terminal;
 mod view;
 mod walk;
 
+use bidi_stages::view::StageView;
 use command::Command;
-use files::{answer_texts, end_without_memory, show_files, write_help, write_versions};
+use explain::explain_operands;
+use files::{end_without_memory, show_files, write_help, write_versions};
 use names::{shown_bytes, shown_name};
 use refusal::Refusal;
 use status::Status;
 use std::alloc::AllocError;
 use std::env::{self, FillError};
-use std::io::{self, ErrorKind};
+use std::io::{self, ErrorKind, IsTerminal};
 use std::process::ExitCode;
 use std::rt::{Env, Files};
+use terminal::terminal_columns;
 use walk::check_files;
 
 // The arguments after the program's name.
@@ -87,8 +93,20 @@ fn refuse(rt: &(impl Eprint + AllocGlobal), refusal: &Refusal<'_>) -> Result<(),
     Ok(())
 }
 
+// The view of a call without a width, in a terminal: tables fit it.
+fn fitted(rt: &(impl Env + AllocGlobal), is_terminal: bool, view: StageView) -> StageView {
+    if !is_terminal || view.width.is_some() {
+        return view;
+    }
+    StageView {
+        width: Some(terminal_columns(rt)),
+        ..view
+    }
+}
+
 fn answer(
-    rt: &(impl Files + Input + Print + Eprint + AllocGlobal),
+    rt: &(impl Env + Files + Input + Print + Eprint + AllocGlobal),
+    is_terminal: bool,
     command: Command<'_>,
 ) -> Status {
     match command {
@@ -97,20 +115,27 @@ fn answer(
             search,
             files,
         } => check_files(rt, wanted, &search, files.words()),
-        Command::Explain { view, texts } => answer_texts(rt, view, texts.words()),
+        Command::Explain {
+            view,
+            operands,
+            words,
+        } => explain_operands(rt, fitted(rt, is_terminal, view), operands, words.words()),
         Command::Help(subcommand) => write_help(rt, subcommand),
         Command::Show { view, files } => show_files(rt, view, files.words()),
         Command::Version => write_versions(rt),
     }
 }
 
-fn serve(rt: &(impl Env + Files + Input + Print + Eprint + AllocGlobal)) -> Status {
+fn serve(
+    rt: &(impl Env + Files + Input + Print + Eprint + AllocGlobal),
+    is_terminal: bool,
+) -> Status {
     let words = match arguments(rt) {
         Ok(words) => words,
         Err(error) => return refuse_arguments(rt, &error),
     };
     match Command::parse(words.as_slice()) {
-        Ok(command) => answer(rt, command),
+        Ok(command) => answer(rt, is_terminal, command),
         Err(refusal) => match refuse(rt, &refusal) {
             Ok(()) => Status::Refused,
             Err(AllocError) => end_without_memory(rt),
@@ -119,5 +144,6 @@ fn serve(rt: &(impl Env + Files + Input + Print + Eprint + AllocGlobal)) -> Stat
 }
 
 fn main(rt: HostRuntime) -> ExitCode {
-    ExitCode::from(serve(&rt).number())
+    let is_terminal = rt.stdout().is_terminal();
+    ExitCode::from(serve(&rt, is_terminal).number())
 }

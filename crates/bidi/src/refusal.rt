@@ -88,9 +88,7 @@ pub enum Refusal<'w> {
     /// The value of `--base` is none of `auto`, `ltr` and `rtl`.
     NotABase(Subcommand, Word<'w>),
     /// The value of `--width` is no number of one to three digits.
-    NotAWidth(Word<'w>),
-    /// `explain` has no text.
-    NoText,
+    NotAWidth(Subcommand, Word<'w>),
 }
 
 impl<'w> fmt::Display for Refusal<'w> {
@@ -130,12 +128,11 @@ impl<'w> fmt::Display for Refusal<'w> {
                 "{subcommand}: --base takes auto, ltr or rtl, not {}; see bidi {subcommand} --help",
                 word.text
             ),
-            Refusal::NotAWidth(word) => write!(
+            Refusal::NotAWidth(subcommand, word) => write!(
                 f,
-                "show: --width takes a number of one to three digits, not {}; see bidi show --help",
+                "{subcommand}: --width takes a number of one to three digits, not {}; see bidi {subcommand} --help",
                 word.text
             ),
-            Refusal::NoText => f.write_str("explain: no text; see bidi explain --help"),
         }
     }
 }

@@ -22,6 +22,7 @@ fn push_stages(
     requires classes { vec_len stages.now.classes ≡ length chars.now }
     requires levels { vec_len stages.now.line_levels ≡ length chars.now }
     requires order { All (λ p. p < length chars.now) stages.now.order.items }
+    requires places { vec_len stages.now.places ≡ length chars.now }
     ensures { OnOk result (string_bytes out.new ≡ string_bytes out.old ++ stages_text form width chars.now stages.now) }
 {
     match form {

@@ -12,18 +12,18 @@ details { margin-bottom: 2rem; }
 dl { display: grid; grid-template-columns: max-content 1fr; gap: .2rem 1rem; }
 dd { margin: 0; }
 section { margin-bottom: 3rem; overflow-x: auto; }
-pre { font: inherit; color: #555; margin: 0 0 .8rem; white-space: pre-wrap; }
-table { border-collapse: collapse; table-layout: fixed; width: max-content; margin-bottom: 1.5rem; }
-th { width: 6.5rem; padding-right: 1rem; text-align: right; font-weight: normal; color: #555;
+pre { font: inherit; color: #555; margin: 0 0 .8rem; white-space: pre-wrap; position: sticky; left: 0; }
+table { border-spacing: 0; table-layout: fixed; width: max-content; margin-bottom: 1.5rem; }
+th { width: 6rem; padding-right: 1rem; text-align: right; font-weight: normal; color: #555;
   position: sticky; left: 0; z-index: 1; background: #fff; }
-td { width: 2.6rem; height: 1.4rem; padding: 0; text-align: center; font-size: 12px; }
-td[style] { height: 2.4rem; font-size: 1.3rem; border: 1px solid #888; border-left: 4px solid #555;
+td { width: 2.4rem; height: 1.4rem; padding: 0; text-align: center; font-size: 12px; }
+td[style] { height: 2.2rem; font-size: 1.1rem; border: 1px solid #888; border-left: 3px solid #555;
   unicode-bidi: isolate; background: hsl(calc(200 + var(--level) * 137) 75% 86%); }
-td.rtl { border-left: 1px solid #888; border-right: 4px solid #555; }
+td.rtl { border-left: 1px solid #888; border-right: 3px solid #555; }
 tfoot .rtl { direction: rtl; }
 svg { display: block; width: 100%; height: 5rem; }
 line { stroke: #777; stroke-width: 1.5px; vector-effect: non-scaling-stroke; transform: translate(.5px, 0); }
-td.on { background: #ffe9a8; }
+td.on:not([style]) { background: #ffe9a8; }
 td[style].on { outline: 3px solid #c00; outline-offset: -2px; }
 line.on { stroke: #c00; stroke-width: 4px; }
 </style>
