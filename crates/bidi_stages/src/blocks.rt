@@ -1,5 +1,5 @@
 //! Wide tables, in blocks of columns.
-ghost use Rattle.std.specs.Prelude.{◌≡◌, ◌<◌, IfOk};
+ghost use Rattle.std.specs.Prelude.{◌≡◌, ℕ, ◌<◌, List, length, flat_map, IfOk};
 ghost use Rattle.bidi_stages.specs.Blocks.{columns_in, block_count, block_at, blocks_of, part_of};
 
 use std::alloc::{AllocError, Global};
@@ -48,10 +48,12 @@ fn block_count(columns: usize, len: usize) -> usize
     (len.max(1) - 1) / columns + 1
 }
 
-/// The blocks of so many columns that a table of `len` columns has.
+/// The blocks of so many columns that a table of `len` columns has: together they have each column once,
+/// in order.
 pub fn blocks(alloc: Global, columns: usize, len: usize) -> Result<Vec<Block>, AllocError>
     requires { 0 < columns }
-    ensures { IfOk result (λ v. v.items ≡ blocks_of columns len) }
+    ensures blocks { IfOk result (λ v. v.items ≡ blocks_of columns len) }
+    ensures whole { IfOk result (λ v. (row : List (List ℕ)) → length row ≡ len → flat_map (λ b. part_of b row) v.items ≡ row) }
 {
     let count = block_count(columns, len);
     let mut blocks = Vec::with_capacity(alloc, count)?;

@@ -12,5 +12,5 @@ push_blocks-requires-clause-within c = rw (c.as_slice-3.ensures.value, c.in_ok-i
 pub returns : goal.returns
 returns c =
     all_written _ _ _ _ (rw (c.as_slice.ensures.value, c.from-level.ensures, c.number.ensures.number) at c.in_ok-push_summary.ensures)
-    (rw (c.as_slice-2.ensures.value, c.in_ok-rows.ensures, c.as_slice-3.ensures.value, c.in_ok-indexes.ensures, c.as_slice-4.ensures.value, c.in_ok-blocks.ensures) at c.in_ok-push_blocks.ensures)
+    (rw (c.as_slice-2.ensures.value, c.in_ok-rows.ensures, c.as_slice-3.ensures.value, c.in_ok-indexes.ensures, c.as_slice-4.ensures.value, c.in_ok-blocks.ensures.blocks) at c.in_ok-push_blocks.ensures)
     c.in_ok-push_str.ensures.bytes
