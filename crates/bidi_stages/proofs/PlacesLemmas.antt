@@ -1,5 +1,5 @@
 -- The visual places of a paragraph.
-use Rattle.bidi_base.proofs.Common.{◌≡◌, ℕ, List, length, map, arith, length-map, length-range_with_len, stored_classes, visual_places, Source}
+use Rattle.bidi_base.proofs.Common.{◌≡◌, ℕ, List, length, arith, length-map, length-range_with_len, visual_places, Source}
 use Rattle.bidi_rule_stages.proofs.StagesLemmas.{line_levels-long}
 use Rattle.bidi_rule_stages.specs.Stages.{StagesFrom}
 use Rattle.bidi_rule_stages.specs.declared.stages.Stages.{Stages}

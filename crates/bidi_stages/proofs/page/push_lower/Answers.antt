@@ -1,5 +1,4 @@
 use Rattle.bidi_base.proofs.Common.{append_assoc}
-use Rattle.bidi_stages.proofs.BlocksLemmas.{All-part}
 use Rattle.bidi_stages.proofs.page.push_lower.Goals as goal
 
 pub returns : goal.returns
