@@ -14,6 +14,8 @@ use Rattle.bidi.specs.declared.check_options.CheckOptions.{CheckOptions}
 use Rattle.bidi.specs.declared.check_options.Flag.{Flag}
 use Rattle.bidi.specs.declared.check_options.Setting.{Setting}
 use Rattle.bidi.specs.declared.command.Command.TheVariants.{Check}
+use Rattle.bidi.specs.declared.operands.Operands.{Operands}
+use Rattle.bidi.specs.declared.operands.Operands.TheVariants.{Files}
 use Rattle.bidi.specs.declared.refusal.Refusal.{Refusal}
 use Rattle.bidi.specs.declared.refusal.Refusal.TheVariants.{NoValue}
 use Rattle.bidi.specs.declared.refusal.Subcommand.TheVariants.{Checking}
@@ -49,18 +51,34 @@ module _ {Z : Type 0} where
       simp (rest-all 2 (w ∷ v ∷ words), simp is at other, simp is' at neither, simp is'' at named, simp next at number)
   show_of-width view words first third fourth second width some is is' is'' next other neither named number = absurd (omega arith)
 
-  pub explain_of-html : (view : StageView) (words : List (String Z)) (first : String Z) → 1 ≤ length words → first ≡ get_or words 0 first → is_named first (codes "--html") ≡ true
-      → explain_of (record view { form = Page }) (map string_bytes (slice_range words 1 (length words))) ≡ explain_of view (map string_bytes words)
-  explain_of-html view [] first some is named = absurd (omega arith)
-  explain_of-html view (w ∷ []) first some is named = simp (simp is at named)
-  explain_of-html view (w ∷ v ∷ words) first some is named = simp (rest-all 1 (w ∷ v ∷ words), simp is at named)
+  pub explain_of-html : (view : StageView) (operands : Operands) (words : List (String Z)) (first : String Z) → 1 ≤ length words → first ≡ get_or words 0 first → is_named first (codes "--html") ≡ true
+      → explain_of (record view { form = Page }) operands (map string_bytes (slice_range words 1 (length words))) ≡ explain_of view operands (map string_bytes words)
+  explain_of-html view operands [] first some is named = absurd (omega arith)
+  explain_of-html view operands (w ∷ []) first some is named = simp (simp is at named)
+  explain_of-html view operands (w ∷ v ∷ words) first some is named = simp (rest-all 1 (w ∷ v ∷ words), simp is at named)
 
-  pub explain_of-base : (view : StageView) (words : List (String Z)) (first third second : String Z) (base : Base) → 2 ≤ length words → first ≡ get_or words 0 first → third ≡ get_or words 0 third
-      → second ≡ get_or words 1 second → is_named first (codes "--html") ≡ false → is_named third (codes "--base") ≡ true → base_named (string_bytes second) ≡ Some base
-      → explain_of (record view { base = base }) (map string_bytes (slice_range words 2 (length words))) ≡ explain_of view (map string_bytes words)
-  explain_of-base view (w ∷ v ∷ words) first third second base some is is' next other named level =
-      simp (rest-all 2 (w ∷ v ∷ words), simp is at other, simp is' at named, simp next at level)
-  explain_of-base view words first third second base some is is' next other named level = absurd (omega arith)
+  pub explain_of-files : (view : StageView) (operands : Operands) (words : List (String Z)) (first third : String Z) → 1 ≤ length words → first ≡ get_or words 0 first → third ≡ get_or words 0 third
+      → is_named first (codes "--html") ≡ false → is_named third (codes "--files") ≡ true
+      → explain_of view Files (map string_bytes (slice_range words 1 (length words))) ≡ explain_of view operands (map string_bytes words)
+  explain_of-files view operands [] first third some is is' other named = absurd (omega arith)
+  explain_of-files view operands (w ∷ []) first third some is is' other named = simp (simp is at other, simp is' at named)
+  explain_of-files view operands (w ∷ v ∷ words) first third some is is' other named = simp (rest-all 1 (w ∷ v ∷ words), simp is at other, simp is' at named)
+
+  pub explain_of-base : (view : StageView) (operands : Operands) (words : List (String Z)) (first third fourth second : String Z) (base : Base) → 2 ≤ length words → first ≡ get_or words 0 first → third ≡ get_or words 0 third
+      → fourth ≡ get_or words 0 fourth → second ≡ get_or words 1 second → is_named first (codes "--html") ≡ false → is_named third (codes "--files") ≡ false
+      → is_named fourth (codes "--base") ≡ true → base_named (string_bytes second) ≡ Some base
+      → explain_of (record view { base = base }) operands (map string_bytes (slice_range words 2 (length words))) ≡ explain_of view operands (map string_bytes words)
+  explain_of-base view operands (w ∷ v ∷ words) first third fourth second base some is is' is'' next other neither named level =
+      simp (rest-all 2 (w ∷ v ∷ words), simp is at other, simp is' at neither, simp is'' at named, simp next at level)
+  explain_of-base view operands words first third fourth second base some is is' is'' next other neither named level = absurd (omega arith)
+
+  pub explain_of-width : (view : StageView) (operands : Operands) (words : List (String Z)) (first third fourth fifth second : String Z) (width : ℕ) → 2 ≤ length words → first ≡ get_or words 0 first → third ≡ get_or words 0 third
+      → fourth ≡ get_or words 0 fourth → fifth ≡ get_or words 0 fifth → second ≡ get_or words 1 second → is_named first (codes "--html") ≡ false → is_named third (codes "--files") ≡ false
+      → is_named fourth (codes "--base") ≡ false → is_named fifth (codes "--width") ≡ true → number_of (string_bytes second) ≡ Some width
+      → explain_of (record view { width = Some width }) operands (map string_bytes (slice_range words 2 (length words))) ≡ explain_of view operands (map string_bytes words)
+  explain_of-width view operands (w ∷ v ∷ words) first third fourth fifth second width some is is' is'' last next other neither not_base named number =
+      simp (rest-all 2 (w ∷ v ∷ words), simp is at other, simp is' at neither, simp is'' at not_base, simp last at named, simp next at number)
+  explain_of-width view operands words first third fourth fifth second width some is is' is'' last next other neither not_base named number = absurd (omega arith)
 
   -- words, and the first of them
   pub words-first : (words : List (String Z)) (first : String Z) → 1 ≤ length words → first ≡ get_or words 0 first

@@ -11,8 +11,10 @@ use Rattle.bidi.specs.Options.{is_option, is_help, is_version}
 use Rattle.bidi.specs.declared.check_options.CheckOptions.{CheckOptions}
 use Rattle.bidi.specs.declared.command.Command.{Command}
 use Rattle.bidi.specs.declared.command.Command.TheVariants.{Check, Show, Explain, Help, Version}
+use Rattle.bidi.specs.declared.operands.Operands.{Operands}
+use Rattle.bidi.specs.declared.operands.Operands.TheVariants.{Texts, Files}
 use Rattle.bidi.specs.declared.refusal.Refusal.{Refusal}
-use Rattle.bidi.specs.declared.refusal.Refusal.TheVariants.{NoSubcommand, NotASubcommand, NotAnOption, LateOption, NotAlone, NoValue, NotABase, NotAWidth, NoText}
+use Rattle.bidi.specs.declared.refusal.Refusal.TheVariants.{NoSubcommand, NotASubcommand, NotAnOption, LateOption, NotAlone, NoValue, NotABase, NotAWidth}
 use Rattle.bidi.specs.declared.refusal.Subcommand.{Subcommand}
 use Rattle.bidi.specs.declared.refusal.Subcommand.TheVariants.{Checking, Showing, Explaining}
 use Rattle.bidi_visual.specs.Views.{first_view}
@@ -90,27 +92,26 @@ show_of view (word ∷ value ∷ words) =
     else if bytes_eq word (codes "--base")
     then by_value (NotABase Showing value) (λ base. show_of (record view { base = base }) words) (base_named value)
     else if bytes_eq word (codes "--width")
-    then by_value (NotAWidth value) (λ width. show_of (record view { width = Some width }) words) (number_of value)
+    then by_value (NotAWidth Showing value) (λ width. show_of (record view { width = Some width }) words) (number_of value)
     else over_files (Show view) (file_words Showing (word ∷ value ∷ words))
 
--- texts, of which there is one at least
-abbrev pub explain_texts : StageView → Result (List (List ℕ)) Refusal → Result Command Refusal
-explain_texts view (Err refusal) = Err refusal
-explain_texts view (Ok []) = Err NoText
-explain_texts view (Ok (text ∷ texts)) = Ok (Explain view (text ∷ texts))
-
--- behind `explain` and options that ask for this view: further options, in any order, and texts
-abbrev pub explain_of : StageView → List (List ℕ) → Result Command Refusal
-explain_of view [] = Err NoText
-explain_of view (word ∷ []) =
-    if bytes_eq word (codes "--html") then explain_of (record view { form = Page }) []
-    else if bytes_eq word (codes "--base") then Err (NoValue Explaining word)
-    else explain_texts view (file_words Explaining (word ∷ []))
-explain_of view (word ∷ value ∷ words) =
-    if bytes_eq word (codes "--html") then explain_of (record view { form = Page }) (value ∷ words)
+-- behind `explain` and options that ask for this view and say what words stand for: further options, in any order, and
+-- texts or files
+abbrev pub explain_of : StageView → Operands → List (List ℕ) → Result Command Refusal
+explain_of view operands [] = Ok (Explain view operands [])
+explain_of view operands (word ∷ []) =
+    if bytes_eq word (codes "--html") then explain_of (record view { form = Page }) operands []
+    else if bytes_eq word (codes "--files") then explain_of view Files []
+    else if bytes_eq word (codes "--base") || bytes_eq word (codes "--width") then Err (NoValue Explaining word)
+    else over_files (Explain view operands) (file_words Explaining (word ∷ []))
+explain_of view operands (word ∷ value ∷ words) =
+    if bytes_eq word (codes "--html") then explain_of (record view { form = Page }) operands (value ∷ words)
+    else if bytes_eq word (codes "--files") then explain_of view Files (value ∷ words)
     else if bytes_eq word (codes "--base")
-    then by_value (NotABase Explaining value) (λ base. explain_of (record view { base = base }) words) (base_named value)
-    else explain_texts view (file_words Explaining (word ∷ value ∷ words))
+    then by_value (NotABase Explaining value) (λ base. explain_of (record view { base = base }) operands words) (base_named value)
+    else if bytes_eq word (codes "--width")
+    then by_value (NotAWidth Explaining value) (λ width. explain_of (record view { width = Some width }) operands words) (number_of value)
+    else over_files (Explain view operands) (file_words Explaining (word ∷ value ∷ words))
 
 -- an option of the program that has to stand alone
 abbrev pub if_alone : List ℕ → List (List ℕ) → Command → Result Command Refusal
@@ -130,5 +131,5 @@ command_of (name ∷ words) =
     if bytes_eq name (codes "check") then (if asks_help words then Ok (Help (Some Checking)) else check_of first_check words)
     else if bytes_eq name (codes "show") then (if asks_help words then Ok (Help (Some Showing)) else show_of first_view words)
     else if bytes_eq name (codes "explain")
-    then (if asks_help words then Ok (Help (Some Explaining)) else explain_of first_stage_view words)
+    then (if asks_help words then Ok (Help (Some Explaining)) else explain_of first_stage_view Texts words)
     else alone_of name words

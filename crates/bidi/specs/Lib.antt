@@ -4,3 +4,4 @@ pub mod Entries
 pub mod Options
 pub mod Statuses
 pub mod Told
+pub mod Widths

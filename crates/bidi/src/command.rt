@@ -4,6 +4,7 @@ ghost use Rattle.bidi.specs.Commands.{asks_help, unknown_option, late_option};
 ghost use Rattle.bidi.specs.Options.{is_option};
 
 use crate::check_options::{CheckOptions, Flag, Setting};
+use crate::operands::Operands;
 use crate::refusal::{Refusal, Subcommand, Word};
 use bidi_stages::view::{Form, StageView};
 use bidi_terminal::{Base, parse_number};
@@ -116,10 +117,12 @@ pub enum Command<'w> {
         options: CheckOptions<'w>,
         files: FileWords<'w>,
     },
-    /// `explain [--base auto|ltr|rtl] [--html] TEXT..`: what each stage makes of the characters.
+    /// `explain [--base auto|ltr|rtl] [--html] [--width N] [--files] [TEXT..]`: what each stage makes of the
+    /// characters.
     Explain {
         view: StageView,
-        texts: FileWords<'w>,
+        operands: Operands,
+        words: FileWords<'w>,
     },
     /// `--help`, by itself or behind a subcommand: what words there are.
     Help(Option<Subcommand>),
@@ -199,7 +202,7 @@ impl<'w> Command<'w> {
                         let width = Some(width);
                         Command::parse_show(View { width, ..view }, rest)
                     }
-                    None => Err(Refusal::NotAWidth(Word::new(value.as_str()))),
+                    None => Err(Refusal::NotAWidth(Subcommand::Showing, Word::new(value.as_str()))),
                 }
             }
             [option] if option.as_str() == "--base" || option.as_str() == "--width" => {
@@ -212,9 +215,14 @@ impl<'w> Command<'w> {
         }
     }
 
-    /// What words behind `explain` ask for, where the options before them ask for this view.
-    fn parse_explain(view: StageView, words: &'w [String]) -> Result<Command<'w>, Refusal<'w>>
-        ensures { result ≡ explain_of view (map string_bytes words.now) }
+    /// What words behind `explain` ask for, where the options before them ask for this view and say what
+    /// the words stand for.
+    fn parse_explain(
+        view: StageView,
+        operands: Operands,
+        words: &'w [String],
+    ) -> Result<Command<'w>, Refusal<'w>>
+        ensures { result ≡ explain_of view operands (map string_bytes words.now) }
     {
         match words {
             [option, rest @ ..] if option.as_str() == "--html" => {
@@ -222,24 +230,43 @@ impl<'w> Command<'w> {
                     form: Form::Page,
                     ..view
                 };
-                Command::parse_explain(view, rest)
+                Command::parse_explain(view, operands, rest)
+            }
+            [option, rest @ ..] if option.as_str() == "--files" => {
+                Command::parse_explain(view, Operands::Files, rest)
             }
             [option, value, rest @ ..] if option.as_str() == "--base" => {
                 match Base::parse(value.as_str()) {
-                    Some(base) => Command::parse_explain(StageView { base, ..view }, rest),
+                    Some(base) => {
+                        Command::parse_explain(StageView { base, ..view }, operands, rest)
+                    }
                     None => Err(Refusal::NotABase(
                         Subcommand::Explaining,
                         Word::new(value.as_str()),
                     )),
                 }
             }
-            [option] if option.as_str() == "--base" => Err(Refusal::NoValue(
-                Subcommand::Explaining,
-                Word::new(option.as_str()),
-            )),
+            [option, value, rest @ ..] if option.as_str() == "--width" => {
+                match parse_number(value.as_str()) {
+                    Some(width) => {
+                        let width = Some(width);
+                        Command::parse_explain(StageView { width, ..view }, operands, rest)
+                    }
+                    None => Err(Refusal::NotAWidth(
+                        Subcommand::Explaining,
+                        Word::new(value.as_str()),
+                    )),
+                }
+            }
+            [option] if option.as_str() == "--base" || option.as_str() == "--width" => Err(
+                Refusal::NoValue(Subcommand::Explaining, Word::new(option.as_str())),
+            ),
             _ => match FileWords::parse(Subcommand::Explaining, words) {
-                Ok(texts) if texts.words().is_empty() => Err(Refusal::NoText),
-                Ok(texts) => Ok(Command::Explain { view, texts }),
+                Ok(words) => Ok(Command::Explain {
+                    view,
+                    operands,
+                    words,
+                }),
                 Err(refusal) => Err(refusal),
             },
         }
@@ -287,7 +314,7 @@ impl<'w> Command<'w> {
                 if asks_help(rest) {
                     return Ok(Command::Help(Some(Subcommand::Explaining)));
                 }
-                Command::parse_explain(StageView::default(), rest)
+                Command::parse_explain(StageView::default(), Operands::Texts, rest)
             }
             [name, rest @ ..] => Command::parse_alone(name.as_str(), rest),
         }

@@ -1,12 +1,9 @@
-//! What is read and written: the files of `show`, the texts of `explain`, help and versions.
+//! What is read and written: the files of `show`, help and versions.
 use crate::help::help;
-use crate::input::explain_text;
 use crate::refusal::Subcommand;
 use crate::status::Status;
 use bidi_names::names::shown_name;
 use bidi_shown::stream::{Stream, StreamFault};
-use bidi_stages::page;
-use bidi_stages::view::{Form, StageView};
 use bidi_unicode::UNICODE_VERSION;
 use bidi_visual::view::View;
 use std::fs;
@@ -63,8 +60,8 @@ fn out_of_memory(rt: &impl Eprint) -> Result<Status, Status> {
     Err(end_without_memory(rt))
 }
 
-// Tells why an input is not shown to its end.
-fn refuse_rest(
+/// Tells why an input is not read to its end.
+pub fn refuse_rest(
     rt: &(impl Eprint + AllocGlobal),
     name: &str,
     fault: StreamFault,
@@ -164,45 +161,6 @@ pub fn show_files(
         }
     }
     status
-}
-
-// Writes what the rules make of each text.
-fn write_texts(
-    rt: &(impl Print + Eprint + AllocGlobal),
-    view: StageView,
-    texts: &[String],
-) -> Result<(), Status> {
-    for text in texts {
-        let Ok(told) = explain_text(rt.alloc(), view, text.as_str()) else {
-            return Err(end_without_memory(rt));
-        };
-        write_out(rt, told.as_str())?;
-    }
-    Ok(())
-}
-
-// The same as one page of HTML.
-fn write_page(
-    rt: &(impl Print + Eprint + AllocGlobal),
-    view: StageView,
-    texts: &[String],
-) -> Result<(), Status> {
-    write_out(rt, page::HEAD)?;
-    write_texts(rt, view, texts)?;
-    write_out(rt, page::FOOT)
-}
-
-/// Writes what the rules make of texts. What fails ends the run.
-pub fn answer_texts(
-    rt: &(impl Print + Eprint + AllocGlobal),
-    view: StageView,
-    texts: &[String],
-) -> Status {
-    let written = match view.form {
-        Form::Table => write_texts(rt, view, texts),
-        Form::Page => write_page(rt, view, texts),
-    };
-    status_of(written)
 }
 
 // How a run ends that only writes.

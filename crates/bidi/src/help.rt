@@ -5,7 +5,7 @@ const PROGRAM: &str = "bidi: the Unicode Bidirectional Algorithm for text in UTF
     \n\
     usage: bidi check [OPTION..] [--] [FILE..]\n\
     \u{20}      bidi show [--base auto|ltr|rtl] [--width N] [--plain] [--] [FILE..]\n\
-    \u{20}      bidi explain [--base auto|ltr|rtl] [--html] [--] TEXT..\n\
+    \u{20}      bidi explain [--base auto|ltr|rtl] [--html] [--width N] [--files] [--] [TEXT..]\n\
     \u{20}      bidi --help | --version\n\
     \n\
     check    finds direction controls that make a line display differently from how it reads\n\
@@ -15,7 +15,7 @@ const PROGRAM: &str = "bidi: the Unicode Bidirectional Algorithm for text in UTF
     'bidi check --help' lists the arguments of check, and likewise for show and explain.\n\
     --help (or -h) and --version (or -V) must be the only argument.\n\
     \n\
-    check and show read standard input if no file is named, and for the name -.\n\
+    Without files or texts, all three read standard input. Its name as a file is -.\n\
     Put -- before files or texts that may begin with -.\n\
     \n\
     Status: 0 nothing was found, or all was written\n\
@@ -91,17 +91,22 @@ const SHOW: &str = "usage: bidi show [--base auto|ltr|rtl] [--width N] [--plain]
     \n\
     Status: 0 all was written; 'bidi --help' lists the others.\n";
 
-const EXPLAIN: &str = "usage: bidi explain [--base auto|ltr|rtl] [--html] [--] TEXT..\n\
+const EXPLAIN: &str =
+    "usage: bidi explain [--base auto|ltr|rtl] [--html] [--width N] [--files] [--] [TEXT..]\n\
     \n\
     Writes a table for each line of each text, with a row for each step of the rules and a\n\
     column for each character. Cells are separated by tabs.\n\
     \n\
-    --base  the direction of each line: ltr is left to right, rtl is right to left, and auto,\n\
-    \u{20}       the default, takes it from the first strong character of the line\n\
-    --html  writes one page of HTML instead of tables\n\
-    --help  writes this text, if it is the only argument behind explain\n\
-    --      ends the options: what follows are texts\n\
-    TEXT    a text, not the name of a file\n\
+    --base   the direction of each line: ltr is left to right, rtl is right to left, and auto,\n\
+    \u{20}        the default, takes it from the first strong character of the line\n\
+    --html   writes one page of HTML instead of tables\n\
+    --width  splits a table into blocks that fit N columns; N has one to three digits\n\
+    --files  reads the files that the arguments name; - is standard input\n\
+    --help   writes this text, if it is the only argument behind explain\n\
+    --       ends the options: what follows are texts, or files\n\
+    TEXT     a text; without any, reads standard input\n\
+    \n\
+    In a terminal, --width is by default COLUMNS of the environment, or 80.\n\
     \n\
     Status: 0 all was written; 'bidi --help' lists the others.\n";
 

@@ -1,11 +1,13 @@
 //! What becomes of an input.
-ghost use Rattle.std.specs.Prelude.{◌≡◌, IfOk, string_bytes};
+ghost use Rattle.std.specs.Prelude.{◌≡◌, IfErr, IfOk, IsErrOf, string_bytes};
 ghost use Rattle.std.specs.Str.{chars, IsUtf8};
 ghost use Rattle.bidi_unicode.specs.Unicode.{unicode_source};
 ghost use Rattle.bidi_stages.specs.Explained.{AreTold};
 ghost use Rattle.bidi_bytes.specs.Decoded.{decoded as decoded_chars, first_invalid as first_invalid_of};
 ghost use Rattle.bidi_bytes.specs.FileLines.{file_lines_of};
 ghost use Rattle.bidi_scan.specs.FileSearch.{found_from};
+ghost use Rattle.bidi_shown.specs.Faults.{TellsBytes};
+ghost use Rattle.bidi_shown.specs.declared.stream.StreamFault.TheVariants.{Memory};
 ghost use Rattle.bidi.specs.Told.{is_any_told, told_report};
 
 use crate::status::Status;
@@ -15,6 +17,7 @@ use bidi_controls::finding::Wanted;
 use bidi_names::names::chars_of;
 use bidi_reports::report::Report;
 use bidi_scan::file_search::found_lines;
+use bidi_shown::stream::StreamFault;
 use bidi_stages::explain::explain;
 use bidi_stages::view::StageView;
 use bidi_unicode::UnicodeData;
@@ -89,5 +92,28 @@ pub fn explain_text(alloc: Global, view: StageView, text: &str) -> Result<String
 {
     let chars = chars_of(alloc, text)?;
     let told = explain(alloc, &UnicodeData, view, chars.as_slice())?;
+    Ok(told)
+}
+
+/// Returns the text that an input is.
+fn text_of(bytes: &[u8]) -> Result<&str, StreamFault>
+    ensures text { IfOk result (λ text. (text.now ≡ bytes.now) × IsUtf8 bytes.now) }
+    ensures fault { IfErr result (TellsBytes bytes.now) }
+    ensures memory { ¬ IsErrOf result Memory }
+{
+    match str::from_utf8(bytes) {
+        Ok(text) => Ok(text),
+        Err(error) => Err(StreamFault::NotUtf8(error.valid_up_to())),
+    }
+}
+
+/// What the rules make of the lines of an input. Returns an error if the input is not UTF-8 or an allocation fails.
+pub fn explain_input(alloc: Global, view: StageView, bytes: &[u8]) -> Result<String, StreamFault>
+    ensures text { IfOk result (λ out. IsUtf8 bytes.now
+        × AreTold unicode_source view (chars bytes.now) (string_bytes out)) }
+    ensures fault { IfErr result (TellsBytes bytes.now) }
+{
+    let text = text_of(bytes)?;
+    let told = explain_text(alloc, view, text)?;
     Ok(told)
 }

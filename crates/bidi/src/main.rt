@@ -7,19 +7,23 @@
 mod check_options;
 mod command;
 mod entries;
+mod explain;
 mod files;
 mod help;
 mod input;
+mod operands;
 mod refusal;
 mod search;
 mod status;
+mod terminal;
 mod told;
 mod walk;
 
 use bidi_names::names::{shown_bytes, shown_name};
+use bidi_stages::view::StageView;
 use command::Command;
-use files::{answer_texts, end_without_memory, show_files, write_help, write_versions};
-use bidi_terminal::parse_number;
+use explain::explain_operands;
+use files::{end_without_memory, show_files, write_help, write_versions};
 use refusal::Refusal;
 use status::Status;
 use std::alloc::AllocError;
@@ -27,6 +31,7 @@ use std::env::{self, FillError, VarError};
 use std::io::{self, ErrorKind, IsTerminal};
 use std::process::ExitCode;
 use std::rt::{Env, Files};
+use terminal::terminal_columns;
 use walk::check_files;
 
 // The arguments after the program's name.
@@ -93,12 +98,13 @@ fn has_no_color(rt: &(impl Env + AllocGlobal)) -> bool {
     }
 }
 
-// The columns of the terminal that standard output is, if the environment tells them.
-fn default_width(rt: &(impl Env + AllocGlobal), to_terminal: bool) -> Option<u16> {
-    if !to_terminal {
-        return None;
+// Returns the width of the output if it is a terminal.
+fn output_width(rt: &(impl Env + AllocGlobal), to_terminal: bool) -> Option<u16> {
+    if to_terminal {
+        Some(terminal_columns(rt))
+    } else {
+        None
     }
-    parse_number(env::var(rt, "COLUMNS").ok()?.as_str())
 }
 
 fn answer(
@@ -111,10 +117,18 @@ fn answer(
             let form = options.report.form(to_terminal, has_no_color(rt));
             check_files(rt, form, &options, files.words())
         }
-        Command::Explain { view, texts } => answer_texts(rt, view, texts.words()),
+        Command::Explain {
+            view,
+            operands,
+            words,
+        } => {
+            let width = view.width.or(output_width(rt, to_terminal));
+            let view = StageView { width, ..view };
+            explain_operands(rt, view, operands, words.words())
+        }
         Command::Help(subcommand) => write_help(rt, subcommand),
         Command::Show { view, files } => {
-            let view = view.or_width(default_width(rt, to_terminal));
+            let view = view.or_width(output_width(rt, to_terminal));
             show_files(rt, view, files.words())
         }
         Command::Version => write_versions(rt),

@@ -88,13 +88,11 @@ pub enum Refusal<'w> {
     /// The value of `--base` is none of `auto`, `ltr` and `rtl`.
     NotABase(Subcommand, Word<'w>),
     /// The value of `--width` is no number of one to three digits.
-    NotAWidth(Word<'w>),
+    NotAWidth(Subcommand, Word<'w>),
     /// The value of `--format` is none of `text`, `json` and `sarif`.
     NotAFormat(Word<'w>),
     /// The value of `--color` is none of `auto`, `always` and `never`.
     NotAColor(Word<'w>),
-    /// `explain` has no text.
-    NoText,
 }
 
 impl<'w> fmt::Display for Refusal<'w> {
@@ -134,9 +132,9 @@ impl<'w> fmt::Display for Refusal<'w> {
                 "{subcommand}: --base takes auto, ltr or rtl, not {}; see bidi {subcommand} --help",
                 word.text
             ),
-            Refusal::NotAWidth(word) => write!(
+            Refusal::NotAWidth(subcommand, word) => write!(
                 f,
-                "show: --width takes a number of one to three digits, not {}; see bidi show --help",
+                "{subcommand}: --width takes a number of one to three digits, not {}; see bidi {subcommand} --help",
                 word.text
             ),
             Refusal::NotAFormat(word) => write!(
@@ -149,7 +147,6 @@ impl<'w> fmt::Display for Refusal<'w> {
                 "check: --color takes auto, always or never, not {}; see bidi check --help",
                 word.text
             ),
-            Refusal::NoText => f.write_str("explain: no text; see bidi explain --help"),
         }
     }
 }

@@ -3,9 +3,8 @@ ghost use Rattle.std.specs.Prelude.{◌≡◌, ◌++◌, ◌≤◌, ◌<◌, len
 ghost use Rattle.bidi_reports.specs.Parts.{bold, bold_red, as_before, styled, is_marked, marked_char, part_start, part_end, dots, marked_part, shown_columns, blanks, blank_part};
 
 use bidi_names::names::{is_hidden, push_quoted};
-use bidi_terminal::Columns;
+use bidi_columns::cluster::columns;
 use std::alloc::AllocError;
-use unicode_bidi::layout::CharWidth;
 
 /// Sets bold letters.
 pub const BOLD: &str = "\u{1B}[1m";
@@ -118,7 +117,7 @@ fn shown_columns(c: char) -> usize
     if is_hidden(c) {
         return 8;
     }
-    Columns.width(c)
+    columns(c)
 }
 
 // Appends blanks.

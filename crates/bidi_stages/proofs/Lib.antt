@@ -1,1 +1,3 @@
+pub mod BlocksLemmas
 pub mod PagesLemmas
+pub mod PlacesLemmas

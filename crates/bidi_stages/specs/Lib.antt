@@ -1,3 +1,4 @@
+pub mod Blocks
 pub mod Explained
 pub mod Pages
 pub mod Rows

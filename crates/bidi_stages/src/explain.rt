@@ -10,21 +10,23 @@ use bidi_controls::lines::{first_line_len, own_chars};
 use bidi_rule_stages::stages::{Stages, find_stages};
 use std::alloc::{AllocError, Global};
 
-/// Appends the stages of a paragraph in this form.
+/// Appends the stages of a paragraph in this form, a table for a terminal of this width.
 fn push_stages(
     alloc: Global,
     out: &mut String,
     form: Form,
+    width: Option<u16>,
     chars: &[char],
     stages: &Stages,
 ) -> Result<(), AllocError>
     requires classes { vec_len stages.now.classes ≡ length chars.now }
     requires levels { vec_len stages.now.line_levels ≡ length chars.now }
     requires order { All (λ p. p < length chars.now) stages.now.order.items }
-    ensures { OnOk result (string_bytes out.new ≡ string_bytes out.old ++ stages_text form chars.now stages.now) }
+    requires places { vec_len stages.now.places ≡ length chars.now }
+    ensures { OnOk result (string_bytes out.new ≡ string_bytes out.old ++ stages_text form width chars.now stages.now) }
 {
     match form {
-        Form::Table => push_table(alloc, out, chars, stages),
+        Form::Table => push_table(alloc, out, width, chars, stages),
         Form::Page => push_section(alloc, out, chars, stages),
     }
 }
@@ -41,13 +43,13 @@ fn push_paragraph<D: BidiDataSource>(
 {
     let own = own_chars(data_source, paragraph);
     let stages = find_stages(alloc, data_source, view.base.level(), own)?;
-    push_stages(alloc, out, view.form, own, &stages)?;
+    push_stages(alloc, out, view.form, view.width, own, &stages)?;
     Ok(())
 }
 
 /// Of each line of a text, which is a paragraph by itself: its level, what each stage of the rules makes
 /// of its characters, and its isolating run sequences, as a table whose cells stand behind tabs, or as
-/// a section of a page of HTML.
+/// a section of a page of HTML. A table is split into blocks of columns that fit the width of the view.
 pub fn explain<D: BidiDataSource>(
     alloc: Global,
     data_source: &D,

@@ -1,8 +1,10 @@
 //! What each stage of the rules makes of the characters of a text, as tables and as a page of HTML.
 #![tactic(auto)]
 
+mod blocks;
 pub mod explain;
-pub mod page;
+pub mod frame;
+mod page;
 mod rows;
 mod table;
 pub mod view;

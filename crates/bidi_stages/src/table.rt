@@ -1,7 +1,8 @@
 //! The stages of a paragraph as a table, a column for each character.
 ghost use Rattle.std.specs.Prelude.{◌≡◌, ◌++◌, flat_map, map, length, vec_len, codes, decimal, OnOk, string_bytes};
-ghost use Rattle.bidi_stages.specs.Tables.{cell_text, row_text, ends_text, sequence_line, sequence_text, level_text, stages_text, table_text};
+ghost use Rattle.bidi_stages.specs.Tables.{cell_text, row_text, gap_text, block_text, ends_text, sequence_line, sequence_text, level_text, blocks_text, table_text};
 
+use crate::blocks::{Block, blocks, columns_in};
 use crate::rows::{Row, rows};
 use bidi_base::char_data::BidiClass;
 use bidi_cells::cells::class_name;
@@ -21,21 +22,27 @@ fn push_cells(out: &mut String, cells: &[String]) -> Result<(), AllocError>
     Ok(())
 }
 
-/// Appends a row with this label: its cells stand behind tabs.
-fn push_labelled(out: &mut String, label: &str, cells: &[String]) -> Result<(), AllocError>
-    ensures { OnOk result (string_bytes out.new ≡ string_bytes out.old ++ row_text (label.now, map string_bytes cells.now)) }
+/// Appends a label, and the cells of a block. They stand behind tabs.
+fn push_labelled(
+    out: &mut String,
+    label: &str,
+    cells: &[String],
+    block: Block,
+) -> Result<(), AllocError>
+    ensures { OnOk result (string_bytes out.new
+        ≡ string_bytes out.old ++ row_text block (label.now, map string_bytes cells.now)) }
 {
     out.push_str(label)?;
-    push_cells(out, cells)?;
+    push_cells(out, block.part(cells))?;
     out.push_str("\n")?;
     Ok(())
 }
 
-/// Appends a row.
-fn push_row(out: &mut String, row: &Row) -> Result<(), AllocError>
-    ensures { OnOk result (string_bytes out.new ≡ string_bytes out.old ++ row_text row.now) }
+/// Appends a row of a block.
+fn push_row(out: &mut String, row: &Row, block: Block) -> Result<(), AllocError>
+    ensures { OnOk result (string_bytes out.new ≡ string_bytes out.old ++ row_text block row.now) }
 {
-    push_labelled(out, row.label, row.cells.as_slice())?;
+    push_labelled(out, row.label, row.cells.as_slice(), block)?;
     Ok(())
 }
 
@@ -86,12 +93,42 @@ fn push_sequence(out: &mut String, sequence: &PlainSequence) -> Result<(), Alloc
     Ok(())
 }
 
-/// Appends rows.
-fn push_rows(out: &mut String, rows: &[Row]) -> Result<(), AllocError>
-    ensures { OnOk result (string_bytes out.new ≡ string_bytes out.old ++ flat_map row_text rows.now) }
+/// Appends the rows of a block.
+fn push_rows(out: &mut String, rows: &[Row], block: Block) -> Result<(), AllocError>
+    ensures { OnOk result (string_bytes out.new ≡ string_bytes out.old ++ flat_map (row_text block) rows.now) }
 {
     for row in rows {
-        push_row(out, row)?;
+        push_row(out, row, block)?;
+    }
+    Ok(())
+}
+
+/// Appends an empty line before a block, unless it is the first.
+fn push_gap(out: &mut String, block: Block) -> Result<(), AllocError>
+    ensures { OnOk result (string_bytes out.new ≡ string_bytes out.old ++ gap_text block) }
+{
+    if block.from == 0 {
+        return Ok(());
+    }
+    out.push_str("\n")?;
+    Ok(())
+}
+
+/// Appends a block.
+fn push_block(out: &mut String, rows: &[Row], block: Block) -> Result<(), AllocError>
+    ensures { OnOk result (string_bytes out.new ≡ string_bytes out.old ++ block_text rows.now block) }
+{
+    push_gap(out, block)?;
+    push_rows(out, rows, block)?;
+    Ok(())
+}
+
+/// Appends blocks.
+fn push_blocks(out: &mut String, rows: &[Row], blocks: &[Block]) -> Result<(), AllocError>
+    ensures { OnOk result (string_bytes out.new ≡ string_bytes out.old ++ flat_map (block_text rows.now) blocks.now) }
+{
+    for block in blocks {
+        push_block(out, rows, *block)?;
     }
     Ok(())
 }
@@ -116,33 +153,38 @@ pub fn push_level(out: &mut String, level: usize) -> Result<(), AllocError>
     Ok(())
 }
 
-/// Appends a level, rows, and isolating run sequences.
+/// Appends a level, the blocks of rows, and isolating run sequences.
 fn push_stages(
     out: &mut String,
     level: usize,
     rows: &[Row],
+    blocks: &[Block],
     sequences: &[PlainSequence],
 ) -> Result<(), AllocError>
-    ensures { OnOk result (string_bytes out.new ≡ string_bytes out.old ++ stages_text level rows.now sequences.now) }
+    ensures { OnOk result (string_bytes out.new ≡ string_bytes out.old ++ blocks_text level rows.now blocks.now sequences.now) }
 {
     push_level(out, level)?;
-    push_rows(out, rows)?;
+    push_blocks(out, rows, blocks)?;
     push_sequences(out, sequences)?;
     Ok(())
 }
 
-/// Appends the table of a paragraph: its level, a row for each stage, and its isolating run sequences.
+/// Appends the table of a paragraph for a terminal of this width: its level, a row for each stage, in
+/// blocks that fit, and its isolating run sequences.
 pub fn push_table(
     alloc: Global,
     out: &mut String,
+    width: Option<u16>,
     chars: &[char],
     stages: &Stages,
 ) -> Result<(), AllocError>
     requires { vec_len stages.now.classes ≡ length chars.now }
-    ensures { OnOk result (string_bytes out.new ≡ string_bytes out.old ++ table_text chars.now stages.now) }
+    ensures { OnOk result (string_bytes out.new ≡ string_bytes out.old ++ table_text width chars.now stages.now) }
 {
     let rows = rows(alloc, chars, stages)?;
+    let blocks = blocks(alloc, columns_in(width, chars.len()), chars.len())?;
     let level = usize::from(stages.level.number());
-    push_stages(out, level, rows.as_slice(), stages.sequences.as_slice())?;
+    let sequences = stages.sequences.as_slice();
+    push_stages(out, level, rows.as_slice(), blocks.as_slice(), sequences)?;
     Ok(())
 }

@@ -17,19 +17,22 @@ pub struct StageView {
     pub base: Base,
     /// The form that is written.
     pub form: Form,
+    /// The width of the terminal in columns: a table is split into blocks that fit. Without it, a table is not split.
+    pub width: Option<u16>,
 }
 
 impl Default for StageView {
     ghost use Rattle.std.specs.Prelude.{◌≡◌};
     ghost use Rattle.bidi_stages.specs.Explained.{first_stage_view};
 
-    /// Tables of lines, each of which finds its own base level.
+    /// Tables of lines, each of which finds its own base level. They are not split.
     fn default() -> StageView
         ensures { result ≡ first_stage_view }
     {
         StageView {
             base: Base::Auto,
             form: Form::Table,
+            width: None,
         }
     }
 }

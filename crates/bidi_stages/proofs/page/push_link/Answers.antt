@@ -2,4 +2,5 @@ use Rattle.bidi_base.proofs.Common.{append_assoc}
 use Rattle.bidi_stages.proofs.page.push_link.Goals as goal
 
 pub returns : goal.returns
-returns c = simp (c.in_ok-push_str-3.ensures.bytes, c.in_ok-push_number-2.ensures, c.in_ok-push_str-2.ensures.bytes, c.in_ok-push_number.ensures, c.in_ok-push_str.ensures.bytes, append_assoc)
+returns c =
+    simp (c.in_ok-push_str-4.ensures.bytes, c.in_ok-push_number-3.ensures, c.in_ok-push_str-3.ensures.bytes, c.in_ok-push_number-2.ensures, c.in_ok-push_str-2.ensures.bytes, c.in_ok-push_number.ensures, c.in_ok-push_str.ensures.bytes, append_assoc)

@@ -2,4 +2,4 @@ use Rattle.bidi_base.proofs.Common.{append_assoc}
 use Rattle.bidi_stages.proofs.page.push_shown_row.Goals as goal
 
 pub returns : goal.returns
-returns c = simp append_assoc at (rw (c.in_ok-push_shown_boxes.ensures, c.in_ok-push_str.ensures.bytes) at c.in_ok-push_str-2.ensures.bytes)
+returns c = simp append_assoc at (rw (c.in_ok-push_boxes.ensures, c.in_ok-push_str.ensures.bytes) at c.in_ok-push_str-2.ensures.bytes)

@@ -3,4 +3,4 @@ use Rattle.bidi_stages.specs.Tables.{row_text}
 use Rattle.bidi_stages.proofs.table.push_rows.Given as goal
 
 abbrev pub invariant-loop-row : goal.invariant-loop-row
-invariant-loop-row l = string_bytes l.out ≡ string_bytes l.fn.out ++ flat_map row_text (take l.row-index l.rows)
+invariant-loop-row l = string_bytes l.out ≡ string_bytes l.fn.out ++ flat_map (row_text l.block) (take l.row-index l.rows)

@@ -1,9 +1,15 @@
 use Rattle.bidi_base.proofs.Common.{arith}
-use Rattle.bidi.proofs.OptionsLemmas.{explain_of-html, explain_of-base}
+use Rattle.bidi.proofs.OptionsLemmas.{explain_of-html, explain_of-files, explain_of-base, explain_of-width}
 use Rattle.bidi.proofs.command.Command.+parse_explain.Goals as goal
 
 pub returns-in-len1-up : goal.returns-in-len1-up
 returns-in-len1-up t c = grind (arith, explain_of-html)
 
+pub returns-in-len1-up-2 : goal.returns-in-len1-up-2
+returns-in-len1-up-2 t c = grind (arith, explain_of-files)
+
 pub returns-in-Some : goal.returns-in-Some
 returns-in-Some t c = grind (arith, explain_of-base)
+
+pub returns-in-Some-parse_number : goal.returns-in-Some-parse_number
+returns-in-Some-parse_number t c = grind (arith, explain_of-width)

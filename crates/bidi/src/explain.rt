@@ -1,0 +1,130 @@
+//! What `explain` reads and writes.
+use crate::files::{
+    STANDARD_INPUT, STANDARD_INPUT_NAME, end_without_memory, read_standard_input, refuse,
+    refuse_rest, write_out,
+};
+use crate::input::{explain_input, explain_text};
+use crate::operands::Operands;
+use crate::status::Status;
+use bidi_stages::frame;
+use bidi_stages::view::{Form, StageView};
+use std::fs;
+use std::rt::Files;
+
+// Writes what the rules make of a text.
+fn explain_argument(
+    rt: &(impl Print + Eprint + AllocGlobal),
+    view: StageView,
+    text: &str,
+) -> Result<Status, Status> {
+    match explain_text(rt.alloc(), view, text) {
+        Ok(told) => {
+            write_out(rt, told.as_str())?;
+            Ok(Status::Clean)
+        }
+        Err(_) => Err(end_without_memory(rt)),
+    }
+}
+
+// Writes what the rules make of an input.
+fn explain_bytes(
+    rt: &(impl Print + Eprint + AllocGlobal),
+    view: StageView,
+    name: &str,
+    bytes: &[u8],
+) -> Result<Status, Status> {
+    match explain_input(rt.alloc(), view, bytes) {
+        Ok(told) => {
+            write_out(rt, told.as_str())?;
+            Ok(Status::Clean)
+        }
+        Err(fault) => refuse_rest(rt, name, fault),
+    }
+}
+
+fn explain_standard_input(
+    rt: &(impl Input + Print + Eprint + AllocGlobal),
+    view: StageView,
+) -> Result<Status, Status> {
+    match read_standard_input(rt) {
+        Ok(bytes) => explain_bytes(rt, view, STANDARD_INPUT, bytes.as_slice()),
+        Err(error) => refuse(rt, STANDARD_INPUT, &error),
+    }
+}
+
+fn explain_file(
+    rt: &(impl Files + Input + Print + Eprint + AllocGlobal),
+    view: StageView,
+    name: &str,
+) -> Result<Status, Status> {
+    if name == STANDARD_INPUT_NAME {
+        return explain_standard_input(rt, view);
+    }
+    match fs::read(rt, name) {
+        Ok(bytes) => explain_bytes(rt, view, name, bytes.as_slice()),
+        Err(error) => refuse(rt, name, &error),
+    }
+}
+
+fn explain_word(
+    rt: &(impl Files + Input + Print + Eprint + AllocGlobal),
+    view: StageView,
+    operands: Operands,
+    word: &str,
+) -> Result<Status, Status> {
+    match operands {
+        Operands::Texts => explain_argument(rt, view, word),
+        Operands::Files => explain_file(rt, view, word),
+    }
+}
+
+// Writes what the rules make of texts or files, or of standard input where there are none.
+fn explain_words(
+    rt: &(impl Files + Input + Print + Eprint + AllocGlobal),
+    view: StageView,
+    operands: Operands,
+    words: &[String],
+) -> Result<Status, Status> {
+    if words.is_empty() {
+        return explain_standard_input(rt, view);
+    }
+    let mut status = Status::Clean;
+    for word in words {
+        match explain_word(rt, view, operands, word.as_str()) {
+            Ok(next) => status = status.worse(next),
+            Err(ended) => return Err(status.worse(ended)),
+        }
+    }
+    Ok(status)
+}
+
+// The same as one page of HTML.
+fn explain_as_page(
+    rt: &(impl Files + Input + Print + Eprint + AllocGlobal),
+    view: StageView,
+    operands: Operands,
+    words: &[String],
+) -> Result<Status, Status> {
+    write_out(rt, frame::HEAD)?;
+    let status = explain_words(rt, view, operands, words)?;
+    match write_out(rt, frame::FOOT) {
+        Ok(()) => Ok(status),
+        Err(ended) => Err(status.worse(ended)),
+    }
+}
+
+/// Writes what the rules make of texts, or of the files of these names: `-` is standard input. Without any, it
+/// reads standard input. A file that cannot be read or is not UTF-8 is told on standard error, and the next one
+/// is read.
+pub fn explain_operands(
+    rt: &(impl Files + Input + Print + Eprint + AllocGlobal),
+    view: StageView,
+    operands: Operands,
+    words: &[String],
+) -> Status {
+    let explained = match view.form {
+        Form::Table => explain_words(rt, view, operands, words),
+        Form::Page => explain_as_page(rt, view, operands, words),
+    };
+    explained.unwrap_or_else(|ended| ended)
+}

@@ -1,0 +1,10 @@
+//! What arguments behind options stand for.
+
+/// What the arguments behind the options of `explain` stand for.
+#[derive(Clone, Copy, Debug, PartialEq)]
+pub enum Operands {
+    /// Texts.
+    Texts,
+    /// Names of files.
+    Files,
+}
