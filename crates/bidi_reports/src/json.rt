@@ -1,7 +1,8 @@
 //! The report as JSON: a line for each finding, or one document of SARIF.
 ghost use Rattle.std.specs.Prelude.{◌≡◌, ◌++◌, flat_map, encode_utf8, IfOk, OnOk, string_bytes};
+ghost use Rattle.bidi_reports.specs.Words.{message_of};
 ghost use Rattle.unicode_bidi.specs.declared.version.TheConstants.{VERSION};
-ghost use Rattle.bidi_reports.specs.Json.{json_place, json_control, json_kind, json_displayed, json_report, result_message, result_rule, result_end, result_region, result_place, result_start, sarif_report, rule_text, rules_text, version_text, sarif_head};
+ghost use Rattle.bidi_reports.specs.Json.{json_place, json_member, message_start, region_start, locations_start, description_start, rule_level, rule_start, rule_end, columns_start, result_columns, rules_start, results_start, sarif_start, json_control, json_kind, json_displayed, json_report, result_message, result_rule, result_end, result_region, result_place, result_start, sarif_report, rule_text, rules_text, version_text, sarif_rules, sarif_head};
 
 use crate::parts::push_part;
 use crate::words::{character_of, code_of, is_about_line, kind_of, level_of, push_message};
@@ -29,28 +30,43 @@ fn push_json_place(
     push_number(out, finding.column)
 }
 
+// Appends a member of an object behind others. Its value is a string without characters to escape.
+#[tactic(auto, unfolding(crate::specs::Json::json_member))]
+fn push_member(out: &mut String, key: &str, value: &str) -> Result<(), AllocError>
+    ensures { OnOk result (string_bytes out.new ≡ string_bytes out.old ++ json_member key.now value.now) }
+{
+    out.push_str(",\"")?;
+    out.push_str(key)?;
+    out.push_str("\":\"")?;
+    out.push_str(value)?;
+    out.push_str("\"")
+}
+
 // Appends which control is found.
 fn push_json_control(out: &mut String, finding: &Finding) -> Result<(), AllocError>
     ensures { OnOk result (string_bytes out.new ≡ string_bytes out.old ++ json_control finding.now) }
 {
-    out.push_str(",\"control\":\"")?;
-    out.push_str(finding.control.short_name())?;
-    out.push_str("\",\"codePoint\":\"")?;
-    out.push_str(code_of(finding.control))?;
-    out.push_str("\",\"name\":\"")?;
-    out.push_str(character_of(finding.control))?;
-    out.push_str("\"")
+    push_member(out, "control", finding.control.short_name())?;
+    push_member(out, "codePoint", code_of(finding.control))?;
+    push_member(out, "name", character_of(finding.control))
+}
+
+// Returns what is found, in words.
+fn message_of(alloc: Global, finding: &Finding) -> Result<String, AllocError>
+    ensures { IfOk result (λ text. string_bytes text ≡ message_of finding.now) }
+{
+    let mut text = String::new(alloc);
+    push_message(&mut text, finding)?;
+    Ok(text)
 }
 
 // Appends what is the matter with it.
-fn push_json_kind(out: &mut String, finding: &Finding) -> Result<(), AllocError>
+fn push_json_kind(alloc: Global, out: &mut String, finding: &Finding) -> Result<(), AllocError>
     ensures { OnOk result (string_bytes out.new ≡ string_bytes out.old ++ json_kind finding.now) }
 {
-    out.push_str(",\"kind\":\"")?;
-    out.push_str(kind_of(finding.trouble))?;
-    out.push_str("\",\"message\":\"")?;
-    push_message(out, finding)?;
-    out.push_str("\"")
+    let message = message_of(alloc, finding)?;
+    push_member(out, "kind", kind_of(finding.trouble))?;
+    push_member(out, "message", message.as_str())
 }
 
 // Returns the text that some characters are.
@@ -93,7 +109,7 @@ pub fn push_json(
 {
     push_json_place(alloc, out, name, finding)?;
     push_json_control(out, finding)?;
-    push_json_kind(out, finding)?;
+    push_json_kind(alloc, out, finding)?;
     push_json_displayed(alloc, out, displayed, finding)?;
     out.push_str("}\n")
 }
@@ -106,8 +122,7 @@ fn result_message(
 ) -> Result<String, AllocError>
     ensures { IfOk result (λ text. string_bytes text ≡ result_message displayed.now finding.now) }
 {
-    let mut text = String::new(alloc);
-    push_message(&mut text, finding)?;
+    let mut text = message_of(alloc, finding)?;
     if is_about_line(finding.trouble) {
         text.push_str("; it is displayed as: ")?;
         push_part(
@@ -120,18 +135,27 @@ fn result_message(
     Ok(text)
 }
 
+// Appends what stands before the message of a result.
+#[tactic(auto, unfolding(crate::specs::Json::message_start))]
+fn push_message_start(out: &mut String) -> Result<(), AllocError>
+    ensures { OnOk result (string_bytes out.new ≡ string_bytes out.old ++ message_start) }
+{
+    out.push_str(",\"message\":{\"text\":")
+}
+
 // Appends the rule of a result.
 fn push_result_rule(out: &mut String, finding: &Finding) -> Result<(), AllocError>
     ensures { OnOk result (string_bytes out.new ≡ string_bytes out.old ++ result_rule finding.now) }
 {
     out.push_str("{\"ruleId\":\"")?;
     out.push_str(kind_of(finding.trouble))?;
-    out.push_str("\",\"level\":\"")?;
-    out.push_str(level_of(finding.trouble))?;
-    out.push_str("\",\"message\":{\"text\":")
+    out.push_str("\"")?;
+    push_member(out, "level", level_of(finding.trouble))?;
+    push_message_start(out)
 }
 
 // Appends the column behind a character, if there is such a number.
+#[tactic(auto, unfolding(crate::specs::Json::result_end))]
 fn push_result_end(out: &mut String, column: usize) -> Result<(), AllocError>
     ensures { OnOk result (string_bytes out.new ≡ string_bytes out.old ++ result_end column) }
 {
@@ -142,23 +166,56 @@ fn push_result_end(out: &mut String, column: usize) -> Result<(), AllocError>
     push_number(out, end)
 }
 
+// Appends what stands before the line of a result.
+#[tactic(auto, unfolding(crate::specs::Json::region_start))]
+fn push_region_start(out: &mut String) -> Result<(), AllocError>
+    ensures { OnOk result (string_bytes out.new ≡ string_bytes out.old ++ region_start) }
+{
+    out.push_str("\"},\"region\":{\"startLine\":")
+}
+
+// Appends what stands before the columns of a result.
+#[tactic(auto, unfolding(crate::specs::Json::columns_start))]
+fn push_columns_start(out: &mut String) -> Result<(), AllocError>
+    ensures { OnOk result (string_bytes out.new ≡ string_bytes out.old ++ columns_start) }
+{
+    out.push_str(",\"startColumn\":")
+}
+
+// Appends the columns of a result.
+#[tactic(auto, unfolding(crate::specs::Json::result_columns))]
+fn push_result_columns(out: &mut String, column: usize) -> Result<(), AllocError>
+    ensures { OnOk result (string_bytes out.new ≡ string_bytes out.old ++ result_columns column) }
+{
+    push_columns_start(out)?;
+    push_number(out, column)?;
+    push_result_end(out, column)
+}
+
 // Appends the line and the columns of a result.
+#[tactic(auto, unfolding(crate::specs::Json::result_region))]
 fn push_result_region(out: &mut String, finding: &Finding) -> Result<(), AllocError>
     ensures { OnOk result (string_bytes out.new ≡ string_bytes out.old ++ result_region finding.now) }
 {
-    out.push_str("\"},\"region\":{\"startLine\":")?;
+    push_region_start(out)?;
     push_number(out, finding.line)?;
-    out.push_str(",\"startColumn\":")?;
-    push_number(out, finding.column)?;
-    push_result_end(out, finding.column)?;
+    push_result_columns(out, finding.column)?;
     out.push_str("}}}]}")
+}
+
+// Appends what stands before the file of a result.
+#[tactic(auto, unfolding(crate::specs::Json::locations_start))]
+fn push_locations_start(out: &mut String) -> Result<(), AllocError>
+    ensures { OnOk result (string_bytes out.new ≡ string_bytes out.old ++ locations_start) }
+{
+    out.push_str("},\"locations\":[{\"physicalLocation\":{\"artifactLocation\":{\"uri\":\"")
 }
 
 // Appends where a result is.
 fn push_result_place(out: &mut String, name: &str, finding: &Finding) -> Result<(), AllocError>
     ensures { OnOk result (string_bytes out.new ≡ string_bytes out.old ++ result_place name.now finding.now) }
 {
-    out.push_str("},\"locations\":[{\"physicalLocation\":{\"artifactLocation\":{\"uri\":\"")?;
+    push_locations_start(out)?;
     push_uri(out, name)?;
     push_result_region(out, finding)
 }
@@ -188,20 +245,54 @@ pub fn push_result(
     push_result_place(out, name, finding)
 }
 
-// Appends a rule of SARIF.
-fn push_rule(out: &mut String, trouble: Trouble) -> Result<(), AllocError>
-    ensures { OnOk result (string_bytes out.new ≡ string_bytes out.old ++ rule_text trouble) }
+// Appends what stands before the description of a rule.
+#[tactic(auto, unfolding(crate::specs::Json::description_start))]
+fn push_description_start(out: &mut String) -> Result<(), AllocError>
+    ensures { OnOk result (string_bytes out.new ≡ string_bytes out.old ++ description_start) }
+{
+    out.push_str("\",\"shortDescription\":{\"text\":\"A direction control or mark ")
+}
+
+// Appends what stands before the level of a rule.
+#[tactic(auto, unfolding(crate::specs::Json::rule_level))]
+fn push_rule_level(out: &mut String) -> Result<(), AllocError>
+    ensures { OnOk result (string_bytes out.new ≡ string_bytes out.old ++ rule_level) }
+{
+    out.push_str("\"},\"defaultConfiguration\":{\"level\":\"")
+}
+
+// Appends the name and the description of a rule.
+#[tactic(auto, unfolding(crate::specs::Json::rule_start))]
+fn push_rule_start(out: &mut String, trouble: Trouble) -> Result<(), AllocError>
+    ensures { OnOk result (string_bytes out.new ≡ string_bytes out.old ++ rule_start trouble) }
 {
     out.push_str("\n{\"id\":\"")?;
     out.push_str(kind_of(trouble))?;
-    out.push_str("\",\"shortDescription\":{\"text\":\"A direction control or mark ")?;
-    out.push_str(trouble.text())?;
-    out.push_str("\"},\"defaultConfiguration\":{\"level\":\"")?;
+    push_description_start(out)?;
+    out.push_str(trouble.text())
+}
+
+// Appends the level of a rule.
+#[tactic(auto, unfolding(crate::specs::Json::rule_end))]
+fn push_rule_end(out: &mut String, trouble: Trouble) -> Result<(), AllocError>
+    ensures { OnOk result (string_bytes out.new ≡ string_bytes out.old ++ rule_end trouble) }
+{
+    push_rule_level(out)?;
     out.push_str(level_of(trouble))?;
     out.push_str("\"}}")
 }
 
+// Appends a rule of SARIF.
+#[tactic(auto, unfolding(crate::specs::Json::rule_text))]
+fn push_rule(out: &mut String, trouble: Trouble) -> Result<(), AllocError>
+    ensures { OnOk result (string_bytes out.new ≡ string_bytes out.old ++ rule_text trouble) }
+{
+    push_rule_start(out, trouble)?;
+    push_rule_end(out, trouble)
+}
+
 // Appends all rules of SARIF.
+#[tactic(auto, unfolding(crate::specs::Json::rules_text))]
 fn push_rules(out: &mut String) -> Result<(), AllocError>
     ensures { OnOk result (string_bytes out.new ≡ string_bytes out.old ++ rules_text) }
 {
@@ -215,6 +306,7 @@ fn push_rules(out: &mut String) -> Result<(), AllocError>
 }
 
 // Appends a version.
+#[tactic(auto, unfolding(crate::specs::Json::version_text))]
 fn push_version(out: &mut String, version: (u64, u64, u64)) -> Result<(), AllocError>
     ensures { OnOk result (string_bytes out.new ≡ string_bytes out.old ++ version_text version) }
 {
@@ -227,19 +319,52 @@ fn push_version(out: &mut String, version: (u64, u64, u64)) -> Result<(), AllocE
 }
 
 // What stands before the version in a document of SARIF.
-const SARIF_START: &str = "{\"$schema\":\"https://json.schemastore.org/sarif-2.1.0.json\",\"version\":\"2.1.0\",\"runs\":[{\"columnKind\":\"unicodeCodePoints\",\n\"tool\":{\"driver\":{\"name\":\"bidi check\",\"version\":\"";
+const SARIF_START: &str =
+    "{\"$schema\":\"https://json.schemastore.org/sarif-2.1.0.json\",\"version\":\"2.1.0\",\"runs\":[{\"columnKind\":\"unicodeCodePoints\",\n\"tool\":{\"driver\":{\"name\":\"bidi check\",\"version\":\"";
 
 /// What stands after the results in a document of SARIF.
 pub const SARIF_FOOT: &str = "\n]}]}\n";
+
+// Appends what stands before the version in a document of SARIF.
+#[tactic(auto, unfolding(crate::specs::Json::sarif_start))]
+fn push_sarif_start(out: &mut String) -> Result<(), AllocError>
+    ensures { OnOk result (string_bytes out.new ≡ string_bytes out.old ++ sarif_start) }
+{
+    out.push_str(SARIF_START)
+}
+
+// Appends what stands before the rules in a document of SARIF.
+#[tactic(auto, unfolding(crate::specs::Json::rules_start))]
+fn push_rules_start(out: &mut String) -> Result<(), AllocError>
+    ensures { OnOk result (string_bytes out.new ≡ string_bytes out.old ++ rules_start) }
+{
+    out.push_str("\",\"rules\":[")
+}
+
+// Appends what stands between the rules and the results in a document of SARIF.
+#[tactic(auto, unfolding(crate::specs::Json::results_start))]
+fn push_results_start(out: &mut String) -> Result<(), AllocError>
+    ensures { OnOk result (string_bytes out.new ≡ string_bytes out.old ++ results_start) }
+{
+    out.push_str("]}},\n\"results\":[")
+}
+
+// Appends the rules of a document of SARIF, and what begins its results.
+#[tactic(auto, unfolding(crate::specs::Json::sarif_rules))]
+fn push_sarif_rules(out: &mut String) -> Result<(), AllocError>
+    ensures { OnOk result (string_bytes out.new ≡ string_bytes out.old ++ sarif_rules) }
+{
+    push_rules_start(out)?;
+    push_rules(out)?;
+    push_results_start(out)
+}
 
 /// Appends what stands before the results in a document of SARIF.
 #[tactic(auto, unfolding(crate::specs::Json::sarif_head))]
 pub fn push_sarif_head(out: &mut String) -> Result<(), AllocError>
     ensures { OnOk result (string_bytes out.new ≡ string_bytes out.old ++ sarif_head) }
 {
-    out.push_str(SARIF_START)?;
+    push_sarif_start(out)?;
     push_version(out, VERSION)?;
-    out.push_str("\",\"rules\":[")?;
-    push_rules(out)?;
-    out.push_str("]}},\n\"results\":[")
+    push_sarif_rules(out)
 }
