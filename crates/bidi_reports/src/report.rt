@@ -5,7 +5,7 @@ ghost use Rattle.bidi_reports.specs.Reports.{finding_report, line_report, report
 
 use crate::displayed::Displayed;
 use crate::form::Form;
-use crate::json::{SARIF_FOOT, push_json, push_result, push_sarif_head};
+use crate::json_text::{SARIF_FOOT, push_json, push_result, push_sarif_head};
 use crate::text::push_text;
 use bidi_base::data_source::BidiDataSource;
 use bidi_controls::finding::Finding;
