@@ -17,14 +17,17 @@ abbrev pub json_place : List ℕ → Finding → List ℕ
 json_place name finding =
     codes "{\"file\":" ++ (json_string name ++ (codes ",\"line\":" ++ (decimal finding.line ++ (codes ",\"column\":" ++ decimal finding.column))))
 
+-- a member of an object behind others, whose value is a string without characters to escape
+unfoldable pub json_member : List ℕ → List ℕ → List ℕ
+json_member key value = codes ",\"" ++ (key ++ (codes "\":\"" ++ (value ++ codes "\"")))
+
 abbrev pub json_control : Finding → List ℕ
 json_control finding =
-    codes ",\"control\":\"" ++ (control_short finding.control ++ (codes "\",\"codePoint\":\"" ++ (code_of finding.control
-    ++ (codes "\",\"name\":\"" ++ (character_of finding.control ++ codes "\"")))))
+    json_member (codes "control") (control_short finding.control)
+    ++ (json_member (codes "codePoint") (code_of finding.control) ++ json_member (codes "name") (character_of finding.control))
 
 abbrev pub json_kind : Finding → List ℕ
-json_kind finding =
-    codes ",\"kind\":\"" ++ (kind_of finding.trouble ++ (codes "\",\"message\":\"" ++ (message_of finding ++ codes "\"")))
+json_kind finding = json_member (codes "kind") (kind_of finding.trouble) ++ json_member (codes "message") (message_of finding)
 
 abbrev pub json_displayed : List ℕ → Finding → List ℕ
 json_displayed displayed finding =
@@ -42,22 +45,34 @@ result_message displayed finding =
     message_of finding
     ++ (if is_about_line finding.trouble then codes "; it is displayed as: " ++ marked_part false displayed (finding.column - 1) else [])
 
+unfoldable pub message_start : List ℕ
+message_start = codes ",\"message\":{\"text\":"
+
 abbrev pub result_rule : Finding → List ℕ
 result_rule finding =
-    codes "{\"ruleId\":\"" ++ (kind_of finding.trouble ++ (codes "\",\"level\":\"" ++ (level_of finding.trouble ++ codes "\",\"message\":{\"text\":")))
+    codes "{\"ruleId\":\"" ++ (kind_of finding.trouble ++ (codes "\"" ++ (json_member (codes "level") (level_of finding.trouble) ++ message_start)))
 
 -- the column behind the character, where it is a number of 64 bits
-abbrev pub result_end : ℕ → List ℕ
+unfoldable pub result_end : ℕ → List ℕ
 result_end column = if nat_lt (column + 1) (2 ^ 64) then codes ",\"endColumn\":" ++ decimal (column + 1) else []
 
-abbrev pub result_region : Finding → List ℕ
-result_region finding =
-    codes "\"},\"region\":{\"startLine\":" ++ (decimal finding.line ++ (codes ",\"startColumn\":" ++ (decimal finding.column
-    ++ (result_end finding.column ++ codes "}}}]}"))))
+unfoldable pub region_start : List ℕ
+region_start = codes "\"},\"region\":{\"startLine\":"
+
+unfoldable pub columns_start : List ℕ
+columns_start = codes ",\"startColumn\":"
+
+unfoldable pub result_columns : ℕ → List ℕ
+result_columns column = columns_start ++ (decimal column ++ result_end column)
+
+unfoldable pub result_region : Finding → List ℕ
+result_region finding = region_start ++ (decimal finding.line ++ (result_columns finding.column ++ codes "}}}]}"))
+
+unfoldable pub locations_start : List ℕ
+locations_start = codes "},\"locations\":[{\"physicalLocation\":{\"artifactLocation\":{\"uri\":\""
 
 abbrev pub result_place : List ℕ → Finding → List ℕ
-result_place name finding =
-    codes "},\"locations\":[{\"physicalLocation\":{\"artifactLocation\":{\"uri\":\"" ++ (uri_of name ++ result_region finding)
+result_place name finding = locations_start ++ (uri_of name ++ result_region finding)
 
 -- what separates a result from the ones before it
 abbrev pub result_start : Bool → List ℕ
@@ -68,26 +83,45 @@ sarif_report later name displayed finding =
     result_start later ++ (result_rule finding ++ (json_string (result_message displayed finding) ++ result_place name finding))
 
 -- a rule, which each kind of finding has
-abbrev pub rule_text : Trouble → List ℕ
-rule_text trouble =
-    codes "\n{\"id\":\"" ++ (kind_of trouble ++ (codes "\",\"shortDescription\":{\"text\":\"A direction control or mark " ++ (trouble_text trouble
-    ++ (codes "\"},\"defaultConfiguration\":{\"level\":\"" ++ (level_of trouble ++ codes "\"}}")))))
+unfoldable pub description_start : List ℕ
+description_start = codes "\",\"shortDescription\":{\"text\":\"A direction control or mark "
 
-abbrev pub rules_text : List ℕ
+unfoldable pub rule_level : List ℕ
+rule_level = codes "\"},\"defaultConfiguration\":{\"level\":\""
+
+unfoldable pub rule_start : Trouble → List ℕ
+rule_start trouble = codes "\n{\"id\":\"" ++ (kind_of trouble ++ (description_start ++ trouble_text trouble))
+
+unfoldable pub rule_end : Trouble → List ℕ
+rule_end trouble = rule_level ++ (level_of trouble ++ codes "\"}}")
+
+unfoldable pub rule_text : Trouble → List ℕ
+rule_text trouble = rule_start trouble ++ rule_end trouble
+
+unfoldable pub rules_text : List ℕ
 rules_text =
     rule_text DisplayedDifferently ++ (codes "," ++ (rule_text NotClosed ++ (codes "," ++ (rule_text ClosesNothing ++ (codes "," ++ rule_text Present)))))
 
 -- the version of the library and of the program
-abbrev pub version_text : ℕ × ℕ × ℕ → List ℕ
+unfoldable pub version_text : ℕ × ℕ × ℕ → List ℕ
 version_text version = decimal version.0 ++ (codes "." ++ (decimal version.1 ++ (codes "." ++ decimal version.2)))
 
 -- what stands before the results, and after them
-abbrev pub sarif_start : List ℕ
+unfoldable pub sarif_start : List ℕ
 sarif_start =
     codes "{\"$schema\":\"https://json.schemastore.org/sarif-2.1.0.json\",\"version\":\"2.1.0\",\"runs\":[{\"columnKind\":\"unicodeCodePoints\",\n\"tool\":{\"driver\":{\"name\":\"bidi check\",\"version\":\""
 
+unfoldable pub rules_start : List ℕ
+rules_start = codes "\",\"rules\":["
+
+unfoldable pub results_start : List ℕ
+results_start = codes "]}},\n\"results\":["
+
+unfoldable pub sarif_rules : List ℕ
+sarif_rules = rules_start ++ (rules_text ++ results_start)
+
 unfoldable pub sarif_head : List ℕ
-sarif_head = sarif_start ++ (version_text VERSION ++ (codes "\",\"rules\":[" ++ (rules_text ++ codes "]}},\n\"results\":[")))
+sarif_head = sarif_start ++ (version_text VERSION ++ sarif_rules)
 
 abbrev pub sarif_foot : List ℕ
 sarif_foot = codes "\n]}]}\n"

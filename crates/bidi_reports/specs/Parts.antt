@@ -42,7 +42,7 @@ abbrev pub dots : Bool → List ℕ
 dots left_out = if left_out then codes "..." else []
 
 -- a line, or the part around an index
-abbrev pub marked_part : Bool → List ℕ → ℕ → List ℕ
+unfoldable pub marked_part : Bool → List ℕ → ℕ → List ℕ
 marked_part colors line place =
     dots (nat_lt 0 (part_start (length line) place))
     ++ (flat_map (marked_char colors) (slice_range line (part_start (length line) place) (part_end (length line) place))
@@ -56,7 +56,7 @@ abbrev pub blanks : ℕ → List ℕ
 blanks size = replicate size 32
 
 -- the blanks below the characters of a part that are before an index
-abbrev pub blank_part : List ℕ → ℕ → List ℕ
+unfoldable pub blank_part : List ℕ → ℕ → List ℕ
 blank_part line place =
     blanks (length (dots (nat_lt 0 (part_start (length line) place))))
     ++ flat_map (λ c. blanks (shown_columns c)) (slice_range line (part_start (length line) place) (min place (length line)))

@@ -17,25 +17,33 @@ abbrev pub without_end : List ℕ → List ℕ
 without_end line = without_last 13 (without_last 10 line)
 
 -- the line for a finding: its place, and what is found
-abbrev pub finding_text : Bool → List ℕ → Finding → List ℕ
+unfoldable pub finding_text : Bool → List ℕ → Finding → List ℕ
 finding_text colors name finding =
     styled colors bold (place_text name finding)
     ++ (control_name finding.control ++ (codes " " ++ (trouble_text finding.trouble ++ codes "\n")))
 
 -- the line of the file, and below it a caret under the character at an index
-abbrev pub excerpt_text : Bool → List ℕ → ℕ → List ℕ
+unfoldable pub excerpt_text : Bool → List ℕ → ℕ → List ℕ
 excerpt_text colors line place =
     codes "  " ++ (marked_part colors line place ++ (codes "\n  " ++ (blank_part line place ++ (styled colors bold_red (codes "^") ++ codes "\n"))))
 
 -- the line that tells how a line is displayed
-abbrev pub note_text : Bool → List ℕ → List ℕ → Finding → List ℕ
-note_text colors name displayed finding =
-    styled colors bold (place_text name finding)
-    ++ (codes "note: displayed as: " ++ (marked_part colors displayed (finding.column - 1) ++ codes "\n"))
+unfoldable pub note_start : List ℕ
+note_start = codes "note: displayed as: "
 
--- all of it: an excerpt if these are wanted, and the note of a finding that is about the line
-abbrev pub text_report : Bool → Bool → List ℕ → List ℕ → List ℕ → Finding → List ℕ
+unfoldable pub note_text : Bool → List ℕ → List ℕ → Finding → List ℕ
+note_text colors name displayed finding =
+    styled colors bold (place_text name finding) ++ (note_start ++ (marked_part colors displayed (finding.column - 1) ++ codes "\n"))
+
+-- an excerpt if these are wanted, and the note of a finding that is about the line
+unfoldable pub excerpt_report : Bool → Bool → List ℕ → ℕ → List ℕ
+excerpt_report excerpts colors line place = if excerpts then excerpt_text colors (without_end line) place else []
+
+unfoldable pub note_report : Bool → List ℕ → List ℕ → Finding → List ℕ
+note_report colors name displayed finding = if is_about_line finding.trouble then note_text colors name displayed finding else []
+
+-- all of it
+unfoldable pub text_report : Bool → Bool → List ℕ → List ℕ → List ℕ → Finding → List ℕ
 text_report excerpts colors name line displayed finding =
     finding_text colors name finding
-    ++ ((if excerpts then excerpt_text colors (without_end line) (finding.column - 1) else [])
-    ++ (if is_about_line finding.trouble then note_text colors name displayed finding else []))
+    ++ (excerpt_report excerpts colors line (finding.column - 1) ++ note_report colors name displayed finding)

@@ -63,14 +63,10 @@ impl Displayed {
     ) -> Result<Base, AllocError>
         ensures { IfOk result (λ base. level_of_base base ≡ telling_base (D.source data_source.now) chars.now) }
     {
-        let is_reordered =
-            self.comparison
-                .is_reordered(alloc, data_source, Base::Ltr, chars)?;
-        Ok(if is_reordered {
-            Base::Ltr
-        } else {
-            Base::Auto
-        })
+        let is_reordered = self
+            .comparison
+            .is_reordered(alloc, data_source, Base::Ltr, chars)?;
+        Ok(if is_reordered { Base::Ltr } else { Base::Auto })
     }
 
     // Displays a paragraph.

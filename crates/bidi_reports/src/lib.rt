@@ -3,7 +3,7 @@
 
 mod displayed;
 pub mod form;
-mod json;
+mod json_text;
 mod parts;
 pub mod report;
 mod text;

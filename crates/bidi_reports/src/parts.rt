@@ -1,5 +1,5 @@
 //! The part of a line that a report shows.
-ghost use Rattle.std.specs.Prelude.{◌≡◌, ◌++◌, ◌≤◌, ◌<◌, length, flat_map, min, slice_range, nat_lt, OnOk, string_bytes};
+ghost use Rattle.std.specs.Prelude.{◌≡◌, ◌++◌, ◌≤◌, ◌<◌, length, flat_map, min, slice_range, nat_lt, if◌then◌else◌, [], OnOk, string_bytes};
 ghost use Rattle.bidi_reports.specs.Parts.{bold, bold_red, as_before, styled, is_marked, marked_char, part_start, part_end, dots, marked_part, shown_columns, blanks, blank_part};
 
 use bidi_names::names::{is_hidden, push_quoted};
@@ -20,6 +20,7 @@ pub const AS_BEFORE: &str = "\u{1B}[0m";
 
 // The most characters of a line that are shown, and how many of them are before the place that matters.
 const MOST_SHOWN: usize = 200;
+
 const SHOWN_BEFORE: usize = 100;
 
 /// Appends a sequence for a terminal, if colours are wanted.
@@ -65,9 +66,7 @@ fn part_start(len: usize, place: usize) -> usize
     if len <= MOST_SHOWN {
         return 0;
     }
-    place
-        .saturating_sub(SHOWN_BEFORE)
-        .min(len - MOST_SHOWN)
+    place.saturating_sub(SHOWN_BEFORE).min(len - MOST_SHOWN)
 }
 
 // Returns the index up to which a line of this length is shown.
@@ -92,6 +91,7 @@ fn push_dots(out: &mut String, left_out: bool) -> Result<(), AllocError>
 }
 
 /// Appends a line, or of a long one the part around an index. Hidden characters are written by their code points.
+#[tactic(auto, unfolding(crate::specs::Parts::marked_part))]
 pub fn push_part(
     out: &mut String,
     colors: bool,
@@ -124,7 +124,7 @@ fn shown_columns(c: char) -> usize
 fn push_blanks(out: &mut String, count: usize) -> Result<(), AllocError>
     ensures { OnOk result (string_bytes out.new ≡ string_bytes out.old ++ blanks count) }
 {
-    for _step in 0..count {
+    for step in 0..count {
         out.push(' ')?;
     }
     Ok(())
@@ -141,6 +141,7 @@ fn push_blank_chars(out: &mut String, chars: &[char]) -> Result<(), AllocError>
 }
 
 /// Appends as many blanks as the part of a line around an index takes columns before that index.
+#[tactic(auto, unfolding(crate::specs::Parts::blank_part))]
 pub fn push_blank_part(out: &mut String, line: &[char], place: usize) -> Result<(), AllocError>
     ensures { OnOk result (string_bytes out.new ≡ string_bytes out.old ++ blank_part line.now place) }
 {

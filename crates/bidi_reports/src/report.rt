@@ -5,7 +5,7 @@ ghost use Rattle.bidi_reports.specs.Reports.{finding_report, line_report, report
 
 use crate::displayed::Displayed;
 use crate::form::Form;
-use crate::json::{SARIF_FOOT, push_json, push_result, push_sarif_head};
+use crate::json_text::{SARIF_FOOT, push_json, push_result, push_sarif_head};
 use crate::text::push_text;
 use bidi_base::data_source::BidiDataSource;
 use bidi_controls::finding::Finding;
@@ -43,6 +43,31 @@ fn push_finding(
         Form::Json => push_json(alloc, out, name, displayed, finding),
         Form::Sarif => push_result(alloc, out, later, name, displayed, finding),
     }
+}
+
+// Appends what is told of the findings in a line of a file.
+fn push_findings<D: BidiDataSource>(
+    alloc: Global,
+    data_source: &D,
+    displayed: &mut Displayed,
+    out: &mut String,
+    form: Form,
+    later: bool,
+    name: &str,
+    line: &[char],
+    findings: &[Finding],
+) -> Result<(), AllocError>
+    ensures { OnOk result (string_bytes out.new ≡ string_bytes out.old
+        ++ line_report (D.source data_source.now) form later name.now line.now findings.now) }
+{
+    let mut is_later = later;
+    for finding in findings {
+        displayed.display_for(alloc, data_source, line, finding)?;
+        let chars = displayed.chars.as_slice();
+        push_finding(alloc, out, form, is_later, name, line, chars, finding)?;
+        is_later = true;
+    }
+    Ok(())
 }
 
 /// The report of a run, which is written line by line of the files.
@@ -106,21 +131,18 @@ impl Report {
         ensures form { self.new.form ≡ self.old.form }
         ensures later { OnOk result (self.new.later ≡ (self.old.later || not (length findings.now == 0))) }
     {
-        for finding in findings {
-            self.displayed
-                .display_for(alloc, data_source, line, finding)?;
-            push_finding(
-                alloc,
-                out,
-                self.form,
-                self.later,
-                name,
-                line,
-                self.displayed.chars.as_slice(),
-                finding,
-            )?;
-            self.later = true;
-        }
+        push_findings(
+            alloc,
+            data_source,
+            &mut self.displayed,
+            out,
+            self.form,
+            self.later,
+            name,
+            line,
+            findings,
+        )?;
+        self.later = self.later || !findings.is_empty();
         Ok(())
     }
 }

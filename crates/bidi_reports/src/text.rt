@@ -3,7 +3,7 @@ ghost use Rattle.std.specs.Prelude.{◌≡◌, ◌++◌, ◌-◌, [], if◌then�
 ghost use Rattle.bidi_controls.specs.Findings.{place_text, trouble_text};
 ghost use Rattle.bidi_controls.specs.Controls.{control_name};
 ghost use Rattle.bidi_reports.specs.Parts.{bold, bold_red, styled};
-ghost use Rattle.bidi_reports.specs.Text.{without_last, without_end, finding_text, excerpt_text, note_text, text_report};
+ghost use Rattle.bidi_reports.specs.Text.{without_last, without_end, finding_text, excerpt_text, note_start, note_text, excerpt_report, note_report, text_report};
 ghost use Rattle.bidi_reports.specs.Words.{is_about_line};
 
 use crate::parts::{AS_BEFORE, BOLD, BOLD_RED, push_blank_part, push_part, push_style};
@@ -44,6 +44,7 @@ fn push_styled_place(
 }
 
 // Appends the line for a finding.
+#[tactic(auto, unfolding(crate::specs::Text::finding_text))]
 fn push_finding(
     out: &mut String,
     colors: bool,
@@ -58,6 +59,7 @@ fn push_finding(
 }
 
 // Appends the line of the file, and a caret under the character at an index.
+#[tactic(auto, unfolding(crate::specs::Text::excerpt_text))]
 fn push_excerpt(
     out: &mut String,
     colors: bool,
@@ -83,7 +85,16 @@ fn push_caret(out: &mut String, colors: bool) -> Result<(), AllocError>
     push_style(out, colors, AS_BEFORE)
 }
 
+// Appends what a note begins with.
+#[tactic(auto, unfolding(crate::specs::Text::note_start))]
+fn push_note_start(out: &mut String) -> Result<(), AllocError>
+    ensures { OnOk result (string_bytes out.new ≡ string_bytes out.old ++ note_start) }
+{
+    out.push_str("note: displayed as: ")
+}
+
 // Appends the line that tells how the line of a finding is displayed.
+#[tactic(auto, unfolding(crate::specs::Text::note_text))]
 fn push_note(
     out: &mut String,
     colors: bool,
@@ -94,13 +105,48 @@ fn push_note(
     ensures { OnOk result (string_bytes out.new ≡ string_bytes out.old ++ note_text colors name.now displayed.now finding.now) }
 {
     push_styled_place(out, colors, name, finding)?;
-    out.push_str("note: displayed as: ")?;
+    push_note_start(out)?;
     push_part(out, colors, displayed, finding.column.saturating_sub(1))?;
     out.push_str("\n")
 }
 
+// Appends an excerpt, if these are wanted.
+#[tactic(auto, unfolding(crate::specs::Text::excerpt_report))]
+fn push_excerpt_if(
+    out: &mut String,
+    excerpts: bool,
+    colors: bool,
+    line: &[char],
+    place: usize,
+) -> Result<(), AllocError>
+    ensures { OnOk result (string_bytes out.new ≡ string_bytes out.old ++ excerpt_report excerpts colors line.now place) }
+{
+    if !excerpts {
+        return Ok(());
+    }
+    push_excerpt(out, colors, without_end(line), place)
+}
+
+// Appends the note of a finding, if it is about how its line is displayed.
+#[tactic(auto, unfolding(crate::specs::Text::note_report))]
+fn push_note_if(
+    out: &mut String,
+    colors: bool,
+    name: &str,
+    displayed: &[char],
+    finding: &Finding,
+) -> Result<(), AllocError>
+    ensures { OnOk result (string_bytes out.new ≡ string_bytes out.old ++ note_report colors name.now displayed.now finding.now) }
+{
+    if !is_about_line(finding.trouble) {
+        return Ok(());
+    }
+    push_note(out, colors, name, displayed, finding)
+}
+
 /// Appends what is told of a finding: its line, an excerpt if these are wanted, and a note if it is about how its line is
 /// displayed.
+#[tactic(auto, unfolding(crate::specs::Text::text_report))]
 pub fn push_text(
     out: &mut String,
     excerpts: bool,
@@ -114,16 +160,12 @@ pub fn push_text(
         ++ text_report excerpts colors name.now line.now displayed.now finding.now) }
 {
     push_finding(out, colors, name, finding)?;
-    if excerpts {
-        push_excerpt(
-            out,
-            colors,
-            without_end(line),
-            finding.column.saturating_sub(1),
-        )?;
-    }
-    if is_about_line(finding.trouble) {
-        push_note(out, colors, name, displayed, finding)?;
-    }
-    Ok(())
+    push_excerpt_if(
+        out,
+        excerpts,
+        colors,
+        line,
+        finding.column.saturating_sub(1),
+    )?;
+    push_note_if(out, colors, name, displayed, finding)
 }
