@@ -1,10 +1,11 @@
 -- Lines without direction controls and marks: one character more, and what is found in them.
-use Rattle.bidi_base.proofs.Common.{◌≡◌, ℕ, zero, suc, ◌+◌, ◌<◌, ◌≤◌, ⊤, ◌×◌, SplitTest, cut_after, cr_lf_together, onto_first, get_or_default, Bool, true, false, List, [], ◌∷◌, ◌++◌, Option, None, length, get_or, take, map, refl, ap, sym, subst, arith, ◌∙◌, take_more, flat_map, holds_number, get_or-map, range_with_len, class_at, Source}
-use Rattle.std.proofs.lemmas.List.Elements.{All-push, All-head, All-tail, All-cons}
+use Rattle.bidi_base.proofs.Common.{◌≡◌, ℕ, zero, suc, ◌+◌, ◌<◌, ◌≤◌, ⊤, SplitTest, cut_after, cr_lf_together, onto_first, get_or_default, Bool, true, false, if◌then◌else◌, List, [], ◌∷◌, ◌++◌, Option, None, length, get_or, take, map, refl, ap, sym, subst, arith, ◌∙◌, take_more, flat_map, holds_number, get_or-map, range_with_len, class_at, Source}
+use Rattle.std.proofs.lemmas.List.Elements.{All-push, All-head, All-tail, All-cons, All-nil}
 use Rattle.bidi_base.specs.declared.char_data.BidiClass.{BidiClass}
 use Rattle.bidi_controls.specs.Controls.{control_of}
 use Rattle.bidi_controls.specs.Findings.{wants_every_control, finding_of, line_finding_of, findings_at, differing_place, findings_in_line, findings_in_paragraph, findings_in_paragraphs}
 use Rattle.bidi_controls.specs.declared.finding.Wanted.{Wanted}
+use Rattle.bidi_controls.specs.Lines.{lines_of}
 use Rattle.bidi_controls.specs.Matches.{is_unmatched}
 use Rattle.bidi_controls.specs.Quiet.{AreQuiet}
 
@@ -48,20 +49,27 @@ findings_in_paragraph-quiet source wanted number from chars quiet =
     (λ k below. findings_at-none (wants_every_control wanted) (differing_place source wanted chars) number from (map source.class_of chars) chars k (grind (arith, get_or-map, quiet k 0)))
 
 -- each of some pieces is quiet
-AllQuiet : Source → List (List ℕ) → Type 0
+abbrev AllQuiet : Source → List (List ℕ) → Type 0
 AllQuiet source [] = ⊤
 AllQuiet source (piece ∷ pieces) = AreQuiet source piece × AllQuiet source pieces
 
+one_quiet : (source : Source) (c : ℕ) → control_of (source.class_of c) c ≡ None → AreQuiet source (c ∷ [])
+one_quiet source c none = All-cons (λ x. control_of (source.class_of x) x ≡ None) c [] none (All-nil (λ x. control_of (source.class_of x) x ≡ None))
+
 AllQuiet-front : (source : Source) (c : ℕ) (pieces : List (List ℕ)) → control_of (source.class_of c) c ≡ None → AllQuiet source pieces → AllQuiet source (onto_first c pieces)
-AllQuiet-front source c [] none quiet = (All-push _ [] c (λ k d below. absurd (omega (arith, below))) none, tt)
-AllQuiet-front source c (piece ∷ pieces) none quiet = (All-cons _ c piece none quiet.0, quiet.1)
+AllQuiet-front source c [] none quiet = (one_quiet source c none, tt)
+AllQuiet-front source c (piece ∷ pieces) none quiet = (All-cons (λ x. control_of (source.class_of x) x ≡ None) c piece none quiet.0, quiet.1)
+
+-- a character before pieces, which is a piece by itself or goes to the first
+AllQuiet-with : (source : Source) (stops : Bool) (c : ℕ) (pieces : List (List ℕ)) → control_of (source.class_of c) c ≡ None → AllQuiet source pieces → AllQuiet source (if stops then (c ∷ []) ∷ pieces else onto_first c pieces)
+AllQuiet-with source true c pieces none quiet = (one_quiet source c none, quiet)
+AllQuiet-with source false c pieces none quiet = AllQuiet-front source c pieces none quiet
 
 AllQuiet-cut : (source : Source) (ends : SplitTest) (chars : List ℕ) → AreQuiet source chars → AllQuiet source (cut_after ends chars)
 AllQuiet-cut source ends [] quiet = tt
-AllQuiet-cut source ends (c ∷ cs) quiet = case ends c cs of [
-  | true ↦ (All-cons _ c [] (All-head _ c cs quiet) (All-nil _), AllQuiet-cut source ends cs (All-tail _ c cs quiet))
-  | false ↦ AllQuiet-front source c (cut_after ends cs) (All-head _ c cs quiet) (AllQuiet-cut source ends cs (All-tail _ c cs quiet))
-]
+AllQuiet-cut source ends (c ∷ cs) quiet =
+    AllQuiet-with source (ends c cs) c (cut_after ends cs) (All-head (λ x. control_of (source.class_of x) x ≡ None) c cs quiet)
+    (AllQuiet-cut source ends cs (All-tail (λ x. control_of (source.class_of x) x ≡ None) c cs quiet))
 
 findings_in_paragraphs-quiet : (source : Source) (wanted : Wanted) (number from : ℕ) (pieces : List (List ℕ)) → AllQuiet source pieces → findings_in_paragraphs source wanted number from pieces ≡ []
 findings_in_paragraphs-quiet source wanted number from [] quiet = refl

@@ -1,4 +1,4 @@
-use Rattle.bidi_base.proofs.Common.{◌≡◌, ℕ, ◌+◌, ◌-◌, ◌++◌, List, ◌∷◌, length, take, sym, ap, arith, append_assoc, append-nil, ◌∙◌, Source}
+use Rattle.bidi_base.proofs.Common.{◌≡◌, ℕ, ◌+◌, ◌-◌, ◌++◌, ◌≤◌, List, [], ◌∷◌, length, length-drop, length-take-le, take, sym, ap, ap₂, arith, append_assoc, append-nil, ◌∙◌, Source}
 use Rattle.bidi_controls.specs.Findings.{findings_in_line, findings_in_paragraph, findings_in_paragraphs}
 use Rattle.bidi_controls.specs.Lines.{lines_of}
 use Rattle.bidi_controls.specs.declared.finding.Finding.{Finding}
@@ -11,12 +11,33 @@ with_paragraph : (source : Source) (wanted : Wanted) (number from next : ℕ) (r
     → new ++ findings_in_paragraphs source wanted number next (lines_of source after) ≡ all
 with_paragraph source wanted number from next rest paragraph after old new all first next_is before here = grind (arith, append_assoc)
 
+-- behind the last paragraph nothing more is found
+at_end : (source : Source) (wanted : Wanted) (number from : ℕ) (rest : List ℕ) (old all : List Finding) → length rest ≡ 0 → old ++ findings_in_paragraphs source wanted number from (lines_of source rest) ≡ all → old ≡ all
+at_end source wanted number from [] old all none found = sym (append-nil old) ∙ found
+at_end source wanted number from (c ∷ rest) old all none found = absurd (omega (arith, none))
+
 pub loop-rest-init : goal.loop-rest-init
 loop-rest-init g c = grind arith
 
 pub loop-rest-preserved : goal.loop-rest-preserved
-loop-rest-preserved g c = grind arith
+loop-rest-preserved g c =
+    let source = g.D.BidiDataSource.source c.args.data_source.now in
+    let rest : List ℕ = c.loop-rest.rest.now in
+    let paragraph : List ℕ = c.split_at.result.0.now in
+    let after : List ℕ = c.split_at.result.1.now in
+    let fits : length rest ≤ length c.args.line.now = c.loop-rest.invariant.fits in
+    let within : c.first_line_len.result ≤ length rest = c.first_line_len.ensures.within in
+    let front_len : length paragraph ≡ c.first_line_len.result = ap length c.split_at.ensures.front ∙ length-take-le c.first_line_len.result rest within in
+    let back_len : length after ≡ length rest - c.first_line_len.result = ap length c.split_at.ensures.back ∙ length-drop c.first_line_len.result rest in
+    let first : lines_of source rest ≡ paragraph ∷ lines_of source after =
+    c.first_line_len.ensures.first ∙ ap₂ (λ p a. p ∷ lines_of source a) (sym c.split_at.ensures.front) (sym c.split_at.ensures.back) in
+    record {
+      fits = omega (arith, fits, back_len, within);
+      found = with_paragraph source c.args.wanted c.args.number (length c.args.line.now - length rest) (length c.args.line.now - length after) rest paragraph after _ _ _ first
+          (omega (arith, fits, front_len, back_len, within)) c.loop-rest.invariant.found c.in_ok-push_found_in_paragraph.ensures;
+    }
 
 pub returns : goal.returns
 unfolding findings_in_line
-returns g c = grind (arith, append-nil)
+returns g c =
+    at_end (g.D.BidiDataSource.source c.args.data_source.now) c.args.wanted c.args.number _ c.loop-rest.rest.now _ _ (grind arith) c.loop-rest.invariant.found
