@@ -85,7 +85,12 @@ fn text_of(bytes: &[u8]) -> Result<&str, InputFault>
 }
 
 /// Appends what `check` says of a line of the file of this name.
-fn push_line_report(alloc: Global, out: &mut String, name: &str, line: &FoundLine) -> Result<(), AllocError>
+fn push_line_report(
+    alloc: Global,
+    out: &mut String,
+    name: &str,
+    line: &FoundLine,
+) -> Result<(), AllocError>
     ensures { OnOk result (string_bytes out.new ≡ string_bytes out.old ++ report_of name.now line.now.findings.items) }
 {
     let told = report(alloc, name, line.findings.as_slice())?;
