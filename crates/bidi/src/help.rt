@@ -80,7 +80,7 @@ const SHOW: &str = "usage: bidi show [--base auto|ltr|rtl] [--width N] [--plain]
     --base   the direction of each line: ltr is left to right, rtl is right to left, and auto,\n\
     \u{20}        the default, takes it from the first strong character of the line\n\
     --width  cuts a line that takes more than N columns, at white space if it can; N has one to\n\
-    \u{20}        three digits. In a terminal, the default is the number in the variable COLUMNS\n\
+    \u{20}        three digits. In a terminal, the default is COLUMNS of the environment, or 80\n\
     --plain  neither mirrors characters nor moves marks\n\
     --help   writes this text, if it is the only argument behind show\n\
     --       ends the options: what follows are files\n\
