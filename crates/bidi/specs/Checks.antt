@@ -78,10 +78,16 @@ abbrev pub with_color : List ℕ → CheckOptions → Option Color → Result Ch
 with_color value options None = Err (NotAColor value)
 with_color value options (Some color) = Ok (record options { report = record options.report { color = color } })
 
+abbrev pub with_allow : List ℕ → CheckOptions → CheckOptions
+with_allow value options = record options { report = record options.report { allow = Some value } }
+
+abbrev pub with_list : List ℕ → CheckOptions → CheckOptions
+with_list value options = record options { search = record options.search { list = Some value } }
+
 unfoldable pub with_setting : Setting → List ℕ → CheckOptions → Result CheckOptions Refusal
-with_setting Allow value options = Ok (record options { report = record options.report { allow = Some value } })
+with_setting Allow value options = Ok (with_allow value options)
 with_setting ColorOf value options = with_color value options (color_named value)
-with_setting FilesFrom value options = Ok (record options { search = record options.search { list = Some value } })
+with_setting FilesFrom value options = Ok (with_list value options)
 with_setting FormatOf value options = with_format value options (format_named value)
 
 -- ---- how the report is written

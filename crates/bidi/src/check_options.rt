@@ -1,6 +1,6 @@
 //! What the options of `check` ask for.
 ghost use Rattle.std.specs.Prelude.{◌≡◌};
-ghost use Rattle.bidi.specs.Checks.{first_check, first_report, format_named, color_named, flag_named, setting_named, with_flag, with_setting, with_format, with_color, form_of};
+ghost use Rattle.bidi.specs.Checks.{first_check, first_report, format_named, color_named, flag_named, setting_named, with_flag, with_setting, with_format, with_color, with_allow, with_list, form_of};
 
 use crate::refusal::{Refusal, Word};
 use crate::search::Search;
@@ -194,64 +194,137 @@ impl<'w> Default for CheckOptions<'w> {
 impl<'w> CheckOptions<'w> {
     /// Returns the options with one more that has no value.
     #[tactic(auto, unfolding(crate::specs::Checks::with_flag))]
-    pub fn with_flag(mut self, flag: Flag) -> CheckOptions<'w>
+    pub fn with_flag(self, flag: Flag) -> CheckOptions<'w>
         ensures { result ≡ with_flag flag self.entry }
     {
+        let CheckOptions {
+            wanted,
+            search,
+            report,
+        } = self;
         match flag {
-            Flag::Any => self.wanted = Wanted::Everything,
-            Flag::Hidden => self.search.hidden = true,
-            Flag::Quiet => self.report.quiet = true,
-            Flag::Binary => self.search.text = true,
-            Flag::OnlyUnmatched => self.wanted = Wanted::Unmatched,
+            Flag::Any => CheckOptions {
+                wanted: Wanted::Everything,
+                search,
+                report,
+            },
+            Flag::Hidden => CheckOptions {
+                wanted,
+                search: Search {
+                    hidden: true,
+                    ..search
+                },
+                report,
+            },
+            Flag::Quiet => CheckOptions {
+                wanted,
+                search,
+                report: ReportOptions {
+                    quiet: true,
+                    ..report
+                },
+            },
+            Flag::Binary => CheckOptions {
+                wanted,
+                search: Search {
+                    text: true,
+                    ..search
+                },
+                report,
+            },
+            Flag::OnlyUnmatched => CheckOptions {
+                wanted: Wanted::Unmatched,
+                search,
+                report,
+            },
         }
-        self
     }
 
     // Returns the options with this format, which an argument names.
-    fn with_format(mut self, value: &'w str) -> Result<CheckOptions<'w>, Refusal<'w>>
+    fn with_format(self, value: &'w str) -> Result<CheckOptions<'w>, Refusal<'w>>
         ensures { result ≡ with_format value.now self.entry (format_named value.now) }
     {
+        let CheckOptions {
+            wanted,
+            search,
+            report,
+        } = self;
         match Format::parse(value) {
-            Some(format) => {
-                self.report.format = format;
-                Ok(self)
-            }
+            Some(format) => Ok(CheckOptions {
+                wanted,
+                search,
+                report: ReportOptions { format, ..report },
+            }),
             None => Err(Refusal::NotAFormat(Word::new(value))),
         }
     }
 
     // Returns the options with this value of `--color`, which an argument names.
-    fn with_color(mut self, value: &'w str) -> Result<CheckOptions<'w>, Refusal<'w>>
+    fn with_color(self, value: &'w str) -> Result<CheckOptions<'w>, Refusal<'w>>
         ensures { result ≡ with_color value.now self.entry (color_named value.now) }
     {
+        let CheckOptions {
+            wanted,
+            search,
+            report,
+        } = self;
         match Color::parse(value) {
-            Some(color) => {
-                self.report.color = color;
-                Ok(self)
-            }
+            Some(color) => Ok(CheckOptions {
+                wanted,
+                search,
+                report: ReportOptions { color, ..report },
+            }),
             None => Err(Refusal::NotAColor(Word::new(value))),
+        }
+    }
+
+    // Returns the options with this list of what is allowed.
+    fn with_allow(self, value: &'w str) -> CheckOptions<'w>
+        ensures { result ≡ with_allow value.now self.entry }
+    {
+        let CheckOptions {
+            wanted,
+            search,
+            report,
+        } = self;
+        let allow = Some(Word::new(value));
+        CheckOptions {
+            wanted,
+            search,
+            report: ReportOptions { allow, ..report },
+        }
+    }
+
+    // Returns the options with this list of files.
+    fn with_list(self, value: &'w str) -> CheckOptions<'w>
+        ensures { result ≡ with_list value.now self.entry }
+    {
+        let CheckOptions {
+            wanted,
+            search,
+            report,
+        } = self;
+        let list = Some(Word::new(value));
+        CheckOptions {
+            wanted,
+            search: Search { list, ..search },
+            report,
         }
     }
 
     /// Returns the options with one more that has a value, unless it does not take this value.
     #[tactic(auto, unfolding(crate::specs::Checks::with_setting))]
     pub fn with_setting(
-        mut self,
+        self,
         setting: Setting,
         value: &'w str,
     ) -> Result<CheckOptions<'w>, Refusal<'w>>
         ensures { result ≡ with_setting setting value.now self.entry }
     {
         match setting {
-            Setting::Allow => {
-                self.report.allow = Some(Word::new(value));
-                Ok(self)
-            }
+            Setting::Allow => Ok(self.with_allow(value)),
             Setting::ColorOf => self.with_color(value),
-            Setting::FilesFrom => {
-                self.search.list = Some(Word::new(value));
-                Ok(self)
-            }
+            Setting::FilesFrom => Ok(self.with_list(value)),
             Setting::FormatOf => self.with_format(value),
         }
     }

@@ -1,3 +1,9 @@
 use Rattle.bidi_base.proofs.Common.{arith}
-use Rattle.bidi.proofs.OptionsLemmas.{words_of-flag, words_of-files, words_of-no_value, words_of-value, words_of-refused}
+use Rattle.bidi.proofs.OptionsLemmas.{words_of-flag, words_of-value}
 use Rattle.bidi.proofs.command.Command.+parse_check.Goals as goal
+
+pub returns-in-Some : goal.returns-in-Some
+returns-in-Some t c = grind (arith, words_of-flag c.args.options c.args.words.now c.first-item.result)
+
+pub returns-in-Ok : goal.returns-in-Ok
+returns-in-Ok t c = grind (arith, words_of-value c.args.options c.args.words.now c.first-item.result)
