@@ -21,14 +21,14 @@ module _ (source : Source) (view : View) (own : List ℕ) (classes : List BidiCl
     (h : IsAnalysed source (level_of_base view.base) own classes levels level) where
   char_classes : per_char L len_utf8 own classes ≡ stored_classes (map source.class_of own)
   char_classes =
-      simp h.classes (per_char-per_unit len_utf8 has_units L own (stored_classes (map source.class_of own)) (length-stored_classes (map source.class_of own) ∙ length-map own source.class_of))
+      simp h.of_classes (per_char-per_unit len_utf8 has_units L own (stored_classes (map source.class_of own)) (length-stored_classes (map source.class_of own) ∙ length-map own source.class_of))
 
   char_levels : per_char 0 len_utf8 own levels ≡ stored_levels source (level_of_base view.base) own
-  char_levels = simp h.levels (per_char-per_unit len_utf8 has_units 0 own (stored_levels source (level_of_base view.base) own) (length-stored_levels source (level_of_base view.base) own))
+  char_levels = simp h.of_levels (per_char-per_unit len_utf8 has_units 0 own (stored_levels source (level_of_base view.base) own) (length-stored_levels source (level_of_base view.base) own))
 
   pub one_line : (run : Run) → shown_in source view.plain (analysed own classes levels) level run ≡ shown_range source view own run
   unfolding shown_levels
-  one_line run = simp (char_classes, char_levels, h.level)
+  one_line run = simp (char_classes, char_levels, h.of_level)
 
   each_line : (runs : List Run) → flat_map (shown_in source view.plain (analysed own classes levels) level) runs ≡ flat_map (shown_range source view own) runs
   each_line [] = refl
@@ -67,8 +67,8 @@ pub analysed-whole : (source : Source) (base : Option ℕ) (own : List ℕ) (cla
     → IsAnalysed source base own classes levels level
 unfolding text_classes text_levels
 analysed-whole source base own classes levels level ps h per_char is = record {
-  classes = h.classes ∙ simp append-nil;
-  levels = h.levels ∙ simp append-nil;
-  level = is ∙ whole-level source base own ps h.paragraph_levels;
+  of_classes = h.classes ∙ simp append-nil;
+  of_levels = h.levels ∙ simp append-nil;
+  of_level = is ∙ whole-level source base own ps h.paragraph_levels;
   per_char = per_char;
 }
