@@ -1,7 +1,7 @@
 -- In whatever pieces a text comes, the same is shown.
 use Rattle.bidi_base.proofs.Common.{◌≡◌, ◌≢◌, ◌∙◌, ℕ, suc, if◌then◌else◌, length-take, take_more, ◌+◌, ◌-◌, ◌<◌, ◌≤◌, ◌++◌, ◌==◌, nat_lt, true, false, Bool, List, [], ◌∷◌, length, take, drop, get_or, flat_map, refl, sym, ap, subst, arith, nat_tests, eqb-true, cases_Bool, inl, inr, append_assoc, append-nil, take-append-drop, take-append_seam, drop-append_seam, flat_map-append, length-append, get_or-append_seam, chars, chars-nil, encode_utf8, IsUtf8, IsUtf8-past_char, IsCharBoundary, Source, is_paragraph_separator, begins_with_line_feed, cr_lf_together, cut_after, onto_first}
 use Rattle.std.specs.List.{concat}
-use Rattle.std.proofs.lemmas.Str.{chars-append, chars_past_char, encode_ascii, IsCharBoundary-before_ascii, IsUtf8-drop, IsUtf8-from_is_utf8, IsUtf8-take}
+use Rattle.std.proofs.lemmas.Str.{chars-append, chars_past_char, encode_ascii, IsCharBoundary-before_ascii, IsUtf8-drop, IsCharBoundary-after_ascii, IsUtf8-take}
 use Rattle.bidi_unicode.specs.Unicode.{unicode_source}
 use Rattle.bidi_visual.specs.Shown.{own_chars, paragraphs_in, shown_paragraph, shown_text}
 use Rattle.bidi_visual.specs.declared.view.View.{View}
@@ -76,14 +76,14 @@ chars-feed front rest utf8 =
     let parts = at-feed front rest utf8 in
     chars-append front (0x0A ∷ rest) parts.0 ∙ ap (λ l. chars front ++ l) (feed-chars rest parts.1).0
 
+feed-utf8 : (rest : List ℕ) → IsUtf8 (0x0A ∷ rest) → IsUtf8 (0x0A ∷ [])
+feed-utf8 rest utf8 = IsUtf8-take (0x0A ∷ rest) 1 utf8 (IsCharBoundary-after_ascii (0x0A ∷ rest) 0 utf8 (omega arith) (omega arith))
+
 feed-alone : (front rest : List ℕ) → IsUtf8 (front ++ 0x0A ∷ rest) → chars (front ++ 0x0A ∷ []) ≡ chars front ++ 0x0A ∷ []
 feed-alone front rest utf8 =
     let parts = at-feed front rest utf8 in
-    let alone : chars (0x0A ∷ []) ≡ 0x0A ∷ [] = (feed-chars [] (feed-utf8)).0 ∙ ap (λ l. 0x0A ∷ l) chars-nil in
+    let alone : chars (0x0A ∷ []) ≡ 0x0A ∷ [] = (feed-chars [] (feed-utf8 rest parts.1)).0 ∙ ap (λ l. 0x0A ∷ l) chars-nil in
     chars-append front (0x0A ∷ []) parts.0 ∙ ap (λ l. chars front ++ l) alone
-  where
-    feed-utf8 : IsUtf8 (0x0A ∷ [])
-    feed-utf8 = IsUtf8-from_is_utf8 (0x0A ∷ []) refl
 
 pub shown_bytes-append : (view : View) (front rest : List ℕ) → IsUtf8 (front ++ 0x0A ∷ rest) → shown_bytes view (front ++ 0x0A ∷ rest) ≡ shown_bytes view (front ++ 0x0A ∷ []) ++ shown_bytes view rest
 shown_bytes-append view front rest utf8 =

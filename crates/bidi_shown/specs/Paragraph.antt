@@ -22,9 +22,9 @@ analysed_in memory chars = analysed chars memory.classes.items memory.levels.ite
 
 -- these are the classes, the levels and the level of a paragraph
 pub record IsAnalysed (source : Source) (base : Option ℕ) (chars : List ℕ) (classes : List BidiClass) (levels : List ℕ) (level : ℕ) : Type 0 where
-  pub classes : classes ≡ per_unit len_utf8 chars (stored_classes (map source.class_of chars))
-  pub levels : levels ≡ per_unit len_utf8 chars (stored_levels source base chars)
-  pub level : level ≡ paragraph_level base (map source.class_of chars)
+  pub of_classes : classes ≡ per_unit len_utf8 chars (stored_classes (map source.class_of chars))
+  pub of_levels : levels ≡ per_unit len_utf8 chars (stored_levels source base chars)
+  pub of_level : level ≡ paragraph_level base (map source.class_of chars)
   pub per_char : IsPerCharText (analysed chars classes levels)
 
 -- a line of an analysed text as it is shown, from the level of its paragraph and its range of bytes

@@ -1,11 +1,12 @@
 //! The lines of a paragraph from left to right.
-ghost use Rattle.std.specs.Prelude.{◌≡◌, ◌++◌, flat_map, map, All, IfOk, OnOk, string_bytes};
+ghost use Rattle.std.specs.Prelude.{◌≡◌, ◌<◌, ◌++◌, length, get_or, flat_map, map, All, IfOk, OnOk, string_bytes};
 ghost use Rattle.std.specs.Str.{chars};
 ghost use Rattle.bidi_base.specs.Analysed.{IsPerCharText};
 ghost use Rattle.bidi_base.specs.Display.{run_of};
 ghost use Rattle.bidi_columns.specs.Bounds.{IsRangeOf};
 ghost use Rattle.bidi_terminal.specs.Bases.{level_of_base};
 ghost use Rattle.bidi_visual.specs.Shown.{shown_paragraph, shown_ranges};
+ghost use Rattle.bidi_walk.specs.ParagraphInfo.{levels_of};
 ghost use Rattle.bidi_shown.specs.Paragraph.{analysed_in, shown_in, IsAnalysed};
 
 use bidi_base::char_data::BidiClass;
@@ -14,11 +15,12 @@ use bidi_base::level::{LTR_LEVEL, Level};
 use bidi_columns::breaks::lines;
 use bidi_lines::shown_levels::ShownLevels;
 use bidi_terminal::Base;
-use bidi_text::text::StrText;
+use bidi_text::text::{StrText, TextSource};
 use bidi_visual::line::push_text;
 use bidi_visual::view::View;
 use std::alloc::{AllocError, Global};
 use std::ops::Range;
+use unicode_bidi::ParagraphInfo;
 use unicode_bidi::engine::Analyser;
 
 /// The analysis of one paragraph after another, in the same memory.
@@ -29,6 +31,14 @@ pub struct Memory {
     classes: Vec<BidiClass>,
     levels: Vec<Level>,
     level: Level,
+}
+
+// Returns the level of a text that is one paragraph.
+fn level_of_whole(paragraphs: &[ParagraphInfo]) -> Level
+    requires { 0 < length paragraphs.now }
+    ensures { result ≡ get_or (levels_of paragraphs.now) 0 0 }
+{
+    paragraphs[0].level()
 }
 
 impl Memory {
@@ -53,19 +63,20 @@ impl Memory {
         ensures { OnOk result (IsAnalysed (D.source data_source.now) (level_of_base base) (chars text.now)
             self.new.classes.items self.new.levels.items self.new.level) }
     {
+        let text = StrText::new(text);
         let len = text.len();
         self.classes.resize(len, BidiClass::L)?;
         self.levels.resize(len, LTR_LEVEL)?;
         self.analyser.analyse(
             alloc,
             data_source,
-            StrText::new(text),
+            text,
             base.level(),
             None,
             self.classes.as_mut_slice(),
             self.levels.as_mut_slice(),
         )?;
-        self.level = self.analyser.paragraphs()[0].level();
+        self.level = level_of_whole(self.analyser.paragraphs());
         Ok(())
     }
 }

@@ -1,6 +1,6 @@
 //! The lines of a text from left to right.
 ghost use Rattle.std.specs.Prelude.{◌≡◌, ◌++◌, ◌<◌, length, IfOk, OnOk, string_bytes};
-ghost use Rattle.std.specs.Str.{chars};
+ghost use Rattle.std.specs.Str.{chars, IsUtf8};
 ghost use Rattle.bidi_unicode.specs.Unicode.{unicode_source};
 ghost use Rattle.bidi_visual.specs.Shown.{shown_text};
 
@@ -24,6 +24,7 @@ fn push_first<'t>(
     ensures shown { IfOk result (λ rest. string_bytes out.new ++ shown_text unicode_source view (chars rest.now)
         ≡ string_bytes out.old ++ shown_text unicode_source view (chars text.now)) }
     ensures shorter { IfOk result (λ rest. length rest.now < length text.now) }
+    ensures utf8 { IfOk result (λ rest. IsUtf8 rest.now) }
 {
     let quiet = quiet_len(view, text);
     if quiet > 0 {
