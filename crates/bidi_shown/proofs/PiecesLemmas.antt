@@ -52,6 +52,11 @@ shown_text-append view cs ds =
     let shown = λ (p : List ℕ). shown_paragraph unicode_source view (own_chars unicode_source p) in
     ap (flat_map shown) (paragraphs-append unicode_source feed-separates cs ds) ∙ flat_map-append shown (paragraphs_in unicode_source (cs ++ 0x0A ∷ [])) (paragraphs_in unicode_source ds)
 
+-- of no text nothing
+pub nothing-shown : (view : View) → shown_text unicode_source view (chars []) ≡ []
+unfolding shown_text
+nothing-shown view = simp chars-nil
+
 -- ---- the same of bytes
 
 feed-chars : (rest : List ℕ) → IsUtf8 (0x0A ∷ rest) → (chars (0x0A ∷ rest) ≡ 0x0A ∷ chars rest) × IsUtf8 rest
@@ -104,7 +109,7 @@ ends_line (b ∷ bs) some = elim (cases_Bool (nat_lt 0 (whole_lines bs))) [
       let next : whole_lines bs + 1 ≡ suc (whole_lines bs) = omega arith in
       record { front = b ∷ rest.front; is = simp (later, next, rest.is) }
   | inr none ↦ elim (cases_Bool (b == 0x0A)) [
-    | inl here ↦ record { front = []; is = simp (none, here, eqb-true b 0x0A here) }
+    | inl here ↦ record { front = []; is = simp (none, here) (ap (λ x. x ∷ []) (eqb-true b 0x0A here)) }
     | inr other ↦ absurd (let no : whole_lines (b ∷ bs) ≡ 0 = simp (none, other) in omega arith)
   ]
 ]
