@@ -1,4 +1,4 @@
-use Rattle.bidi_base.proofs.Common.{◌≡◌, ◌∙◌, ◌++◌, ℕ, List, None, length, take, get_or, ap, subst, arith, chars, Source, take-append_seam}
+use Rattle.bidi_base.proofs.Common.{◌≡◌, ◌∙◌, ◌++◌, ℕ, List, None, length, take, drop, get_or, ap, subst, arith, chars, Source, take-append_seam}
 use Rattle.bidi_base.specs.Analysed.{IsPerCharText}
 use Rattle.bidi_terminal.specs.Bases.{level_of_base}
 use Rattle.bidi_walk.specs.ParagraphInfo.{ranges_of, levels_of}
@@ -17,8 +17,8 @@ pub returns : goal.returns
 returns g c =
     let source : Source = g.D.BidiDataSource.source c.args.data_source.now in
     let ps : List ParagraphInfo = found_paragraphs c.analyse.new.self in
-    let classes = front c.resize.new.self.len c.analyse.new.classes _ (omega (arith, c.analyse.auto.classes, c.as_mut_slice.ensures.len, c.as_mut_slice.ensures.value)) in
-    let levels = front c.resize-2.new.self.len c.analyse.new.levels _ (omega (arith, c.analyse.auto.levels, c.as_mut_slice-2.ensures.len, c.as_mut_slice-2.ensures.value)) in
+    let classes = front c.resize.new.self.len c.analyse.new.classes (drop (length c.analyse.new.classes) c.resize.new.self.items) (omega (arith, c.analyse.auto.classes, c.as_mut_slice.ensures.len)) in
+    let levels = front c.resize-2.new.self.len c.analyse.new.levels (drop (length c.analyse.new.levels) c.resize-2.new.self.items) (omega (arith, c.analyse.auto.levels, c.as_mut_slice-2.ensures.len)) in
     let analysis = subst (λ base. IsAnalysisBy source base None (analysed (chars c.args.text.now) c.analyse.new.classes c.analyse.new.levels) (ranges_of ps) (levels_of ps)) c.level.ensures
     (subst (λ text. IsAnalysisBy source c.level.result None (analysed (chars text) c.analyse.new.classes c.analyse.new.levels) (ranges_of ps) (levels_of ps)) c.new-text.ensures c.in_ok-analyse.ensures.analysis) in
     let per_char = subst (λ text. IsPerCharText (analysed (chars text) c.analyse.new.classes c.analyse.new.levels)) c.new-text.ensures c.in_ok-analyse.ensures.per_char in
