@@ -1,4 +1,4 @@
-use Rattle.bidi_base.proofs.Common.{◌≡◌, ◌∙◌, sym, ap, subst, arith, map, run_of, chars}
+use Rattle.bidi_base.proofs.Common.{arith}
 use Rattle.bidi_shown.proofs.BoundsLemmas.{IsRangeOf-whole}
 use Rattle.bidi_shown.proofs.ParagraphLemmas.{ranges-Some, ranges-None}
 use Rattle.bidi_shown.proofs.paragraph.lines_of.Goals as goal

@@ -1,4 +1,4 @@
-use Rattle.bidi_base.proofs.Common.{◌≡◌, ◌∙◌, ◌++◌, List, [], ◌∷◌, ℕ, length, refl, sym, ap, arith, append-nil, string_bytes, chars, chars-nil}
+use Rattle.bidi_base.proofs.Common.{◌≡◌, ◌∙◌, ◌++◌, List, [], ◌∷◌, ℕ, length, refl, sym, ap, arith, append-nil, string_bytes, chars}
 use Rattle.bidi_unicode.specs.Unicode.{unicode_source}
 use Rattle.bidi_visual.specs.Shown.{shown_text}
 use Rattle.bidi_shown.proofs.PiecesLemmas.{nothing-shown}
