@@ -1,12 +1,12 @@
 -- In whatever pieces a text comes, the same is shown.
-use Rattle.bidi_base.proofs.Common.{◌≡◌, ◌≢◌, ◌∙◌, ℕ, suc, if◌then◌else◌, length-take, take_more, ◌+◌, ◌-◌, ◌<◌, ◌≤◌, ◌++◌, ◌==◌, nat_lt, true, false, Bool, List, [], ◌∷◌, length, take, drop, get_or, flat_map, refl, sym, ap, subst, arith, nat_tests, eqb-true, cases_Bool, inl, inr, append_assoc, append-nil, take-append-drop, take-append_seam, drop-append_seam, flat_map-append, length-append, get_or-append_seam, chars, chars-nil, encode_utf8, IsUtf8, IsUtf8-past_char, IsCharBoundary, Source, is_paragraph_separator, begins_with_line_feed, cr_lf_together, cut_after, onto_first}
+use Rattle.bidi_base.proofs.Common.{◌≡◌, ◌≢◌, ◌∙◌, ℕ, suc, if◌then◌else◌, length-take, take_more, ◌+◌, ◌-◌, ◌<◌, ◌≤◌, ◌++◌, ◌==◌, nat_lt, true, false, List, [], ◌∷◌, length, take, drop, get_or, flat_map, refl, sym, ap, subst, arith, nat_tests, eqb-true, cases_Bool, inl, inr, append_assoc, append-nil, take-append-drop, take-append_seam, drop-append_seam, flat_map-append, length-append, get_or-append_seam, chars, chars-nil, encode_utf8, IsUtf8, IsUtf8-past_char, IsCharBoundary, Source, is_paragraph_separator, cr_lf_together, onto_first}
 use Rattle.std.specs.List.{concat}
 use Rattle.std.proofs.lemmas.Str.{chars-append, chars_past_char, encode_ascii, IsCharBoundary-before_ascii, IsUtf8-drop, IsCharBoundary-after_ascii, IsUtf8-take}
 use Rattle.bidi_unicode.specs.Unicode.{unicode_source}
 use Rattle.bidi_visual.specs.Shown.{own_chars, paragraphs_in, shown_paragraph, shown_text}
 use Rattle.bidi_visual.specs.declared.view.View.{View}
 use Rattle.bidi_visual.proofs.QuietLemmas.{feed-separates}
-use Rattle.bidi_shown.specs.Streams.{whole_lines, shown_bytes, shown_now, pending_after, shown_pieces}
+use Rattle.bidi_shown.specs.Streams.{whole_lines, shown_bytes, shown_pieces}
 
 -- ---- the paragraphs of a text that has a line feed
 
@@ -52,6 +52,11 @@ shown_text-append view cs ds =
     let shown = λ (p : List ℕ). shown_paragraph unicode_source view (own_chars unicode_source p) in
     ap (flat_map shown) (paragraphs-append unicode_source feed-separates cs ds) ∙ flat_map-append shown (paragraphs_in unicode_source (cs ++ 0x0A ∷ [])) (paragraphs_in unicode_source ds)
 
+-- of no text nothing
+pub nothing-shown : (view : View) → shown_text unicode_source view (chars []) ≡ []
+unfolding shown_text
+nothing-shown view = simp chars-nil
+
 -- ---- the same of bytes
 
 feed-chars : (rest : List ℕ) → IsUtf8 (0x0A ∷ rest) → (chars (0x0A ∷ rest) ≡ 0x0A ∷ chars rest) × IsUtf8 rest
@@ -65,8 +70,7 @@ at-feed front rest utf8 =
     let bs : List ℕ = front ++ 0x0A ∷ rest in
     let within : length front < length bs = omega (arith, length-append front (0x0A ∷ rest)) in
     let byte : get_or bs (length front) 0 ≡ 0x0A = get_or-append_seam front 0x0A rest 0 in
-    let boundary : IsCharBoundary bs (length front) = IsCharBoundary-before_ascii bs (length front) within (omega (arith, byte)) in
-    (
+    let boundary : IsCharBoundary bs (length front) = IsCharBoundary-before_ascii bs (length front) within (omega (arith, byte)) in (
       subst IsUtf8 (take-append_seam front (0x0A ∷ rest)) (IsUtf8-take bs (length front) utf8 boundary),
       subst IsUtf8 (drop-append_seam front (0x0A ∷ rest)) (IsUtf8-drop bs (length front) utf8 boundary),
     )
@@ -104,7 +108,7 @@ ends_line (b ∷ bs) some = elim (cases_Bool (nat_lt 0 (whole_lines bs))) [
       let next : whole_lines bs + 1 ≡ suc (whole_lines bs) = omega arith in
       record { front = b ∷ rest.front; is = simp (later, next, rest.is) }
   | inr none ↦ elim (cases_Bool (b == 0x0A)) [
-    | inl here ↦ record { front = []; is = simp (none, here, eqb-true b 0x0A here) }
+    | inl here ↦ record { front = []; is = simp (none, here) (ap (λ x. x ∷ []) (eqb-true b 0x0A here)) }
     | inr other ↦ absurd (let no : whole_lines (b ∷ bs) ≡ 0 = simp (none, other) in omega arith)
   ]
 ]

@@ -160,5 +160,13 @@ pub fn push_paragraph<D: BidiDataSource>(
 {
     memory.analyse(alloc, data_source, view.base, text)?;
     let lines = lines_of(alloc, data_source, view.width, text)?;
-    push_lines(alloc, out, memory, data_source, view.plain, text, lines.as_slice())
+    push_lines(
+        alloc,
+        out,
+        memory,
+        data_source,
+        view.plain,
+        text,
+        lines.as_slice(),
+    )
 }

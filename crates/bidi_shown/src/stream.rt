@@ -134,12 +134,7 @@ impl Stream {
     }
 
     /// Ends the text: appends the last line to `out`, if it has no line feed.
-    pub fn finish(
-        &mut self,
-        alloc: Global,
-        view: View,
-        out: &mut String,
-    ) -> Result<(), StreamFault>
+    pub fn finish(&mut self, alloc: Global, view: View, out: &mut String) -> Result<(), StreamFault>
         ensures utf8 { OnOk result (IsUtf8 (pending_of self.old)) }
         ensures shown { OnOk result (string_bytes out.new
             ≡ string_bytes out.old ++ shown_text unicode_source view (chars (pending_of self.old))) }

@@ -49,7 +49,7 @@ quiet-ordinary : (c : ℕ) → is_quiet c ≡ true → is_ordinary (unicode_sour
 unfolding unicode_source
 quiet-ordinary c quiet =
     rw (bidi_class_stepped.gives c)
-        (all_from (λ x. is_ordinary (class_named (step_value bidi_class_stepped.default bidi_class_stepped.steps x))) 32 95 c low_ordinary (grind (arith, nat_tests)) (grind (arith, nat_tests)))
+    (all_from (λ x. is_ordinary (class_named (step_value bidi_class_stepped.default bidi_class_stepped.steps x))) 32 95 c low_ordinary (grind (arith, nat_tests)) (grind (arith, nat_tests)))
 
 quiet-own : (c : ℕ) → is_quiet c ≡ true → is_paragraph_separator (unicode_source.class_of c) ≡ false
 quiet-own c quiet = not-true _ (and_parts (not (is_paragraph_separator (unicode_source.class_of c))) (not (may_turn (unicode_source.class_of c))) (quiet-ordinary c quiet)).0

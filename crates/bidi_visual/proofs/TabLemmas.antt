@@ -3,7 +3,6 @@ use Rattle.bidi_base.proofs.Common.{◌≡◌, ℕ, ◌+◌, ◌%◌, ◌==◌, 
 use Rattle.bidi_columns.specs.Clusters.{columns}
 use Rattle.bidi_columns.specs.Tabs.{spread, spread_values}
 
-
 pub spread-none : (column : ℕ) (cs : List ℕ) → list_any (λ c. c == 0x09) cs ≡ false → spread column cs ≡ cs
 spread-none column [] none = refl
 spread-none column (c ∷ cs) none =

@@ -69,10 +69,7 @@ fn after_separator<'t, D: BidiDataSource>(data_source: &D, text: &'t str) -> &'t
 }
 
 /// Returns the first paragraph of a text (P1), and the text after it.
-pub fn first_paragraph<'t, D: BidiDataSource>(
-    data_source: &D,
-    text: &'t str,
-) -> FirstParagraph<'t>
+pub fn first_paragraph<'t, D: BidiDataSource>(data_source: &D, text: &'t str) -> FirstParagraph<'t>
     ensures own { chars result.own.now ≡ own_chars (D.source data_source.now) (chars text.now) }
     ensures rest { chars result.rest.now ≡ after_first (D.source data_source.now) (chars text.now) }
     ensures shorter { 0 < length text.now → length result.rest.now < length text.now }

@@ -1,4 +1,4 @@
-use Rattle.bidi_base.proofs.Common.{◌≡◌, ◌∙◌, ℕ, sym, ap, arith, len_utf8, chars, text_len, subrange, levels_of_line, IsLine, slice_range, AnalysedText}
+use Rattle.bidi_base.proofs.Common.{◌≡◌, ◌∙◌, append_assoc, sym, ap, arith, len_utf8, chars, text_len, subrange, levels_of_line, IsLine, slice_range, AnalysedText}
 use Rattle.bidi_base.specs.Analysed.{AreLevelsOfLine}
 use Rattle.bidi_base.proofs.PerUnit.{length-per_char}
 use Rattle.bidi_lines.specs.ShownLevels.{levels as kept_levels}
@@ -7,6 +7,8 @@ use Rattle.bidi_text_lines.proofs.StoredLine.{same_len, within, length-shown, pe
 use Rattle.bidi_shown.specs.Paragraph.{analysed_in}
 use Rattle.bidi_shown.proofs.BoundsLemmas.{IsLine-from, IsUtf8-range}
 use Rattle.bidi_shown.proofs.paragraph.push_line.Goals as goal
+use Rattle.bidi_shown.proofs.paragraph.push_line.Goals.{In_ok-show}
+use Rattle.bidi_shown.proofs.paragraph.push_line.Given.{Over}
 
 pub slice_bounds-classes-end : goal.slice_bounds-classes-end
 slice_bounds-classes-end g c =
@@ -24,11 +26,35 @@ slice_bounds-levels-end g c =
     let line = IsLine-from c.args.text.now c.args.line.now c.utf8.text c.requires.range in
     grind (arith, within len_utf8 has_units (chars c.args.text.now) c.args.memory.now.level a.classes a.levels c.args.line.now c.requires.per_char.classes c.requires.per_char.levels line)
 
+-- the range is a line of the text
+is_line : (g : Over) (c : In_ok-show g) → IsLine len_utf8 (chars c.args.text.now) c.args.line.now.start c.args.line.now.end
+is_line g c = IsLine-from c.args.text.now c.args.line.now c.utf8.text c.requires.range
+
+-- the levels of its units
+shown : (g : Over) (c : In_ok-show g) → AreLevelsOfLine (analysed_in c.args.memory.now (chars c.args.text.now)) c.args.memory.now.level c.args.line.now (kept_levels c.show.new.self)
+shown g c =
+    let a : AnalysedText = analysed_in c.args.memory.now (chars c.args.text.now) in
+    let is : kept_levels c.show.new.self ≡ levels_of_line c.args.memory.now.level a.classes a.levels c.args.line.now.start c.args.line.now.end = grind arith in
+    of_line len_utf8 has_units (chars c.args.text.now) c.args.memory.now.level a.classes a.levels c.args.line.now c.requires.per_char.classes c.requires.per_char.levels (is_line g c) (kept_levels c.show.new.self) is
+
+-- its characters
+chars_of_line : (g : Over) (c : In_ok-show g) → chars c.range-part.result.now ≡ subrange len_utf8 (chars c.args.text.now) c.args.line.now.start c.args.line.now.end
+chars_of_line g c =
+    let part : c.range-part.result.now ≡ slice_range c.args.text.now c.args.line.now.start c.args.line.now.end = grind arith in
+    ap chars part ∙ sym (subrange-from_str c.args.text.now c.args.line.now.start c.args.line.now.end c.utf8.text (is_line g c) (IsUtf8-range c.args.text.now c.args.line.now c.utf8.text c.requires.range))
+
 pub keep_first_units-requires : goal.keep_first_units-requires
-keep_first_units-requires g c = ?
+keep_first_units-requires g c =
+    let w = (goal.at.keep_first_units-requires g c).In_ok-show in
+    length-shown (analysed_in c.args.memory.now (chars c.args.text.now)) has_units c.args.memory.now.level c.args.line.now (is_line g w) _ (shown g w)
+    ∙ sym (ap (text_len len_utf8) (ap chars c.new.ensures ∙ chars_of_line g w))
 
 pub push_text-requires : goal.push_text-requires
-push_text-requires g c = ?
+push_text-requires g c = grind (arith, length-per_char)
 
 pub returns : goal.returns
-returns g c = ?
+returns g c =
+    let w = (goal.at.returns g c).In_ok-show in
+    let here = chars_of_line g w in
+    let levels = per_char-shown (analysed_in c.args.memory.now (chars c.args.text.now)) has_units c.args.memory.now.level c.args.line.now (is_line g w) _ (shown g w) in
+    simp append_assoc at (rw (c.in_ok-push_text.ensures, c.as_slice-3.ensures, c.keep_first_units.ensures, c.new.ensures, here, levels) at c.in_ok-push_str.ensures.bytes)
