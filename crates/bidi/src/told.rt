@@ -73,7 +73,7 @@ pub fn push_lines_told(
     for line in lines {
         let chars = line.chars.as_slice();
         let findings = line.findings.as_slice();
-        found |= push_told(
+        let is_told = push_told(
             alloc,
             report,
             allowed,
@@ -83,6 +83,7 @@ pub fn push_lines_told(
             chars,
             findings,
         )?;
+        found = found || is_told;
     }
     Ok(found)
 }

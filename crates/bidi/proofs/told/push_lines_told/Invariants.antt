@@ -1,0 +1,16 @@
+use Rattle.bidi_base.proofs.Common.{◌≡◌, ◌++◌, ◌||◌, drop, map, string_bytes}
+use Rattle.bidi_unicode.specs.Unicode.{unicode_source}
+use Rattle.bidi_scan.specs.FileSearch.{line_of}
+use Rattle.bidi.specs.Told.{is_any_told, told_report}
+use Rattle.bidi.proofs.told.push_lines_told.Given as goal
+
+abbrev pub invariant-loop-line : goal.invariant-loop-line
+invariant-loop-line l = record {
+  report : string_bytes l.out
+      ++ told_report unicode_source l.allowed l.report.form l.report.later l.name (map line_of (drop l.line-index l.lines))
+      ≡ string_bytes l.fn.out ++ told_report unicode_source l.allowed l.fn.report.form l.fn.report.later l.name (map line_of l.lines);
+  found : (l.found || is_any_told l.allowed l.name (map line_of (drop l.line-index l.lines))) ≡ is_any_told l.allowed l.name (map line_of l.lines);
+  form : l.report.form ≡ l.fn.report.form;
+  later : (l.report.later || is_any_told l.allowed l.name (map line_of (drop l.line-index l.lines)))
+      ≡ (l.fn.report.later || is_any_told l.allowed l.name (map line_of l.lines));
+}
