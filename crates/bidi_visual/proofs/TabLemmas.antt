@@ -1,5 +1,5 @@
 -- Lines without tabs.
-use Rattle.bidi_base.proofs.Common.{◌≡◌, ℕ, ◌+◌, ◌%◌, ◌==◌, true, false, List, [], ◌∷◌, length, refl, ap, sym, ◌∙◌, arith, or_parts, list_any, length-append, length-replicate}
+use Rattle.bidi_base.proofs.Common.{◌≡◌, ℕ, ◌+◌, ◌%◌, ◌==◌, false, List, [], ◌∷◌, length, refl, arith, or_parts, list_any, length-append, length-replicate}
 use Rattle.bidi_columns.specs.Clusters.{columns}
 use Rattle.bidi_columns.specs.Tabs.{spread, spread_values}
 

@@ -1,4 +1,4 @@
-use Rattle.bidi_base.proofs.Common.{◌≡◌, ◌≤◌, ◌+◌, ◌++◌, length, take, drop, chars, IsCharBoundary, char_indices_rest, char_indices_offset}
+use Rattle.bidi_base.proofs.Common.{◌≡◌, ◌≤◌, ◌++◌, length, take, drop, chars, IsCharBoundary, char_indices_rest, char_indices_offset}
 use Rattle.bidi_visual.specs.Shown.{own_chars, after_first}
 use Rattle.bidi_visual.proofs.first.own_len.Given as goal
 

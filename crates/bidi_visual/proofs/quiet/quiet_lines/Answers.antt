@@ -1,4 +1,4 @@
-use Rattle.bidi_base.proofs.Common.{◌≡◌, ℕ, ◌<◌, ◌≤◌, ◌+◌, ◌-◌, ◌∙◌, true, sym, List, length, get_or, refl, arith, common_steps, nat_tests}
+use Rattle.bidi_base.proofs.Common.{◌≡◌, ℕ, ◌<◌, ◌≤◌, ◌+◌, ◌-◌, true, List, length, get_or, arith}
 use Rattle.std.proofs.lemmas.Str.{IsCharBoundary-start, IsCharBoundary-after_ascii}
 use Rattle.bidi_visual.specs.Quiet.{is_quiet}
 use Rattle.bidi_visual.proofs.QuietLemmas.{quiet-line, quiet-longer}
