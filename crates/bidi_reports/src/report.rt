@@ -1,5 +1,5 @@
 //! What is told of the findings of a run.
-ghost use Rattle.std.specs.Prelude.{◌≡◌, ◌++◌, ◌==◌, ◌||◌, not, length, OnOk, string_bytes};
+ghost use Rattle.std.specs.Prelude.{◌≡◌, ◌++◌, ◌==◌, ◌||◌, false, not, length, OnOk, string_bytes};
 ghost use Rattle.std.specs.Str.{chars};
 ghost use Rattle.bidi_reports.specs.Reports.{finding_report, line_report, report_head, report_foot};
 
