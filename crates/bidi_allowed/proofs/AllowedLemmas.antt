@@ -64,6 +64,9 @@ module _ (lines : List (Bor (List ℕ))) (i : ℕ) (d : Bor (List ℕ)) (within 
       → (0 < i + 1) × (i + 1 ≤ length (texts lines)) × (test (get_or (texts lines) (i + 1 - 1) []) ≡ true) × (list_any test (take (i + 1 - 1) (texts lines)) ≡ false)
   first-wrong test passes none says here =
       let same : i + 1 - 1 ≡ i = omega arith in
-      let wrong : test (get_or lines i d).now ≡ true = grind arith in
-      (omega arith, omega (arith, length-map lines (λ (line : Bor (List ℕ)). line.now)),
-      rw (same, get_or-map (λ (line : Bor (List ℕ)). line.now) lines i d [] within) wrong, rw (same, take-map (λ (line : Bor (List ℕ)). line.now) i lines) none)
+      let wrong : test (get_or lines i d).now ≡ true = grind arith in (
+        omega arith,
+        omega (arith, length-map lines (λ (line : Bor (List ℕ)). line.now)),
+        rw (same, get_or-map (λ (line : Bor (List ℕ)). line.now) lines i d [] within) wrong,
+        rw (same, take-map (λ (line : Bor (List ℕ)). line.now) i lines) none,
+      )

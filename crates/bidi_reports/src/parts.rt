@@ -2,8 +2,8 @@
 ghost use Rattle.std.specs.Prelude.{◌≡◌, ◌++◌, ◌≤◌, ◌<◌, length, flat_map, min, slice_range, nat_lt, if◌then◌else◌, [], OnOk, string_bytes};
 ghost use Rattle.bidi_reports.specs.Parts.{bold, bold_red, as_before, styled, is_marked, marked_char, part_start, part_end, dots, marked_part, shown_columns, blanks, blank_part};
 
-use bidi_names::names::{is_hidden, push_quoted};
 use bidi_columns::cluster::columns;
+use bidi_names::names::{is_hidden, push_quoted};
 use std::alloc::AllocError;
 
 /// Sets bold letters.
