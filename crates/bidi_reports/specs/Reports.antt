@@ -1,5 +1,5 @@
 -- What is told of the findings of a file's line, and what stands before and after all of it.
-use Rattle.std.specs.Prelude.{ℕ, Bool, true, List, [], ◌∷◌, ◌++◌, codes, decimal}
+use Rattle.std.specs.Prelude.{ℕ, Bool, true, List, [], ◌∷◌, ◌++◌}
 use Rattle.std.specs.Str.{chars}
 use Rattle.bidi_base.specs.Source.{Source}
 use Rattle.bidi_controls.specs.declared.finding.Finding.{Finding}

@@ -1,5 +1,5 @@
 -- The report as lines of text.
-use Rattle.std.specs.Prelude.{ℕ, ◌-◌, ◌==◌, ◌&&◌, Bool, not, if◌then◌else◌, List, [], ◌∷◌, ◌++◌, length, take, get_or, codes}
+use Rattle.std.specs.Prelude.{ℕ, ◌-◌, ◌==◌, ◌&&◌, Bool, not, if◌then◌else◌, List, [], ◌++◌, length, take, get_or, codes}
 use Rattle.bidi_controls.specs.Controls.{control_name}
 use Rattle.bidi_controls.specs.Findings.{place_text, trouble_text}
 use Rattle.bidi_controls.specs.declared.finding.Finding.{Finding}
