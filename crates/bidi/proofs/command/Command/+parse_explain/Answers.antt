@@ -12,4 +12,5 @@ pub returns-in-Some : goal.returns-in-Some
 returns-in-Some t c = grind (arith, explain_of-base)
 
 pub returns-in-Some-parse_number : goal.returns-in-Some-parse_number
-returns-in-Some-parse_number t c = grind (arith, explain_of-width)
+returns-in-Some-parse_number t c =
+    grind (arith, explain_of-width c.args.view c.args.operands c.args.words.now c.option-item.result c.option-item-2.result c.option-item-3.result c.option-item-4.result c.value-item-2.result c.in-Some-parse_number.width)
