@@ -7,13 +7,12 @@ use Rattle.bidi_terminal.specs.Bases.{base_named}
 use Rattle.bidi_terminal.specs.Numbers.{number_of}
 use Rattle.bidi_terminal.specs.declared.base.Base.{Base}
 use Rattle.bidi.specs.Checks.{flag_named, setting_named, with_flag, with_setting}
-use Rattle.bidi.specs.Commands.{by_options, check_of, explain_of, file_words, over_files, show_of}
+use Rattle.bidi.specs.Commands.{by_options, check_of, check_over, explain_of, file_words, show_of}
 use Rattle.bidi_stages.specs.declared.view.Form.TheVariants.{Page}
 use Rattle.bidi_stages.specs.declared.view.StageView.{StageView}
 use Rattle.bidi.specs.declared.check_options.CheckOptions.{CheckOptions}
 use Rattle.bidi.specs.declared.check_options.Flag.{Flag}
 use Rattle.bidi.specs.declared.check_options.Setting.{Setting}
-use Rattle.bidi.specs.declared.command.Command.TheVariants.{Check}
 use Rattle.bidi.specs.declared.operands.Operands.{Operands}
 use Rattle.bidi.specs.declared.operands.Operands.TheVariants.{Files}
 use Rattle.bidi.specs.declared.refusal.Refusal.{Refusal}
@@ -107,7 +106,7 @@ module _ (options : CheckOptions) where
   check_of-flag word (value ∷ words) flag named = simp named
 
   check_of-files : (word : List ℕ) (words : List (List ℕ)) → flag_named word ≡ None → setting_named word ≡ None
-      → over_files (Check options) (file_words Checking (word ∷ words)) ≡ check_of options (word ∷ words)
+      → check_over options (file_words Checking (word ∷ words)) ≡ check_of options (word ∷ words)
   check_of-files word [] not_flag not_setting = simp (not_flag, not_setting)
   check_of-files word (value ∷ words) not_flag not_setting = simp (not_flag, not_setting)
 
@@ -127,10 +126,10 @@ module _ (options : CheckOptions) where
         check_of-flag (string_bytes first) (map string_bytes rest) flag named ∙ sym (ap (check_of options) (words-first words first some is))
 
     module _ (not_flag : flag_named (string_bytes first) ≡ None) where
-      pub words_of-files : setting_named (string_bytes first) ≡ None → over_files (Check options) (file_words Checking (map string_bytes words)) ≡ check_of options (map string_bytes words)
+      pub words_of-files : setting_named (string_bytes first) ≡ None → check_over options (file_words Checking (map string_bytes words)) ≡ check_of options (map string_bytes words)
       words_of-files not_setting =
           let e : map string_bytes words ≡ string_bytes first ∷ map string_bytes rest = words-first words first some is in
-          ap (λ l. over_files (Check options) (file_words Checking l)) e
+          ap (λ l. check_over options (file_words Checking l)) e
           ∙ check_of-files (string_bytes first) (map string_bytes rest) not_flag not_setting
           ∙ sym (ap (check_of options) e)
 

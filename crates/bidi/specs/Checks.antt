@@ -1,5 +1,6 @@
 -- What the options of `check` ask for.
-use Rattle.std.specs.Prelude.{ℕ, Bool, true, false, not, ◌&&◌, if◌then◌else◌, List, Option, Some, None, Result, Ok, Err, codes}
+use Rattle.std.specs.Prelude.{ℕ, Bool, true, false, not, ◌&&◌, ◌||◌, if◌then◌else◌, List, [], ◌∷◌, Option, Some, None, Result, Ok, Err, codes}
+use Rattle.std.specs.List.{list_any}
 use Rattle.std.specs.Str.{bytes_eq}
 use Rattle.bidi_controls.specs.declared.finding.Wanted.TheVariants.{Unmatched, Misleading, Everything}
 use Rattle.bidi_reports.specs.declared.form.Form.{Form}
@@ -89,6 +90,29 @@ with_setting Allow value options = Ok (with_allow value options)
 with_setting ColorOf value options = with_color value options (color_named value)
 with_setting FilesFrom value options = Ok (with_list value options)
 with_setting FormatOf value options = with_format value options (format_named value)
+
+-- ---- what reads standard input
+
+-- a name stands for standard input
+abbrev pub is_input : List ℕ → Bool
+is_input name = bytes_eq name (codes "-")
+
+-- a list is read from standard input, if there is one
+abbrev pub is_input_list : Option (List ℕ) → Bool
+is_input_list None = false
+is_input_list (Some name) = is_input name
+
+-- standard input is searched: it is one of the files, or there are no files and no list of them
+abbrev pub searches_input : Option (List ℕ) → List (List ℕ) → Bool
+searches_input None [] = true
+searches_input (Some list) [] = false
+searches_input list (file ∷ files) = list_any is_input (file ∷ files)
+
+-- two of these read it: the list of what is allowed, the list of files, and the search
+abbrev pub reads_input_twice : CheckOptions → List (List ℕ) → Bool
+reads_input_twice options files =
+    (is_input_list options.report.allow && is_input_list options.search.list)
+    || ((is_input_list options.report.allow || is_input_list options.search.list) && searches_input options.search.list files)
 
 -- ---- how the report is written
 

@@ -6,7 +6,7 @@ use Rattle.bidi_terminal.specs.Numbers.{number_of}
 use Rattle.bidi_stages.specs.Explained.{first_stage_view}
 use Rattle.bidi_stages.specs.declared.view.Form.TheVariants.{Page}
 use Rattle.bidi_stages.specs.declared.view.StageView.{StageView}
-use Rattle.bidi.specs.Checks.{first_check, flag_named, setting_named, with_flag, with_setting}
+use Rattle.bidi.specs.Checks.{first_check, flag_named, reads_input_twice, setting_named, with_flag, with_setting}
 use Rattle.bidi.specs.Options.{is_option, is_help, is_version}
 use Rattle.bidi.specs.declared.check_options.CheckOptions.{CheckOptions}
 use Rattle.bidi.specs.declared.command.Command.{Command}
@@ -14,7 +14,7 @@ use Rattle.bidi.specs.declared.command.Command.TheVariants.{Check, Show, Explain
 use Rattle.bidi.specs.declared.operands.Operands.{Operands}
 use Rattle.bidi.specs.declared.operands.Operands.TheVariants.{Texts, Files}
 use Rattle.bidi.specs.declared.refusal.Refusal.{Refusal}
-use Rattle.bidi.specs.declared.refusal.Refusal.TheVariants.{NoSubcommand, NotASubcommand, NotAnOption, LateOption, NotAlone, NoValue, NotABase, NotAWidth}
+use Rattle.bidi.specs.declared.refusal.Refusal.TheVariants.{NoSubcommand, NotASubcommand, NotAnOption, LateOption, NotAlone, NoValue, NotABase, NotAWidth, InputTwice}
 use Rattle.bidi.specs.declared.refusal.Subcommand.{Subcommand}
 use Rattle.bidi.specs.declared.refusal.Subcommand.TheVariants.{Checking, Showing, Explaining}
 use Rattle.bidi_visual.specs.Views.{first_view}
@@ -53,6 +53,11 @@ abbrev pub over_files : (List (List ℕ) → Command) → Result (List (List ℕ
 over_files command (Ok files) = Ok (command files)
 over_files command (Err refusal) = Err refusal
 
+-- `check` over files, if these can be had, and if standard input is not read twice
+abbrev pub check_over : CheckOptions → Result (List (List ℕ)) Refusal → Result Command Refusal
+check_over options (Ok files) = if reads_input_twice options files then Err InputTwice else Ok (Check options files)
+check_over options (Err refusal) = Err refusal
+
 -- what follows if there is a value, or else if there is none
 abbrev pub by_case : {A B : Type 0} → Option A → (A → B) → B → B
 by_case None next otherwise = otherwise
@@ -65,15 +70,15 @@ by_options (Ok options) next = next options
 
 -- behind `check` and options that ask for this: further options, in any order, and files
 abbrev pub check_of : CheckOptions → List (List ℕ) → Result Command Refusal
-check_of options [] = Ok (Check options [])
+check_of options [] = check_over options (Ok [])
 check_of options (word ∷ []) =
     by_case (flag_named word) (λ flag. check_of (with_flag flag options) [])
     (if is_some (setting_named word) then Err (NoValue Checking word)
-    else over_files (Check options) (file_words Checking (word ∷ [])))
+    else check_over options (file_words Checking (word ∷ [])))
 check_of options (word ∷ value ∷ words) =
     by_case (flag_named word) (λ flag. check_of (with_flag flag options) (value ∷ words))
     (by_case (setting_named word) (λ setting. by_options (with_setting setting value options) (λ next. check_of next words))
-    (over_files (Check options) (file_words Checking (word ∷ value ∷ words))))
+    (check_over options (file_words Checking (word ∷ value ∷ words))))
 
 -- what follows of the value behind an option, or the refusal of one that it does not take
 abbrev pub by_value : {A : Type 0} → Refusal → (A → Result Command Refusal) → Option A → Result Command Refusal

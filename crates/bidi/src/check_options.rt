@@ -1,6 +1,7 @@
 //! What the options of `check` ask for.
-ghost use Rattle.std.specs.Prelude.{◌≡◌};
-ghost use Rattle.bidi.specs.Checks.{first_check, first_report, format_named, color_named, flag_named, setting_named, with_flag, with_setting, with_format, with_color, with_allow, with_list, form_of};
+ghost use Rattle.std.specs.Prelude.{◌≡◌, map, string_bytes};
+ghost use Rattle.std.specs.List.{list_any};
+ghost use Rattle.bidi.specs.Checks.{is_input, is_input_list, searches_input, reads_input_twice, first_check, first_report, format_named, color_named, flag_named, setting_named, with_flag, with_setting, with_format, with_color, with_allow, with_list, form_of};
 
 use crate::refusal::{Refusal, Word};
 use crate::search::Search;
@@ -167,6 +168,35 @@ impl Setting {
     }
 }
 
+// Whether a name stands for standard input.
+fn is_input(name: &str) -> bool
+    ensures { result ≡ is_input name.now }
+{
+    name == "-"
+}
+
+// Whether a list is read from standard input, if there is one.
+fn is_input_list(list: &Option<Word<'_>>) -> bool
+    ensures { result ≡ is_input_list list.now }
+{
+    match list {
+        Some(name) => is_input(name.text()),
+        None => false,
+    }
+}
+
+// Whether one of the files is standard input.
+fn has_input(files: &[String]) -> bool
+    ensures { result ≡ list_any is_input (map string_bytes files.now) }
+{
+    for file in files {
+        if is_input(file.as_str()) {
+            return true;
+        }
+    }
+    false
+}
+
 /// What `check` looks for, where, and how it reports.
 #[derive(Drop)]
 pub struct CheckOptions<'w> {
@@ -192,6 +222,26 @@ impl<'w> Default for CheckOptions<'w> {
 }
 
 impl<'w> CheckOptions<'w> {
+    // Whether standard input is searched, if the arguments name these files.
+    fn searches_input(&self, files: &[String]) -> bool
+        ensures { result ≡ searches_input self.now.search.list (map string_bytes files.now) }
+    {
+        if files.is_empty() {
+            return self.search.list.is_none();
+        }
+        has_input(files)
+    }
+
+    /// Returns whether standard input would be read twice, if the arguments name these files. The second reader would find
+    /// it empty.
+    pub fn reads_input_twice(&self, files: &[String]) -> bool
+        ensures { result ≡ reads_input_twice self.now (map string_bytes files.now) }
+    {
+        let allowed = is_input_list(&self.report.allow);
+        let listed = is_input_list(&self.search.list);
+        allowed && listed || (allowed || listed) && self.searches_input(files)
+    }
+
     /// Returns the options with one more that has no value.
     #[tactic(auto, unfolding(crate::specs::Checks::with_flag))]
     pub fn with_flag(self, flag: Flag) -> CheckOptions<'w>

@@ -136,18 +136,18 @@ pub enum Command<'w> {
 }
 
 impl<'w> Command<'w> {
-    ghost use Rattle.bidi.specs.Commands.{command_of, check_of, explain_of, show_of, alone_of, file_words, over_files};
-    ghost use Rattle.bidi.specs.declared.command.Command.TheVariants.{Check};
+    ghost use Rattle.bidi.specs.Commands.{command_of, check_of, check_over, explain_of, show_of, alone_of, file_words};
     ghost use Rattle.bidi.specs.declared.refusal.Subcommand.TheVariants.{Checking};
 
-    /// What words behind the options of `check` ask for.
+    /// What words after the options of `check` ask for. Refused if standard input would be read twice.
     fn over_files(
         options: CheckOptions<'w>,
         words: &'w [String],
     ) -> Result<Command<'w>, Refusal<'w>>
-        ensures { result ≡ over_files (Check options.entry) (file_words Checking (map string_bytes words.now)) }
+        ensures { result ≡ check_over options.entry (file_words Checking (map string_bytes words.now)) }
     {
         match FileWords::parse(Subcommand::Checking, words) {
+            Ok(files) if options.reads_input_twice(files.words()) => Err(Refusal::InputTwice),
             Ok(files) => Ok(Command::Check { options, files }),
             Err(refusal) => Err(refusal),
         }

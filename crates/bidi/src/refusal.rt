@@ -93,6 +93,8 @@ pub enum Refusal<'w> {
     NotAFormat(Word<'w>),
     /// The value of `--color` is none of `auto`, `always` and `never`.
     NotAColor(Word<'w>),
+    /// Two of `--allow`, `--files-from` and the files are standard input.
+    InputTwice,
 }
 
 impl<'w> fmt::Display for Refusal<'w> {
@@ -146,6 +148,10 @@ impl<'w> fmt::Display for Refusal<'w> {
                 f,
                 "check: --color takes auto, always or never, not {}; see bidi check --help",
                 word.text
+            ),
+            Refusal::InputTwice => f.write_str(
+                "check: standard input can be read once, but two of --allow, --files-from and the files are it; save one of \
+                 them to a file and name that",
             ),
         }
     }
