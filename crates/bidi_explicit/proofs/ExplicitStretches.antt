@@ -1,12 +1,12 @@
 -- The explicit pass by stretches: where no control comes the status stands still, so the characters there have one level and are under one override.
-use Rattle.bidi_base.proofs.Common.{◌≡◌, ℕ, zero, suc, ◌+◌, ◌-◌, ◌<◌, ◌≤◌, ◌^◌, Bool, true, false, not, ◌||◌, List, [], ◌∷◌, ◌++◌, length, get_or, Option, Some, None, unwrap_or, refl, sym, ap, subst, ◌∙◌, arith, inl, inr, length-take, eq-eqb, common_steps, cases_Bool, cases_lt, cases_eq, ext_get_or, length-replicate, get_or-append_right, is_kept, is_kept_in_place, is_paragraph_separator, is_removed, then_some, class_at, IsFirst, is_kept_at, level_at, Entry, State, start, closed, step, state_at, char_index, is_boundary, place, text_len, is_per_char, per_unit, IsPerChar, level_run_ranges, add-zero}
+use Rattle.bidi_base.proofs.Common.{◌≡◌, ℕ, zero, suc, ◌+◌, ◌-◌, ◌<◌, ◌≤◌, ◌^◌, Bool, true, false, not, ◌||◌, List, [], ◌∷◌, ◌++◌, length, get_or, set, Option, Some, None, unwrap_or, refl, sym, ap, subst, ◌∙◌, arith, inl, inr, length-take, eq-eqb, common_steps, cases_Bool, cases_lt, cases_eq, ext_get_or, length-replicate, get_or-append_right, is_kept, is_kept_in_place, is_paragraph_separator, is_removed, then_some, class_at, IsFirst, is_kept_at, level_at, Entry, State, start, closed, step, state_at, char_index, is_boundary, place, text_len, is_per_char, per_unit, IsPerChar, level_run_ranges, add-zero}
 use Rattle.std.specs.Prelude.{if◌then◌else◌}
 use Rattle.std.proofs.lemmas.List.{get_or-drop}
 use Rattle.bidi_base.specs.declared.char_data.BidiClass.{BidiClass}
 use Rattle.bidi_base.specs.declared.char_data.BidiClass.TheVariants.{L, BN}
 use Rattle.bidi_laws.proofs.ExplicitLemmas.{length-explicit_levels, length-processing_classes, level_at-explicit_levels, class_at-processing_classes}
 use Rattle.bidi_base.proofs.PerUnit.{length-per_char, length-per_unit, get_or-per_unit}
-use Rattle.bidi_base.proofs.PlaceLemmas.{char_index-place, is_boundary-place, place-end, place-le, place-lt, place-mono, place-more, place-zero, UnitOf, unit_of}
+use Rattle.bidi_base.proofs.PlaceLemmas.{char_index-place, is_boundary-place, place-char_index, place-end, place-le, place-lt, place-mono, place-more, place-zero, UnitOf, unit_of}
 use Rattle.bidi_laws.proofs.StatusBounds.{state_at-more}
 use Rattle.bidi_laws.proofs.StatusMachine.{answer_level-explicit_level}
 use Rattle.bidi_base.proofs.TextLemmas.{HasUnits, length-le-text_len}
@@ -14,7 +14,10 @@ use Rattle.bidi_base.proofs.UnitsLemmas.{length-from_IsPerChar, per_unit-from_Is
 use Rattle.bidi_text.proofs.PerCharTests.{class_test}
 use Rattle.bidi_base.specs.contracts.char_data.BidiClassPartialEq.TheImpl.{ghosts}
 use Rattle.bidi_runs.specs.ExplicitPass.{IsCutTo, filled, differs, runs_before, run_start}
-use Rattle.bidi_explicit.specs.ExplicitStretches.{is_control, overridden, run_met, runs_met, IsOverridden, Paragraph, stored, levels_of, classes_of, IsReadTo}
+use Rattle.bidi_explicit.specs.ExplicitStretches.{is_control, overridden, put_over, run_met, runs_met, IsOverridden, Paragraph, stored, levels_of, classes_of, IsReadTo}
+use Rattle.bidi_explicit.specs.Stride.{count_to, count_of}
+use Rattle.bidi_explicit.specs.declared.explicit.Stride.{Stride}
+use Rattle.bidi_explicit.specs.declared.explicit.Stride.TheVariants.{Character, CodeUnit}
 use Rattle.bidi_explicit.specs.declared.explicit.stretches.OpenRun.{OpenRun}
 use Rattle.bidi_explicit.proofs.ExplicitUnits.{CanRead, can_read, length-filled, processing_class-is, level_at as level_of_next, put_at, next_at, text_len-some}
 use Rattle.bidi_runs.proofs.RunCutting.{IsCutTo-start, IsCutTo-removed, IsCutTo-kept, IsCutTo-end, IsCutTo-none}
@@ -47,6 +50,18 @@ module _ (put : BidiClass) (from at next : ℕ) (old now : List BidiClass) (h : 
     above = λ u above. grind (arith, filled-above);
     long = grind (arith, length-filled);
   }
+
+-- one code unit after another
+pub IsOverridden-none : (put : BidiClass) (from : ℕ) (old : List BidiClass) → IsOverridden (Some put) from from old old
+IsOverridden-none put from old = record { inside = λ u a b. absurd (omega arith); below = λ u a. refl; above = λ u a. refl; long = refl }
+
+pub IsOverridden-next : (put : BidiClass) (from at : ℕ) (old now : List BidiClass) → IsOverridden (Some put) from at old now → from ≤ at → at < length old → IsOverridden (Some put) from (at + 1) old (set now at (put_over put (class_at now at)))
+IsOverridden-next put from at old now h begun fits = record {
+  inside = λ u a b. grind (arith, common_steps, cases_lt u at, h.inside u, h.above u, h.long);
+  below = λ u a. grind (arith, common_steps, h.below u, h.long);
+  above = λ u a. grind (arith, common_steps, h.above u, h.long);
+  long = grind (arith, common_steps, h.long);
+}
 
 -- ---- a class that is no control
 
@@ -161,6 +176,21 @@ module _ (p : Paragraph) (has_units : HasUnits p.len_of) (whole : IsPerChar p.le
 
     class-still : (k : ℕ) → i ≤ k → k < j → class_at (classes_of p) k ≡ overridden (state_at p.level (stored p) i).top.status.override (class_at (stored p) k)
     class-still k above below = grind (arith, class_at-processing_classes p.level (stored p) k, processing_class-is p.level (stored p) k, closed-still k, stored_long, plain k)
+
+-- a search that goes from boundary to boundary finds a boundary
+pub first-is_boundary : (p : Paragraph) → HasUnits p.len_of → is_per_char ghosts.eq p.len_of p.chars p.original ≡ true → (test : BidiClass → Bool) (from to u : ℕ)
+    → is_boundary p.len_of p.chars from ≡ true → is_boundary p.len_of p.chars to ≡ true → to ≤ length p.original → IsFirst test p.original from to u → is_boundary p.len_of p.chars u ≡ true
+first-is_boundary p has_units whole test from to u begins ends fits first = elim (cases_lt u to) [
+  | inl inside ↦
+      let per_char = IsPerChar-from_is_per_char ghosts.eq class_test p.len_of has_units p.chars p.original whole in
+      let b = first-begins p has_units per_char test (char_index p.len_of p.chars from) from to u (sym (place-char_index p.len_of has_units p.chars from begins)) fits first inside in
+      ap (is_boundary p.len_of p.chars) b.there ∙ is_boundary-place p.len_of p.chars b.index
+  | inr past ↦ let same : u ≡ to = omega (arith, first.ends) in ap (is_boundary p.len_of p.chars) same ∙ ends
+]
+
+-- the end of a text is a boundary
+pub is_boundary-end : (len_of : ℕ → ℕ) (chars : List ℕ) (units : ℕ) → units ≡ text_len len_of chars → is_boundary len_of chars units ≡ true
+is_boundary-end len_of chars units is = ap (is_boundary len_of chars) (is ∙ sym (place-end len_of chars (length chars) (omega arith))) ∙ is_boundary-place len_of chars (length chars)
 
 -- as many characters are read as begin below the unit
 pub read-index : (p : Paragraph) (u : ℕ) (stack : State) (levels : List ℕ) (classes : List BidiClass) (runs : List (ℕ × ℕ)) (run : OpenRun) (h : IsReadTo p u stack levels classes runs run) → char_index p.len_of p.chars u ≡ h.index
@@ -356,6 +386,10 @@ module _ (p : Paragraph) (at : ℕ) (stack : State) (levels : List ℕ) (classes
 
   pub read-all : char_index p.len_of p.chars at ≡ length p.chars
   read-all = read-index p at stack levels classes runs run h ∙ all_read ∙ stored_long p h.has_units h.per_char
+
+  pub read-count : (stride : Stride) → count_to stride p.len_of p.chars at ≡ count_of stride (length p.original) (length p.chars)
+  read-count CodeUnit = grind (arith, h.begins, h.within, place-le p.len_of p.chars h.index, original_long p h.has_units h.per_char)
+  read-count Character = read-all
 
   pub read-levels : levels ≡ per_unit p.len_of p.chars (levels_of p)
   read-levels =

@@ -1,3 +1,4 @@
+pub mod CountLemmas
 pub mod ExplicitStretches
 pub mod ExplicitUnits
 pub mod StackLemmas

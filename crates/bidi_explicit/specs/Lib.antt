@@ -1,2 +1,3 @@
 pub mod ExplicitStretches
 pub mod Status
+pub mod Stride

@@ -7,10 +7,12 @@ ghost use Rattle.bidi_base.specs.Classes.{is_paragraph_separator, is_removed};
 ghost use Rattle.bidi_base.specs.Explicit.{explicit_levels, processing_classes as processing_classes_of};
 ghost use Rattle.bidi_base.specs.Text.{per_unit, per_char, is_per_char};
 ghost use Rattle.bidi_base.specs.Units.{bounds, level_run_ranges};
+ghost use Rattle.bidi_explicit.specs.Stride.{count_of};
 ghost use Rattle.bidi_runs.specs.ExplicitPass.{filled, runs_before, run_start as run_start_after};
 
 mod status;
 mod stretches;
+mod units;
 
 use bidi_base::char_data::BidiClass;
 use bidi_base::classes::is_removed;
@@ -22,6 +24,15 @@ use std::alloc::{AllocError, Global};
 use std::marker::Brand;
 use std::sync::ledger::{Blank, Ledger};
 use stretches::{OpenRun, Paragraph, is_control};
+
+/// How the pass goes through a stretch without controls, and what it counts there.
+#[derive(Clone, Copy, Debug)]
+pub(crate) enum Stride {
+    /// From character to character.
+    Character,
+    /// From code unit to code unit.
+    CodeUnit,
+}
 
 // The level of a character: the paragraph level for a paragraph separator, otherwise `level` (X8).
 fn own_level(para_level: Level, class: BidiClass, level: Level) -> Level
@@ -155,6 +166,7 @@ pub fn compute<T: TextSource>(
     compute_fresh::<T, Brand>(
         alloc,
         text,
+        Stride::Character,
         para_level,
         original_classes,
         levels,
@@ -164,10 +176,11 @@ pub fn compute<T: TextSource>(
     )
 }
 
-// Calls [`compute_counted`] with a new count of steps.
-fn compute_fresh<T: TextSource, S: Ledger>(
-    alloc: Global,
+// Calls [`compute_by`] with a new count of steps.
+pub(crate) fn compute_fresh<T: TextSource, S: Ledger>(
+    _alloc: Global,
     text: T,
+    stride: Stride,
     para_level: Level,
     original_classes: &[BidiClass],
     levels: &mut [Level],
@@ -193,9 +206,9 @@ fn compute_fresh<T: TextSource, S: Ledger>(
         ≡ level_run_ranges T.units (T.characters text) stored (explicit_levels para_level stored)) }
 {
     let mut steps = Steps::<S>::new(blank);
-    compute_counted(
-        alloc,
+    compute_by(
         text,
+        stride,
         para_level,
         original_classes,
         levels,
@@ -236,9 +249,51 @@ pub fn compute_counted<T: TextSource, S: Ledger>(
     ensures at_least { OnOk result (steps.old + length (T.characters text) ≤ steps.new) }
     ensures at_most { OnOk result (steps.new ≤ steps.old + 4 * length (T.characters text)) }
 {
+    compute_by(
+        text,
+        Stride::Character,
+        para_level,
+        original_classes,
+        levels,
+        processing_classes,
+        runs,
+        steps,
+    )
+}
+
+// The pass in both forms. Counts each loop iteration, and each code unit or character that a search passes
+// over.
+pub(crate) fn compute_by<T: TextSource, S: Ledger>(
+    text: T,
+    stride: Stride,
+    para_level: Level,
+    original_classes: &[BidiClass],
+    levels: &mut [Level],
+    processing_classes: &mut [BidiClass],
+    runs: &mut LevelRunVec,
+    steps: &mut Steps<S>,
+) -> Result<(), AllocError>
+    requires explicit { para_level ≤ 125 }
+    requires original { IsTrue (is_per_char ⟦<BidiClass as PartialEq>⟧.eq T.units (T.characters text) original_classes.now) }
+    requires levels { length levels.old ≡ length original_classes.now }
+    requires processing { processing_classes.old ≡ original_classes.now }
+    requires runs { runs.old.items ≡ [] }
+    ensures levels { let stored = per_char L T.units (T.characters text) original_classes.now in
+        OnOk result (levels.new ≡ per_unit T.units (T.characters text) (explicit_levels para_level stored)) }
+    ensures classes { let stored = per_char L T.units (T.characters text) original_classes.now in
+        OnOk result (processing_classes.new
+        ≡ per_unit T.units (T.characters text) (processing_classes_of para_level stored)) }
+    ensures runs { let stored = per_char L T.units (T.characters text) original_classes.now in
+        OnOk result (map bounds runs.new.items
+        ≡ level_run_ranges T.units (T.characters text) stored (explicit_levels para_level stored)) }
+    ensures at_least { OnOk result (steps.old + length (T.characters text) ≤ steps.new) }
+    ensures at_most { OnOk result (steps.new
+        ≤ steps.old + 4 * count_of stride (length original_classes.now) (length (T.characters text))) }
+{
     let paragraph = Paragraph {
         text,
         level: para_level,
+        stride,
         original_classes,
     };
     let units = original_classes.len();

@@ -1,4 +1,5 @@
 //! The explicit levels of one paragraph, and its level runs, as a pass over its code units.
 #![tactic(auto)]
 
+pub mod by_units;
 pub mod explicit;

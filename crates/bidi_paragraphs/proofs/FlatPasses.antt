@@ -1,5 +1,5 @@
 -- A paragraph in which nothing opens a level: the passes over its one run.
-use Rattle.bidi_base.proofs.Common.{◌≡◌, ℕ, true, List, [], ◌∷◌, length, map, Option, arith, filter, Range, All-cons, All-nil, explicit_levels, explicit_classes, is_flat, hidden, stored_classes, direction_of, has_places, kept_places, sequences, IsLine, text_len, per_unit, AreLines, bounds, chars_in_runs, kept_in_runs}
+use Rattle.bidi_base.proofs.Common.{◌≡◌, ℕ, true, List, [], ◌∷◌, length, map, Option, arith, filter, Range, All-cons, All-nil, explicit_levels, explicit_classes, is_flat, hidden, stored_classes, direction_of, has_places, kept_places, sequences, IsLine, text_len, per_unit, AreLines, chars_in_runs, kept_in_runs}
 use Rattle.std.specs.Prelude.{replicate}
 use Rattle.std.proofs.lemmas.List.{append-nil}
 use Rattle.bidi_base.specs.declared.char_data.BidiClass.{BidiClass}
@@ -12,15 +12,11 @@ use Rattle.bidi_laws.proofs.StoredSteps.{length-stored_classes}
 use Rattle.bidi_base.proofs.TextLemmas.{HasUnits}
 use Rattle.bidi_laws.proofs.NeutralLemmas.{direction_of-l_or_r}
 use Rattle.bidi_runs.specs.Joining.{JoinedRuns, characters_of}
-use Rattle.bidi_runs.specs.RunSequence.{lent_runs, lent_sos, lent_eos}
+use Rattle.bidi_runs.specs.RunSequence.{lent_runs, lent_sos, lent_eos, lent_joined}
 use Rattle.bidi_runs.specs.declared.prepare.lent.LentSequence.{LentSequence}
 use Rattle.bidi_paragraphs.proofs.FilledUnits.{per_unit-replicate}
 use Rattle.bidi_paragraphs.proofs.LevelPasses.{AreResolvedTo, AreResolvedTo-start}
 use Rattle.bidi_paragraphs.proofs.SequencesInPlace.{IsNext, IsNext-at}
-
--- the runs of a sequence that is lent, with its ends
-abbrev pub lent : LentSequence → JoinedRuns
-lent s = record { runs = map bounds (lent_runs s); sos = lent_sos s; eos = lent_eos s }
 
 module _ (len_of : ℕ → ℕ) (h : HasUnits len_of) (chars : List ℕ) (source : List BidiClass) (bracket_of : ℕ → Option BidiMatchedOpeningBracket) (paragraph : ℕ)
     (fits : length source ≡ length chars) (flat : is_flat source ≡ true) where
@@ -33,7 +29,7 @@ module _ (len_of : ℕ → ℕ) (h : HasUnits len_of) (chars : List ℕ) (source
 
   -- a sequence of it, as code lends it
   pub lent-whole : (s : LentSequence) (runs : List (Range ℕ)) (end : ℕ) → lent_runs s ≡ runs → runs ≡ record { start = 0; end = end } ∷ [] → end ≡ text_len len_of chars
-      → lent_sos s ≡ direction_of paragraph → lent_eos s ≡ direction_of paragraph → lent s ≡ whole
+      → lent_sos s ≡ direction_of paragraph → lent_eos s ≡ direction_of paragraph → lent_joined s ≡ whole
   lent-whole s runs end runs_are is long sos eos = grind arith
 
   stored_is : stored ≡ source

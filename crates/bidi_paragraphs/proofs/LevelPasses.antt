@@ -1,5 +1,5 @@
 -- The passes over the units of a paragraph, put together: what they leave once some sequences are resolved, and once all are.
-use Rattle.bidi_base.proofs.Common.{◌≡◌, ℕ, zero, suc, ◌+◌, ◌<◌, ◌≤◌, true, false, List, [], ◌∷◌, ◌++◌, length, get_or, take, map, Option, refl, sym, ap, ◌∙◌, arith, filter, list_all, take_more, take_all, length-map, get_or-map, get_or_default, length-replicate, nil_from_length, get_or-zip, length-zip, is_weak_resolved, class_at, at_places, first_or, stored_classes, explicit_levels, explicit_classes, processing_classes, RunSequence, level_at, has_places, sequences, weak_classes, direction_of, n2_rule, neutral_classes, implicit_level, AreResolved, text_len, place, is_per_char, per_unit, per_char, AreLines, in_runs, kept_in_runs, kept_in_place}
+use Rattle.bidi_base.proofs.Common.{◌≡◌, ℕ, zero, suc, ◌+◌, ◌<◌, ◌≤◌, true, false, List, [], ◌∷◌, ◌++◌, length, get_or, take, map, Option, refl, sym, ap, ◌∙◌, arith, filter, list_all, length-map, get_or-map, get_or_default, get_or-append_seam, take-append_seam, length-append, map-append, is_l_or_r, length-replicate, nil_from_length, get_or-zip, length-zip, is_weak_resolved, class_at, at_places, first_or, stored_classes, explicit_levels, explicit_classes, processing_classes, RunSequence, level_at, has_places, sequences, weak_classes, direction_of, n2_rule, neutral_classes, implicit_level, AreResolved, text_len, place, is_per_char, per_unit, per_char, AreLines, in_runs, kept_in_runs, kept_in_place}
 use Rattle.std.specs.Prelude.{zip, replicate}
 use Rattle.std.specs.List.{All}
 use Rattle.bidi_base.specs.declared.char_data.BidiClass.{BidiClass}
@@ -15,8 +15,9 @@ use Rattle.bidi_base.proofs.UnitsLemmas.{per_unit-from_is_per_char, is_per_char-
 use Rattle.bidi_laws.proofs.NeutralSource.{neutral_classes-source, marks-stored_classes}
 use Rattle.bidi_laws.proofs.StoredLemmas.{explicit_levels-IsExplicitIn}
 use Rattle.bidi_runs.specs.Joining.{JoinedRuns, characters_of}
-use Rattle.bidi_runs.specs.RunSequence.{run_bounds, sequence_in, sequences_in}
-use Rattle.bidi_runs.specs.declared.prepare.sequence.IsolatingRunSequence.{IsolatingRunSequence}
+use Rattle.bidi_runs.specs.Links.{begins, sequence_at, sequences_before, linked_sequences, sequences_of}
+use Rattle.bidi_runs.specs.declared.prepare.links.RunLinks.{RunLinks}
+use Rattle.bidi_runs.proofs.LinkedSequences.{IsPart, linked_sequences-part, sequences_before-more, sequences_before-same}
 use Rattle.bidi_paragraphs.proofs.SequencesInPlace.{IsUnderWay, IsNext, IsWeakNext, IsWeakNext-from, weak_next-resolved, IsUnderWay-more, IsUnderWay-start, IsNext-at, AreResolved-all}
 use Rattle.bidi_paragraphs.proofs.SequenceUnits.{at_places-map, at_places-place, level_at-first, kept_in_place-kept, kept_in_runs-within, stays_elsewhere}
 
@@ -53,9 +54,6 @@ module _ (len_of : ℕ → ℕ) (h : HasUnits len_of) (chars : List ℕ) (source
   -- the characters of runs that were joined, and of a sequence
   abbrev members : JoinedRuns → RunSequence
   members s = characters_of len_of chars stored s
-
-  abbrev characters : IsolatingRunSequence → RunSequence
-  characters s = sequence_in len_of chars stored s
 
   -- the units have the classes of characters of which these sequences are resolved
   pub record AreResolvedTo (seqs : List RunSequence) (units : List BidiClass) : Type 0 where
@@ -205,33 +203,55 @@ module _ (len_of : ℕ → ℕ) (h : HasUnits len_of) (chars : List ℕ) (source
 
   -- ---- what X1 to X10 leave
 
-  pub record ArePrepared (original : List BidiClass) (unit_levels : List ℕ) (out : List IsolatingRunSequence) : Type 0 where
+  pub record ArePrepared (original : List BidiClass) (unit_levels : List ℕ) (out : List JoinedRuns) : Type 0 where
     pub fits : length source ≡ length chars
     pub original_is : original ≡ per_unit len_of chars stored
     pub levels_is : unit_levels ≡ per_unit len_of chars levels
-    pub sequences_are : sequences_in len_of chars stored out ≡ sequences paragraph stored levels
-    pub lines : All (λ (s : IsolatingRunSequence). AreLines len_of chars (run_bounds s)) out
+    pub sequences_are : sequences_of len_of chars stored out ≡ sequences paragraph stored levels
+    pub lines : All (λ (s : JoinedRuns). AreLines len_of chars s.runs) out
 
-  pub prepared : (original : List BidiClass) (unit_levels : List ℕ) (out : List IsolatingRunSequence) → length source ≡ length chars → original ≡ per_unit len_of chars stored
+  pub prepared : (original : List BidiClass) (unit_levels : List ℕ) (out : List JoinedRuns) → length source ≡ length chars → original ≡ per_unit len_of chars stored
       → unit_levels ≡ per_unit len_of chars (explicit_levels paragraph (per_char L len_of chars original))
-      → sequences_in len_of chars (per_char L len_of chars original) out ≡ sequences paragraph (per_char L len_of chars original) (explicit_levels paragraph (per_char L len_of chars original))
-      → All (λ (s : IsolatingRunSequence). AreLines len_of chars (run_bounds s)) out → ArePrepared original unit_levels out
+      → sequences_of len_of chars (per_char L len_of chars original) out ≡ sequences paragraph (per_char L len_of chars original) (explicit_levels paragraph (per_char L len_of chars original))
+      → All (λ (s : JoinedRuns). AreLines len_of chars s.runs) out → ArePrepared original unit_levels out
   prepared original unit_levels out fits is levels_is sequences_are lines = grind (arith, stored_read original)
 
-  -- of these sequences the first k
-  abbrev pub sequences_before : List IsolatingRunSequence → ℕ → List RunSequence
-  sequences_before out k = take k (map characters out)
+  module _ (original : List BidiClass) (unit_levels : List ℕ) (links : RunLinks) (runs : List (ℕ × ℕ)) (ready : ArePrepared original unit_levels (linked_sequences links runs)) where
+    -- the sequences that begin before the run at r
+    abbrev pub resolved_before : ℕ → List RunSequence
+    resolved_before r = map (characters_of len_of chars stored) (sequences_before links runs r)
 
-  module _ (original : List BidiClass) (unit_levels : List ℕ) (out : List IsolatingRunSequence) (ready : ArePrepared original unit_levels out) where
-    pub prepared-next : (k : ℕ) (s : IsolatingRunSequence) → k < length out → s ≡ get_or out k s → IsNext source brackets stored levels classes (sequences_before out k) (characters s)
-    prepared-next k s within is =
-        grind (arith, get_or-map, length-map, IsNext-at paragraph stored (map characters out) ready.sequences_are source brackets k (characters s))
+    -- the one that begins with it
+    module _ (r : ℕ) (s : JoinedRuns) (within : r < length runs) (here : begins links r ≡ true) (is : s ≡ sequence_at links runs r) where
+      part : IsPart links runs r
+      part = linked_sequences-part links runs r within here
 
-    pub prepared-lines : (k : ℕ) (s : IsolatingRunSequence) → k < length out → s ≡ get_or out k s → AreLines len_of chars (run_bounds s)
-    prepared-lines k s within is = simp (← is) at (ready.lines k s within)
+      all_are : map (characters_of len_of chars stored) (linked_sequences links runs) ≡ resolved_before r ++ characters_of len_of chars stored s ∷ map (characters_of len_of chars stored) part.after
+      all_are = simp (part.is, map-append, is)
 
-    pub prepared-more : (k : ℕ) (s : IsolatingRunSequence) → k < length out → s ≡ get_or out k s → sequences_before out (k + 1) ≡ sequences_before out k ++ characters s ∷ []
-    prepared-more k s within is = grind (arith, take_more (map characters out) k (characters s), length-map, get_or-map)
+      pub prepared-next : is_l_or_r s.sos ≡ true → IsNext source brackets stored levels classes (map (characters_of len_of chars stored) (sequences_before links runs r)) (characters_of len_of chars stored s)
+      prepared-next side =
+          let k : ℕ = length (resolved_before r) in
+          let m : RunSequence = characters_of len_of chars stored s in
+          let rest : List RunSequence = map (characters_of len_of chars stored) part.after in
+          let seqs : List RunSequence = map (characters_of len_of chars stored) (linked_sequences links runs) in
+          let at : get_or seqs k m ≡ m = ap (λ (qs : List RunSequence). get_or qs k m) all_are ∙ get_or-append_seam (resolved_before r) m rest m in
+          let first : take k seqs ≡ resolved_before r = ap (take k) all_are ∙ take-append_seam (resolved_before r) (m ∷ rest) in
+          let low : k < length seqs = omega (arith, ap length all_are, length-append (resolved_before r) (m ∷ rest)) in
+          rw (first, at) at (IsNext-at paragraph stored seqs ready.sequences_are source brackets k m low (ap (λ (q : RunSequence). is_l_or_r q.sos) at ∙ side))
+
+      pub prepared-lines : AreLines len_of chars s.runs
+      prepared-lines =
+          let k : ℕ = length (sequences_before links runs r) in
+          let out : linked_sequences links runs ≡ sequences_before links runs r ++ s ∷ part.after = simp (part.is, is) in
+          let at : get_or (linked_sequences links runs) k s ≡ s = ap (λ (qs : List JoinedRuns). get_or qs k s) out ∙ get_or-append_seam (sequences_before links runs r) s part.after s in
+          rw at at (ready.lines k s (omega (arith, ap length out, length-append (sequences_before links runs r) (s ∷ part.after))))
+
+      pub prepared-more : map (characters_of len_of chars stored) (sequences_before links runs (r + 1)) ≡ map (characters_of len_of chars stored) (sequences_before links runs r) ++ characters_of len_of chars stored s ∷ []
+      prepared-more = simp (sequences_before-more links runs r here, map-append, is)
+
+    pub prepared-same : (r : ℕ) → begins links r ≡ false → map (characters_of len_of chars stored) (sequences_before links runs (r + 1)) ≡ map (characters_of len_of chars stored) (sequences_before links runs r)
+    prepared-same r other = ap (map (characters_of len_of chars stored)) (sequences_before-same links runs r other)
 
     pub prepared-long : length unit_levels ≡ text_len len_of chars
     prepared-long = simp (ready.levels_is, length-per_unit len_of chars levels (length-explicit_levels paragraph stored ∙ length-stored_classes source ∙ ready.fits))
@@ -241,6 +261,8 @@ module _ (len_of : ℕ → ℕ) (h : HasUnits len_of) (chars : List ℕ) (source
         rw ready.levels_is (All-per_unit (λ (n : ℕ). n ≤ 125) len_of chars levels
         (λ k d within. grind (arith, get_or_default levels k 0 d, explicit_levels-IsExplicitIn paragraph stored k, length-explicit_levels)))
 
-    pub AreLevels-from : (k : ℕ) (units : List BidiClass) (new : List ℕ) → length out ≤ k → AreResolvedTo (sequences_before out k) units → new ≡ map (λ (e : ℕ × BidiClass). implicit_level e.0 e.1) (zip unit_levels units) → AreLevels new
-    AreLevels-from k units new past now is =
-        grind (arith, take_all, length-map, AreLevels-all (map characters out) units unit_levels new)
+    pub AreLevels-from : (r : ℕ) (units : List BidiClass) (new : List ℕ) → r ≡ length runs → AreResolvedTo (map (characters_of len_of chars stored) (sequences_before links runs r)) units → new ≡ map (λ (e : ℕ × BidiClass). implicit_level e.0 e.1) (zip unit_levels units) → AreLevels new
+    unfolding linked_sequences
+    AreLevels-from r units new all now is =
+        AreLevels-all (map (characters_of len_of chars stored) (sequences_before links runs r)) units unit_levels new ready.fits ready.levels_is
+        (ap (λ (k : ℕ). filter has_places (map (characters_of len_of chars stored) (sequences_before links runs k))) all ∙ ready.sequences_are) now is

@@ -8,8 +8,8 @@ ghost use Rattle.bidi_base.specs.Isolates.{stored_classes};
 ghost use Rattle.bidi_base.specs.Sequences.{is_kept_at, sequences};
 ghost use Rattle.bidi_base.specs.Stored.{AreResolved, levels_in};
 ghost use Rattle.bidi_base.specs.Text.{text_len, is_per_char, per_unit, per_char};
-ghost use Rattle.bidi_base.specs.Units.{AreLines};
-ghost use Rattle.bidi_runs.specs.RunSequence.{run_bounds, sequences_in};
+ghost use Rattle.bidi_base.specs.Units.{bounds, AreLines};
+ghost use Rattle.bidi_runs.specs.Links.{linked_sequences, sequences_of, AreLinked};
 ghost use Rattle.bidi_walk.specs.ParagraphFlags.{flags_of};
 
 use bidi_base::char_data::BidiClass;
@@ -17,9 +17,9 @@ use bidi_base::classes::is_removed;
 use bidi_base::data_source::BidiDataSource;
 use bidi_base::level::Level;
 use bidi_base::search::{ClassTest, first_passing};
-use bidi_rules::explicit;
-use bidi_rules::implicit::{NeutralResolver, resolve_levels, resolve_weak, resolve_weak_lent};
-use bidi_rules::prepare::{IsolatingRunSequenceVec, LentSequence, LevelRunVec, join_level_runs};
+use bidi_explicit::by_units;
+use bidi_rules::implicit::{NeutralResolver, resolve_levels, resolve_weak_lent};
+use bidi_rules::prepare::{LentSequence, LevelRunVec, RunLinks};
 use bidi_text::text::TextSource;
 use bidi_walk::paragraph_flags::ParagraphFlags;
 use smallvec::SmallVec;
@@ -55,8 +55,10 @@ pub struct LevelResolver {
     classes: SmallVec<BidiClass, FEW_UNITS>,
     /// The level runs.
     runs: LevelRunVec,
-    /// The isolating run sequences. A sequence of three or more runs allocates each time.
-    sequences: IsolatingRunSequenceVec,
+    /// The isolating run sequences, as links between the level runs.
+    links: RunLinks,
+    /// The level runs of a sequence of two or more.
+    chain: LevelRunVec,
     neutrals: NeutralResolver,
 }
 
@@ -66,7 +68,8 @@ impl LevelResolver {
         LevelResolver {
             classes: SmallVec::new(alloc),
             runs: Vec::new(alloc),
-            sequences: Vec::new(alloc),
+            links: RunLinks::new(alloc),
+            chain: Vec::new(alloc),
             neutrals: NeutralResolver::new(alloc),
         }
     }
@@ -90,17 +93,18 @@ impl LevelResolver {
             (processing_classes paragraph.now.level stored)) }
         ensures sequences { let stored = per_char L T.units (T.characters paragraph.now.text)
             paragraph.now.original_classes.now in
-            OnOk result (sequences_in T.units (T.characters paragraph.now.text) stored self.new.sequences.items
+            OnOk result (sequences_of T.units (T.characters paragraph.now.text) stored
+            (linked_sequences self.new.links (map bounds self.new.runs.items))
             ≡ sequences paragraph.now.level stored (explicit_levels paragraph.now.level stored)) }
-        ensures fits { OnOk result
-            (All (λ s. AreLines T.units (T.characters paragraph.now.text) (run_bounds s)) self.new.sequences.items) }
+        ensures fits { OnOk result (All (λ s. AreLines T.units (T.characters paragraph.now.text) s.runs)
+            (linked_sequences self.new.links (map bounds self.new.runs.items))) }
+        ensures linked { OnOk result (AreLinked self.new.links (map bounds self.new.runs.items)) }
     {
         let original_classes = paragraph.original_classes;
         self.classes.clear();
         self.classes.extend_from_slice(original_classes)?;
         self.runs.clear();
-        self.sequences.clear();
-        explicit::compute(
+        by_units::compute(
             alloc,
             paragraph.text,
             paragraph.level,
@@ -109,15 +113,13 @@ impl LevelResolver {
             self.classes.as_mut_slice(),
             &mut self.runs,
         )?;
-        join_level_runs(
-            alloc,
+        self.links.link(
             paragraph.text,
             paragraph.level,
             original_classes,
             levels,
-            self.runs.as_slice(),
+            &self.runs,
             paragraph.flags.has_isolates(),
-            &mut self.sequences,
         )
     }
 
@@ -198,17 +200,21 @@ impl LevelResolver {
             (sequences level stored (explicit_levels level stored))) }
     {
         self.prepare(alloc, paragraph, levels)?;
+        let runs = self.runs.as_slice();
+        let links = &self.links;
         let classes = self.classes.as_mut_slice();
-        for sequence in &self.sequences {
-            resolve_weak(paragraph.text, sequence, classes);
-            self.neutrals.resolve_up_to_n1(
-                paragraph.text,
-                paragraph.data_source,
-                sequence.lend(),
-                levels,
-                paragraph.original_classes,
-                classes,
-            )?;
+        for first in 0..runs.len() {
+            if let Some(sequence) = links.sequence(runs, first, &mut self.chain)? {
+                resolve_weak_lent(paragraph.text, sequence, classes);
+                self.neutrals.resolve_up_to_n1(
+                    paragraph.text,
+                    paragraph.data_source,
+                    sequence,
+                    levels,
+                    paragraph.original_classes,
+                    classes,
+                )?;
+            }
         }
         resolve_levels(classes, levels);
         Ok(())

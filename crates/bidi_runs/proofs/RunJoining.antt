@@ -1,17 +1,12 @@
--- One level run after another comes to its sequence: what the pass over units keeps, and what it has at the end.
+-- The first and the last kept character of a level run, their level, and what is next to the run.
 use Rattle.bidi_base.proofs.Common.{◌≡◌, ℕ, zero, suc, ◌+◌, ◌-◌, ◌<◌, ◌≤◌, true, cond, eqb, max, List, [], ◌∷◌, length, Option, Some, None, refl, sym, subst, arith, ◌⊎◌, inl, inr, filter, range_with_len, cases_eq, both_ways, and_parts, is_initiator, direction_of, class_at, last_or, between, is_initiator_at, is_kept_at, kept_before, level_at, end_class, begins_run, read_class, waiting_for}
 use Rattle.std.specs.Prelude.{find, if◌then◌else◌, is_some}
-use Rattle.std.specs.List.{fold}
 use Rattle.bidi_base.specs.declared.char_data.BidiClass.{BidiClass}
 use Rattle.bidi_base.proofs.PlacesLemmas.{find-between, find-between-None}
-use Rattle.bidi_laws.proofs.WaitingLemmas.{IsWaiting}
-use Rattle.bidi_laws.proofs.OpenPass.{IsAt, IsAt-read}
-use Rattle.bidi_laws.proofs.SuccessorLemmas.{is_kept-initiator, next_kept-is, next_kept-is_None, kept_before-is, kept_before-is_None}
+use Rattle.bidi_laws.proofs.SuccessorLemmas.{next_kept-is, next_kept-is_None, kept_before-is, kept_before-is_None}
 use Rattle.bidi_laws.proofs.RunsLemmas.{AllOfLevel, AllOfLevel-run, IsLevelRun, IsRun-IsLevelRun}
-use Rattle.bidi_runs.specs.Joining.{read_range}
 use Rattle.bidi_runs.proofs.KeptRangeLemmas.{filter_range-first, last_or-range}
 use Rattle.bidi_runs.proofs.RunUnits.{NoneKept, IsLast}
-use Rattle.bidi_runs.proofs.RunPass.{with_places, index_in, HasCome, IsWaiting-in_run}
 
 -- the first kept character of a run
 pub record IsFirst (classes : List BidiClass) (a b f : ℕ) : Type 0 where
@@ -94,35 +89,3 @@ module _ (classes : List BidiClass) (levels : List ℕ) (paragraph : ℕ) where
         }) in
         grind arith
   ]
-
-  -- reading the characters of a range
-  read_all : (b n m : ℕ) (w : ℕ → Option ℕ) (out : List (List ℕ)) (waits : List (Option ℕ)) → IsAt classes levels b m out waits → ((k : ℕ) → m ≤ k → k < m + n → is_initiator_at classes k ≡ true → IsWaiting classes levels out k (w k))
-      → IsAt classes levels b (m + n) out (fold (λ ws k. read_class (class_at classes k) (w k) ws) waits (range_with_len m n))
-  read_all b zero m w out waits h wait = grind arith
-  read_all b (suc n) m w out waits h wait = grind (
-    arith,
-    IsAt-read classes levels b m out waits (w m) h,
-    wait,
-    read_all b n (m + 1) w out,
-  )
-
-  -- a run came, and its characters were read
-  pub came : (a b f l s : ℕ) (out : List (List ℕ)) (waits now : List (Option ℕ)) → IsLevelRun classes levels a b → IsFirst classes a b f → IsLast classes a b l → HasCome classes levels a b f (rest_of f b) out waits (waiting_for (class_at classes f) waits)
-      → s ≡ index_in (waiting_for (class_at classes f) waits) out → now ≡ read_range classes (l + 1) s a b waits → IsAt classes levels b b (with_places (waiting_for (class_at classes f) waits) (f ∷ rest_of f b) out) now
-  came a b f l s out waits now range first last c at read = grind (arith, all)
-    where
-      more : List (List ℕ)
-      more = with_places (waiting_for (class_at classes f) waits) (f ∷ rest_of f b) out
-
-      within : s < length more
-      within = subst (λ (x : ℕ). x < length more) (sym at) c.within
-
-      same_last : (k : ℕ) → eqb (k + 1) (l + 1) ≡ eqb k (last_or f (rest_of f b))
-      same_last k = grind (arith, last_is a b f l range first last)
-
-      waits_by : (k : ℕ) → a ≤ k → k < a + (b - a) → is_initiator_at classes k ≡ true → IsWaiting classes levels more k (cond (eqb (k + 1) (l + 1)) (Some s) None)
-      waits_by k from below opens =
-          simp (same_last k) (IsWaiting-in_run classes levels a b f k s (rest_of f b) more range (front_is a b f range first) within (λ x member. rw at (c.holds x member)) from (omega (arith, range.not_empty)) (is_kept-initiator (class_at classes k) opens))
-
-      all : IsAt classes levels b (a + (b - a)) more (read_range classes (l + 1) s a b waits)
-      all = read_all b (b - a) a (λ m. cond (eqb (m + 1) (l + 1)) (Some s) None) more waits c.state waits_by

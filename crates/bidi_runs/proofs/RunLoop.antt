@@ -1,6 +1,7 @@
 -- The loop over the level runs of a text: the run that comes, what has been joined before it, and what then.
-use Rattle.bidi_base.proofs.Common.{◌≡◌, ℕ, ◌+◌, ◌-◌, ◌<◌, ◌≤◌, Bool, true, false, cond, eqb, max, List, [], ◌∷◌, ◌++◌, length, map, get_or, take, Option, unwrap_or, sym, ap, subst, ◌∙◌, arith, length-append, rules, common_steps, filter, IfSome, All, list_any, Range, both_ways, length-map, map-append, get_or-map, get_or_default, get_or_past, nil_from_length, take_more, All-weaker, All-nil, All-cons, flat_map-map, list_any_at, IsPermutation-refl, map-map, is_initiator, direction_of, class_at, is_initiator_at, is_kept_at, level_at, has_places, sequences, run_starts, waiting_for, place, text_len, per_unit, per_char, is_per_char, is_boundary, IsLine, bounds, kept_in_runs, level_run_ranges, AreLines}
+use Rattle.bidi_base.proofs.Common.{◌≡◌, ℕ, ◌+◌, ◌-◌, ◌<◌, ◌≤◌, Bool, true, false, cond, eqb, max, List, [], ◌∷◌, ◌++◌, length, map, get_or, take, Option, refl, unwrap_or, sym, ap, subst, ◌∙◌, arith, length-append, rules, common_steps, filter, IfSome, All, list_any, Range, both_ways, length-map, map-append, get_or-map, get_or_default, get_or_past, nil_from_length, take_more, All-weaker, All-nil, All-cons, flat_map-map, list_any_at, IsPermutation-refl, map-map, is_initiator, direction_of, class_at, is_initiator_at, is_kept_at, level_at, is_l_or_r, Some, None, IsTrue, lt-ltb, le-leb, suc, zero, sequences, run_starts, waiting_for, place, text_len, per_unit, per_char, is_per_char, is_boundary, IsLine, bounds, kept_in_runs, level_run_ranges, AreLines}
 use Rattle.std.specs.Prelude.{flat_map, IsPermutation}
+use Rattle.bidi_base.specs.Units.{is_run_sequence}
 use Rattle.bidi_base.specs.declared.char_data.BidiClass.{BidiClass}
 use Rattle.bidi_base.specs.declared.char_data.BidiClass.TheVariants.{L}
 use Rattle.bidi_base.proofs.TextLemmas.{HasUnits}
@@ -9,13 +10,17 @@ use Rattle.bidi_base.proofs.PerUnit.{length-per_char}
 use Rattle.bidi_text.proofs.PerCharTests.{class_eq, class_test, level_eq, level_test}
 use Rattle.bidi_base.proofs.UnitsLemmas.{per_unit-from_is_per_char, length-from_is_per_char}
 use Rattle.bidi_base.proofs.ChainLemmas.{filter_range-none}
-use Rattle.bidi_runs.specs.declared.prepare.sequence.IsolatingRunSequence.{IsolatingRunSequence}
-use Rattle.bidi_runs.specs.Joining.{JoinedRuns, IsKeptEnd, characters_of, level_after_run, with_run, read_range, read_units}
-use Rattle.bidi_runs.specs.RunSequence.{joined, run_bounds, sequences_in}
+use Rattle.bidi_runs.specs.declared.prepare.links.RunLinks.{RunLinks}
+use Rattle.bidi_runs.specs.declared.prepare.links.RunSides.{RunSides}
+use Rattle.bidi_runs.specs.Joining.{JoinedRuns, IsKeptEnd, level_after_run, read_range, read_units}
+use Rattle.bidi_runs.specs.Links.{with_link, with_sides, next_run, begins, sequence_at, linked_sequences, sequences_of, AreLinked}
 use Rattle.bidi_runs.proofs.LevelRunLemmas.{kept_in_run, length-level_run_ranges}
 use Rattle.bidi_runs.proofs.RunUnits.{cuts, NoneKept, IsRunAt, run_at, unit_run, cuts-last, level_of_unit, class_of_unit, IsLastUnit, none_kept, last_unit}
 use Rattle.bidi_runs.proofs.RunJoining.{IsFirst, first_of, level_beyond}
-use Rattle.bidi_runs.proofs.RunJoined.{IsBefore, IsJoined, IsJoined-start, g-fits, IsJoined-more, IsJoined-sequences, IsAllRemoved, all_removed, sequences-none, run_starts-removed, read_range-quiet}
+use Rattle.bidi_runs.proofs.LinkChains.{linked-sequences, linked-runs, linked-lines, linked-AreLinked}
+use Rattle.bidi_runs.proofs.LinkPass.{IsLinkedTo, IsLinkedTo-start, IsLinkedTo-more, waiting-fits}
+use Rattle.bidi_runs.proofs.RunMembers.{count}
+use Rattle.bidi_runs.proofs.RunRemoved.{IsAllRemoved, all_removed, sequences-none, run_starts-removed, read_range-quiet}
 
 -- classes and levels of a text, one entry a unit, and its level runs
 pub record AreRunsOf (len_of : ℕ → ℕ) (chars : List ℕ) (units : List BidiClass) (unit_levels : List ℕ) (runs : List (Range ℕ)) : Type 0 where
@@ -36,15 +41,35 @@ abbrev pub cut : (ℕ → ℕ) → List ℕ → List BidiClass → List ℕ → 
 cut len_of chars units unit_levels n = get_or (cuts (per_char L len_of chars units) (per_char 0 len_of chars unit_levels)) n 0
 
 -- these runs have come; where no class opens an isolate nothing waits
-pub record AreJoinedSoFar (len_of : ℕ → ℕ) (chars : List ℕ) (units : List BidiClass) (unit_levels : List ℕ) (paragraph : ℕ) (reads : Bool) (came : List (Range ℕ)) (out : List IsolatingRunSequence) (waits : List (Option ℕ)) (before : ℕ) : Type 0 where
-  pub so_far : IsJoined len_of chars (per_char L len_of chars units) (per_char 0 len_of chars unit_levels) paragraph (cut len_of chars units unit_levels (length came)) (map bounds came) (map joined out) waits before
-  pub quiet : reads ≡ false → waits ≡ []
+pub record AreLinkedSoFar (len_of : ℕ → ℕ) (chars : List ℕ) (units : List BidiClass) (unit_levels : List ℕ) (paragraph : ℕ) (reads : Bool) (came : List (Range ℕ)) (links : RunLinks) (before : ℕ) : Type 0 where
+  pub so_far : IsLinkedTo (per_char L len_of chars units) (per_char 0 len_of chars unit_levels) paragraph (length came) links.next.items links.sides.items links.waiting.items before
+  pub quiet : reads ≡ false → links.waiting.items ≡ []
 
 -- what holds when all runs have come
-pub record AreJoined (len_of : ℕ → ℕ) (chars : List ℕ) (units : List BidiClass) (unit_levels : List ℕ) (paragraph : ℕ) (runs : List (Range ℕ)) (out : List IsolatingRunSequence) : Type 0 where
-  pub in_order : sequences_in len_of chars (per_char L len_of chars units) out ≡ sequences paragraph (per_char L len_of chars units) (per_char 0 len_of chars unit_levels)
-  pub shares : IsPermutation (map bounds runs) (flat_map run_bounds out)
-  pub lines : All (λ s. AreLines len_of chars (run_bounds s)) out
+pub record AreSequences (len_of : ℕ → ℕ) (chars : List ℕ) (units : List BidiClass) (unit_levels : List ℕ) (paragraph : ℕ) (runs : List (Range ℕ)) (links : RunLinks) : Type 0 where
+  pub in_order : sequences_of len_of chars (per_char L len_of chars units) (linked_sequences links (map bounds runs)) ≡ sequences paragraph (per_char L len_of chars units) (per_char 0 len_of chars unit_levels)
+  pub shares : IsPermutation (map bounds runs) (flat_map (λ (s : JoinedRuns). s.runs) (linked_sequences links (map bounds runs)))
+  pub lines : All (λ (s : JoinedRuns). AreLines len_of chars s.runs) (linked_sequences links (map bounds runs))
+  pub linked : AreLinked links (map bounds runs)
+
+-- the only run of a paragraph is its only sequence
+one_sequence : (links : RunLinks) (r : ℕ × ℕ) (side : BidiClass) → links.next.items ≡ 0 ∷ [] → links.sides.items ≡ record { sos = Some side; eos = side } ∷ [] → linked_sequences links (r ∷ []) ≡ record { runs = r ∷ []; sos = side; eos = side } ∷ []
+unfolding linked_sequences
+one_sequence links r side e f = simp (e, f)
+
+one_linked : (links : RunLinks) (r : ℕ × ℕ) (side : BidiClass) → links.next.items ≡ 0 ∷ [] → links.sides.items ≡ record { sos = Some side; eos = side } ∷ [] → r.0 < r.1 → is_l_or_r side ≡ true → AreLinked links (r ∷ [])
+one_linked links r side e f some known = record { all_sides = ap length f; all_next = ap length e; later = later; well_formed = well_formed }
+  where
+    no_next : (k : ℕ) → next_run (0 ∷ []) k ≡ None
+    no_next zero = refl
+    no_next (suc k) = refl
+
+    later : (k q : ℕ) → next_run links.next.items k ≡ Some q → (k < q) × (q < 1)
+    later k q h = absurd (cc (ap (λ next. next_run next k) e, no_next k, h))
+
+    well_formed : (k : ℕ) → k < 1 → begins links k ≡ true → IsTrue (is_run_sequence (sequence_at links (r ∷ []) k).runs (sequence_at links (r ∷ []) k).sos (sequence_at links (r ∷ []) k).eos)
+    well_formed zero below here = simp (e, f, lt-ltb r.0 r.1 some, le-leb 0 r.0 (omega arith), known)
+    well_formed (suc k) below here = absurd (omega arith)
 
 module _ (len_of : ℕ → ℕ) (h : HasUnits len_of) (chars : List ℕ) (units : List BidiClass) (unit_levels : List ℕ) (runs : List (Range ℕ)) (given : AreRunsOf len_of chars units unit_levels runs) where
   abbrev classes : List BidiClass
@@ -79,8 +104,8 @@ module _ (len_of : ℕ → ℕ) (h : HasUnits len_of) (chars : List ℕ) (units 
     pub inside_levels : run.end ≤ length unit_levels
     pub line : IsLine len_of chars run.start run.end
 
-  pub next_run : (n : ℕ) (run : Range ℕ) → n < length runs → run ≡ get_or runs n run → IsNext n run
-  next_run n run within is =
+  pub next_level_run : (n : ℕ) (run : Range ℕ) → n < length runs → run ≡ get_or runs n run → IsNext n run
+  next_level_run n run within is =
       let here : get_or (map bounds runs) n (0, 0) ≡ bounds run = get_or-map bounds runs n run (0, 0) within ∙ ap bounds (sym is) in
       let at : IsRunAt len_of h chars classes levels long n (cut len_of chars units unit_levels n) (cut len_of chars units unit_levels (n + 1)) (bounds run) =
       simp here at (run_at len_of h chars classes levels long (map bounds runs) n given.runs_are (omega (arith, length-map runs bounds))) in
@@ -95,7 +120,7 @@ module _ (len_of : ℕ → ℕ) (h : HasUnits len_of) (chars : List ℕ) (units 
     pub more : take (k + 1) runs ≡ take k runs ++ run ∷ []
 
   pub comes : (k : ℕ) (d : Range ℕ) → k < length runs → Comes k (get_or runs k d)
-  comes k d low = search (rules, next_run, take_more)
+  comes k d low = search (rules, next_level_run, take_more)
 
   -- the last character that X9 keeps in it
   pub record IsLastKept (n kept_end : ℕ) : Type 0 where
@@ -114,25 +139,24 @@ module _ (len_of : ℕ → ℕ) (h : HasUnits len_of) (chars : List ℕ) (units 
         within = omega (arith, w.1.is_last.below, next.at.range.within, long);
       }
 
-  module _ (paragraph : ℕ) where
-    pub AreJoinedSoFar-start : (reads : Bool) (out : List IsolatingRunSequence) (waits : List (Option ℕ)) → out ≡ [] → waits ≡ [] → AreJoinedSoFar len_of chars units unit_levels paragraph reads [] out waits paragraph
-    AreJoinedSoFar-start reads out waits empty none =
-        grind (arith, cuts-first classes levels, IsJoined-start len_of h chars classes levels paragraph long, long)
+  counted : length runs ≡ count (per_char L len_of chars units) (per_char 0 len_of chars unit_levels)
+  counted = sym (length-map runs bounds) ∙ ap length given.runs_are ∙ length-level_run_ranges len_of chars classes levels
 
-    -- the sequences so far end before the run
-    pub earlier : (reads : Bool) (came : List (Range ℕ)) (run : Range ℕ) (out : List IsolatingRunSequence) (waits : List (Option ℕ)) (before : ℕ) → AreJoinedSoFar len_of chars units unit_levels paragraph reads came out waits before → IsNext (length came) run → All (λ s. All (λ r. r.1 ≤ run.start) (run_bounds s)) out
-    earlier reads came run out waits before state next k d within =
-        All-weaker (IsBefore len_of chars (place len_of chars (cut len_of chars units unit_levels (length came)))) (λ (r : ℕ × ℕ). r.1 ≤ run.start) (λ r w. subst (λ (u : ℕ). r.1 ≤ u) (sym next.at.start) w.to) (run_bounds (get_or out k d))
-        (subst (λ (j : JoinedRuns). All (IsBefore len_of chars (place len_of chars (cut len_of chars units unit_levels (length came)))) j.runs) (get_or-map joined out k d (joined d) within) (state.so_far.lines k (joined d) (omega (arith, within, length-map out joined))))
+  module _ (paragraph : ℕ) where
+    pub AreLinkedSoFar-start : (reads : Bool) (links : RunLinks) → links.next.items ≡ [] → links.sides.items ≡ [] → links.waiting.items ≡ [] → AreLinkedSoFar len_of chars units unit_levels paragraph reads [] links paragraph
+    AreLinkedSoFar-start reads links next sides waiting = record { so_far = rw (next, sides, waiting) (IsLinkedTo-start classes levels paragraph); quiet = λ _. waiting }
 
     -- a run with a kept character comes
-    module _ (reads : Bool) (came : List (Range ℕ)) (run : Range ℕ) (out : List IsolatingRunSequence) (waits : List (Option ℕ)) (before kept_end : ℕ) (g : Option ℕ) (state : AreJoinedSoFar len_of chars units unit_levels paragraph reads came out waits before) (next : IsNext (length came) run)
-        (e : IsKeptEnd units run.start run.end kept_end) (some : ¬ (kept_end ≡ run.start)) (g_is : g ≡ waiting_for (class_at units run.start) waits) where
+    module _ (reads : Bool) (came : List (Range ℕ)) (run : Range ℕ) (links : RunLinks) (before kept_end : ℕ) (g : Option ℕ) (state : AreLinkedSoFar len_of chars units unit_levels paragraph reads came links before) (next : IsNext (length came) run)
+        (more_runs : length came < length runs) (e : IsKeptEnd units run.start run.end kept_end) (some : ¬ (kept_end ≡ run.start)) (g_is : g ≡ waiting_for (class_at units run.start) links.waiting.items) where
       abbrev a : ℕ
       a = cut len_of chars units unit_levels (length came)
 
       abbrev b : ℕ
       b = cut len_of chars units unit_levels (length came + 1)
+
+      within : length came < count (per_char L len_of chars units) (per_char 0 len_of chars unit_levels)
+      within = omega (arith, more_runs, counted)
 
       last : IsLastKept (length came) kept_end
       last = last_kept (length came) run kept_end next e some
@@ -140,17 +164,15 @@ module _ (len_of : ℕ → ℕ) (h : HasUnits len_of) (chars : List ℕ) (units 
       first : (f : ℕ) × IsFirst (per_char L len_of chars units) (cut len_of chars units unit_levels (length came)) (cut len_of chars units unit_levels (length came + 1)) f
       first = first_of (per_char L len_of chars units) (cut len_of chars units unit_levels (length came)) (cut len_of chars units unit_levels (length came + 1)) last.index last.unit.is_last
 
-      g_at : g ≡ waiting_for (class_at (per_char L len_of chars units) (cut len_of chars units unit_levels (length came))) waits
+      g_at : g ≡ waiting_for (class_at (per_char L len_of chars units) (cut len_of chars units unit_levels (length came))) links.waiting.items
       g_at = simp (g_is, next.at.start, class_of_unit len_of h chars classes levels long units unit_levels same units_are levels_are a (omega (arith, next.at.range.not_empty, next.at.range.within, long)))
 
-      -- the sequence that waits is there
-      pub waiting_fits : IfSome g (λ s. s < length out)
-      waiting_fits =
-          simp (← length-map out joined)
-          (g-fits len_of h chars classes levels paragraph long (cut len_of chars units unit_levels (length came)) (cut len_of chars units unit_levels (length came + 1)) last.index (bounds run) (map bounds came) (map joined out) waits before g state.so_far next.at.range next.at.start next.at.end last.unit.is_last first.0 first.1 g_at)
+      -- the run that waits is there
+      pub waiting_fits : IfSome g (λ r. r < length links.next.items)
+      waiting_fits = waiting-fits classes levels paragraph (length came) links.next.items links.sides.items links.waiting.items before g first.0 last.index within state.so_far first.1 last.unit.is_last g_at
 
       module _ (level after : ℕ) (sos eos : BidiClass) (level_is : level ≡ get_or unit_levels (kept_end - 1) level) (after_is : after ≡ level_after_run paragraph (class_at units (kept_end - 1)) unit_levels run.end) (sos_is : sos ≡ direction_of (max level before))
-          (eos_is : eos ≡ direction_of (max level after)) (more : List IsolatingRunSequence) (grown : map joined more ≡ with_run g (bounds run) sos eos (map joined out)) where
+          (eos_is : eos ≡ direction_of (max level after)) (more : RunLinks) (next_is : more.next.items ≡ with_link g links.next.items) (sides_are : more.sides.items ≡ with_sides g sos eos links.sides.items) where
         -- past the run stands the next one, or nothing
         past_end : cond (eqb run.end (length unit_levels)) paragraph (level_at unit_levels run.end) ≡ cond (eqb (cut len_of chars units unit_levels (length came + 1)) (length (per_char L len_of chars units))) paragraph (level_at (per_char 0 len_of chars unit_levels) (cut len_of chars units unit_levels (length came + 1)))
         past_end =
@@ -162,55 +184,54 @@ module _ (len_of : ℕ → ℕ) (h : HasUnits len_of) (chars : List ℕ) (units 
         level_at_last : level ≡ level_at (per_char 0 len_of chars unit_levels) last.index
         level_at_last = level_is ∙ get_or_default unit_levels (kept_end - 1) level 0 (omega (arith, next.some, next.inside_levels, e.to)) ∙ last.unit.level
 
-        joined_with : (now : List (Option ℕ)) → now ≡ read_range (per_char L len_of chars units) (last.index + 1) (unwrap_or g (length out)) (cut len_of chars units unit_levels (length came)) (cut len_of chars units unit_levels (length came + 1)) waits → (reads ≡ false → now ≡ []) → AreJoinedSoFar len_of chars units unit_levels paragraph reads (came ++ run ∷ []) more now level
-        joined_with now read quiet =
-            record {
-              so_far = simp (length-append came (run ∷ []), map-append bounds came (run ∷ []))
-                  (IsJoined-more len_of h chars classes levels paragraph long a b last.index (bounds run) (map bounds came) (map joined out) waits before g state.so_far next.at.range next.at.start next.at.end last.unit.is_last first.0 first.1 g_at
-                  level after sos eos level_at_last after_at sos_is eos_is (map joined more) (unwrap_or g (length out)) now grown (grind (arith, length-map out joined)) read);
-              quiet = quiet;
-            }
+        linked_with : more.waiting.items ≡ read_range (per_char L len_of chars units) (last.index + 1) (length came) (cut len_of chars units unit_levels (length came)) (cut len_of chars units unit_levels (length came + 1)) links.waiting.items → (reads ≡ false → more.waiting.items ≡ [])
+            → AreLinkedSoFar len_of chars units unit_levels paragraph reads (came ++ run ∷ []) more level
+        linked_with read quiet = record {
+          so_far = rw (length-append came (run ∷ []), next_is, sides_are)
+              (IsLinkedTo-more classes levels paragraph (length came) links.next.items links.sides.items links.waiting.items before g first.0 last.index within state.so_far first.1 last.unit.is_last g_at level after sos eos level_at_last after_at sos_is eos_is more.waiting.items read);
+          quiet = quiet;
+        }
 
         -- its characters were read
-        pub AreJoinedSoFar-read : (now : List (Option ℕ)) → reads ≡ true → now ≡ read_units len_of chars units kept_end (unwrap_or g (length out)) run.start run.end waits → AreJoinedSoFar len_of chars units unit_levels paragraph reads (came ++ run ∷ []) more now level
-        AreJoinedSoFar-read now on read =
+        pub AreLinkedSoFar-read : reads ≡ true → (index : ℕ) → index ≡ length came → more.waiting.items ≡ read_units len_of chars units kept_end index run.start run.end links.waiting.items → AreLinkedSoFar len_of chars units unit_levels paragraph reads (came ++ run ∷ []) more level
+        AreLinkedSoFar-read on index is read =
             let last_at = char_index-place len_of chars h (last.index + 1) last.within in
             let a_at = char_index-place len_of chars h a (omega (arith, next.at.range.not_empty, next.at.range.within, long)) in
             let b_at = char_index-place len_of chars h b (omega (arith, next.at.range.within, long)) in
-            joined_with now (simp (read, last.unit.at_end, next.at.start, next.at.end, last_at, a_at, b_at)) (λ off. absurd (both_ways reads off on))
+            linked_with (read ∙ simp (is, last.unit.at_end, next.at.start, next.at.end, last_at, a_at, b_at)) (λ off. absurd (both_ways reads off on))
 
         -- none of its characters opens an isolate
-        pub AreJoinedSoFar-unread : reads ≡ false → (list_any is_initiator units ≡ true → reads ≡ true) → AreJoinedSoFar len_of chars units unit_levels paragraph reads (came ++ run ∷ []) more waits level
-        AreJoinedSoFar-unread off any =
-            joined_with waits (simp (state.quiet off, read_range-quiet classes (last.index + 1) (unwrap_or g (length out)) a b none)) (λ _. state.quiet off)
+        pub AreLinkedSoFar-unread : reads ≡ false → (list_any is_initiator units ≡ true → reads ≡ true) → more.waiting.items ≡ links.waiting.items → AreLinkedSoFar len_of chars units unit_levels paragraph reads (came ++ run ∷ []) more level
+        AreLinkedSoFar-unread off any kept =
+            linked_with (kept ∙ simp (state.quiet off, read_range-quiet classes (last.index + 1) (length came) a b none)) (λ _. kept ∙ state.quiet off)
           where
             none : (m : ℕ) → is_initiator_at (per_char L len_of chars units) m ≡ false
             none m =
                 grind (arith, any, units_long, long, class_of_unit len_of h chars classes levels long units unit_levels same units_are levels_are m, place-lt len_of chars h m (length chars), place-end len_of chars (length chars), list_any_at is_initiator units (place len_of chars m) L, get_or_past classes m L)
 
-    pub AreJoined-end : (reads : Bool) (came : List (Range ℕ)) (out : List IsolatingRunSequence) (waits : List (Option ℕ)) (before : ℕ) → came ≡ runs → AreJoinedSoFar len_of chars units unit_levels paragraph reads came out waits before → AreJoined len_of chars units unit_levels paragraph runs out
-    AreJoined-end reads came out waits before all state =
-        let at_end : cut len_of chars units unit_levels (length came) ≡ length classes = cuts-last len_of h chars classes levels long (map bounds runs) (length came) given.runs_are (ap length all ∙ sym (length-map runs bounds)) in
+    pub AreSequences-end : (reads : Bool) (came : List (Range ℕ)) (links : RunLinks) (before : ℕ) → came ≡ runs → AreLinkedSoFar len_of chars units unit_levels paragraph reads came links before → AreSequences len_of chars units unit_levels paragraph runs links
+    AreSequences-end reads came links before all state =
+        let w : IsLinkedTo (per_char L len_of chars units) (per_char 0 len_of chars unit_levels) paragraph (count (per_char L len_of chars units) (per_char 0 len_of chars unit_levels)) links.next.items links.sides.items links.waiting.items before =
+        subst (λ (n : ℕ). IsLinkedTo classes levels paragraph n links.next.items links.sides.items links.waiting.items before) (ap length all ∙ counted) state.so_far in
         record {
-          in_order = ap (filter has_places) (sym (map-map (characters_of len_of chars classes) joined out))
-              ∙ IsJoined-sequences len_of h chars classes levels paragraph long (cut len_of chars units unit_levels (length came)) (map bounds came) (map joined out) waits before at_end state.so_far;
-          shares = simp (← all, ← flat_map-map (λ (j : JoinedRuns). j.runs) joined out) state.so_far.shares;
-          lines = λ k d within.
-              All-weaker (IsBefore len_of chars (place len_of chars (cut len_of chars units unit_levels (length came)))) (λ (r : ℕ × ℕ). IsLine len_of chars r.0 r.1) (λ r w. w.line) (run_bounds (get_or out k d))
-              (subst (λ (j : JoinedRuns). All (IsBefore len_of chars (place len_of chars (cut len_of chars units unit_levels (length came)))) j.runs) (get_or-map joined out k d (joined d) within) (state.so_far.lines k (joined d) (omega (arith, within, length-map out joined))));
+          in_order = linked-sequences classes levels links w.wholes w.links paragraph w.sides_are len_of h chars long (map bounds runs) given.runs_are;
+          shares = linked-runs classes levels links w.wholes w.links paragraph w.sides_are len_of h chars long (map bounds runs) given.runs_are;
+          lines = linked-lines classes levels links w.wholes w.links paragraph w.sides_are len_of h chars long (map bounds runs) given.runs_are;
+          linked = linked-AreLinked classes levels links w.wholes w.links paragraph w.sides_are len_of h chars long (map bounds runs) given.runs_are;
         }
 
     -- X9 removes the whole paragraph
-    pub AreJoined-removed : (reads : Bool) (came : List (Range ℕ)) (run : Range ℕ) (out : List IsolatingRunSequence) (waits : List (Option ℕ)) (before kept_end : ℕ) (s : IsolatingRunSequence) (sos eos : BidiClass) (new : List IsolatingRunSequence)
-        → AreJoinedSoFar len_of chars units unit_levels paragraph reads came out waits before → IsNext (length came) run → length came < length runs → run ≡ get_or runs (length came) run → IsKeptEnd units run.start run.end kept_end → kept_end ≡ run.start
-        → joined s ≡ record { runs = bounds run ∷ []; sos = sos; eos = eos } → new ≡ out ++ s ∷ [] → AreJoined len_of chars units unit_levels paragraph runs new
-    AreJoined-removed reads came run out waits before kept_end s sos eos new state next within is e none one grown = record {
-      in_order = simp (alone, sequences-none paragraph classes levels gone.none) (ap (λ (j : JoinedRuns). filter has_places (characters_of len_of chars classes j ∷ [])) one ∙ simp no_places);
-      shares = simp (alone, own, one_run) (IsPermutation-refl (bounds run ∷ []));
-      lines = simp alone
-          (All-cons (λ (q : IsolatingRunSequence). AreLines len_of chars (run_bounds q)) s []
-          (simp own (All-cons (λ (r : ℕ × ℕ). IsLine len_of chars r.0 r.1) (bounds run) [] next.line (All-nil (λ (r : ℕ × ℕ). IsLine len_of chars r.0 r.1))))
-          (All-nil (λ (q : IsolatingRunSequence). AreLines len_of chars (run_bounds q))));
+    pub AreSequences-removed : (reads : Bool) (came : List (Range ℕ)) (run : Range ℕ) (links : RunLinks) (before kept_end : ℕ) (side : BidiClass) (new : RunLinks)
+        → AreLinkedSoFar len_of chars units unit_levels paragraph reads came links before → IsNext (length came) run → length came < length runs → run ≡ get_or runs (length came) run → IsKeptEnd units run.start run.end kept_end → kept_end ≡ run.start
+        → is_l_or_r side ≡ true → new.next.items ≡ with_link None links.next.items → new.sides.items ≡ with_sides None side side links.sides.items → AreSequences len_of chars units unit_levels paragraph runs new
+    AreSequences-removed reads came run links before kept_end side new state next within is e none known next_is sides_are = record {
+      in_order = simp (runs_one, one_is, sequences-none paragraph classes levels gone.none, no_places);
+      shares = simp (runs_one, one_is) (IsPermutation-refl (bounds run ∷ []));
+      lines = simp (runs_one, one_is)
+          (All-cons (λ (s : JoinedRuns). AreLines len_of chars s.runs) (record { runs = bounds run ∷ []; sos = side; eos = side }) []
+          (All-cons (λ (r : ℕ × ℕ). IsLine len_of chars r.0 r.1) (bounds run) [] next.line (All-nil (λ (r : ℕ × ℕ). IsLine len_of chars r.0 r.1)))
+          (All-nil (λ (s : JoinedRuns). AreLines len_of chars s.runs)));
+      linked = rw runs_one (one_linked new (bounds run) side new_next new_sides next.some known);
     }
       where
         fits : cut len_of chars units unit_levels (length came + 1) ≤ length chars
@@ -222,11 +243,17 @@ module _ (len_of : ℕ → ℕ) (h : HasUnits len_of) (chars : List ℕ) (units 
         gone : IsAllRemoved (per_char L len_of chars units) (cut len_of chars units unit_levels (length came)) (cut len_of chars units unit_levels (length came + 1))
         gone = all_removed classes levels paragraph (cut len_of chars units unit_levels (length came)) (cut len_of chars units unit_levels (length came + 1)) next.at.range none_here
 
-        alone : new ≡ s ∷ []
-        alone = simp (grown, nil_from_length out (sym (length-map out joined) ∙ ap length (state.so_far.fresh gone.front).0))
+        none_came : length came ≡ 0
+        none_came = (state.so_far.fresh gone.front).0
 
-        own : run_bounds s ≡ bounds run ∷ []
-        own = ap (λ (j : JoinedRuns). j.runs) one
+        new_next : new.next.items ≡ 0 ∷ []
+        new_next = next_is ∙ ap {B = List ℕ} (λ xs. xs ++ 0 ∷ []) (nil_from_length links.next.items (state.so_far.links.long ∙ none_came))
+
+        new_sides : new.sides.items ≡ record { sos = Some side; eos = side } ∷ []
+        new_sides = sides_are ∙ ap {B = List RunSides} (λ xs. xs ++ record { sos = Some side; eos = side } ∷ []) (nil_from_length links.sides.items (state.so_far.sides_are.long ∙ none_came))
+
+        one_is : linked_sequences new (bounds run ∷ []) ≡ record { runs = bounds run ∷ []; sos = side; eos = side } ∷ []
+        one_is = one_sequence new (bounds run) side new_next new_sides
 
         no_places : kept_in_runs len_of chars (per_char L len_of chars units) (bounds run ∷ []) ≡ []
         no_places =
@@ -238,3 +265,6 @@ module _ (len_of : ℕ → ℕ) (h : HasUnits len_of) (chars : List ℕ) (units 
         one_run =
             let one = run_starts-removed classes levels (omega (arith, next.at.range.not_empty, next.at.range.within)) gone.none in
             one_of runs (length came) run (sym (length-map runs bounds) ∙ ap length given.runs_are ∙ length-level_run_ranges len_of chars classes levels ∙ ap length one) within is
+
+        runs_one : map bounds runs ≡ bounds run ∷ []
+        runs_one = ap (map bounds) one_run

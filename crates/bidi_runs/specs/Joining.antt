@@ -1,5 +1,5 @@
 -- The steps of the pass over units that joins level runs to isolating run sequences.
-use Rattle.std.specs.Prelude.{◌≡◌, ℕ, ◌+◌, ◌-◌, ◌<◌, ◌≤◌, Bool, true, false, ◌||◌, ◌==◌, if◌then◌else◌, List, [], ◌∷◌, ◌++◌, length, get_or, slice_set, Option, Some, None}
+use Rattle.std.specs.Prelude.{◌≡◌, ℕ, ◌+◌, ◌-◌, ◌<◌, ◌≤◌, Bool, true, false, ◌||◌, ◌==◌, if◌then◌else◌, List, [], ◌∷◌, ◌++◌, length, get_or, Option, Some, None}
 use Rattle.std.specs.List.{fold}
 use Rattle.bidi_base.specs.declared.char_data.BidiClass.{BidiClass}
 use Rattle.bidi_base.specs.declared.char_data.BidiClass.TheVariants.{L}
@@ -19,15 +19,6 @@ pub record JoinedRuns : Type 0 where
 -- the characters that X9 keeps in them
 abbrev pub characters_of : (ℕ → ℕ) → List ℕ → List BidiClass → JoinedRuns → RunSequence
 characters_of len_of chars classes j = record { places = kept_in_runs len_of chars classes j.runs; sos = j.sos; eos = j.eos }
-
-abbrev pub no_runs : JoinedRuns
-no_runs = record { runs = []; sos = L; eos = L }
-
--- a run comes to the sequence at s, which now ends with the class `eos`, or begins one
-abbrev pub with_run : Option ℕ → ℕ × ℕ → BidiClass → BidiClass → List JoinedRuns → List JoinedRuns
-with_run None r sos eos out = out ++ record { runs = r ∷ []; sos = sos; eos = eos } ∷ []
-with_run (Some s) r sos eos out =
-    slice_set out s (record (get_or out s no_runs) { runs = (get_or out s no_runs).runs ++ r ∷ []; eos = eos })
 
 -- the end of the last unit from `start` up to `end` whose class X9 keeps, or `start` where there is none
 pub record IsKeptEnd (classes : List BidiClass) (start end kept_end : ℕ) : Type 0 where

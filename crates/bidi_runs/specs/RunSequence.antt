@@ -36,6 +36,9 @@ lent_sos s = s.sos
 abbrev pub lent_eos : LentSequence → BidiClass
 lent_eos s = s.eos
 
+abbrev pub lent_joined : LentSequence → JoinedRuns
+lent_joined s = record { runs = map bounds s.runs.now; sos = s.sos; eos = s.eos }
+
 -- a sequence's runs, with the classes at both ends
 abbrev pub joined : IsolatingRunSequence → JoinedRuns
 joined s = record { runs = run_bounds s; sos = s.sos; eos = s.eos }

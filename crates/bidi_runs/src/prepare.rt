@@ -6,6 +6,7 @@ ghost use Rattle.bidi_base.specs.Classes.{is_removed, is_kept};
 
 mod joining;
 mod lent;
+mod links;
 mod sequence;
 mod steps;
 
@@ -13,6 +14,7 @@ use bidi_base::char_data::BidiClass;
 use bidi_base::classes::is_removed;
 pub use joining::{isolating_run_sequences, join_level_runs};
 pub use lent::LentSequence;
+pub use links::RunLinks;
 pub use sequence::{BackwardsFrom, ForwardsFrom, IsolatingRunSequence};
 use std::ops::Range;
 pub use steps::Steps;

@@ -2,6 +2,8 @@
 #![tactic(auto)]
 
 #[cfg(test)]
+mod by_units;
+#[cfg(test)]
 mod displayed;
 #[cfg(test)]
 mod equality;

@@ -7,6 +7,7 @@ use crate::counted;
 use crate::units::{copied, per_unit};
 use bidi_base::char_data::BidiClass::{self, BN};
 use bidi_base::level::Level;
+use bidi_explicit::by_units;
 use bidi_plain::plain::{PlainSequence, explicit_levels, sequences};
 use bidi_rules::explicit::compute;
 use bidi_rules::prepare::{
@@ -81,6 +82,89 @@ fn prepare(
     Ok((found, sequences))
 }
 
+/// A form of the explicit pass that must find what `explicit::compute` finds.
+#[derive(Clone, Copy)]
+pub enum Pass {
+    /// `explicit::compute_counted`.
+    Counted,
+    /// `by_units::compute` of `bidi_explicit`.
+    ByUnits,
+}
+
+impl Pass {
+    // What messages call the pass.
+    fn name(self) -> &'static str {
+        match self {
+            Pass::Counted => "explicit::compute_counted",
+            Pass::ByUnits => "by_units::compute",
+        }
+    }
+
+    // Returns the level runs that the pass finds, and writes the levels and classes to the slices.
+    fn level_runs(
+        self,
+        alloc: Global,
+        para_level: Level,
+        text: StrText,
+        original_classes: &[BidiClass],
+        levels: &mut [Level],
+        processing_classes: &mut [BidiClass],
+    ) -> Result<LevelRunVec, RowFault>
+        requires explicit { para_level ≤ 125 }
+        requires levels { length levels.old ≡ length original_classes.now }
+        requires processing { processing_classes.old ≡ original_classes.now }
+    {
+        match self {
+            Pass::Counted => counted::level_runs(
+                alloc,
+                para_level,
+                text,
+                original_classes,
+                levels,
+                processing_classes,
+            ),
+            Pass::ByUnits => level_runs_by_units(
+                alloc,
+                para_level,
+                text,
+                original_classes,
+                levels,
+                processing_classes,
+            ),
+        }
+    }
+}
+
+// Returns the level runs that the pass from code unit to code unit finds, and writes the levels and classes
+// to the slices.
+fn level_runs_by_units(
+    alloc: Global,
+    para_level: Level,
+    text: StrText,
+    original_classes: &[BidiClass],
+    levels: &mut [Level],
+    processing_classes: &mut [BidiClass],
+) -> Result<LevelRunVec, RowFault>
+    requires explicit { para_level ≤ 125 }
+    requires levels { length levels.old ≡ length original_classes.now }
+    requires processing { processing_classes.old ≡ original_classes.now }
+{
+    if !is_per_char(text, original_classes) {
+        return Err(RowFault::Line(0, Why::OtherText));
+    }
+    let mut runs = Vec::new(alloc);
+    by_units::compute(
+        alloc,
+        text,
+        para_level,
+        original_classes,
+        levels,
+        processing_classes,
+        &mut runs,
+    )?;
+    Ok(runs)
+}
+
 /// The result of the passes in place on the code units of a text: levels, classes, level runs and sequences.
 #[derive(Drop)]
 pub struct Prepared {
@@ -129,9 +213,11 @@ impl Prepared {
         })
     }
 
-    /// Runs the counted pass on a text, given the class of each character. Finds no sequences.
-    pub fn by_count(
+    /// Runs another form of the explicit pass on a text, given the class of each character. Finds no
+    /// sequences.
+    pub fn by_pass(
         alloc: Global,
+        pass: Pass,
         para_level: Level,
         text: &str,
         classes: &[BidiClass],
@@ -142,7 +228,7 @@ impl Prepared {
         let original = per_unit(alloc, text, classes)?;
         let mut levels = any_levels(alloc, original.len())?;
         let mut classes = Vec::from_slice(alloc, original.as_slice())?;
-        let runs = counted::level_runs(
+        let runs = pass.level_runs(
             alloc,
             para_level,
             text,
@@ -259,28 +345,54 @@ fn check_in_place(
         let came = kept_words(alloc, letters.as_str(), sequences, classes);
         tally.same(row, "prepare::isolating_run_sequences", wanted, came);
     }
-    let by_count = Prepared::by_count(alloc, para_level, letters.as_str(), classes)?;
-    check_counted(alloc, row, tally, &by_count, &found);
-    Ok(())
+    check_passes(
+        alloc,
+        row,
+        tally,
+        para_level,
+        letters.as_str(),
+        classes,
+        &found,
+    )
 }
 
-// Compares the result of the counted pass with that of the pass without a count.
-fn check_counted(
+// Compares the results of the other forms of the explicit pass with that of `explicit::compute`.
+fn check_passes(
     alloc: Global,
     row: &Row<'_>,
     tally: &mut Tally,
-    by_count: &Prepared,
+    para_level: Level,
+    text: &str,
+    classes: &[BidiClass],
+    found: &Prepared,
+) -> Result<(), RowFault>
+    requires { para_level ≤ 125 }
+{
+    for pass in [Pass::Counted, Pass::ByUnits] {
+        let other = Prepared::by_pass(alloc, pass, para_level, text, classes)?;
+        check_pass(alloc, row, tally, pass, &other, found);
+    }
+    Ok(())
+}
+
+// Compares the result of another form of the explicit pass with that of `explicit::compute`.
+fn check_pass(
+    alloc: Global,
+    row: &Row<'_>,
+    tally: &mut Tally,
+    pass: Pass,
+    other: &Prepared,
     found: &Prepared,
 ) {
-    let call = "explicit::compute_counted";
+    let call = pass.name();
     let wanted = level_words(alloc, found.levels.as_slice());
-    let came = level_words(alloc, by_count.levels.as_slice());
+    let came = level_words(alloc, other.levels.as_slice());
     tally.same(row, call, wanted, came);
     let wanted = class_words(alloc, found.classes.as_slice());
-    let came = class_words(alloc, by_count.classes.as_slice());
+    let came = class_words(alloc, other.classes.as_slice());
     tally.same(row, call, wanted, came);
     let wanted = run_words(alloc, found.runs.as_slice());
-    let came = run_words(alloc, by_count.runs.as_slice());
+    let came = run_words(alloc, other.runs.as_slice());
     tally.same(row, call, wanted, came);
 }
 
@@ -386,7 +498,5 @@ fn check_units(
         let found = Prepared::new(alloc, para_level, text, classes, false)?;
         check_prepared(alloc, row, tally, units, &found);
     }
-    let by_count = Prepared::by_count(alloc, para_level, text, classes)?;
-    check_counted(alloc, row, tally, &by_count, &found);
-    Ok(())
+    check_passes(alloc, row, tally, para_level, text, classes, &found)
 }

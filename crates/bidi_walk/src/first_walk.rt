@@ -33,8 +33,9 @@ mod unit_classes;
 
 use ascii_characters::skim;
 use met::Met;
-use other_characters::read_on;
+use other_characters::{read_on, read_one};
 use reading::{Reading, level_of_class};
+use unit_classes::AT_ONCE;
 
 /// The paragraphs that the pass over a text finds. A single paragraph needs no allocation.
 #[derive(PartialEq, Debug, Drop)]
@@ -143,7 +144,7 @@ impl TextReading {
 
 // Writes the classes of the characters from an index on, up to the first one whose class is in `minded`.
 // Returns that one, or `None` at the text's end.
-fn next_minded<D: BidiDataSource, T: TextSource>(
+fn seek_minded<D: BidiDataSource, T: TextSource>(
     data_source: &D,
     text: T,
     classes: &mut [BidiClass],
@@ -168,6 +169,34 @@ fn next_minded<D: BidiDataSource, T: TextSource>(
         }
     }
     None
+}
+
+// Writes the classes of the characters from an index on, up to the first one whose class is in `minded`.
+// Returns that one, or `None` at the text's end. The first character is tried by itself, since controls and
+// separators often stand side by side.
+fn next_minded<D: BidiDataSource, T: TextSource>(
+    data_source: &D,
+    text: T,
+    classes: &mut [BidiClass],
+    from: usize,
+    minded: ClassSet,
+) -> Option<Met>
+    requires sized { length classes.old ≡ text_len T.units (T.characters text) }
+    requires begins { IsTrue (is_boundary_of T.units (T.characters text) from) }
+    ensures { MatchOption result
+        (IsSkimmed (D.source data_source.now) T.units minded (ahead T.units (T.characters text) from) from
+        (text_len T.units (T.characters text)) classes.old classes.new)
+        (λ met. IsMet (D.source data_source.now) T.units minded (ahead T.units (T.characters text) from) from met
+        classes.old classes.new) }
+{
+    if !T::READS_IN_PLACE || classes.len() - from < AT_ONCE {
+        return seek_minded(data_source, text, classes, from, minded);
+    }
+    let mut at = from;
+    if let Some(met) = read_one(data_source, text, classes, &mut at, minded) {
+        return Some(met);
+    }
+    seek_minded(data_source, text, classes, at, minded)
 }
 
 // Whether a line feed that separates paragraphs begins at an index. The index must be a boundary.

@@ -117,10 +117,21 @@ impl StatusStack {
         ensures at_least { steps.old ≤ steps.new }
         ensures at_most { steps.new + entry_count self.new ≤ steps.old + entry_count self.old + 1 }
     {
-        self.close(class, steps);
-        let status = self.top();
-        self.open(class);
-        status
+        match class {
+            BidiClass::PDI => {
+                self.close_isolate(steps);
+                self.top()
+            }
+            BidiClass::PDF => {
+                self.close_embedding();
+                self.top()
+            }
+            _ => {
+                let status = self.top();
+                self.open(class);
+                status
+            }
+        }
     }
 
     /// Returns the status on top of the stack.
@@ -163,21 +174,6 @@ impl StatusStack {
             if !top.is_isolate {
                 self.stack.pop();
             }
-        }
-    }
-
-    // Closes what a character of this class closes.
-    #[tactic(auto, using(crate::proofs::StackLemmas::entry_counts))]
-    fn close<S: Ledger>(&mut self, class: BidiClass, steps: &mut Steps<S>)
-        requires { IsPoppable self.old }
-        ensures state { self.new ≡ closed class self.old }
-        ensures at_least { steps.old ≤ steps.new }
-        ensures at_most { steps.new + entry_count self.new ≤ steps.old + entry_count self.old }
-    {
-        match class {
-            BidiClass::PDI => self.close_isolate(steps),
-            BidiClass::PDF => self.close_embedding(),
-            _ => {}
         }
     }
 

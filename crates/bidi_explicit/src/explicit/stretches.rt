@@ -1,5 +1,7 @@
 //! The explicit pass by stretches. Between two controls the status does not change, so all code units there
 //! get the same level and the same override.
+//!
+//! The pass goes through a stretch from character to character, or from code unit to code unit.
 
 ghost use Rattle.std.specs.Prelude.{◌≡◌, ℕ, ◌+◌, ◌*◌, ◌-◌, ◌<◌, ◌≤◌, false, List, None, Some, length, map, IsTrue, OnOk};
 ghost use Rattle.bidi_base.specs.Places.{class_at};
@@ -9,9 +11,10 @@ ghost use Rattle.bidi_base.specs.Text.{char_index, is_boundary, is_per_char, pla
 ghost use Rattle.bidi_base.specs.Units.{bounds};
 ghost use Rattle.bidi_explicit.specs.ExplicitStretches.{is_control, paragraph_of, run_met, runs_met, IsOverridden, IsReadTo, ReadsOn};
 ghost use Rattle.bidi_explicit.specs.Status.{entry_count, seen};
+ghost use Rattle.bidi_explicit.specs.Stride.{count_to};
 
 use super::status::{StatusEntry, StatusStack};
-use super::{cut_run, own_class, own_level, write_class, write_level};
+use super::{Stride, cut_run, own_class, own_level, units, write_class, write_level};
 use bidi_base::char_data::BidiClass::{self, B, BN, FSI, LRE, LRI, LRO, PDF, PDI, RLE, RLI, RLO};
 use bidi_base::level::Level;
 use bidi_base::search::ClassTest;
@@ -105,6 +108,8 @@ impl OpenRun {
 pub struct Paragraph<'p, T: TextSource> {
     pub text: T,
     pub level: Level,
+    /// How the pass goes through a stretch.
+    pub stride: Stride,
     /// Its stored classes, one for each code unit.
     pub original_classes: &'p [BidiClass],
     ghost low: { level ≤ 125 },
@@ -139,7 +144,7 @@ impl<T: TextSource> Paragraph<'_, T> {
 
     // The first character from `from` on and before `to` whose class passes a test, or else `to`. Counts
     // one step for each character passed over.
-    fn next_passing<C: ClassTest, S: Ledger>(
+    fn next_character<C: ClassTest, S: Ledger>(
         &self,
         test: C,
         from: usize,
@@ -164,7 +169,7 @@ impl<T: TextSource> Paragraph<'_, T> {
 
     // Writes the class of an override to the characters of a stretch without controls, except to those with
     // BN (X6). Counts one step for each character.
-    fn put_override<S: Ledger>(
+    fn put_on_characters<S: Ledger>(
         &self,
         classes: &mut [BidiClass],
         from: usize,
@@ -192,6 +197,74 @@ impl<T: TextSource> Paragraph<'_, T> {
         }
     }
 
+    // The end of the stretch without controls that begins at `from`. Counts one step for each of its
+    // characters or code units.
+    fn stretch_end<S: Ledger>(&self, from: usize, steps: &mut Steps<S>) -> usize
+        requires begins { IsTrue (is_boundary T.units (T.characters self.now.text) from) }
+        requires inside { from < length self.now.original_classes.now }
+        requires plain { is_control (class_at self.now.original_classes.now from) ≡ false }
+        ensures first { IsFirst is_control self.now.original_classes.now from (length self.now.original_classes.now) result }
+        ensures begins { IsTrue (is_boundary T.units (T.characters self.now.text) result) }
+        ensures steps { steps.new + count_to self.now.stride T.units (T.characters self.now.text) from
+            ≡ steps.old + count_to self.now.stride T.units (T.characters self.now.text) result }
+    {
+        let classes = self.original_classes;
+        match self.stride {
+            Stride::CodeUnit => units::next_after(Control, classes, from, classes.len(), steps),
+            Stride::Character => self.next_character(Control, from, classes.len(), steps),
+        }
+    }
+
+    // The first character from `from` on and before `to` whose class passes a test, or else `to`. Counts
+    // one step for each character or code unit passed over.
+    fn next_passing<C: ClassTest, S: Ledger>(
+        &self,
+        test: C,
+        from: usize,
+        to: usize,
+        steps: &mut Steps<S>,
+    ) -> usize
+        requires begins { IsTrue (is_boundary T.units (T.characters self.now.text) from) }
+        requires ends { IsTrue (is_boundary T.units (T.characters self.now.text) to) }
+        requires ordered { from ≤ to }
+        requires within { to ≤ length self.now.original_classes.now }
+        ensures first { IsFirst (C.test test) self.now.original_classes.now from to result }
+        ensures begins { IsTrue (is_boundary T.units (T.characters self.now.text) result) }
+        ensures steps { steps.new + count_to self.now.stride T.units (T.characters self.now.text) from
+            ≡ steps.old + count_to self.now.stride T.units (T.characters self.now.text) result }
+    {
+        match self.stride {
+            Stride::CodeUnit => units::next_passing(test, self.original_classes, from, to, steps),
+            Stride::Character => self.next_character(test, from, to, steps),
+        }
+    }
+
+    // Writes the class of an override to the characters of a stretch without controls, except to those with
+    // BN (X6). Counts one step for each character or code unit.
+    fn put_override<S: Ledger>(
+        &self,
+        classes: &mut [BidiClass],
+        from: usize,
+        to: usize,
+        put: BidiClass,
+        steps: &mut Steps<S>,
+    )
+        requires classes { length classes.old ≡ length self.now.original_classes.now }
+        requires begins { IsTrue (is_boundary T.units (T.characters self.now.text) from) }
+        requires ends { IsTrue (is_boundary T.units (T.characters self.now.text) to) }
+        requires ordered { from ≤ to }
+        requires within { to ≤ length self.now.original_classes.now }
+        requires unread { (u : ℕ) → from ≤ u → class_at classes.old u ≡ class_at self.now.original_classes.now u }
+        ensures put { IsOverridden (Some put) from to classes.old classes.new }
+        ensures steps { steps.new + count_to self.now.stride T.units (T.characters self.now.text) from
+            ≡ steps.old + count_to self.now.stride T.units (T.characters self.now.text) to }
+    {
+        match self.stride {
+            Stride::CodeUnit => units::put_override(classes, from, to, put, steps),
+            Stride::Character => self.put_on_characters(classes, from, to, put, steps),
+        }
+    }
+
     // Writes the classes of a stretch without controls, if it is inside an override.
     fn write_override<S: Ledger>(
         &self,
@@ -211,8 +284,8 @@ impl<T: TextSource> Paragraph<'_, T> {
         ensures at_least { steps.old ≤ steps.new }
         ensures at_most { steps.new
             ≤ steps.old
-            + (char_index T.units (T.characters self.now.text) to
-            - char_index T.units (T.characters self.now.text) from) }
+            + (count_to self.now.stride T.units (T.characters self.now.text) to
+            - count_to self.now.stride T.units (T.characters self.now.text) from) }
     {
         if let Some(put) = override_class {
             self.put_override(classes, from, to, put, steps);
@@ -238,14 +311,14 @@ impl<T: TextSource> Paragraph<'_, T> {
             → ReadsOn (paragraph_of T.units (T.characters self.now.text) self.now.level self.now.original_classes.now)
             from stack levels.old classes.old result stack levels.new classes.new }
         ensures some { from < result.end }
-        ensures more { char_index T.units (T.characters self.now.text) from
-            < char_index T.units (T.characters self.now.text) result.end }
+        ensures more { count_to self.now.stride T.units (T.characters self.now.text) from
+            < count_to self.now.stride T.units (T.characters self.now.text) result.end }
         ensures at_least { steps.old + char_index T.units (T.characters self.now.text) result.end
             ≤ steps.new + char_index T.units (T.characters self.now.text) from }
-        ensures at_most { steps.new + 3 * char_index T.units (T.characters self.now.text) from
-            ≤ steps.old + 3 * char_index T.units (T.characters self.now.text) result.end }
+        ensures at_most { steps.new + 3 * count_to self.now.stride T.units (T.characters self.now.text) from
+            ≤ steps.old + 3 * count_to self.now.stride T.units (T.characters self.now.text) result.end }
     {
-        let end = self.next_passing(Control, from, self.original_classes.len(), steps);
+        let end = self.stretch_end(from, steps);
         write_level(levels, from, end, status.level);
         self.write_override(classes, from, end, status.override_class, steps);
         let first_kept = self.next_passing(Kept, from, end, steps);

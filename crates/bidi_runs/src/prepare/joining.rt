@@ -1,31 +1,32 @@
 //! Joins level runs into isolating run sequences (BD13, X10).
 
-ghost use Rattle.std.specs.Prelude.{◌≡◌, ℕ, ◌<◌, ◌≤◌, max, [], length, map, flat_map, All, IsPermutation, IsTrue, IfSome, OnOk};
+ghost use Rattle.std.specs.Prelude.{◌≡◌, ◌≤◌, max, [], length, map, flat_map, All, IsPermutation, IsTrue, OnOk};
 ghost use Rattle.std.specs.List.{list_any};
 ghost use Rattle.bidi_base.specs.declared.char_data.BidiClass.TheVariants.{L};
-ghost use Rattle.bidi_base.specs.Classes.{is_initiator, is_l_or_r};
+ghost use Rattle.bidi_base.specs.Classes.{is_initiator};
 ghost use Rattle.bidi_base.specs.Explicit.{explicit_levels};
 ghost use Rattle.bidi_base.specs.Levels.{direction_of};
 ghost use Rattle.bidi_base.specs.Sequences.{sequences, HasExplicitLevels};
 ghost use Rattle.bidi_base.specs.Text.{IsLine, is_boundary, is_per_char, per_char};
 ghost use Rattle.bidi_base.specs.Units.{bounds, level_run_ranges, AreLines};
-ghost use Rattle.bidi_runs.specs.Joining.{with_run, level_after_run, IsKeptEnd, read_units};
-ghost use Rattle.bidi_runs.specs.RunSequence.{joined, run_bounds, sequences_in};
+ghost use Rattle.bidi_runs.specs.Joining.{level_after_run, IsKeptEnd, read_units};
+ghost use Rattle.bidi_runs.specs.RunSequence.{run_bounds, sequences_in};
 
 use super::{
-    IsolatingRunSequence, IsolatingRunSequenceVec, LevelRun, LevelRunVec, not_removed_by_x9,
+    IsolatingRunSequence, IsolatingRunSequenceVec, LevelRun, LevelRunVec, RunLinks,
+    not_removed_by_x9,
 };
 use crate::characters::end_of;
 use bidi_base::char_data::BidiClass;
 use bidi_base::classes::is_initiator;
-use bidi_base::isolates::{WaitingSequences, read_class, waiting_for};
+use bidi_base::isolates::{WaitingSequences, read_class};
 use bidi_base::level::Level;
 use bidi_base::search::{ClassTest, first_passing};
 use bidi_text::text::TextSource;
 use std::alloc::{AllocError, Global};
 
 // The end of the last code unit of a run whose class X9 keeps, or the run's start if there is none.
-fn kept_end(classes: &[BidiClass], run: &LevelRun) -> usize
+pub(super) fn kept_end(classes: &[BidiClass], run: &LevelRun) -> usize
     requires ordered { run.now.start ≤ run.now.end }
     requires inside { run.now.end ≤ length classes.now }
     ensures { IsKeptEnd classes.now run.now.start run.now.end result }
@@ -39,7 +40,7 @@ fn kept_end(classes: &[BidiClass], run: &LevelRun) -> usize
 }
 
 // The class at an end of a sequence, between characters of these levels (X10).
-fn side(inner: Level, outer: Level) -> BidiClass
+pub(super) fn side(inner: Level, outer: Level) -> BidiClass
     ensures { result ≡ direction_of (max inner outer) }
 {
     inner.max(outer).bidi_class()
@@ -47,7 +48,12 @@ fn side(inner: Level, outer: Level) -> BidiClass
 
 // The level after a run that ends at `end` and whose last kept character has this class. This is the level
 // of the next run. After an isolate initiator, and at the end of the text, it is the paragraph level.
-fn level_after(para_level: Level, class: BidiClass, levels: &[Level], end: usize) -> Level
+pub(super) fn level_after(
+    para_level: Level,
+    class: BidiClass,
+    levels: &[Level],
+    end: usize,
+) -> Level
     requires { end ≤ length levels.now }
     ensures { result ≡ level_after_run para_level class levels.now end }
 {
@@ -61,7 +67,7 @@ fn level_after(para_level: Level, class: BidiClass, levels: &[Level], end: usize
 // Reads those characters of a run that open or close an isolate, and tracks what is open. The character
 // that ends at `kept_end` is the last that X9 keeps. If it opens an isolate, the sequence at `s` waits for
 // the PDI.
-fn read_run<T: TextSource>(
+pub(super) fn read_run<T: TextSource>(
     waiting: &mut WaitingSequences,
     text: T,
     classes: &[BidiClass],
@@ -103,30 +109,6 @@ impl ClassTest for IsolateControl {
             | (class == BidiClass::FSI)
             | (class == BidiClass::PDI)
     }
-}
-
-// Adds a run to the sequence at `s`, which then ends with the class `eos`. Without `s`, begins a new
-// sequence between the classes `sos` and `eos`.
-fn put_run(
-    alloc: Global,
-    sequences: &mut IsolatingRunSequenceVec,
-    s: Option<usize>,
-    run: LevelRun,
-    sos: BidiClass,
-    eos: BidiClass,
-) -> Result<(), AllocError>
-    requires some { run.start < run.end }
-    requires sos { IsTrue (is_l_or_r sos) }
-    requires eos { IsTrue (is_l_or_r eos) }
-    requires fits { IfSome s (λ s. s < length sequences.old.items) }
-    requires later { All (λ q. All (λ r. r.1 ≤ run.start) (run_bounds q)) sequences.old.items }
-    ensures { OnOk result (map joined sequences.new.items ≡ with_run s (bounds run) sos eos (map joined sequences.old.items)) }
-{
-    match s {
-        Some(s) => sequences[s].join(run, eos)?,
-        None => sequences.push(IsolatingRunSequence::single(alloc, run, sos, eos)?)?,
-    }
-    Ok(())
 }
 
 /// Writes the isolating run sequences of a paragraph to `out`, in the order of their first characters
@@ -209,27 +191,20 @@ pub fn join_level_runs<T: TextSource>(
     ensures runs { OnOk result (IsPermutation (map bounds runs.now) (flat_map run_bounds out.new.items)) }
     ensures fits { OnOk result (All (λ s. AreLines T.units (T.characters text) (run_bounds s)) out.new.items) }
 {
-    let mut waiting: WaitingSequences = Vec::new(alloc);
-    let mut level_before = para_level;
-    for run in runs {
-        let kept_end = kept_end(original_classes, run);
-        if kept_end == run.start {
-            // X9 removes the whole paragraph.
-            let side = para_level.bidi_class();
-            out.push(IsolatingRunSequence::single(alloc, run.start..run.end, side, side)?)?;
-            return Ok(());
+    let mut links = RunLinks::new(alloc);
+    links.link(
+        text,
+        para_level,
+        original_classes,
+        levels,
+        runs,
+        has_isolate_controls,
+    )?;
+    let mut chain = Vec::new(alloc);
+    for first in 0..runs.len() {
+        if let Some(sequence) = links.sequence(runs, first, &mut chain)? {
+            out.push(IsolatingRunSequence::copied(alloc, sequence)?)?;
         }
-        let level = levels[kept_end - 1];
-        let last_class = original_classes[kept_end - 1];
-        let sos = side(level, level_before);
-        let eos = side(level, level_after(para_level, last_class, levels, run.end));
-        let waits = waiting_for(&waiting, original_classes[run.start]);
-        if has_isolate_controls {
-            let s = waits.unwrap_or(out.len());
-            read_run(&mut waiting, text, original_classes, run, kept_end, s)?;
-        }
-        put_run(alloc, out, waits, run.start..run.end, sos, eos)?;
-        level_before = level;
     }
     Ok(())
 }

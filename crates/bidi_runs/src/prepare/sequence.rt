@@ -4,7 +4,7 @@ ghost use Rattle.std.specs.Prelude.{◌≡◌, ◌≤◌, ◌<◌, ◌↔◌, Is
 ghost use Rattle.bidi_base.specs.Classes.{is_l_or_r};
 ghost use Rattle.bidi_base.specs.Units.{bounds, are_ordered, is_run_sequence};
 
-use super::LevelRun;
+use super::{LentSequence, LevelRun};
 use bidi_base::char_data::BidiClass;
 use bidi_text::text::{TextSource, is_line};
 use smallvec::SmallVec;
@@ -22,7 +22,7 @@ pub struct IsolatingRunSequence {
 }
 
 impl IsolatingRunSequence {
-    ghost use Rattle.bidi_runs.specs.RunSequence.{runs as runs_of, run_bounds, joined, sos as sos_of, eos as eos_of, forwards_left, backwards_left};
+    ghost use Rattle.bidi_runs.specs.RunSequence.{runs as runs_of, run_bounds, joined, lent_joined, sos as sos_of, eos as eos_of, forwards_left, backwards_left};
     ghost use Rattle.bidi_base.specs.Units.{AreLines, units_from, units_below};
 
     /// Creates a sequence of these runs.
@@ -45,34 +45,19 @@ impl IsolatingRunSequence {
         })
     }
 
-    /// A sequence of one run.
-    pub(super) fn single(
+    /// Copies the runs of a sequence that borrows them.
+    pub(super) fn copied(
         alloc: Global,
-        run: LevelRun,
-        sos: BidiClass,
-        eos: BidiClass,
+        sequence: LentSequence<'_>,
     ) -> Result<IsolatingRunSequence, AllocError>
-        requires run { run.start < run.end }
-        requires sos { IsTrue (is_l_or_r sos) }
-        requires eos { IsTrue (is_l_or_r eos) }
-        ensures { IfOk result (λ s. joined s ≡ record { runs = bounds run ∷ []; sos = sos; eos = eos }) }
+        ensures { IfOk result (λ s. joined s ≡ lent_joined sequence.entry) }
     {
         let mut runs = SmallVec::new(alloc);
-        runs.push(run)?;
+        for run in sequence.runs() {
+            runs.push(run.start..run.end)?;
+        }
+        let (sos, eos) = (sequence.sos(), sequence.eos());
         Ok(IsolatingRunSequence { runs, sos, eos })
-    }
-
-    /// Adds a later run. `eos` is the class after its last character.
-    pub(super) fn join(&mut self, run: LevelRun, eos: BidiClass) -> Result<(), AllocError>
-        requires run { run.start < run.end }
-        requires later { All (λ r. r.1 ≤ run.start) (run_bounds self.old) }
-        requires eos { IsTrue (is_l_or_r eos) }
-        ensures { OnOk result (joined self.new
-            ≡ record (joined self.old) { runs = (joined self.old).runs ++ bounds run ∷ []; eos = eos }) }
-    {
-        self.runs.push(run)?;
-        self.eos = eos;
-        Ok(())
     }
 
     /// The level runs, in text order.

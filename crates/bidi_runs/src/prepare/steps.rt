@@ -8,8 +8,8 @@ use std::sync::ledger::{Blank, Book, Ledger, Share};
 
 /// The number of loop iterations so far.
 ///
-/// Contracts see it as a number. It takes no bytes at run time, and only [`Steps::tick`] changes it. The
-/// parameter names the ledger that keeps the count.
+/// Contracts see it as a number. It takes no bytes at run time, and only [`Steps::tick`] and
+/// [`Steps::tick_by`] change it. The parameter names the ledger that keeps the count.
 #[derive(Drop)]
 pub struct Steps<L: Ledger> {
     book: Book<L>,
@@ -45,5 +45,12 @@ impl<L: Ledger> Steps<L> {
         ensures { self.new ≡ self.old + 1 }
     {
         self.book.add(&mut self.share, 1);
+    }
+
+    /// Counts `count` more iterations.
+    pub fn tick_by(&mut self, count: usize)
+        ensures { self.new ≡ self.old + count }
+    {
+        self.book.add(&mut self.share, count as u64);
     }
 }

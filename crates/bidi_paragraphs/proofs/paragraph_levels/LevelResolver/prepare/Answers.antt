@@ -1,4 +1,4 @@
-use Rattle.bidi_base.proofs.Common.{◌≡◌, ◌∙◌, List, ℕ, map, ap, arith, rules, explicit_levels, per_char, bounds}
+use Rattle.bidi_base.proofs.Common.{◌≡◌, ◌∙◌, List, ℕ, map, ap, arith, explicit_levels, per_char, bounds}
 use Rattle.bidi_base.specs.declared.char_data.BidiClass.TheVariants.{L}
 use Rattle.bidi_laws.proofs.ExplicitLemmas.{length-explicit_levels}
 use Rattle.bidi_base.proofs.PerUnit.{length-per_char, per_char-per_unit}
@@ -19,18 +19,23 @@ read g c =
     simp c.in_ok-compute.ensures.levels
     (per_char-per_unit _ g.met.T.TextSource.has_units 0 _ _ (length-explicit_levels c.args.paragraph.now.level _ ∙ length-per_char L _ (g.T.TextSource.characters c.args.paragraph.now.text) _))
 
-pub join_level_runs-requires : goal.join_level_runs-requires
-join_level_runs-requires g c =
+pub link-requires : goal.link-requires
+link-requires g c =
     let class_of = (g.D.BidiDataSource.source c.args.paragraph.now.data_source.now).class_of in
     let cs : List ℕ = g.T.TextSource.characters c.args.paragraph.now.text in
     record {
       original = grind (arith, stored-is_per_char);
       levels = grind (arith, is_per_char-per_unit, length-explicit_levels, length-per_char);
-      runs = rw (read g (goal.at.join_level_runs-requires g c).In_ok-compute) (ap (map bounds) c.as_slice.ensures.value ∙ c.in_ok-compute.ensures.runs);
+      runs = rw (read g (goal.at.link-requires g c).In_ok-compute) (ap (map bounds) c.deref.ensures.value ∙ c.in_ok-compute.ensures.runs);
       isolates = λ some.
           c.has_isolates.ensures ∙ has_isolates-flags c.args.paragraph.now.flags (map class_of cs) c.args.paragraph.now.own_flags ∙ initiators-stored g.T.TextSource.units cs (map class_of cs) c.args.paragraph.now.original_classes.now c.args.paragraph.now.stored some;
-      out = first_of (search rules, grind arith);
     }
 
 pub returns-clause-sequences : goal.returns-clause-sequences
-returns-clause-sequences g c = rw (read g (goal.at.returns-clause-sequences g c).In_ok-compute) at c.join_level_runs.ensures.sequences
+returns-clause-sequences g c = rw (c.deref.ensures.value, read g (goal.at.returns-clause-sequences g c).In_ok-compute) at c.link.ensures.sequences
+
+pub returns-clause-fits : goal.returns-clause-fits
+returns-clause-fits g c = rw c.deref.ensures.value at c.link.ensures.fits
+
+pub returns-clause-linked : goal.returns-clause-linked
+returns-clause-linked g c = rw c.deref.ensures.value at c.link.ensures.linked

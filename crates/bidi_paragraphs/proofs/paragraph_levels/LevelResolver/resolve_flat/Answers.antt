@@ -5,7 +5,8 @@ use Rattle.bidi_laws.proofs.NeutralLemmas.{direction_of-l_or_r}
 use Rattle.bidi_base.proofs.PerUnit.{length-per_unit}
 use Rattle.bidi_laws.proofs.StoredSteps.{length-stored_classes}
 use Rattle.bidi_runs.specs.Joining.{JoinedRuns, characters_of}
-use Rattle.bidi_paragraphs.proofs.FlatPasses.{lent, whole, lent-whole, joined-AreLines, joined-IsNext, joined-sequences, levels-whole, whole-AreResolvedTo}
+use Rattle.bidi_runs.specs.RunSequence.{lent_joined}
+use Rattle.bidi_paragraphs.proofs.FlatPasses.{whole, lent-whole, joined-AreLines, joined-IsNext, joined-sequences, levels-whole, whole-AreResolvedTo}
 use Rattle.bidi_paragraphs.proofs.LevelPasses.{AreLevels, AreResolvedTo, AreResolvedTo-per_char, AreResolvedTo-long, AreWeakTo-from, AreWeakTo-resolved, AreResolvedTo-more, AreLevels-all}
 use Rattle.bidi_paragraphs.proofs.SequencesInPlace.{IsNext}
 use Rattle.bidi_paragraphs.proofs.paragraph_levels.LevelResolver.resolve_flat.Given.{Over}
@@ -29,7 +30,7 @@ module _ (g : Over) (c : After-new-sequence g) where
   paragraph = c.args.paragraph.now.level
 
   abbrev j : JoinedRuns
-  j = lent c.new-sequence.result
+  j = lent_joined c.new-sequence.result
 
   fits : length source ≡ length chars
   fits = length-map chars given.class_of

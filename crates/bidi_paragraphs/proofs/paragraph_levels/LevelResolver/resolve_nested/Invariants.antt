@@ -1,13 +1,15 @@
--- The sequences before the next one are resolved.
-use Rattle.bidi_base.proofs.Common.{List, ℕ, map}
-use Rattle.bidi_paragraphs.proofs.LevelPasses.{AreResolvedTo, sequences_before}
+-- The sequences that begin before the next run are resolved.
+use Rattle.bidi_base.proofs.Common.{List, ℕ, map, stored_classes, bounds}
+use Rattle.bidi_runs.specs.Joining.{characters_of}
+use Rattle.bidi_runs.specs.Links.{sequences_before}
+use Rattle.bidi_paragraphs.proofs.LevelPasses.{AreResolvedTo}
 use Rattle.bidi_paragraphs.proofs.paragraph_levels.LevelResolver.resolve_nested.Given as goal
 
-abbrev pub invariant-loop-sequence : goal.invariant-loop-sequence
-invariant-loop-sequence g l =
+abbrev pub invariant-loop-first : goal.invariant-loop-first
+invariant-loop-first g l =
     let len = g.T.TextSource.units in
     let h = g.met.T.TextSource.has_units in
     let cs : List ℕ = g.T.TextSource.characters l.paragraph.text in
     let given = g.D.BidiDataSource.source l.paragraph.data_source.now in
     let source = map given.class_of cs in
-    AreResolvedTo len h cs source given.bracket_of l.paragraph.level (sequences_before len h cs source given.bracket_of l.paragraph.level l.sequence-items l.sequence-index) l.classes
+    AreResolvedTo len h cs source given.bracket_of l.paragraph.level (map (characters_of len cs (stored_classes source)) (sequences_before l.links (map bounds l.runs) l.first)) l.classes

@@ -1,8 +1,8 @@
--- The runs that came are joined.
-use Rattle.bidi_base.proofs.Common.{take}
-use Rattle.bidi_runs.proofs.RunLoop.{AreJoinedSoFar}
+-- The sequences that begin before the run are copied.
+use Rattle.bidi_base.proofs.Common.{◌≡◌, map, bounds}
+use Rattle.bidi_runs.specs.Links.{sequences_before}
+use Rattle.bidi_runs.specs.RunSequence.{joined}
 use Rattle.bidi_runs.proofs.prepare.joining.join_level_runs.Given as goal
 
-abbrev pub invariant-loop-run : goal.invariant-loop-run
-invariant-loop-run g l =
-    AreJoinedSoFar g.T.TextSource.units (g.T.TextSource.characters l.fn.text) l.original_classes l.levels l.para_level l.has_isolate_controls (take l.run-index l.runs) l.out.items l.waiting.items l.level_before
+abbrev pub invariant-loop-first : goal.invariant-loop-first
+invariant-loop-first g l = map joined l.out.items ≡ sequences_before l.links (map bounds l.runs) l.first

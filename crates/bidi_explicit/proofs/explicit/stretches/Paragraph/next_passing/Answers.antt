@@ -1,25 +1,10 @@
--- The units of a character have one class, so a test of its first unit tells of all.
-use Rattle.bidi_base.proofs.Common.{arith, cases_lt}
-use Rattle.bidi_runs.proofs.CharEnds.{Goes, goes}
-use Rattle.bidi_explicit.proofs.explicit.stretches.Paragraph.next_passing.Given.{Over}
+-- A search over code units finds the first one of a character.
+use Rattle.bidi_base.proofs.Common.{arith}
+use Rattle.bidi_explicit.specs.ExplicitStretches.{paragraph_of}
+use Rattle.bidi_explicit.proofs.ExplicitStretches.{first-is_boundary}
 use Rattle.bidi_explicit.proofs.explicit.stretches.Paragraph.next_passing.Goals as goal
-use Rattle.bidi_explicit.proofs.explicit.stretches.Paragraph.next_passing.Goals.{After-step_over-at}
 
--- the character that is passed over
-next : (g : Over) (c : After-step_over-at g) → Goes g.T.TextSource.units g.met.T.TextSource.has_units (g.T.TextSource.characters c.args.self.now.text) c.args.self.now.original_classes.now c.loop-at.at c.step_over-at.result c.args.to
-next g c =
-    goes g.T.TextSource.units g.met.T.TextSource.has_units (g.T.TextSource.characters c.args.self.now.text) c.args.self.now.original_classes.now c.loop-at.at c.step_over-at.result c.args.to
-    c.args.self.now.per_char c.loop-at.invariant.3 c.requires.ends c.loop-at-test.true (omega (arith, c.requires.within, c.args.self.now.long)) c.step_over-at.ensures.end
-
-pub loop-at-smaller : goal.loop-at-smaller
-loop-at-smaller g c = omega (arith, next g c)
-
-pub loop-at-preserved : goal.loop-at-preserved
-loop-at-preserved g c =
-    let on = next g c in (
-      omega (arith, on),
-      on.within,
-      λ k above below. grind (arith, cases_lt k c.loop-at.at, c.loop-at.invariant.2 k),
-      on.begins,
-      omega (arith, on, c.step_over-at.ensures.steps),
-    )
+pub returns-in-CodeUnit-clause-begins : goal.returns-in-CodeUnit-clause-begins
+returns-in-CodeUnit-clause-begins g c =
+    first-is_boundary (paragraph_of g.T.TextSource.units (g.T.TextSource.characters c.args.self.now.text) c.args.self.now.level c.args.self.now.original_classes.now) g.met.T.TextSource.has_units
+    c.args.self.now.per_char _ _ _ _ c.requires.begins c.requires.ends c.requires.within c.next_passing.ensures.first

@@ -1,0 +1,17 @@
+-- What the characters so far have left. There were at most four steps for each character or code unit, except for those that an opener paid with an entry of the stack.
+use Rattle.bidi_base.proofs.Common.{◌+◌, ◌*◌, ◌-◌, ◌≤◌, map, char_index, bounds}
+use Rattle.bidi_explicit.specs.ExplicitStretches.{paragraph_of, IsReadTo}
+use Rattle.bidi_explicit.specs.Status.{entry_count}
+use Rattle.bidi_explicit.specs.Stride.{count_to}
+use Rattle.bidi_explicit.proofs.explicit.compute_by.Given as goal
+
+abbrev pub invariant-loop-at : goal.invariant-loop-at
+invariant-loop-at g l =
+    let len_of = g.T.TextSource.units in
+    let chars = g.T.TextSource.characters l.fn.text in
+    IsReadTo (paragraph_of len_of chars l.fn.para_level l.original_classes) l.at l.stack l.levels l.processing_classes (map bounds l.runs.items) l.run
+    × (l.fn.steps + char_index len_of chars l.at ≤ l.steps)
+    × (l.steps + entry_count l.stack ≤ l.fn.steps + (4 * count_to l.fn.stride len_of chars l.at + 1))
+
+abbrev pub decreases-loop-at : goal.decreases-loop-at
+decreases-loop-at g l = l.units - l.at

@@ -1,0 +1,17 @@
+-- The override is put on the characters so far, and each was a step.
+use Rattle.bidi_base.proofs.Common.{◌≡◌, ◌+◌, ◌-◌, ◌≤◌, true, Some, char_index, is_boundary}
+use Rattle.bidi_explicit.specs.ExplicitStretches.{IsOverridden}
+use Rattle.bidi_explicit.proofs.explicit.stretches.Paragraph.put_on_characters.Given as goal
+
+abbrev pub invariant-loop-at : goal.invariant-loop-at
+invariant-loop-at g l =
+    let len_of = g.T.TextSource.units in
+    let chars = g.T.TextSource.characters l.self.text in
+    (l.from ≤ l.at)
+    × (l.at ≤ l.to)
+    × IsOverridden (Some l.put) l.from l.at l.fn.classes l.classes
+    × (is_boundary len_of chars l.at ≡ true)
+    × (l.steps + char_index len_of chars l.from ≡ l.fn.steps + char_index len_of chars l.at)
+
+abbrev pub decreases-loop-at : goal.decreases-loop-at
+decreases-loop-at g l = l.to - l.at

@@ -1,0 +1,101 @@
+//! The explicit pass from code unit to code unit, for the crates above.
+
+ghost use Rattle.std.specs.Prelude.{◌≡◌, ◌+◌, ◌*◌, ◌≤◌, [], length, map, IsTrue, OnOk};
+ghost use Rattle.bidi_base.specs.declared.char_data.BidiClass.TheVariants.{L};
+ghost use Rattle.bidi_base.specs.Explicit.{explicit_levels, processing_classes as processing_classes_of};
+ghost use Rattle.bidi_base.specs.Text.{per_unit, per_char, is_per_char};
+ghost use Rattle.bidi_base.specs.Units.{bounds, level_run_ranges};
+
+use crate::explicit::{Stride, compute_by, compute_fresh};
+use bidi_base::char_data::BidiClass;
+use bidi_base::level::Level;
+use bidi_runs::prepare::{LevelRunVec, Steps};
+use bidi_text::text::TextSource;
+use std::alloc::{AllocError, Global};
+use std::marker::Brand;
+use std::sync::ledger::{Blank, Ledger};
+
+/// Finds what [`compute`](crate::explicit::compute) finds, with the same parameters.
+///
+/// The pass reads the text only at controls. It goes through the classes between two controls without the
+/// text, and looks for the next control sixteen code units at a time.
+pub fn compute<T: TextSource>(
+    alloc: Global,
+    text: T,
+    para_level: Level,
+    original_classes: &[BidiClass],
+    levels: &mut [Level],
+    processing_classes: &mut [BidiClass],
+    runs: &mut LevelRunVec,
+) -> Result<(), AllocError>
+    requires explicit { para_level ≤ 125 }
+    requires original { IsTrue (is_per_char ⟦<BidiClass as PartialEq>⟧.eq T.units (T.characters text) original_classes.now) }
+    requires levels { length levels.old ≡ length original_classes.now }
+    requires processing { processing_classes.old ≡ original_classes.now }
+    requires runs { runs.old.items ≡ [] }
+    ensures levels { let stored = per_char L T.units (T.characters text) original_classes.now in
+        OnOk result (levels.new ≡ per_unit T.units (T.characters text) (explicit_levels para_level stored)) }
+    ensures classes { let stored = per_char L T.units (T.characters text) original_classes.now in
+        OnOk result (processing_classes.new
+        ≡ per_unit T.units (T.characters text) (processing_classes_of para_level stored)) }
+    ensures runs { let stored = per_char L T.units (T.characters text) original_classes.now in
+        OnOk result (map bounds runs.new.items
+        ≡ level_run_ranges T.units (T.characters text) stored (explicit_levels para_level stored)) }
+{
+    compute_fresh::<T, Brand>(
+        alloc,
+        text,
+        Stride::CodeUnit,
+        para_level,
+        original_classes,
+        levels,
+        processing_classes,
+        runs,
+        Blank::new(1),
+    )
+}
+
+/// Like [`compute`], and counts in `steps`.
+///
+/// Each loop iteration counts one, including those of the functions it calls. A search for a class counts
+/// one for each code unit that it passes over. There is at least one step for each character of the
+/// paragraph, and there are at most four for each code unit. The iterations that pop the status stack at a
+/// PDI are charged to the initiators that filled it. Calls of the text and of the standard library count as
+/// no steps. After an error nothing is promised about the count.
+pub fn compute_counted<T: TextSource, S: Ledger>(
+    _alloc: Global,
+    text: T,
+    para_level: Level,
+    original_classes: &[BidiClass],
+    levels: &mut [Level],
+    processing_classes: &mut [BidiClass],
+    runs: &mut LevelRunVec,
+    steps: &mut Steps<S>,
+) -> Result<(), AllocError>
+    requires explicit { para_level ≤ 125 }
+    requires original { IsTrue (is_per_char ⟦<BidiClass as PartialEq>⟧.eq T.units (T.characters text) original_classes.now) }
+    requires levels { length levels.old ≡ length original_classes.now }
+    requires processing { processing_classes.old ≡ original_classes.now }
+    requires runs { runs.old.items ≡ [] }
+    ensures levels { let stored = per_char L T.units (T.characters text) original_classes.now in
+        OnOk result (levels.new ≡ per_unit T.units (T.characters text) (explicit_levels para_level stored)) }
+    ensures classes { let stored = per_char L T.units (T.characters text) original_classes.now in
+        OnOk result (processing_classes.new
+        ≡ per_unit T.units (T.characters text) (processing_classes_of para_level stored)) }
+    ensures runs { let stored = per_char L T.units (T.characters text) original_classes.now in
+        OnOk result (map bounds runs.new.items
+        ≡ level_run_ranges T.units (T.characters text) stored (explicit_levels para_level stored)) }
+    ensures at_least { OnOk result (steps.old + length (T.characters text) ≤ steps.new) }
+    ensures at_most { OnOk result (steps.new ≤ steps.old + 4 * length original_classes.now) }
+{
+    compute_by(
+        text,
+        Stride::CodeUnit,
+        para_level,
+        original_classes,
+        levels,
+        processing_classes,
+        runs,
+        steps,
+    )
+}

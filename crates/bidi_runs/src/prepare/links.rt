@@ -1,0 +1,239 @@
+//! Isolating run sequences as links from level run to level run (BD13, X10).
+
+ghost use Rattle.std.specs.Prelude.{◌≡◌, ◌<◌, [], length, map, flat_map, get_or, All, IsPermutation, IsTrue, OnOk, IfOk, IfSome, is_some, if◌then◌else◌};
+ghost use Rattle.std.specs.List.{list_any};
+ghost use Rattle.bidi_base.specs.declared.char_data.BidiClass.TheVariants.{L};
+ghost use Rattle.bidi_base.specs.Classes.{is_initiator};
+ghost use Rattle.bidi_base.specs.Explicit.{explicit_levels};
+ghost use Rattle.bidi_base.specs.Places.{last_or};
+ghost use Rattle.bidi_base.specs.Sequences.{sequences, HasExplicitLevels};
+ghost use Rattle.bidi_base.specs.Text.{IsLine, is_boundary, is_per_char, per_char};
+ghost use Rattle.bidi_base.specs.Units.{bounds, level_run_ranges, AreLines};
+ghost use Rattle.bidi_runs.specs.Joining.{read_units};
+
+use super::joining::{kept_end, level_after, read_run, side};
+use super::{LentSequence, LevelRun, LevelRunVec};
+use bidi_base::char_data::BidiClass;
+use bidi_base::isolates::{WaitingSequences, waiting_for};
+use bidi_base::level::Level;
+use bidi_text::text::TextSource;
+use std::alloc::{AllocError, Global};
+
+/// The classes at the ends of a level run (X10).
+#[derive(Clone, Copy, Debug)]
+struct RunSides {
+    /// The class before the run, if the run begins a sequence.
+    sos: Option<BidiClass>,
+    /// The class after the run, if the run ends its sequence.
+    eos: BidiClass,
+}
+
+/// The isolating run sequences of a paragraph, as links between its level runs.
+///
+/// A link leads from a run that ends with an isolate initiator to the run that continues its sequence. A run
+/// that no link leads to begins a sequence. So no list of sequences is needed.
+#[derive(Drop)]
+pub struct RunLinks {
+    /// For each level run, the index of the run that continues its sequence, or 0 if none does. No sequence
+    /// continues with the first run.
+    next: Vec<usize>,
+    /// The classes at the ends of each level run.
+    sides: Vec<RunSides>,
+    /// For each open isolate, the run that its PDI continues.
+    waiting: WaitingSequences,
+}
+
+impl RunLinks {
+    ghost use Rattle.bidi_runs.specs.RunSequence.{lent_joined};
+    ghost use Rattle.bidi_runs.specs.Links.{with_link, with_sides, begins, next_run, run_chain, sequence_at, linked_sequences, sequences_of, AreLinked};
+
+    /// Creates links between no runs. Does not allocate.
+    pub fn new(alloc: Global) -> RunLinks {
+        RunLinks {
+            next: Vec::new(alloc),
+            sides: Vec::new(alloc),
+            waiting: Vec::new(alloc),
+        }
+    }
+
+    /// Removes all links, and makes room for as many runs.
+    fn restart(&mut self, runs: usize) -> Result<(), AllocError>
+        ensures next { OnOk result (self.new.next.items ≡ []) }
+        ensures sides { OnOk result (self.new.sides.items ≡ []) }
+        ensures waiting { OnOk result (self.new.waiting.items ≡ []) }
+    {
+        self.next.clear();
+        self.sides.clear();
+        self.waiting.clear();
+        self.next.reserve_exact(runs)?;
+        self.sides.reserve_exact(runs)
+    }
+
+    /// Reads the isolate controls of the next run, if the paragraph has any. The last character that X9 keeps
+    /// ends at `kept_end`.
+    fn read<T: TextSource>(
+        &mut self,
+        text: T,
+        classes: &[BidiClass],
+        run: &LevelRun,
+        kept_end: usize,
+        has_isolate_controls: bool,
+    ) -> Result<(), AllocError>
+        requires per_char { IsTrue (is_per_char ⟦<BidiClass as PartialEq>⟧.eq T.units (T.characters text) classes.now) }
+        requires line { IsLine T.units (T.characters text) run.now.start run.now.end }
+        requires kept_end { IsTrue (is_boundary T.units (T.characters text) kept_end) }
+        ensures next { self.new.next.items ≡ self.old.next.items }
+        ensures sides { self.new.sides.items ≡ self.old.sides.items }
+        ensures waiting { OnOk result (self.new.waiting.items ≡ (if has_isolate_controls
+            then read_units T.units (T.characters text) classes.now kept_end (length self.old.next.items)
+            run.now.start run.now.end self.old.waiting.items
+            else self.old.waiting.items)) }
+    {
+        if has_isolate_controls {
+            let index = self.next.len();
+            read_run(&mut self.waiting, text, classes, run, kept_end, index)?;
+        }
+        Ok(())
+    }
+
+    /// Adds the next run. It continues the sequence of the run `waits`. If there is no such run, it begins a
+    /// sequence.
+    fn put(
+        &mut self,
+        waits: Option<usize>,
+        sos: BidiClass,
+        eos: BidiClass,
+    ) -> Result<(), AllocError>
+        requires { IfSome waits (λ r. r < length self.old.next.items) }
+        ensures next { OnOk result (self.new.next.items ≡ with_link waits self.old.next.items) }
+        ensures sides { OnOk result (self.new.sides.items ≡ with_sides waits sos eos self.old.sides.items) }
+        ensures waiting { OnOk result (self.new.waiting.items ≡ self.old.waiting.items) }
+    {
+        if let Some(run) = waits {
+            self.next[run] = self.next.len();
+        }
+        let sos = if waits.is_none() { Some(sos) } else { None };
+        self.next.push(0)?;
+        self.sides.push(RunSides { sos, eos })?;
+        Ok(())
+    }
+
+    /// Links the level runs of a paragraph to its isolating run sequences (BD13, X10).
+    ///
+    /// The arguments are those of [`isolating_run_sequences`](super::isolating_run_sequences). If an allocation
+    /// fails, returns an error, and the links are those of no paragraph.
+    pub fn link<T: TextSource>(
+        &mut self,
+        text: T,
+        para_level: Level,
+        original_classes: &[BidiClass],
+        levels: &[Level],
+        runs: &[LevelRun],
+        has_isolate_controls: bool,
+    ) -> Result<(), AllocError>
+        requires original { IsTrue (is_per_char ⟦<BidiClass as PartialEq>⟧.eq T.units (T.characters text) original_classes.now) }
+        requires levels { IsTrue (is_per_char ⟦<Level as PartialEq>⟧.eq T.units (T.characters text) levels.now) }
+        requires runs { let stored = per_char L T.units (T.characters text) original_classes.now in
+            map bounds runs.now
+            ≡ level_run_ranges T.units (T.characters text) stored (per_char 0 T.units (T.characters text) levels.now) }
+        requires isolates { IsTrue (list_any is_initiator original_classes.now) → IsTrue has_isolate_controls }
+        ensures sequences { let stored = per_char L T.units (T.characters text) original_classes.now in
+            OnOk result (sequences_of T.units (T.characters text) stored (linked_sequences self.new (map bounds runs.now))
+            ≡ sequences para_level stored (per_char 0 T.units (T.characters text) levels.now)) }
+        // Only the levels of characters that X9 keeps need be the explicit ones.
+        ensures explicit { let stored = per_char L T.units (T.characters text) original_classes.now in
+            OnOk result (HasExplicitLevels para_level stored (per_char 0 T.units (T.characters text) levels.now)
+            → sequences_of T.units (T.characters text) stored (linked_sequences self.new (map bounds runs.now))
+            ≡ sequences para_level stored (explicit_levels para_level stored)) }
+        ensures runs { OnOk result
+            (IsPermutation (map bounds runs.now) (flat_map (λ s. s.runs) (linked_sequences self.new (map bounds runs.now)))) }
+        ensures fits { OnOk result
+            (All (λ s. AreLines T.units (T.characters text) s.runs) (linked_sequences self.new (map bounds runs.now))) }
+        ensures linked { OnOk result (AreLinked self.new (map bounds runs.now)) }
+    {
+        self.restart(runs.len())?;
+        let mut level_before = para_level;
+        for run in runs {
+            let kept_end = kept_end(original_classes, run);
+            if kept_end == run.start {
+                // X9 removes the whole paragraph.
+                let side = para_level.bidi_class();
+                self.put(None, side, side)?;
+                return Ok(());
+            }
+            let level = levels[kept_end - 1];
+            let last_class = original_classes[kept_end - 1];
+            let sos = side(level, level_before);
+            let eos = side(level, level_after(para_level, last_class, levels, run.end));
+            let waits = waiting_for(&self.waiting, original_classes[run.start]);
+            self.read(text, original_classes, run, kept_end, has_isolate_controls)?;
+            self.put(waits, sos, eos)?;
+            level_before = level;
+        }
+        Ok(())
+    }
+
+    /// The run that continues the sequence after a run.
+    fn next_run(&self, run: usize) -> Option<usize>
+        requires { run < length self.now.next.items }
+        ensures { result ≡ next_run self.now.next.items run }
+    {
+        match self.next[run] {
+            0 => None,
+            next => Some(next),
+        }
+    }
+
+    /// Writes the runs of a sequence to `chain`, in text order. `first` begins it. Returns the index of its
+    /// last run.
+    fn gather(
+        &self,
+        runs: &[LevelRun],
+        first: usize,
+        chain: &mut LevelRunVec,
+    ) -> Result<usize, AllocError>
+        requires linked { AreLinked self.now (map bounds runs.now) }
+        requires first { first < length runs.now }
+        ensures runs { OnOk result (map bounds chain.new.items
+            ≡ map (λ r. get_or (map bounds runs.now) r (0, 0)) (run_chain self.now first)) }
+        ensures last { IfOk result (λ last. last ≡ last_or first (run_chain self.now first)) }
+        ensures inside { IfOk result (λ last. last < length runs.now) }
+    {
+        chain.clear();
+        let mut last = first;
+        chain.push(runs[first].start..runs[first].end)?;
+        while let Some(next) = self.next_run(last) {
+            chain.push(runs[next].start..runs[next].end)?;
+            last = next;
+        }
+        Ok(last)
+    }
+
+    /// Returns the sequence that begins with the run at an index, or `None` if that run continues a sequence.
+    ///
+    /// `runs` are the level runs that were linked. The runs of the sequence are borrowed from them if it has
+    /// one run. Otherwise they are written to `chain`. Only then can the call allocate. If an allocation
+    /// fails, returns an error.
+    pub fn sequence<'s>(
+        &self,
+        runs: &'s [LevelRun],
+        first: usize,
+        chain: &'s mut LevelRunVec,
+    ) -> Result<Option<LentSequence<'s>>, AllocError>
+        requires linked { AreLinked self.now (map bounds runs.now) }
+        requires first { first < length runs.now }
+        ensures begins { IfOk result (λ found. is_some found ≡ begins self.now first) }
+        ensures sequence { IfOk result (λ found.
+            IfSome found (λ s. lent_joined s ≡ sequence_at self.now (map bounds runs.now) first)) }
+    {
+        let Some(sos) = self.sides[first].sos else {
+            return Ok(None);
+        };
+        if self.next_run(first).is_none() {
+            let eos = self.sides[first].eos;
+            return Ok(Some(LentSequence::new(&runs[first..first + 1], sos, eos)));
+        }
+        let last = self.gather(runs, first, chain)?;
+        Ok(Some(LentSequence::new(chain.as_slice(), sos, self.sides[last].eos)))
+    }
+}
