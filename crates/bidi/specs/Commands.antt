@@ -20,7 +20,7 @@ use Rattle.bidi.specs.declared.refusal.Subcommand.TheVariants.{Checking, Showing
 use Rattle.bidi_visual.specs.Views.{first_view}
 use Rattle.bidi_visual.specs.declared.view.View.{View}
 
--- the only argument behind a subcommand asks for help
+-- the only argument after a subcommand asks for help
 abbrev pub asks_help : List (List ℕ) → Bool
 asks_help [] = false
 asks_help (word ∷ []) = is_help word
@@ -30,7 +30,7 @@ asks_help (word ∷ other ∷ words) = false
 abbrev pub unknown_option : Subcommand → List ℕ → Refusal
 unknown_option subcommand word = if is_help word then NotAlone (Some subcommand) word else NotAnOption subcommand word
 
--- an option behind a file or a text
+-- an option after a file or a text
 abbrev pub late_option : Subcommand → List ℕ → Refusal
 late_option subcommand word = if is_help word then NotAlone (Some subcommand) word else LateOption subcommand word
 
@@ -39,7 +39,7 @@ abbrev pub unless_late : Subcommand → Option (List ℕ) → List (List ℕ) �
 unless_late subcommand None words = Ok words
 unless_late subcommand (Some late) words = Err (late_option subcommand late)
 
--- behind the options of a subcommand: words that name files, or texts. None of them is an option, unless `--` stands
+-- after the options of a subcommand: words that name files, or texts. None of them is an option, unless `--` stands
 -- before them
 abbrev pub file_words : Subcommand → List (List ℕ) → Result (List (List ℕ)) Refusal
 file_words subcommand [] = Ok []
@@ -68,7 +68,7 @@ abbrev pub by_options : Result CheckOptions Refusal → (CheckOptions → Result
 by_options (Err refusal) next = Err refusal
 by_options (Ok options) next = next options
 
--- behind `check` and options that ask for this: further options, in any order, and files
+-- after `check` and options that ask for this: further options, in any order, and files
 abbrev pub check_of : CheckOptions → List (List ℕ) → Result Command Refusal
 check_of options [] = check_over options (Ok [])
 check_of options (word ∷ []) =
@@ -80,12 +80,12 @@ check_of options (word ∷ value ∷ words) =
     (by_case (setting_named word) (λ setting. by_options (with_setting setting value options) (λ next. check_of next words))
     (check_over options (file_words Checking (word ∷ value ∷ words))))
 
--- what follows of the value behind an option, or the refusal of one that it does not take
+-- what follows of the value after an option, or the refusal of one that it does not take
 abbrev pub by_value : {A : Type 0} → Refusal → (A → Result Command Refusal) → Option A → Result Command Refusal
 by_value refusal next None = Err refusal
 by_value refusal next (Some value) = next value
 
--- behind `show` and options that ask for this view: further options, in any order, and files
+-- after `show` and options that ask for this view: further options, in any order, and files
 abbrev pub show_of : View → List (List ℕ) → Result Command Refusal
 show_of view [] = Ok (Show view [])
 show_of view (word ∷ []) =
@@ -100,7 +100,7 @@ show_of view (word ∷ value ∷ words) =
     then by_value (NotAWidth Showing value) (λ width. show_of (record view { width = Some width }) words) (number_of value)
     else over_files (Show view) (file_words Showing (word ∷ value ∷ words))
 
--- behind `explain` and options that ask for this view and say what words stand for: further options, in any order, and
+-- after `explain` and options that ask for this view and say what words stand for: further options, in any order, and
 -- texts or files
 abbrev pub explain_of : StageView → Operands → List (List ℕ) → Result Command Refusal
 explain_of view operands [] = Ok (Explain view operands [])
@@ -123,7 +123,7 @@ abbrev pub if_alone : List ℕ → List (List ℕ) → Command → Result Comman
 if_alone name [] command = Ok command
 if_alone name (word ∷ words) command = Err (NotAlone None name)
 
--- behind the program: a word that is no subcommand, and further words
+-- after the program: a word that is no subcommand, and further words
 abbrev pub alone_of : List ℕ → List (List ℕ) → Result Command Refusal
 alone_of name words =
     if is_help name then if_alone name words (Help None)

@@ -3,6 +3,7 @@ ghost use Rattle.std.specs.Prelude.{◌≡◌, map, string_bytes};
 ghost use Rattle.std.specs.List.{list_any};
 ghost use Rattle.bidi.specs.Checks.{is_input, is_input_list, searches_input, reads_input_twice, first_check, first_report, format_named, color_named, flag_named, setting_named, with_flag, with_setting, with_format, with_color, with_allow, with_list, form_of};
 
+use crate::files::STANDARD_INPUT_NAME;
 use crate::refusal::{Refusal, Word};
 use crate::search::Search;
 use bidi_controls::finding::Wanted;
@@ -172,7 +173,7 @@ impl Setting {
 fn is_input(name: &str) -> bool
     ensures { result ≡ is_input name.now }
 {
-    name == "-"
+    name == STANDARD_INPUT_NAME
 }
 
 // Whether a list is read from standard input, if there is one.

@@ -32,7 +32,7 @@ fn is_option(word: &str) -> bool
     word.as_bytes().starts_with(b"-") && word != "-"
 }
 
-/// Whether the only argument behind a subcommand asks for help.
+/// Whether the only argument after a subcommand asks for help.
 fn asks_help(words: &[String]) -> bool
     ensures { result ≡ asks_help (map string_bytes words.now) }
 {
@@ -55,7 +55,7 @@ fn unknown_option<'w>(subcommand: Subcommand, word: &'w str) -> Refusal<'w>
     }
 }
 
-/// Why an option behind a file or a text is wrong.
+/// Why an option after a file or a text is wrong.
 fn late_option<'w>(subcommand: Subcommand, word: &'w str) -> Refusal<'w>
     ensures { result ≡ late_option subcommand word.now }
 {
@@ -82,7 +82,7 @@ fn first_option<'w>(words: &'w [String]) -> Option<Word<'w>>
 impl<'w> FileWords<'w> {
     ghost use Rattle.bidi.specs.Commands.{file_words};
 
-    /// What stands behind the options of a subcommand. Refused where there is an option among the
+    /// What stands after the options of a subcommand. Refused where there is an option among the
     /// words, unless `--` is the first of them.
     fn parse(subcommand: Subcommand, words: &'w [String]) -> Result<FileWords<'w>, Refusal<'w>>
         ensures { result ≡ file_words subcommand (map string_bytes words.now) }
@@ -124,7 +124,7 @@ pub enum Command<'w> {
         operands: Operands,
         words: FileWords<'w>,
     },
-    /// `--help`, by itself or behind a subcommand: what words there are.
+    /// `--help`, by itself or after a subcommand: what words there are.
     Help(Option<Subcommand>),
     /// `show [--base auto|ltr|rtl] [--width N] [--plain] [FILE..]`: the lines from left to right.
     Show {
@@ -153,7 +153,7 @@ impl<'w> Command<'w> {
         }
     }
 
-    /// What words behind `check` ask for, where the options before them ask for this.
+    /// What words after `check` ask for, where the options before them ask for this.
     fn parse_check(
         options: CheckOptions<'w>,
         words: &'w [String],
@@ -178,7 +178,7 @@ impl<'w> Command<'w> {
         }
     }
 
-    /// What words behind `show` ask for, where the options before them ask for this view.
+    /// What words after `show` ask for, where the options before them ask for this view.
     fn parse_show(view: View, words: &'w [String]) -> Result<Command<'w>, Refusal<'w>>
         ensures { result ≡ show_of view (map string_bytes words.now) }
     {
@@ -215,7 +215,7 @@ impl<'w> Command<'w> {
         }
     }
 
-    /// What words behind `explain` ask for, where the options before them ask for this view and say what
+    /// What words after `explain` ask for, where the options before them ask for this view and say what
     /// the words stand for.
     fn parse_explain(
         view: StageView,

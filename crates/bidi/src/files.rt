@@ -171,7 +171,7 @@ fn status_of(written: Result<(), Status>) -> Status {
     }
 }
 
-/// Writes what words there are behind a subcommand, or for the program.
+/// Writes what words there are after a subcommand, or for the program.
 pub fn write_help(rt: &(impl Print + Eprint), subcommand: Option<Subcommand>) -> Status {
     status_of(write_out(rt, help(subcommand)))
 }

@@ -50,8 +50,8 @@ const CHECK: &str = "usage: bidi check [OPTION..] [--] [FILE..]\n\
     --color auto|always|never\n\
     \u{20}             writes text in colours and shows the lines of the files: auto, the default, if\n\
     \u{20}             standard output is a terminal and NO_COLOR is not set\n\
-    --quiet       writes no finding; the status tells\n\
-    --help        writes this text, if it is the only argument behind check\n\
+    --quiet       writes no finding; the status says whether there are any\n\
+    --help        writes this text, if it is the only argument after check\n\
     --            ends the options: what follows are files\n\
     FILE          a file, or a directory for all files below it; - is standard input\n\
     \n\
@@ -82,7 +82,7 @@ const SHOW: &str = "usage: bidi show [--base auto|ltr|rtl] [--width N] [--plain]
     --width  cuts a line that takes more than N columns, at white space if it can; N has one to\n\
     \u{20}        three digits. In a terminal, the default is COLUMNS of the environment, or 80\n\
     --plain  neither mirrors characters nor moves marks\n\
-    --help   writes this text, if it is the only argument behind show\n\
+    --help   writes this text, if it is the only argument after show\n\
     --       ends the options: what follows are files\n\
     FILE     a file in UTF-8; - or no file at all is standard input\n\
     \n\
@@ -102,7 +102,7 @@ const EXPLAIN: &str =
     --html   writes one page of HTML instead of tables\n\
     --width  splits a table into blocks that fit N columns; N has one to three digits\n\
     --files  reads the files that the arguments name; - is standard input\n\
-    --help   writes this text, if it is the only argument behind explain\n\
+    --help   writes this text, if it is the only argument after explain\n\
     --       ends the options: what follows are texts, or files\n\
     TEXT     a text; without any, reads standard input\n\
     \n\

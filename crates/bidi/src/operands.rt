@@ -1,6 +1,6 @@
-//! What arguments behind options stand for.
+//! What arguments after options stand for.
 
-/// What the arguments behind the options of `explain` stand for.
+/// What the arguments after the options of `explain` stand for.
 #[derive(Clone, Copy, Debug, PartialEq)]
 pub enum Operands {
     /// Texts.

@@ -81,7 +81,7 @@ pub enum Refusal<'w> {
     NotAnOption(Subcommand, Word<'w>),
     /// The option comes after a file or a text.
     LateOption(Subcommand, Word<'w>),
-    /// `--help` or `--version` is not the only argument behind the program or the subcommand.
+    /// `--help` or `--version` is not the only argument after the program or the subcommand.
     NotAlone(Option<Subcommand>, Word<'w>),
     /// The option asks for a value, and no word is left.
     NoValue(Subcommand, Word<'w>),

@@ -17,7 +17,7 @@ use crate::paragraph_flags::ParagraphFlags;
 use crate::paragraph_info::ParagraphInfo;
 use crate::split_rule::SplitRule;
 use bidi_base::char_data::BidiClass;
-use bidi_base::classes::is_paragraph_separator;
+use bidi_base::classes::{is_initiator, is_paragraph_separator, is_pdi};
 use bidi_base::data_source::BidiDataSource;
 use bidi_base::level::Level;
 use bidi_text::text::TextSource;
@@ -172,14 +172,15 @@ fn seek_minded<D: BidiDataSource, T: TextSource>(
 }
 
 // Writes the classes of the characters from an index on, up to the first one whose class is in `minded`.
-// Returns that one, or `None` at the text's end. The first character is tried by itself, since controls and
-// separators often stand side by side.
+// Returns that one, or `None` at the text's end. After an isolate control, the first character is read by
+// itself: the next control is often near, and the search by blocks costs more than it.
 fn next_minded<D: BidiDataSource, T: TextSource>(
     data_source: &D,
     text: T,
     classes: &mut [BidiClass],
     from: usize,
     minded: ClassSet,
+    after_control: bool,
 ) -> Option<Met>
     requires sized { length classes.old ≡ text_len T.units (T.characters text) }
     requires begins { IsTrue (is_boundary_of T.units (T.characters text) from) }
@@ -189,7 +190,7 @@ fn next_minded<D: BidiDataSource, T: TextSource>(
         (λ met. IsMet (D.source data_source.now) T.units minded (ahead T.units (T.characters text) from) from met
         classes.old classes.new) }
 {
-    if !T::READS_IN_PLACE || classes.len() - from < AT_ONCE {
+    if !after_control || !T::READS_IN_PLACE || classes.len() - from < AT_ONCE {
         return seek_minded(data_source, text, classes, from, minded);
     }
     let mut at = from;
@@ -268,8 +269,10 @@ pub fn walk<D: BidiDataSource, T: TextSource>(
     let mut walk = TextReading::new(alloc, base, memory);
     let mut minded = walk.reading.minded();
     let mut at = 0;
-    while let Some(met) = next_minded(data_source, text, classes, at, minded) {
+    let mut after_control = false;
+    while let Some(met) = next_minded(data_source, text, classes, at, minded, after_control) {
         at = met.start + T::char_len(met.c);
+        after_control = is_initiator(met.class) || is_pdi(met.class);
         let ends = ends_paragraph(data_source, text, split, met.c, met.class, at);
         minded = walk.meet(classes, met.class, met.start..at, ends)?;
     }
