@@ -3,3 +3,4 @@ pub mod FlatPasses
 pub mod LevelPasses
 pub mod SequenceUnits
 pub mod SequencesInPlace
+pub mod SettledSequences

@@ -3,5 +3,6 @@
 #![tactic(auto)]
 
 pub mod paragraph_levels;
+mod settled;
 
 pub use bidi_walk::{first_walk, paragraph_flags, paragraph_info, split_rule};

@@ -12,6 +12,7 @@ ghost use Rattle.bidi_base.specs.Units.{bounds, AreLines};
 ghost use Rattle.bidi_runs.specs.Links.{linked_sequences, sequences_of, AreLinked};
 ghost use Rattle.bidi_walk.specs.ParagraphFlags.{flags_of};
 
+use crate::settled::is_settled;
 use bidi_base::char_data::BidiClass;
 use bidi_base::classes::is_removed;
 use bidi_base::data_source::BidiDataSource;
@@ -205,6 +206,9 @@ impl LevelResolver {
         let classes = self.classes.as_mut_slice();
         for first in 0..runs.len() {
             if let Some(sequence) = links.sequence(runs, first, &mut self.chain)? {
+                if is_settled(sequence, levels, classes) {
+                    continue;
+                }
                 resolve_weak_lent(paragraph.text, sequence, classes);
                 self.neutrals.resolve_up_to_n1(
                     paragraph.text,

@@ -1,14 +1,15 @@
 -- The passes one after another.
-use Rattle.bidi_base.proofs.Common.{◌≡◌, ◌∙◌, ◌<◌, List, ℕ, nat_lt, Bool, true, false, ◌&&◌, is_some, length, map, ap, sym, arith, rules, length-map, bounds, are_ordered, is_l_or_r}
+use Rattle.bidi_base.proofs.Common.{◌≡◌, ◌∙◌, ◌<◌, List, ℕ, nat_lt, Bool, true, false, ◌&&◌, is_some, length, map, ap, sym, arith, rules, length-map, bounds, are_ordered, is_l_or_r, refl}
 use Rattle.bidi_base.proofs.PerUnit.{length-per_unit}
 use Rattle.bidi_laws.proofs.StoredSteps.{length-stored_classes}
 use Rattle.bidi_runs.specs.Links.{begins, sequence_at, linked_sequences}
 use Rattle.bidi_runs.specs.declared.prepare.lent.LentSequence.{LentSequence}
 use Rattle.bidi_runs.specs.RunSequence.{lent_joined}
 use Rattle.bidi_paragraphs.proofs.LevelPasses.{ArePrepared, AreResolvedTo-start, AreResolvedTo-per_char, AreResolvedTo-long, AreWeakTo-from, AreWeakTo-resolved, AreResolvedTo-more, prepared, prepared-next, prepared-lines, prepared-more, prepared-same, prepared-long, prepared-low, AreLevels-from}
+use Rattle.bidi_paragraphs.proofs.SettledSequences.{lines-within, settled-weak, settled-neutral}
 use Rattle.bidi_paragraphs.proofs.paragraph_levels.LevelResolver.resolve_nested.Given.{Over}
 use Rattle.bidi_paragraphs.proofs.paragraph_levels.LevelResolver.resolve_nested.Goals as goal
-use Rattle.bidi_paragraphs.proofs.paragraph_levels.LevelResolver.resolve_nested.Goals.{After-as_slice-runs, In-Some, in-Some+in_ok-resolve_up_to_n1, in_default}
+use Rattle.bidi_paragraphs.proofs.paragraph_levels.LevelResolver.resolve_nested.Goals.{After-as_slice-runs, In-Some, in-Some+else-is_settled+in_ok-resolve_up_to_n1, in_default}
 
 pub prepare-requires : goal.prepare-requires
 prepare-requires g c = grind (arith, length-per_unit, length-stored_classes, length-map)
@@ -49,6 +50,40 @@ side s =
     let j = lent_joined s in
     third (nat_lt 0 (length j.runs)) (are_ordered j.runs) (is_l_or_r j.sos) (is_l_or_r j.eos) s.well_formed
 
+pub is_settled-requires-clause-inside : goal.is_settled-requires-clause-inside
+is_settled-requires-clause-inside g c =
+    let at = goal.at.is_settled-requires-clause-inside g c in
+    let within : c.loop-first.first < length (map bounds c.as_slice-runs.result.now) = omega (arith, length-map c.as_slice-runs.result.now bounds) in
+    lines-within g.T.TextSource.units (g.T.TextSource.characters c.args.paragraph.now.text) c.loop-first.classes (lent_joined c.in-Some.sequence).runs
+    (AreResolvedTo-long _ _ _ _ _ _ _ _ (length-map (g.T.TextSource.characters c.args.paragraph.now.text) _) c.loop-first.invariant)
+    (prepared-lines _ _ _ _ _ _ _ _ _ _ (ready g at.After-as_slice-runs) c.loop-first.first (lent_joined c.in-Some.sequence) within (here g at.In-Some) (is_lent g at.In-Some))
+
+pub is_settled-requires-clause-levels : goal.is_settled-requires-clause-levels
+is_settled-requires-clause-levels g c =
+    let is_ready = ready g (goal.at.is_settled-requires-clause-levels g c).After-as_slice-runs in
+    omega (arith, prepared-long _ _ _ _ _ _ _ _ _ _ is_ready, AreResolvedTo-long _ _ _ _ _ _ _ _ is_ready.fits c.loop-first.invariant)
+
+pub loop-first-preserved-then-is_settled : goal.loop-first-preserved-then-is_settled
+loop-first-preserved-then-is_settled g c =
+    let at = goal.at.loop-first-preserved-then-is_settled g c in
+    let is_ready = ready g at.After-as_slice-runs in
+    let s = lent_joined c.in-Some.sequence in
+    let chars : List ℕ = g.T.TextSource.characters c.args.paragraph.now.text in
+    let within : c.loop-first.first < length (map bounds c.as_slice-runs.result.now) = omega (arith, length-map c.as_slice-runs.result.now bounds) in
+    let begins_here = here g at.In-Some in
+    let is = is_lent g at.In-Some in
+    let next = prepared-next _ _ _ _ _ _ _ _ _ _ is_ready c.loop-first.first s within begins_here is (side c.in-Some.sequence) in
+    let line = prepared-lines _ _ _ _ _ _ _ _ _ _ is_ready c.loop-first.first s within begins_here is in
+    let per = AreResolvedTo-per_char _ _ _ _ _ _ _ _ (length-map chars _) c.loop-first.invariant in
+    let settled = c.is_settled.ensures c.if-is_settled.true in
+    let weak =
+    AreWeakTo-from _ _ _ _ _ _ is_ready.fits _ s line next _ c.loop-first.classes c.loop-first.invariant
+    (sym (settled-weak g.T.TextSource.units g.met.T.TextSource.has_units chars c.in-Some.sequence c.prepare.new.levels c.loop-first.classes line per settled)) (λ u gone. gone) (λ u out. refl) per in
+    let neutral = settled-neutral g.T.TextSource.units g.met.T.TextSource.has_units chars c.in-Some.sequence c.prepare.new.levels c.loop-first.classes line per settled (g.D.BidiDataSource.source c.args.paragraph.now.data_source.now) c.args.paragraph.now.original_classes.now in
+    rw (prepared-more _ _ _ _ _ _ _ _ _ _ is_ready c.loop-first.first s within begins_here is)
+    (AreResolvedTo-more _ _ _ _ _ _ is_ready.fits _ s line next _ c.loop-first.classes c.args.paragraph.now.original_classes.now _
+    c.args.paragraph.now.stored is_ready.levels_is weak neutral.kept neutral.removed neutral.outside neutral.per_char)
+
 pub resolve_weak_lent-requires : goal.resolve_weak_lent-requires
 resolve_weak_lent-requires g c =
     let at = goal.at.resolve_weak_lent-requires g c in
@@ -82,7 +117,7 @@ loop-first-preserved g c =
     let is_ready = ready g (goal.at.loop-first-preserved g c).After-as_slice-runs in
     let within : c.loop-first.first < length (map bounds c.as_slice-runs.result.now) = omega (arith, length-map c.as_slice-runs.result.now bounds) in
     elim c.match-branch-3.branch [
-      | in-Some+in_ok-resolve_up_to_n1 w ↦
+      | in-Some+else-is_settled+in_ok-resolve_up_to_n1 w ↦
           let here : begins c.prepare.new.self.links c.loop-first.first ≡ true = sym c.in_ok-sequence.ensures.begins ∙ ap is_some w.in-Some.is in
           let s = lent_joined w.in-Some.sequence in
           let is : s ≡ sequence_at c.prepare.new.self.links (map bounds c.as_slice-runs.result.now) c.loop-first.first = rw w.in-Some.is at c.in_ok-sequence.ensures.sequence in

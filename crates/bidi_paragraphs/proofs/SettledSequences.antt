@@ -1,0 +1,150 @@
+-- A settled sequence is as W1 to N1 leave it.
+use Rattle.bidi_base.proofs.Common.{◌≡◌, ℕ, zero, suc, ◌-◌, ◌<◌, ◌≤◌, Bool, true, false, not, ◌&&◌, List, [], ◌∷◌, length, get_or, map, find, Some, refl, sym, arith, nat_lt, filter, All, list_all, cases_Bool, and_parts, and_from, All-head, All-tail, All-nil, All-cons, All-map, bounds, are_ordered, is_l_or_r, is_en, is_kept_in_place, is_weak_resolved, in_context, w1_rule, w2_rule, w3_rule, w4_rule, w5_rule, w6_rule, w7_rule, weak_classes, class_at, at_places, Source, text_len, place, in_runs, units_in_runs, chars_in_runs, kept_in_place, AreLines, is_per_char}
+use Rattle.bidi_base.specs.declared.char_data.BidiClass.{BidiClass}
+use Rattle.bidi_base.specs.declared.char_data.BidiClass.TheVariants.{L, AL, EN, ES, ET, AN, CS, NSM}
+use Rattle.bidi_base.proofs.TextLemmas.{HasUnits, is_boundary-le}
+use Rattle.bidi_text.proofs.PerCharTests.{class_eq}
+use Rattle.bidi_neutral.specs.NeutralPass.{turns_from}
+use Rattle.bidi_neutral.proofs.NeutralSteps.{IsUpToN1, IsReady-sequence}
+use Rattle.bidi_neutral.proofs.NeutralUnits.{places_in_runs}
+use Rattle.bidi_neutral.proofs.OneDirection.{IsUpToN1-one}
+use Rattle.bidi_runs.specs.RunSequence.{lent_runs, lent_sos, lent_eos}
+use Rattle.bidi_runs.specs.declared.prepare.lent.LentSequence.{LentSequence}
+use Rattle.bidi_paragraphs.specs.Settled.{stays, first_unit, IsSettled}
+
+-- ---- W1 to W7 change numbers, terminators, separators, Arabic letters and nonspacing marks alone
+
+abbrev is_idle : BidiClass → Bool
+is_idle c = is_weak_resolved c && not (is_en c)
+
+same-in_context : (rule : List BidiClass → BidiClass → List BidiClass → BidiClass) (p : BidiClass → Bool) → ((before : List BidiClass) (c : BidiClass) (after : List BidiClass) → p c ≡ true → rule before c after ≡ c)
+    → (before xs : List BidiClass) → list_all p xs ≡ true → in_context rule before xs ≡ xs
+same-in_context rule p same before [] h = refl
+same-in_context rule p same before (x ∷ xs) h = grind (arith, and_parts, same, same-in_context rule p same (x ∷ before) xs)
+
+same-mapped : (f : BidiClass → BidiClass) (p : BidiClass → Bool) → ((c : BidiClass) → p c ≡ true → f c ≡ c) → (xs : List BidiClass) → list_all p xs ≡ true → map f xs ≡ xs
+same-mapped f p same [] h = refl
+same-mapped f p same (x ∷ xs) h = grind (arith, and_parts, same, same-mapped f p same xs)
+
+module _ (sos : BidiClass) where
+  same_w1 : (before : List BidiClass) (c : BidiClass) (after : List BidiClass) → is_idle c ≡ true → w1_rule sos before c after ≡ c
+  same_w1 before NSM after h = absurd (cc h)
+  same_w1 before c after h = refl
+
+  same_w2 : (before : List BidiClass) (c : BidiClass) (after : List BidiClass) → is_idle c ≡ true → w2_rule sos before c after ≡ c
+  same_w2 before EN after h = absurd (cc h)
+  same_w2 before c after h = refl
+
+  same_w7 : (before : List BidiClass) (c : BidiClass) (after : List BidiClass) → is_idle c ≡ true → w7_rule sos before c after ≡ c
+  same_w7 before EN after h = absurd (cc h)
+  same_w7 before c after h = refl
+
+same_w3 : (c : BidiClass) → is_idle c ≡ true → w3_rule c ≡ c
+same_w3 AL h = absurd (cc h)
+same_w3 c h = refl
+
+same_w4 : (before : List BidiClass) (c : BidiClass) (after : List BidiClass) → is_idle c ≡ true → w4_rule before c after ≡ c
+same_w4 (EN ∷ before) ES (EN ∷ after) h = absurd (cc h)
+same_w4 (EN ∷ before) CS (EN ∷ after) h = absurd (cc h)
+same_w4 (AN ∷ before) CS (AN ∷ after) h = absurd (cc h)
+same_w4 before c after h = refl
+
+same_w5 : (before : List BidiClass) (c : BidiClass) (after : List BidiClass) → is_idle c ≡ true → w5_rule before c after ≡ c
+same_w5 before ET after h = absurd (cc h)
+same_w5 before c after h = refl
+
+same_w6 : (c : BidiClass) → is_idle c ≡ true → w6_rule c ≡ c
+same_w6 ES h = absurd (cc h)
+same_w6 ET h = absurd (cc h)
+same_w6 CS h = absurd (cc h)
+same_w6 c h = refl
+
+weak_classes-idle : (sos : BidiClass) (classes : List BidiClass) → list_all is_idle classes ≡ true → weak_classes sos classes ≡ classes
+unfolding weak_classes
+weak_classes-idle sos classes h =
+    simp (
+      same-in_context (w1_rule sos) is_idle (same_w1 sos) [] classes h,
+      same-in_context (w2_rule sos) is_idle (same_w2 sos) [] classes h,
+      same-mapped w3_rule is_idle same_w3 classes h,
+      same-in_context w4_rule is_idle same_w4 [] classes h,
+      same-in_context w5_rule is_idle same_w5 [] classes h,
+      same-mapped w6_rule is_idle same_w6 classes h,
+      same-in_context (w7_rule sos) is_idle (same_w7 sos) [] classes h,
+    )
+
+-- ---- what stays and is kept
+
+idle-stays : (d c : BidiClass) → is_l_or_r d ≡ true → stays d c ≡ true → is_kept_in_place c ≡ true → is_idle c ≡ true
+unfolding stays
+idle-stays d c side h kept = grind arith
+
+keeps-stays : (d c : BidiClass) → is_l_or_r d ≡ true → stays d c ≡ true → turns_from d c ≡ false
+unfolding stays
+keeps-stays d c side h = grind arith
+
+-- ---- the characters of a sequence
+
+pub lines-within : (len_of : ℕ → ℕ) (chars : List ℕ) (units : List BidiClass) (runs : List (ℕ × ℕ)) → length units ≡ text_len len_of chars → AreLines len_of chars runs → All (λ r. r.1 ≤ length units) runs
+lines-within len_of chars units runs long lines = grind (arith, is_boundary-le)
+
+list_all-at_places : (p : BidiClass → Bool) (units : List BidiClass) (ps : List ℕ) → All (λ u. p (class_at units u) ≡ true) ps → list_all p (at_places L units ps) ≡ true
+list_all-at_places p units [] a = refl
+list_all-at_places p units (q ∷ ps) a =
+    let passes = λ (u : ℕ). p (class_at units u) ≡ true in
+    grind (arith, and_from, list_all-at_places p units ps, All-head passes q ps a, All-tail passes q ps a)
+
+filter_each : (test within : ℕ → Bool) (P : ℕ → Type 0) → ((k : ℕ) → within k ≡ true → test k ≡ true → P k) → (ks : List ℕ) → All (λ k. within k ≡ true) ks → All P (filter test ks)
+filter_each test within P holds [] a = All-nil P
+filter_each test within P holds (k ∷ ks) a =
+    grind (arith, cases_Bool (test k), All-cons P k (filter test ks), holds k, All-head (λ j. within j ≡ true) k ks a, filter_each test within P holds ks (All-tail (λ j. within j ≡ true) k ks a))
+
+-- the first of them
+found_first : (test : ℕ → Bool) (rs : List (ℕ × ℕ)) → nat_lt 0 (length rs) ≡ true → are_ordered rs ≡ true → test (get_or rs 0 (0, 0)).0 ≡ true → Some (get_or rs 0 (0, 0)).0 ≡ find test (units_in_runs rs)
+found_first test [] some ordered passes = absurd (cc some)
+found_first test (r ∷ rs) some ordered passes = by_length (r.1 - r.0) refl (grind arith)
+  where
+    by_length : (n : ℕ) → r.1 - r.0 ≡ n → 0 < n → Some r.0 ≡ find test (units_in_runs (r ∷ rs))
+    by_length zero is positive = absurd (omega arith)
+    by_length (suc n) is positive = simp (is, passes)
+
+module _ (len_of : ℕ → ℕ) (h : HasUnits len_of) (chars : List ℕ) (s : LentSequence) (levels : List ℕ) (units : List BidiClass)
+    (lines : AreLines len_of chars (map bounds (lent_runs s))) (per : is_per_char class_eq len_of chars units ≡ true) (settled : IsSettled s levels units) where
+  abbrev rs : List (ℕ × ℕ)
+  rs = map bounds (lent_runs s)
+
+  abbrev places : List ℕ
+  places = map (place len_of chars) (kept_in_place len_of chars units rs)
+
+  side : is_l_or_r (lent_sos s) ≡ true
+  side = third (nat_lt 0 (length rs)) (are_ordered rs) (is_l_or_r s.sos) (is_l_or_r s.eos) s.well_formed
+    where
+      third : (a b c d : Bool) → a && (b && (c && d)) ≡ true → c ≡ true
+      third a b c d all = grind arith
+
+  at_kept : (P : ℕ → Type 0) → ((u : ℕ) → in_runs rs u ≡ true → is_kept_in_place (class_at units u) ≡ true → P u) → All P places
+  unfolding kept_in_place
+  at_kept P holds =
+      All-map P (place len_of chars) (kept_in_place len_of chars units rs)
+      (filter_each (λ k. is_kept_in_place (class_at units (place len_of chars k))) (λ k. in_runs rs (place len_of chars k)) (λ k. P (place len_of chars k))
+      (λ k inside kept. holds (place len_of chars k) inside kept) (chars_in_runs len_of chars rs) (places_in_runs len_of h chars rs lines))
+
+  all_idle : list_all is_idle (at_places L units places) ≡ true
+  all_idle =
+      list_all-at_places is_idle units places
+      (at_kept (λ u. is_idle (class_at units u) ≡ true) (λ u inside kept. idle-stays (lent_sos s) (class_at units u) side (settled.stay u inside) kept))
+
+  -- W1 to W7
+  pub settled-weak : weak_classes (lent_sos s) (at_places L units places) ≡ at_places L units places
+  settled-weak = weak_classes-idle (lent_sos s) (at_places L units places) all_idle
+
+  resolved : (cs : List BidiClass) → list_all is_idle cs ≡ true → list_all is_weak_resolved cs ≡ true
+  resolved [] all = refl
+  resolved (c ∷ cs) all = grind (arith, and_parts, and_from, resolved cs)
+
+  -- N0 and N1
+  pub settled-neutral : (source : Source) (original : List BidiClass) → IsUpToN1 len_of chars source levels original units units (lent_runs s) (lent_sos s) (lent_eos s)
+  settled-neutral source original =
+      let ready = IsReady-sequence len_of h chars s (lent_runs s) (lent_sos s) units refl refl per lines (resolved (at_places L units places) all_idle) in
+      let found = found_first (λ u. is_kept_in_place (class_at units u)) rs (and_parts _ _ s.well_formed).0 ready.ordered settled.kept in
+      IsUpToN1-one len_of h chars (lent_runs s) (lent_sos s) units ready (lent_sos s) side (λ u inside. keeps-stays (lent_sos s) (class_at units u) side (settled.stay u inside))
+      source levels original (lent_eos s) (first_unit s) refl settled.sides found (sym settled.embedding)

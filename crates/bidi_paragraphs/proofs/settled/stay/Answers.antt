@@ -1,0 +1,13 @@
+use Rattle.bidi_base.proofs.Common.{arith, get_or-map, length-map, take_all}
+use Rattle.bidi_runs.proofs.InRuns.{in_runs-more}
+use Rattle.bidi_runs.proofs.RunOf.{run_end}
+use Rattle.bidi_paragraphs.proofs.settled.stay.Goals as goal
+
+pub stay_in-requires : goal.stay_in-requires
+stay_in-requires c = omega (arith, run_end _ c.args.runs.now c.loop-run.run-index c.requires c.loop-run-test.true)
+
+pub loop-run-preserved : goal.loop-run-preserved
+loop-run-preserved c = grind (arith, length-map, get_or-map, in_runs-more)
+
+pub returns : goal.returns
+returns c = grind (arith, length-map, take_all)
