@@ -33,7 +33,7 @@ mod unit_classes;
 
 use ascii_characters::skim;
 use met::Met;
-use other_characters::{read_on, read_one};
+use other_characters::{read_in_place, read_on};
 use reading::{Reading, level_of_class};
 use unit_classes::AT_ONCE;
 
@@ -171,9 +171,12 @@ fn seek_minded<D: BidiDataSource, T: TextSource>(
     None
 }
 
+// After an isolate control, this many code units are read one by one. Often the next control is among them,
+// and a search by blocks costs more.
+const NEAR: usize = 4;
+
 // Writes the classes of the characters from an index on, up to the first one whose class is in `minded`.
-// Returns that one, or `None` at the text's end. After an isolate control, the first character is read by
-// itself: the next control is often near, and the search by blocks costs more than it.
+// Returns that one, or `None` at the text's end.
 fn next_minded<D: BidiDataSource, T: TextSource>(
     data_source: &D,
     text: T,
@@ -190,11 +193,11 @@ fn next_minded<D: BidiDataSource, T: TextSource>(
         (λ met. IsMet (D.source data_source.now) T.units minded (ahead T.units (T.characters text) from) from met
         classes.old classes.new) }
 {
-    if !after_control || !T::READS_IN_PLACE || classes.len() - from < AT_ONCE {
+    if !after_control || !T::READS_IN_PLACE || classes.len() - from < NEAR + AT_ONCE {
         return seek_minded(data_source, text, classes, from, minded);
     }
     let mut at = from;
-    if let Some(met) = read_one(data_source, text, classes, &mut at, minded) {
+    if let Some(met) = read_in_place(data_source, text, classes, &mut at, from + NEAR, minded) {
         return Some(met);
     }
     seek_minded(data_source, text, classes, at, minded)

@@ -139,44 +139,14 @@ fn read_block<D: BidiDataSource, T: TextSource>(
     None
 }
 
-/// Writes the class of the character at an index, read in place. From that index on there must be at least
-/// `AT_ONCE` code units.
+/// Writes the classes of the characters that begin before a limit, up to the first one whose class is in
+/// `minded`. Reads the text by index.
 ///
-/// Returns the character if its class is in `minded`. If it is not, the index moves past the character.
-pub(super) fn read_one<D: BidiDataSource, T: TextSource>(
-    data_source: &D,
-    text: T,
-    classes: &mut [BidiClass],
-    at: &mut usize,
-    minded: ClassSet,
-) -> Option<Met>
-    requires sized { length classes.old ≡ text_len T.units (T.characters text) }
-    requires begins { IsTrue (is_boundary_of T.units (T.characters text) at.old) }
-    requires room { at.old + AT_ONCE ≤ length classes.old }
-    ensures met { MatchOption result
-        (IsSkimmed (D.source data_source.now) T.units minded (ahead T.units (T.characters text) at.old) at.old at.new
-        classes.old classes.new)
-        (λ met. IsMet (D.source data_source.now) T.units minded (ahead T.units (T.characters text) at.old) at.old met
-        classes.old classes.new) }
-    ensures passed { result ≡ None → at.old < at.new }
-{
-    let start = *at;
-    let (c, len) = text.next_at(start);
-    let class = data_source.bidi_class(c);
-    write_at_once::<T>(classes, start, c, class);
-    if minded.has(class) {
-        return Some(Met { start, c, class });
-    }
-    *at = start + len;
-    None
-}
-
-// Writes the classes of the characters that begin before a limit, up to the first one whose class is in
-// `minded`. Returns that one. Reads the text by index. From each index before the limit on there must be at
-// least `AT_ONCE` code units. If no class is in `minded`, the index moves to the first character that
-// begins at or after the limit.
+/// From each index before the limit on there must be at least `AT_ONCE` code units. Returns the character
+/// whose class is in `minded`. If there is none, the index moves to the first character that begins at or
+/// after the limit.
 #[inline(never)]
-fn read_in_place<D: BidiDataSource, T: TextSource>(
+pub(super) fn read_in_place<D: BidiDataSource, T: TextSource>(
     data_source: &D,
     text: T,
     classes: &mut [BidiClass],
