@@ -29,6 +29,9 @@ use std::alloc::{AllocError, Global};
 /// The classes of a paragraph of up to this many code units need no allocation.
 pub const FEW_UNITS: usize = 256;
 
+// The list of level runs begins with room for this many, so that it seldom grows in a short text.
+const FEW_RUNS: usize = 16;
+
 /// A paragraph with its stored classes, from which its levels can be found.
 #[derive(Drop)]
 pub struct ClassifiedParagraph<'a, D: BidiDataSource, T: TextSource> {
@@ -105,6 +108,7 @@ impl LevelResolver {
         self.classes.clear();
         self.classes.extend_from_slice(original_classes)?;
         self.runs.clear();
+        self.runs.reserve_exact(FEW_RUNS)?;
         by_units::compute(
             alloc,
             paragraph.text,
@@ -114,14 +118,18 @@ impl LevelResolver {
             self.classes.as_mut_slice(),
             &mut self.runs,
         )?;
+        let has_isolates = paragraph.flags.has_isolates();
         self.links.link(
             paragraph.text,
             paragraph.level,
             original_classes,
             levels,
             &self.runs,
-            paragraph.flags.has_isolates(),
-        )
+            has_isolates,
+        )?;
+        let longest = if has_isolates { self.runs.len() } else { 0 };
+        self.chain.reserve_exact(longest)?;
+        Ok(())
     }
 
     /// Copies the classes of a paragraph in which nothing opens a level, with BN for characters that X9

@@ -28,14 +28,14 @@ link-requires g c =
       levels = grind (arith, is_per_char-per_unit, length-explicit_levels, length-per_char);
       runs = rw (read g (goal.at.link-requires g c).In_ok-compute) (ap (map bounds) c.deref.ensures.value ∙ c.in_ok-compute.ensures.runs);
       isolates = λ some.
-          c.has_isolates.ensures ∙ has_isolates-flags c.args.paragraph.now.flags (map class_of cs) c.args.paragraph.now.own_flags ∙ initiators-stored g.T.TextSource.units cs (map class_of cs) c.args.paragraph.now.original_classes.now c.args.paragraph.now.stored some;
+          c.has_isolates-has_isolates.ensures ∙ has_isolates-flags c.args.paragraph.now.flags (map class_of cs) c.args.paragraph.now.own_flags ∙ initiators-stored g.T.TextSource.units cs (map class_of cs) c.args.paragraph.now.original_classes.now c.args.paragraph.now.stored some;
     }
 
 pub returns-clause-sequences : goal.returns-clause-sequences
-returns-clause-sequences g c = rw (c.deref.ensures.value, read g (goal.at.returns-clause-sequences g c).In_ok-compute) at c.link.ensures.sequences
+returns-clause-sequences g c = rw (c.deref.ensures.value, read g (goal.at.returns-clause-sequences g c).In_ok-compute) at c.in_ok-link.ensures.sequences
 
 pub returns-clause-fits : goal.returns-clause-fits
-returns-clause-fits g c = rw c.deref.ensures.value at c.link.ensures.fits
+returns-clause-fits g c = rw c.deref.ensures.value at c.in_ok-link.ensures.fits
 
 pub returns-clause-linked : goal.returns-clause-linked
-returns-clause-linked g c = rw c.deref.ensures.value at c.link.ensures.linked
+returns-clause-linked g c = rw c.deref.ensures.value at c.in_ok-link.ensures.linked
