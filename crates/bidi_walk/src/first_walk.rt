@@ -193,12 +193,12 @@ fn next_minded<D: BidiDataSource, T: TextSource>(
         (λ met. IsMet (D.source data_source.now) T.units minded (ahead T.units (T.characters text) from) from met
         classes.old classes.new) }
 {
-    if !after_control || !T::READS_IN_PLACE || classes.len() - from < NEAR + AT_ONCE {
-        return seek_minded(data_source, text, classes, from, minded);
-    }
     let mut at = from;
-    if let Some(met) = read_in_place(data_source, text, classes, &mut at, from + NEAR, minded) {
-        return Some(met);
+    if after_control && T::READS_IN_PLACE && classes.len() - from >= NEAR + AT_ONCE {
+        let near = from + NEAR;
+        if let Some(met) = read_in_place(data_source, text, classes, &mut at, near, minded) {
+            return Some(met);
+        }
     }
     seek_minded(data_source, text, classes, at, minded)
 }
