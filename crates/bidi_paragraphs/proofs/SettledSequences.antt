@@ -1,7 +1,10 @@
 -- A settled sequence is as W1 to N1 leave it.
-use Rattle.bidi_base.proofs.Common.{◌≡◌, ℕ, zero, suc, ◌-◌, ◌<◌, ◌≤◌, Bool, true, false, not, ◌&&◌, List, [], ◌∷◌, length, get_or, map, find, Some, refl, sym, arith, nat_lt, filter, All, list_all, cases_Bool, and_parts, and_from, All-head, All-tail, All-nil, All-cons, All-map, bounds, are_ordered, is_l_or_r, is_en, is_kept_in_place, is_weak_resolved, in_context, w1_rule, w2_rule, w3_rule, w4_rule, w5_rule, w6_rule, w7_rule, weak_classes, class_at, at_places, Source, text_len, place, in_runs, units_in_runs, chars_in_runs, kept_in_place, AreLines, is_per_char}
+use Rattle.bidi_base.proofs.Common.{◌≡◌, ℕ, zero, suc, ◌-◌, ◌<◌, ◌≤◌, Bool, true, false, not, ◌&&◌, List, [], ◌∷◌, length, get_or, map, find, Some, refl, sym, arith, nat_lt, filter, All, list_all, cases_Bool, and_parts, and_from, All-head, All-tail, All-nil, All-cons, All-map, bounds, are_ordered, is_l_or_r, is_en, is_kept_in_place, is_weak_resolved, in_context, w1_rule, w2_rule, w3_rule, w4_rule, w5_rule, w6_rule, w7_rule, weak_classes, class_at, at_places, Source, text_len, place, in_runs, units_in_runs, chars_in_runs, kept_in_place, AreLines, is_per_char, ◌⊎◌, inl, inr, get_or_past, first_or, indexes, n0, n1_rule, n2_rule, neutral_classes, ◌∙◌, level_at, direction_of}
+use Rattle.std.specs.Prelude.{◌==◌, filter_map, fold, Option, None}
+use Rattle.bidi_base.specs.Brackets.{counted_brackets, bracket_at, with_closing, closed_pairs, bracket_limit, pairs_of, bracket_pairs}
+use Rattle.bidi_base.specs.declared.data_source.BidiMatchedOpeningBracket.{BidiMatchedOpeningBracket}
 use Rattle.bidi_base.specs.declared.char_data.BidiClass.{BidiClass}
-use Rattle.bidi_base.specs.declared.char_data.BidiClass.TheVariants.{L, AL, EN, ES, ET, AN, CS, NSM}
+use Rattle.bidi_base.specs.declared.char_data.BidiClass.TheVariants.{L, AL, EN, ES, ET, AN, CS, NSM, R}
 use Rattle.bidi_base.proofs.TextLemmas.{HasUnits, is_boundary-le}
 use Rattle.bidi_text.proofs.PerCharTests.{class_eq}
 use Rattle.bidi_neutral.specs.NeutralPass.{turns_from}
@@ -10,7 +13,7 @@ use Rattle.bidi_neutral.proofs.NeutralUnits.{places_in_runs}
 use Rattle.bidi_neutral.proofs.OneDirection.{IsUpToN1-one}
 use Rattle.bidi_runs.specs.RunSequence.{lent_runs, lent_sos, lent_eos}
 use Rattle.bidi_runs.specs.declared.prepare.lent.LentSequence.{LentSequence}
-use Rattle.bidi_paragraphs.specs.Settled.{stays, first_unit, IsSettled}
+use Rattle.bidi_paragraphs.specs.Settled.{goes_along, is_directed, first_unit, HasOneDirection, HasNoNeutral}
 
 -- ---- W1 to W7 change numbers, terminators, separators, Arabic letters and nonspacing marks alone
 
@@ -74,13 +77,61 @@ weak_classes-idle sos classes h =
 
 -- ---- what stays and is kept
 
-idle-stays : (d c : BidiClass) → is_l_or_r d ≡ true → stays d c ≡ true → is_kept_in_place c ≡ true → is_idle c ≡ true
-unfolding stays
-idle-stays d c side h kept = grind arith
+along-idle : (d c : BidiClass) → is_l_or_r d ≡ true → goes_along d c ≡ true → is_kept_in_place c ≡ true → is_idle c ≡ true
+unfolding goes_along
+along-idle d c side h kept = grind arith
 
-keeps-stays : (d c : BidiClass) → is_l_or_r d ≡ true → stays d c ≡ true → turns_from d c ≡ false
-unfolding stays
-keeps-stays d c side h = grind arith
+along-keeps : (d c : BidiClass) → is_l_or_r d ≡ true → goes_along d c ≡ true → turns_from d c ≡ false
+unfolding goes_along
+along-keeps d c side h = grind arith
+
+directed-only : (c : BidiClass) → is_directed c ≡ true → is_kept_in_place c ≡ true → is_l_or_r c ≡ true
+unfolding is_directed
+directed-only c h kept = grind arith
+
+-- ---- without neutrals N0 to N2 change nothing
+
+module _ (classes : List BidiClass) (brackets : List (Option BidiMatchedOpeningBracket)) (all : list_all is_l_or_r classes ≡ true) where
+  abbrev counted : List (Option BidiMatchedOpeningBracket)
+  counted = counted_brackets classes brackets
+
+  no_bracket : (cs : List BidiClass) (bs : List (Option BidiMatchedOpeningBracket)) → list_all is_l_or_r cs ≡ true → (k : ℕ) → bracket_at (counted_brackets cs bs) k ≡ None
+  no_bracket [] bs h k = get_or_past [] k None (omega arith)
+  no_bracket (c ∷ cs) [] h k = get_or_past [] k None (omega arith)
+  no_bracket (L ∷ cs) (b ∷ bs) h zero = refl
+  no_bracket (R ∷ cs) (b ∷ bs) h zero = refl
+  no_bracket (c ∷ cs) (b ∷ bs) h zero = absurd (cc (and_parts (is_l_or_r c) (list_all is_l_or_r cs) h).0)
+  no_bracket (c ∷ cs) (b ∷ bs) h (suc k) = no_bracket cs bs (and_parts (is_l_or_r c) (list_all is_l_or_r cs) h).1 k
+
+  none_closed : (js : List ℕ) → fold (with_closing counted) [] js ≡ []
+  unfolding with_closing
+  none_closed [] = refl
+  none_closed (j ∷ js) = simp (no_bracket classes brackets all j) (none_closed js)
+
+  none_found : (limit : ℕ) (js : List ℕ) → filter_map (λ i. find (λ (p : ℕ × ℕ). p.0 == i && nat_lt p.1 limit) []) js ≡ []
+  none_found limit [] = refl
+  none_found limit (j ∷ js) = none_found limit js
+
+  no_pairs : bracket_pairs classes brackets ≡ []
+  unfolding bracket_pairs pairs_of closed_pairs
+  no_pairs = simp (none_closed (indexes counted)) (none_found (bracket_limit counted []) (indexes counted))
+
+  same_n1 : (e sos eos : BidiClass) (before : List BidiClass) (c : BidiClass) (after : List BidiClass) → is_l_or_r c ≡ true → n1_rule e sos eos before c after ≡ c
+  same_n1 e sos eos before L after h = refl
+  same_n1 e sos eos before R after h = refl
+  same_n1 e sos eos before c after h = absurd (cc h)
+
+  same_n2 : (e c : BidiClass) → is_l_or_r c ≡ true → n2_rule e c ≡ c
+  same_n2 e L h = refl
+  same_n2 e R h = refl
+  same_n2 e c h = absurd (cc h)
+
+  without_neutrals : (level : ℕ) (sos eos : BidiClass) (source : List BidiClass) → map (n2_rule (direction_of level)) classes ≡ neutral_classes level sos eos source brackets classes
+  unfolding neutral_classes n0
+  without_neutrals level sos eos source =
+      let e = direction_of level in
+      same-mapped (n2_rule e) is_l_or_r (same_n2 e) classes all
+      ∙ sym (simp no_pairs (same-in_context (n1_rule e sos eos) is_l_or_r (same_n1 e sos eos) [] classes all))
 
 -- ---- the characters of a sequence
 
@@ -108,7 +159,7 @@ found_first test (r ∷ rs) some ordered passes = by_length (r.1 - r.0) refl (gr
     by_length (suc n) is positive = simp (is, passes)
 
 module _ (len_of : ℕ → ℕ) (h : HasUnits len_of) (chars : List ℕ) (s : LentSequence) (levels : List ℕ) (units : List BidiClass)
-    (lines : AreLines len_of chars (map bounds (lent_runs s))) (per : is_per_char class_eq len_of chars units ≡ true) (settled : IsSettled s levels units) where
+    (lines : AreLines len_of chars (map bounds (lent_runs s))) (per : is_per_char class_eq len_of chars units ≡ true) where
   abbrev rs : List (ℕ × ℕ)
   rs = map bounds (lent_runs s)
 
@@ -128,23 +179,54 @@ module _ (len_of : ℕ → ℕ) (h : HasUnits len_of) (chars : List ℕ) (s : Le
       (filter_each (λ k. is_kept_in_place (class_at units (place len_of chars k))) (λ k. in_runs rs (place len_of chars k)) (λ k. P (place len_of chars k))
       (λ k inside kept. holds (place len_of chars k) inside kept) (chars_in_runs len_of chars rs) (places_in_runs len_of h chars rs lines))
 
-  all_idle : list_all is_idle (at_places L units places) ≡ true
-  all_idle =
-      list_all-at_places is_idle units places
-      (at_kept (λ u. is_idle (class_at units u) ≡ true) (λ u inside kept. idle-stays (lent_sos s) (class_at units u) side (settled.stay u inside) kept))
-
-  -- W1 to W7
-  pub settled-weak : weak_classes (lent_sos s) (at_places L units places) ≡ at_places L units places
-  settled-weak = weak_classes-idle (lent_sos s) (at_places L units places) all_idle
+  idle-directed : (cs : List BidiClass) → list_all is_l_or_r cs ≡ true → list_all is_idle cs ≡ true
+  idle-directed [] all = refl
+  idle-directed (L ∷ cs) all = idle-directed cs all
+  idle-directed (R ∷ cs) all = idle-directed cs all
+  idle-directed (c ∷ cs) all = absurd (cc (and_parts (is_l_or_r c) (list_all is_l_or_r cs) all).0)
 
   resolved : (cs : List BidiClass) → list_all is_idle cs ≡ true → list_all is_weak_resolved cs ≡ true
   resolved [] all = refl
   resolved (c ∷ cs) all = grind (arith, and_parts, and_from, resolved cs)
 
-  -- N0 and N1
-  pub settled-neutral : (source : Source) (original : List BidiClass) → IsUpToN1 len_of chars source levels original units units (lent_runs s) (lent_sos s) (lent_eos s)
-  settled-neutral source original =
-      let ready = IsReady-sequence len_of h chars s (lent_runs s) (lent_sos s) units refl refl per lines (resolved (at_places L units places) all_idle) in
-      let found = found_first (λ u. is_kept_in_place (class_at units u)) rs (and_parts _ _ s.well_formed).0 ready.ordered settled.kept in
-      IsUpToN1-one len_of h chars (lent_runs s) (lent_sos s) units ready (lent_sos s) side (λ u inside. keeps-stays (lent_sos s) (class_at units u) side (settled.stay u inside))
-      source levels original (lent_eos s) (first_unit s) refl settled.sides found (sym settled.embedding)
+  -- what W1 to N1 leave where they change nothing
+  pub record IsLeft (source : Source) (original : List BidiClass) : Type 0 where
+    pub weak : at_places L units places ≡ weak_classes (lent_sos s) (at_places L units places)
+    pub neutral : IsUpToN1 len_of chars source levels original units units (lent_runs s) (lent_sos s) (lent_eos s)
+
+  module _ (source : Source) (original : List BidiClass) where
+    left_one : HasOneDirection s levels units → IsLeft source original
+    left_one one =
+        let idle =
+        list_all-at_places is_idle units places
+        (at_kept (λ u. is_idle (class_at units u) ≡ true) (λ u inside kept. along-idle (lent_sos s) (class_at units u) side (one.along u inside) kept)) in
+        let ready = IsReady-sequence len_of h chars s (lent_runs s) (lent_sos s) units refl refl per lines (resolved (at_places L units places) idle) in
+        let found = found_first (λ u. is_kept_in_place (class_at units u)) rs (and_parts _ _ s.well_formed).0 ready.ordered one.kept in
+        record {
+          weak = sym (weak_classes-idle (lent_sos s) (at_places L units places) idle);
+          neutral =
+              IsUpToN1-one len_of h chars (lent_runs s) (lent_sos s) units ready (lent_sos s) side (λ u inside. along-keeps (lent_sos s) (class_at units u) side (one.along u inside))
+              source levels original (lent_eos s) (first_unit s) refl one.sides found (sym one.embedding);
+        }
+
+    left_directed : HasNoNeutral s units → IsLeft source original
+    left_directed none =
+        let directed =
+        list_all-at_places is_l_or_r units places
+        (at_kept (λ u. is_l_or_r (class_at units u) ≡ true) (λ u inside kept. directed-only (class_at units u) (none u inside) kept)) in
+        record {
+          weak = sym (weak_classes-idle (lent_sos s) (at_places L units places) (idle-directed (at_places L units places) directed));
+          neutral =
+              record {
+                kept =
+                    without_neutrals (at_places L units places) (map source.bracket_of (at_places 0 chars (kept_in_place len_of chars units rs))) directed (level_at levels (first_or 0 places)) (lent_sos s) (lent_eos s)
+                    (at_places L original places);
+                removed = λ u gone. gone;
+                outside = λ u out. refl;
+                per_char = per;
+              };
+        }
+
+    pub settled-left : HasOneDirection s levels units ⊎ HasNoNeutral s units → IsLeft source original
+    settled-left (inl one) = left_one one
+    settled-left (inr none) = left_directed none

@@ -6,7 +6,7 @@ use Rattle.bidi_runs.specs.Links.{begins, sequence_at, linked_sequences}
 use Rattle.bidi_runs.specs.declared.prepare.lent.LentSequence.{LentSequence}
 use Rattle.bidi_runs.specs.RunSequence.{lent_joined}
 use Rattle.bidi_paragraphs.proofs.LevelPasses.{ArePrepared, AreResolvedTo-start, AreResolvedTo-per_char, AreResolvedTo-long, AreWeakTo-from, AreWeakTo-resolved, AreResolvedTo-more, prepared, prepared-next, prepared-lines, prepared-more, prepared-same, prepared-long, prepared-low, AreLevels-from}
-use Rattle.bidi_paragraphs.proofs.SettledSequences.{lines-within, settled-weak, settled-neutral}
+use Rattle.bidi_paragraphs.proofs.SettledSequences.{lines-within, settled-left}
 use Rattle.bidi_paragraphs.proofs.paragraph_levels.LevelResolver.resolve_nested.Given.{Over}
 use Rattle.bidi_paragraphs.proofs.paragraph_levels.LevelResolver.resolve_nested.Goals as goal
 use Rattle.bidi_paragraphs.proofs.paragraph_levels.LevelResolver.resolve_nested.Goals.{After-as_slice-runs, In-Some, in-Some+else-is_settled+in_ok-resolve_up_to_n1, in_default}
@@ -75,11 +75,11 @@ loop-first-preserved-then-is_settled g c =
     let next = prepared-next _ _ _ _ _ _ _ _ _ _ is_ready c.loop-first.first s within begins_here is (side c.in-Some.sequence) in
     let line = prepared-lines _ _ _ _ _ _ _ _ _ _ is_ready c.loop-first.first s within begins_here is in
     let per = AreResolvedTo-per_char _ _ _ _ _ _ _ _ (length-map chars _) c.loop-first.invariant in
-    let settled = c.is_settled.ensures c.if-is_settled.true in
-    let weak =
-    AreWeakTo-from _ _ _ _ _ _ is_ready.fits _ s line next _ c.loop-first.classes c.loop-first.invariant
-    (sym (settled-weak g.T.TextSource.units g.met.T.TextSource.has_units chars c.in-Some.sequence c.prepare.new.levels c.loop-first.classes line per settled)) (λ u gone. gone) (λ u out. refl) per in
-    let neutral = settled-neutral g.T.TextSource.units g.met.T.TextSource.has_units chars c.in-Some.sequence c.prepare.new.levels c.loop-first.classes line per settled (g.D.BidiDataSource.source c.args.paragraph.now.data_source.now) c.args.paragraph.now.original_classes.now in
+    let left =
+    settled-left g.T.TextSource.units g.met.T.TextSource.has_units chars c.in-Some.sequence c.prepare.new.levels c.loop-first.classes line per (g.D.BidiDataSource.source c.args.paragraph.now.data_source.now) c.args.paragraph.now.original_classes.now
+    (c.is_settled.ensures c.if-is_settled.true) in
+    let weak = AreWeakTo-from _ _ _ _ _ _ is_ready.fits _ s line next _ c.loop-first.classes c.loop-first.invariant left.weak (λ u gone. gone) (λ u out. refl) per in
+    let neutral = left.neutral in
     rw (prepared-more _ _ _ _ _ _ _ _ _ _ is_ready c.loop-first.first s within begins_here is)
     (AreResolvedTo-more _ _ _ _ _ _ is_ready.fits _ s line next _ c.loop-first.classes c.args.paragraph.now.original_classes.now _
     c.args.paragraph.now.stored is_ready.levels_is weak neutral.kept neutral.removed neutral.outside neutral.per_char)
