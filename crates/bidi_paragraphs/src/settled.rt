@@ -29,11 +29,7 @@ pub fn is_settled(sequence: LentSequence<'_>, levels: &[Level], classes: &[BidiC
 }
 
 /// Whether the level, sos, eos and all classes of a sequence have one direction. Neutrals do not count.
-fn has_one_direction(
-    sequence: LentSequence<'_>,
-    levels: &[Level],
-    classes: &[BidiClass],
-) -> bool
+fn has_one_direction(sequence: LentSequence<'_>, levels: &[Level], classes: &[BidiClass]) -> bool
     requires inside { All (λ r. r.1 ≤ length classes.now) (map bounds (lent_runs sequence)) }
     requires levels { length levels.now ≡ length classes.now }
     ensures { IsTrue result → HasOneDirection sequence.entry levels.now classes.now }
