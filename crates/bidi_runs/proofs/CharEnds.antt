@@ -1,5 +1,5 @@
 -- The character that begins at a boundary, and where it ends.
-use Rattle.bidi_base.proofs.Common.{◌≡◌, ℕ, ◌+◌, ◌<◌, ◌≤◌, true, List, length, get_or, Some, None, sym, ap, ◌∙◌, arith, common_steps, class_at, char_at, char_index, is_boundary, place, text_len, is_per_char}
+use Rattle.bidi_base.proofs.Common.{◌≡◌, ℕ, ◌+◌, ◌<◌, ◌≤◌, true, List, length, get_or, Some, sym, ap, ◌∙◌, arith, common_steps, class_at, char_at, char_index, is_boundary, place, text_len, is_per_char}
 use Rattle.bidi_base.specs.declared.char_data.BidiClass.{BidiClass}
 use Rattle.bidi_base.proofs.PlaceLemmas.{char_at-place, char_index-place, is_boundary-place, place-char_index, place-end, place-le-back, place-mono, place-more, place-more-le, place-zero}
 use Rattle.bidi_text.proofs.PerCharTests.{class_eq, class_test}
@@ -31,9 +31,6 @@ module _ (len_of : ℕ → ℕ) (h : HasUnits len_of) (chars : List ℕ) where
   -- the last unit, if a character begins there, is one by itself
   pub end-last : (u k : ℕ) → u + 1 ≡ text_len len_of chars → k < length chars → u ≡ place len_of chars k → u + 1 ≡ place len_of chars (k + 1)
   end-last u k last within there = omega (arith, last, there, h (get_or chars k 0), place-more len_of chars k 0 within, place-more-le len_of chars k 0 within)
-
-  pub never-None : (u k : ℕ) → char_at len_of chars u ≡ None → k < length chars → u ≡ place len_of chars k → ⊥
-  never-None u k e within there = cc (char_at-place len_of h chars k 0 within, there, e)
 
   pub index-zero : char_index len_of chars 0 ≡ 0
   index-zero = ap (char_index len_of chars) (sym (place-zero len_of chars)) ∙ char_index-place len_of chars h 0 (omega arith)

@@ -1,5 +1,5 @@
 -- The links between all level runs of a paragraph: their chains are the isolating run sequences.
-use Rattle.bidi_base.proofs.Common.{◌≡◌, ℕ, zero, suc, ◌+◌, ◌-◌, ◌<◌, ◌≤◌, Bool, true, false, not, cond, List, [], ◌∷◌, ◌++◌, length, map, get_or, take, Option, Some, None, is_some, unwrap_or, refl, sym, ap, subst, ◌∙◌, arith, add-one, append-nil, inl, inr, IsTrue, filter, filter-append, range_with_len, length-range_with_len, cases_Bool, both_ways, lt-ltb, le-leb, list_any, flat_map-append, flat_map-map, All, All-nil, All-cons, map-append, IsPermutation, length-map, indexes, is_l_or_r, class_at, first_or, last_or, holds_number, chain, RunSequence, is_kept_at, kept_places, kept_before, next_kept, have_one_level, successor, is_first, start_class, end_class, sequence_from, sequences, has_places, place, text_len, IsLine, AreLines, are_ordered_from, are_ordered, level_run_ranges, chars_in_runs, kept_in_runs}
+use Rattle.bidi_base.proofs.Common.{◌≡◌, ℕ, zero, suc, ◌+◌, ◌<◌, ◌≤◌, Bool, true, false, not, cond, List, [], ◌∷◌, ◌++◌, length, map, get_or, Option, Some, None, is_some, unwrap_or, refl, sym, ap, subst, ◌∙◌, arith, add-one, append-nil, inl, inr, filter, filter-append, range_with_len, cases_Bool, both_ways, lt-ltb, le-leb, list_any, flat_map-map, All, All-nil, All-cons, map-append, IsPermutation, length-map, indexes, is_l_or_r, last_or, holds_number, chain, is_kept_at, kept_before, next_kept, have_one_level, successor, is_first, start_class, end_class, sequence_from, sequences, has_places, place, IsLine, AreLines, are_ordered_from, are_ordered, level_run_ranges, chars_in_runs, kept_in_runs}
 use Rattle.std.specs.Prelude.{flat_map}
 use Rattle.std.proofs.lemmas.List.Sorted.{IsPermutation-map}
 use Rattle.bidi_base.specs.Units.{is_run_sequence}
@@ -10,7 +10,7 @@ use Rattle.bidi_base.proofs.Lists.{cases_Option}
 use Rattle.bidi_base.proofs.PlaceLemmas.{place-lt, place-mono, IsLine-places}
 use Rattle.bidi_base.proofs.TextLemmas.{HasUnits}
 use Rattle.bidi_laws.proofs.PassLemmas.{AreSuccessors}
-use Rattle.bidi_laws.proofs.RunsLemmas.{AreRunSteps-successors, IsLevelRun}
+use Rattle.bidi_laws.proofs.RunsLemmas.{AreRunSteps-successors}
 use Rattle.bidi_laws.proofs.SequencesLemmas.{IsLinked-successor, is_first-none, is_first-from_none, is_first-successor}
 use Rattle.bidi_laws.proofs.SuccessorLemmas.{successor-IsLaterKept, successor-cases, successor-injective, have_one_level-from, kept_before-next}
 use Rattle.bidi_runs.specs.Joining.{JoinedRuns, characters_of}
@@ -18,8 +18,8 @@ use Rattle.bidi_runs.specs.Links.{next_run, sides_at, run_chain, begins, sequenc
 use Rattle.bidi_runs.specs.declared.prepare.links.RunLinks.{RunLinks}
 use Rattle.bidi_runs.specs.declared.prepare.links.RunSides.{RunSides}
 use Rattle.bidi_runs.proofs.LevelRunLemmas.{kept_in_run, level_run_ranges-at, length-level_run_ranges}
-use Rattle.bidi_runs.proofs.LinkPass.{IsLink, AreLinks, AreSides, side_for}
-use Rattle.bidi_runs.proofs.RunMembers.{count, cut, members, head, back, level_run, IsWhole, apart, below_cut, same_run, begun_in, ended_in, kept_places-members}
+use Rattle.bidi_runs.proofs.LinkPass.{AreLinks, AreSides}
+use Rattle.bidi_runs.proofs.RunMembers.{count, cut, members, head, back, level_run, IsWhole, below_cut, same_run, begun_in, ended_in, kept_places-members}
 
 last_or-append : (d x : ℕ) (xs ys : List ℕ) → last_or d (xs ++ x ∷ ys) ≡ last_or x ys
 last_or-append d x [] ys = refl

@@ -1,5 +1,5 @@
 -- One level run after another is linked: what a link says, what waits for the match of an open initiator, and what one more run does.
-use Rattle.bidi_base.proofs.Common.{◌≡◌, ◌≢◌, ℕ, zero, suc, ◌+◌, ◌-◌, ◌<◌, ◌≤◌, Bool, true, false, cond, eqb, max, List, [], ◌∷◌, ◌++◌, length, get_or, set, take, reverse, Option, Some, None, refl, sym, ap, subst, ◌∙◌, arith, ◌⊎◌, inl, inr, filter, range_with_len, cases_Bool, cases_eq, cases_lt, both_ways, get_or_push, get_or_append_left, get_or_past, length-append, length-set, length_push, reverse-append, eq-eqb, ne_eqb, IfSome, is_initiator, direction_of, class_at, first_or, last_or, is_initiator_at, is_pdi_at, matching_pdi, is_kept_at, kept_before, next_kept, level_at, level_or, have_one_level, successor, is_first, start_class, end_class, read_class, waiting_for}
+use Rattle.bidi_base.proofs.Common.{◌≡◌, ◌≢◌, ℕ, zero, suc, ◌+◌, ◌-◌, ◌<◌, ◌≤◌, true, false, cond, eqb, max, List, [], ◌∷◌, ◌++◌, length, get_or, set, take, reverse, Option, Some, None, refl, sym, ap, subst, ◌∙◌, arith, ◌⊎◌, inl, inr, range_with_len, cases_Bool, cases_eq, cases_lt, get_or_push, get_or_append_left, length-append, length-set, reverse-append, eq-eqb, ne_eqb, IfSome, direction_of, class_at, first_or, last_or, is_initiator_at, is_pdi_at, matching_pdi, is_kept_at, kept_before, next_kept, level_at, level_or, have_one_level, successor, is_first, start_class, end_class, read_class, waiting_for}
 use Rattle.std.specs.List.{fold}
 use Rattle.std.proofs.lemmas.List.{get_or-set_same, get_or-set_other}
 use Rattle.bidi_base.specs.declared.char_data.BidiClass.{BidiClass}
@@ -8,7 +8,7 @@ use Rattle.bidi_base.proofs.Lists.{reverse_front, last_or-reverse, reverse_none}
 use Rattle.bidi_laws.proofs.IsolatesLemmas.{initiators_apart, pdis_apart}
 use Rattle.bidi_laws.proofs.OpenMatches.{IsReadStack-match, IsReadStack-matched, IsReadStack-no_match}
 use Rattle.bidi_laws.proofs.ReadStack.{Member, IsReadStack, IsReadStack-start, IsReadStack-more, IsReadStack-stay}
-use Rattle.bidi_laws.proofs.RunsLemmas.{BeginsRun, IsLevelRun, IsRun, is_first-run, successor-at_match}
+use Rattle.bidi_laws.proofs.RunsLemmas.{BeginsRun, IsLevelRun, is_first-run, successor-at_match}
 use Rattle.bidi_laws.proofs.SequencesLemmas.{is_first-none, is_first-successor}
 use Rattle.bidi_laws.proofs.SuccessorLemmas.{successor-IsLaterKept, successor-injective, is_kept-initiator, is_kept-pdi, kept_before-is_None}
 use Rattle.bidi_laws.proofs.WaitingLemmas.{inside_run, is_first-no_pdi}

@@ -1,5 +1,5 @@
 -- The loop over the level runs of a text: the run that comes, what has been joined before it, and what then.
-use Rattle.bidi_base.proofs.Common.{◌≡◌, ℕ, ◌+◌, ◌-◌, ◌<◌, ◌≤◌, Bool, true, false, cond, eqb, max, List, [], ◌∷◌, ◌++◌, length, map, get_or, take, Option, refl, unwrap_or, sym, ap, subst, ◌∙◌, arith, length-append, rules, common_steps, filter, IfSome, All, list_any, Range, both_ways, length-map, map-append, get_or-map, get_or_default, get_or_past, nil_from_length, take_more, All-weaker, All-nil, All-cons, flat_map-map, list_any_at, IsPermutation-refl, map-map, is_initiator, direction_of, class_at, is_initiator_at, is_kept_at, level_at, is_l_or_r, Some, None, IsTrue, lt-ltb, le-leb, suc, zero, sequences, run_starts, waiting_for, place, text_len, per_unit, per_char, is_per_char, is_boundary, IsLine, bounds, kept_in_runs, level_run_ranges, AreLines}
+use Rattle.bidi_base.proofs.Common.{◌≡◌, ℕ, ◌+◌, ◌-◌, ◌<◌, ◌≤◌, Bool, true, false, cond, eqb, max, List, [], ◌∷◌, ◌++◌, length, map, get_or, take, Option, refl, sym, ap, subst, ◌∙◌, arith, length-append, rules, common_steps, IfSome, All, list_any, Range, both_ways, length-map, get_or-map, get_or_default, get_or_past, nil_from_length, take_more, All-nil, All-cons, list_any_at, IsPermutation-refl, is_initiator, direction_of, class_at, is_initiator_at, is_kept_at, level_at, is_l_or_r, Some, None, IsTrue, lt-ltb, le-leb, suc, zero, sequences, run_starts, waiting_for, place, text_len, per_unit, per_char, is_per_char, is_boundary, IsLine, bounds, kept_in_runs, level_run_ranges, AreLines}
 use Rattle.std.specs.Prelude.{flat_map, IsPermutation}
 use Rattle.bidi_base.specs.Units.{is_run_sequence}
 use Rattle.bidi_base.specs.declared.char_data.BidiClass.{BidiClass}
@@ -15,7 +15,7 @@ use Rattle.bidi_runs.specs.declared.prepare.links.RunSides.{RunSides}
 use Rattle.bidi_runs.specs.Joining.{JoinedRuns, IsKeptEnd, level_after_run, read_range, read_units}
 use Rattle.bidi_runs.specs.Links.{with_link, with_sides, next_run, begins, sequence_at, linked_sequences, sequences_of, AreLinked}
 use Rattle.bidi_runs.proofs.LevelRunLemmas.{kept_in_run, length-level_run_ranges}
-use Rattle.bidi_runs.proofs.RunUnits.{cuts, NoneKept, IsRunAt, run_at, unit_run, cuts-last, level_of_unit, class_of_unit, IsLastUnit, none_kept, last_unit}
+use Rattle.bidi_runs.proofs.RunUnits.{cuts, NoneKept, IsRunAt, run_at, unit_run, level_of_unit, class_of_unit, IsLastUnit, none_kept, last_unit}
 use Rattle.bidi_runs.proofs.RunJoining.{IsFirst, first_of, level_beyond}
 use Rattle.bidi_runs.proofs.LinkChains.{linked-sequences, linked-runs, linked-lines, linked-AreLinked}
 use Rattle.bidi_runs.proofs.LinkPass.{IsLinkedTo, IsLinkedTo-start, IsLinkedTo-more, waiting-fits}

@@ -1,5 +1,5 @@
 -- Level runs that are linked to isolating run sequences.
-use Rattle.std.specs.Prelude.{◌≡◌, ℕ, ◌<◌, Bool, true, IsTrue, if◌then◌else◌, ◌==◌, List, [], ◌∷◌, ◌++◌, length, map, filter, get_or, slice_set, All, Option, Some, None, is_some, unwrap_or}
+use Rattle.std.specs.Prelude.{◌≡◌, ℕ, ◌<◌, Bool, true, IsTrue, if◌then◌else◌, ◌==◌, List, [], ◌∷◌, ◌++◌, length, map, filter, get_or, slice_set, Option, Some, None, is_some, unwrap_or}
 use Rattle.bidi_base.specs.declared.char_data.BidiClass.{BidiClass}
 use Rattle.bidi_base.specs.declared.char_data.BidiClass.TheVariants.{L}
 use Rattle.std.specs.List.{range_with_len}
@@ -7,7 +7,6 @@ use Rattle.bidi_base.specs.Places.{chain, last_or}
 use Rattle.bidi_base.specs.Sequences.{RunSequence, has_places}
 use Rattle.bidi_base.specs.Units.{is_run_sequence}
 use Rattle.bidi_runs.specs.Joining.{JoinedRuns, characters_of}
-use Rattle.bidi_runs.specs.RunSequence.{lent_runs, lent_sos, lent_eos}
 use Rattle.bidi_runs.specs.declared.prepare.links.RunLinks.{RunLinks}
 use Rattle.bidi_runs.specs.declared.prepare.links.RunSides.{RunSides}
 

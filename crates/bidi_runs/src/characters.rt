@@ -13,10 +13,7 @@ pub fn end_of<T: TextSource>(text: T, start: usize) -> usize
     ensures { (k : ℕ) → k < length (T.characters text) → start ≡ place T.units (T.characters text) k
         → result ≡ place T.units (T.characters text) (k + 1) }
 {
-    match text.char_at(start) {
-        Some((_, len)) => start + len,
-        None => start,
-    }
+    end_within(text, start, text.len())
 }
 
 /// Returns the index after the character that begins at `start`, in a text of `len` code units.

@@ -1,5 +1,5 @@
 -- Each sequence is copied.
-use Rattle.bidi_base.proofs.Common.{◌≡◌, ◌∙◌, true, false, is_some, length, map, sym, ap, arith, bounds}
+use Rattle.bidi_base.proofs.Common.{◌≡◌, ◌∙◌, true, false, is_some, map, sym, ap, arith, bounds}
 use Rattle.bidi_runs.specs.Links.{begins, sequence_at, linked_sequences}
 use Rattle.bidi_runs.specs.RunSequence.{joined, lent_joined}
 use Rattle.bidi_runs.proofs.JoinedSequences.{copied-more, copied-all, sequences_in-joined, run_bounds-joined, AreLines-joined}

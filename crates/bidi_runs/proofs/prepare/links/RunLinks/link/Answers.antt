@@ -1,10 +1,7 @@
 -- One run after another is linked.
-use Rattle.bidi_base.proofs.Common.{◌≡◌, ℕ, List, length, get_or, cond, is_l_or_r, true, inl, inr, ap, sym, ◌∙◌, arith, rules, cases_Bool, take_all, direction_of, class_at, waiting_for}
-use Rattle.bidi_base.specs.declared.char_data.BidiClass.{BidiClass}
+use Rattle.bidi_base.proofs.Common.{◌≡◌, ℕ, length, get_or, is_l_or_r, true, inl, inr, ap, ◌∙◌, arith, rules, cases_Bool, take_all, direction_of, class_at, waiting_for}
 use Rattle.bidi_laws.proofs.AgreeLemmas.{sequences-explicit_levels}
-use Rattle.bidi_runs.specs.Joining.{read_units}
 use Rattle.bidi_runs.specs.Links.{with_link, with_sides}
-use Rattle.bidi_runs.specs.declared.prepare.links.RunSides.{RunSides}
 use Rattle.bidi_runs.proofs.WalkLemmas.{no_range}
 use Rattle.bidi_runs.proofs.RunLoop.{Comes, comes, last_kept, waiting_fits, AreLinkedSoFar-start, AreLinkedSoFar-read, AreLinkedSoFar-unread, AreSequences-end, AreSequences-removed}
 use Rattle.bidi_runs.proofs.prepare.links.RunLinks.link.Given.{Over}

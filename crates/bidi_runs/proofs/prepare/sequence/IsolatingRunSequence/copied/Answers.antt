@@ -1,4 +1,4 @@
-use Rattle.bidi_base.proofs.Common.{◌≡◌, ◌∙◌, arith, take_all}
+use Rattle.bidi_base.proofs.Common.{◌≡◌, ◌∙◌, take_all}
 use Rattle.bidi_runs.proofs.prepare.sequence.IsolatingRunSequence.copied.Goals as goal
 
 pub invariant_of-result : goal.invariant_of-result
