@@ -8,6 +8,7 @@ pub mod LinkChains
 pub mod LinkPass
 pub mod LinkedSequences
 pub mod Marks
+pub mod OpenIsolates
 pub mod PassOverText
 pub mod RunCutting
 pub mod RunGather

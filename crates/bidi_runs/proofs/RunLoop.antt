@@ -42,8 +42,8 @@ cut len_of chars units unit_levels n = get_or (cuts (per_char L len_of chars uni
 
 -- these runs have come; where no class opens an isolate nothing waits
 pub record AreLinkedSoFar (len_of : ℕ → ℕ) (chars : List ℕ) (units : List BidiClass) (unit_levels : List ℕ) (paragraph : ℕ) (reads : Bool) (came : List (Range ℕ)) (links : RunLinks) (before : ℕ) : Type 0 where
-  pub so_far : IsLinkedTo (per_char L len_of chars units) (per_char 0 len_of chars unit_levels) paragraph (length came) links.next.items links.sides.items links.waiting.items before
-  pub quiet : reads ≡ false → links.waiting.items ≡ []
+  pub so_far : IsLinkedTo (per_char L len_of chars units) (per_char 0 len_of chars unit_levels) paragraph (length came) links.next.items links.sides.items links.waiting before
+  pub quiet : reads ≡ false → links.waiting ≡ []
 
 -- what holds when all runs have come
 pub record AreSequences (len_of : ℕ → ℕ) (chars : List ℕ) (units : List BidiClass) (unit_levels : List ℕ) (paragraph : ℕ) (runs : List (Range ℕ)) (links : RunLinks) : Type 0 where
@@ -143,12 +143,12 @@ module _ (len_of : ℕ → ℕ) (h : HasUnits len_of) (chars : List ℕ) (units 
   counted = sym (length-map runs bounds) ∙ ap length given.runs_are ∙ length-level_run_ranges len_of chars classes levels
 
   module _ (paragraph : ℕ) where
-    pub AreLinkedSoFar-start : (reads : Bool) (links : RunLinks) → links.next.items ≡ [] → links.sides.items ≡ [] → links.waiting.items ≡ [] → AreLinkedSoFar len_of chars units unit_levels paragraph reads [] links paragraph
+    pub AreLinkedSoFar-start : (reads : Bool) (links : RunLinks) → links.next.items ≡ [] → links.sides.items ≡ [] → links.waiting ≡ [] → AreLinkedSoFar len_of chars units unit_levels paragraph reads [] links paragraph
     AreLinkedSoFar-start reads links next sides waiting = record { so_far = rw (next, sides, waiting) (IsLinkedTo-start classes levels paragraph); quiet = λ _. waiting }
 
     -- a run with a kept character comes
     module _ (reads : Bool) (came : List (Range ℕ)) (run : Range ℕ) (links : RunLinks) (before kept_end : ℕ) (g : Option ℕ) (state : AreLinkedSoFar len_of chars units unit_levels paragraph reads came links before) (next : IsNext (length came) run)
-        (more_runs : length came < length runs) (e : IsKeptEnd units run.start run.end kept_end) (some : ¬ (kept_end ≡ run.start)) (g_is : g ≡ waiting_for (class_at units run.start) links.waiting.items) where
+        (more_runs : length came < length runs) (e : IsKeptEnd units run.start run.end kept_end) (some : ¬ (kept_end ≡ run.start)) (g_is : g ≡ waiting_for (class_at units run.start) links.waiting) where
       abbrev a : ℕ
       a = cut len_of chars units unit_levels (length came)
 
@@ -164,12 +164,12 @@ module _ (len_of : ℕ → ℕ) (h : HasUnits len_of) (chars : List ℕ) (units 
       first : (f : ℕ) × IsFirst (per_char L len_of chars units) (cut len_of chars units unit_levels (length came)) (cut len_of chars units unit_levels (length came + 1)) f
       first = first_of (per_char L len_of chars units) (cut len_of chars units unit_levels (length came)) (cut len_of chars units unit_levels (length came + 1)) last.index last.unit.is_last
 
-      g_at : g ≡ waiting_for (class_at (per_char L len_of chars units) (cut len_of chars units unit_levels (length came))) links.waiting.items
+      g_at : g ≡ waiting_for (class_at (per_char L len_of chars units) (cut len_of chars units unit_levels (length came))) links.waiting
       g_at = simp (g_is, next.at.start, class_of_unit len_of h chars classes levels long units unit_levels same units_are levels_are a (omega (arith, next.at.range.not_empty, next.at.range.within, long)))
 
       -- the run that waits is there
       pub waiting_fits : IfSome g (λ r. r < length links.next.items)
-      waiting_fits = waiting-fits classes levels paragraph (length came) links.next.items links.sides.items links.waiting.items before g first.0 last.index within state.so_far first.1 last.unit.is_last g_at
+      waiting_fits = waiting-fits classes levels paragraph (length came) links.next.items links.sides.items links.waiting before g first.0 last.index within state.so_far first.1 last.unit.is_last g_at
 
       module _ (level after : ℕ) (sos eos : BidiClass) (level_is : level ≡ get_or unit_levels (kept_end - 1) level) (after_is : after ≡ level_after_run paragraph (class_at units (kept_end - 1)) unit_levels run.end) (sos_is : sos ≡ direction_of (max level before))
           (eos_is : eos ≡ direction_of (max level after)) (more : RunLinks) (next_is : more.next.items ≡ with_link g links.next.items) (sides_are : more.sides.items ≡ with_sides g sos eos links.sides.items) where
@@ -184,16 +184,16 @@ module _ (len_of : ℕ → ℕ) (h : HasUnits len_of) (chars : List ℕ) (units 
         level_at_last : level ≡ level_at (per_char 0 len_of chars unit_levels) last.index
         level_at_last = level_is ∙ get_or_default unit_levels (kept_end - 1) level 0 (omega (arith, next.some, next.inside_levels, e.to)) ∙ last.unit.level
 
-        linked_with : more.waiting.items ≡ read_range (per_char L len_of chars units) (last.index + 1) (length came) (cut len_of chars units unit_levels (length came)) (cut len_of chars units unit_levels (length came + 1)) links.waiting.items → (reads ≡ false → more.waiting.items ≡ [])
+        linked_with : more.waiting ≡ read_range (per_char L len_of chars units) (last.index + 1) (length came) (cut len_of chars units unit_levels (length came)) (cut len_of chars units unit_levels (length came + 1)) links.waiting → (reads ≡ false → more.waiting ≡ [])
             → AreLinkedSoFar len_of chars units unit_levels paragraph reads (came ++ run ∷ []) more level
         linked_with read quiet = record {
           so_far = rw (length-append came (run ∷ []), next_is, sides_are)
-              (IsLinkedTo-more classes levels paragraph (length came) links.next.items links.sides.items links.waiting.items before g first.0 last.index within state.so_far first.1 last.unit.is_last g_at level after sos eos level_at_last after_at sos_is eos_is more.waiting.items read);
+              (IsLinkedTo-more classes levels paragraph (length came) links.next.items links.sides.items links.waiting before g first.0 last.index within state.so_far first.1 last.unit.is_last g_at level after sos eos level_at_last after_at sos_is eos_is more.waiting read);
           quiet = quiet;
         }
 
         -- its characters were read
-        pub AreLinkedSoFar-read : reads ≡ true → (index : ℕ) → index ≡ length came → more.waiting.items ≡ read_units len_of chars units kept_end index run.start run.end links.waiting.items → AreLinkedSoFar len_of chars units unit_levels paragraph reads (came ++ run ∷ []) more level
+        pub AreLinkedSoFar-read : reads ≡ true → (index : ℕ) → index ≡ length came → more.waiting ≡ read_units len_of chars units kept_end index run.start run.end links.waiting → AreLinkedSoFar len_of chars units unit_levels paragraph reads (came ++ run ∷ []) more level
         AreLinkedSoFar-read on index is read =
             let last_at = char_index-place len_of chars h (last.index + 1) last.within in
             let a_at = char_index-place len_of chars h a (omega (arith, next.at.range.not_empty, next.at.range.within, long)) in
@@ -201,7 +201,7 @@ module _ (len_of : ℕ → ℕ) (h : HasUnits len_of) (chars : List ℕ) (units 
             linked_with (read ∙ simp (is, last.unit.at_end, next.at.start, next.at.end, last_at, a_at, b_at)) (λ off. absurd (both_ways reads off on))
 
         -- none of its characters opens an isolate
-        pub AreLinkedSoFar-unread : reads ≡ false → (list_any is_initiator units ≡ true → reads ≡ true) → more.waiting.items ≡ links.waiting.items → AreLinkedSoFar len_of chars units unit_levels paragraph reads (came ++ run ∷ []) more level
+        pub AreLinkedSoFar-unread : reads ≡ false → (list_any is_initiator units ≡ true → reads ≡ true) → more.waiting ≡ links.waiting → AreLinkedSoFar len_of chars units unit_levels paragraph reads (came ++ run ∷ []) more level
         AreLinkedSoFar-unread off any kept =
             linked_with (kept ∙ simp (state.quiet off, read_range-quiet classes (last.index + 1) (length came) a b none)) (λ _. kept ∙ state.quiet off)
           where
@@ -211,8 +211,8 @@ module _ (len_of : ℕ → ℕ) (h : HasUnits len_of) (chars : List ℕ) (units 
 
     pub AreSequences-end : (reads : Bool) (came : List (Range ℕ)) (links : RunLinks) (before : ℕ) → came ≡ runs → AreLinkedSoFar len_of chars units unit_levels paragraph reads came links before → AreSequences len_of chars units unit_levels paragraph runs links
     AreSequences-end reads came links before all state =
-        let w : IsLinkedTo (per_char L len_of chars units) (per_char 0 len_of chars unit_levels) paragraph (count (per_char L len_of chars units) (per_char 0 len_of chars unit_levels)) links.next.items links.sides.items links.waiting.items before =
-        subst (λ (n : ℕ). IsLinkedTo classes levels paragraph n links.next.items links.sides.items links.waiting.items before) (ap length all ∙ counted) state.so_far in
+        let w : IsLinkedTo (per_char L len_of chars units) (per_char 0 len_of chars unit_levels) paragraph (count (per_char L len_of chars units) (per_char 0 len_of chars unit_levels)) links.next.items links.sides.items links.waiting before =
+        subst (λ (n : ℕ). IsLinkedTo classes levels paragraph n links.next.items links.sides.items links.waiting before) (ap length all ∙ counted) state.so_far in
         record {
           in_order = linked-sequences classes levels links w.wholes w.links paragraph w.sides_are len_of h chars long (map bounds runs) given.runs_are;
           shares = linked-runs classes levels links w.wholes w.links paragraph w.sides_are len_of h chars long (map bounds runs) given.runs_are;

@@ -2,4 +2,5 @@ pub mod ExplicitPass
 pub mod Joining
 pub mod Links
 pub mod RunSequence
+pub mod Waiting
 pub mod Written

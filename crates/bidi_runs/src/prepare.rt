@@ -9,6 +9,7 @@ mod lent;
 mod links;
 mod sequence;
 mod steps;
+mod waiting;
 
 use bidi_base::char_data::BidiClass;
 use bidi_base::classes::is_removed;

@@ -12,6 +12,7 @@ ghost use Rattle.bidi_base.specs.Units.{bounds, level_run_ranges, AreLines};
 ghost use Rattle.bidi_runs.specs.Joining.{level_after_run, IsKeptEnd, read_units};
 ghost use Rattle.bidi_runs.specs.RunSequence.{run_bounds, sequences_in};
 
+use super::waiting::Waiting;
 use super::{
     IsolatingRunSequence, IsolatingRunSequenceVec, LevelRun, LevelRunVec, RunLinks,
     not_removed_by_x9,
@@ -19,7 +20,6 @@ use super::{
 use crate::characters::end_of;
 use bidi_base::char_data::BidiClass;
 use bidi_base::classes::is_initiator;
-use bidi_base::isolates::{WaitingSequences, read_class};
 use bidi_base::level::Level;
 use bidi_base::search::{ClassTest, first_passing};
 use bidi_text::text::TextSource;
@@ -68,7 +68,7 @@ pub(super) fn level_after(
 // that ends at `kept_end` is the last that X9 keeps. If it opens an isolate, the sequence at `s` waits for
 // the PDI.
 pub(super) fn read_run<T: TextSource>(
-    waiting: &mut WaitingSequences,
+    waiting: &mut Waiting,
     text: T,
     classes: &[BidiClass],
     run: &LevelRun,
@@ -78,16 +78,16 @@ pub(super) fn read_run<T: TextSource>(
     requires per_char { IsTrue (is_per_char ⟦<BidiClass as PartialEq>⟧.eq T.units (T.characters text) classes.now) }
     requires line { IsLine T.units (T.characters text) run.now.start run.now.end }
     requires kept_end { IsTrue (is_boundary T.units (T.characters text) kept_end) }
-    ensures { OnOk result (waiting.new.items
+    ensures { OnOk result (waiting.new
         ≡ read_units T.units (T.characters text) classes.now kept_end s run.now.start run.now.end
-        waiting.old.items) }
+        waiting.old) }
 {
     let end = run.end;
     let mut at = first_passing(IsolateControl, classes, run.start, end);
     while at < end {
         let behind = end_of(text, at);
         let wait = (behind == kept_end).then_some(s);
-        read_class(waiting, classes[at], wait)?;
+        waiting.read_class(classes[at], wait)?;
         at = first_passing(IsolateControl, classes, behind, end);
     }
     Ok(())

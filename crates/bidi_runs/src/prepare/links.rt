@@ -12,9 +12,9 @@ ghost use Rattle.bidi_base.specs.Units.{bounds, level_run_ranges, AreLines};
 ghost use Rattle.bidi_runs.specs.Joining.{read_units};
 
 use super::joining::{kept_end, level_after, read_run, side};
+use super::waiting::Waiting;
 use super::{LentSequence, LevelRun, LevelRunVec};
 use bidi_base::char_data::BidiClass;
-use bidi_base::isolates::{WaitingSequences, waiting_for};
 use bidi_base::level::Level;
 use bidi_text::text::TextSource;
 use std::alloc::{AllocError, Global};
@@ -40,7 +40,7 @@ pub struct RunLinks {
     /// The classes at the ends of each level run.
     sides: Vec<RunSides>,
     /// For each open isolate, the run that its PDI continues.
-    waiting: WaitingSequences,
+    waiting: Waiting,
 }
 
 impl RunLinks {
@@ -52,7 +52,7 @@ impl RunLinks {
         RunLinks {
             next: Vec::new(alloc),
             sides: Vec::new(alloc),
-            waiting: Vec::new(alloc),
+            waiting: Waiting::new(alloc),
         }
     }
 
@@ -60,7 +60,7 @@ impl RunLinks {
     fn restart(&mut self, runs: usize) -> Result<(), AllocError>
         ensures next { OnOk result (self.new.next.items ≡ []) }
         ensures sides { OnOk result (self.new.sides.items ≡ []) }
-        ensures waiting { OnOk result (self.new.waiting.items ≡ []) }
+        ensures waiting { OnOk result (self.new.waiting ≡ []) }
     {
         self.next.clear();
         self.sides.clear();
@@ -84,10 +84,10 @@ impl RunLinks {
         requires kept_end { IsTrue (is_boundary T.units (T.characters text) kept_end) }
         ensures next { self.new.next.items ≡ self.old.next.items }
         ensures sides { self.new.sides.items ≡ self.old.sides.items }
-        ensures waiting { OnOk result (self.new.waiting.items ≡ (if has_isolate_controls
+        ensures waiting { OnOk result (self.new.waiting ≡ (if has_isolate_controls
             then read_units T.units (T.characters text) classes.now kept_end (length self.old.next.items)
-            run.now.start run.now.end self.old.waiting.items
-            else self.old.waiting.items)) }
+            run.now.start run.now.end self.old.waiting
+            else self.old.waiting)) }
     {
         if has_isolate_controls {
             let index = self.next.len();
@@ -107,7 +107,7 @@ impl RunLinks {
         requires { IfSome waits (λ r. r < length self.old.next.items) }
         ensures next { OnOk result (self.new.next.items ≡ with_link waits self.old.next.items) }
         ensures sides { OnOk result (self.new.sides.items ≡ with_sides waits sos eos self.old.sides.items) }
-        ensures waiting { OnOk result (self.new.waiting.items ≡ self.old.waiting.items) }
+        ensures waiting { OnOk result (self.new.waiting ≡ self.old.waiting) }
     {
         if let Some(run) = waits {
             self.next[run] = self.next.len();
@@ -165,7 +165,7 @@ impl RunLinks {
             let last_class = original_classes[kept_end - 1];
             let sos = side(level, level_before);
             let eos = side(level, level_after(para_level, last_class, levels, run.end));
-            let waits = waiting_for(&self.waiting, original_classes[run.start]);
+            let waits = self.waiting.waiting_for(original_classes[run.start]);
             self.read(text, original_classes, run, kept_end, has_isolate_controls)?;
             self.put(waits, sos, eos)?;
             level_before = level;

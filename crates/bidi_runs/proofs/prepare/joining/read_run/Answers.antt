@@ -23,7 +23,7 @@ bounds-classes-at g c = search (arith, within)
 pub loop-at-init : goal.loop-at-init
 loop-at-init g c =
     IsReadTo-jump _ g.met.T.TextSource.has_units _ _ c.requires.per_char _ _ _ _ c.requires.line c.requires.kept_end _ _ _ _
-    (IsReadTo-start _ g.met.T.TextSource.has_units _ _ c.requires.per_char _ _ _ _ c.requires.line c.requires.kept_end c.args.waiting.now.items) c.first_passing-at.ensures
+    (IsReadTo-start _ g.met.T.TextSource.has_units _ _ c.requires.per_char _ _ _ _ c.requires.line c.requires.kept_end c.args.waiting.now) c.first_passing-at.ensures
 
 pub end_of-behind-requires-clause-begins : goal.end_of-behind-requires-clause-begins
 end_of-behind-requires-clause-begins g c =

@@ -1,5 +1,5 @@
 -- One run after another is linked.
-use Rattle.bidi_base.proofs.Common.{◌≡◌, ℕ, length, get_or, is_l_or_r, true, inl, inr, ap, ◌∙◌, arith, rules, cases_Bool, take_all, direction_of, class_at, waiting_for}
+use Rattle.bidi_base.proofs.Common.{◌≡◌, ℕ, length, get_or, is_l_or_r, true, inl, inr, ap, ◌∙◌, arith, rules, cases_Bool, take_all, direction_of}
 use Rattle.bidi_laws.proofs.AgreeLemmas.{sequences-explicit_levels}
 use Rattle.bidi_runs.specs.Links.{with_link, with_sides}
 use Rattle.bidi_runs.proofs.WalkLemmas.{no_range}
@@ -63,12 +63,12 @@ put-requires-in-loop-run g c =
     let run = run_at g (goal.at.put-requires-in-loop-run g c).In-loop-run in
     rw c.in_ok-read.ensures.next
     (waiting_fits _ g.met.T.TextSource.has_units _ _ _ _ (record { classes = c.requires.original; levels = c.requires.levels; runs_are = c.requires.runs }) _ _ _ _ _ _ _ _
-    c.loop-run.invariant run.next run.within c.kept_end-kept_end.ensures c.if-kept_end-run.false (c.waiting_for-waits.ensures ∙ ap (waiting_for (class_at c.args.original_classes.now (get_or c.args.runs.now c.loop-run.run-index no_range).start)) c.deref.ensures.value))
+    c.loop-run.invariant run.next run.within c.kept_end-kept_end.ensures c.if-kept_end-run.false c.waiting_for-waits.ensures)
 
 pub loop-run-preserved : goal.loop-run-preserved
 loop-run-preserved g c =
     let run = run_at g (goal.at.loop-run-preserved g c).In-loop-run in
-    let waits_is = c.waiting_for-waits.ensures ∙ ap (waiting_for (class_at c.args.original_classes.now (get_or c.args.runs.now c.loop-run.run-index no_range).start)) c.deref.ensures.value in
+    let waits_is = c.waiting_for-waits.ensures in
     let next_is = c.in_ok-put-2.ensures.next ∙ ap (with_link c.waiting_for-waits.result) c.in_ok-read.ensures.next in
     let sides_are = c.in_ok-put-2.ensures.sides ∙ ap (with_sides c.waiting_for-waits.result c.side-sos.result c.side-eos.result) c.in_ok-read.ensures.sides in
     let waiting = c.in_ok-put-2.ensures.waiting ∙ c.in_ok-read.ensures.waiting in

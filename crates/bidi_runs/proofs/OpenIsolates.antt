@@ -1,0 +1,36 @@
+-- The open isolates, of which those alike are counted.
+use Rattle.bidi_base.proofs.Common.{◌≡◌, ℕ, suc, ◌-◌, ◌<◌, List, [], ◌∷◌, ◌++◌, length, take, Option, Some, None, ap, ◌∙◌, arith, append-nil, append_assoc, flat_map-append, length-append, take-append_seam}
+use Rattle.std.specs.Prelude.{slice_get}
+use Rattle.std.proofs.lemmas.List.{replicate-append-replicate}
+use Rattle.bidi_base.proofs.Lists.{last_or-append}
+use Rattle.bidi_base.specs.Places.{last_or}
+use Rattle.bidi_runs.specs.Waiting.{open_isolates}
+use Rattle.bidi_runs.specs.declared.prepare.waiting.Alike.{Alike}
+
+-- one more of a kind
+pub open-more : (rows : List Alike) (w : Option ℕ) (n : ℕ) → open_isolates (rows ++ record { wait = w; times = suc n } ∷ []) ≡ open_isolates (rows ++ record { wait = w; times = n } ∷ []) ++ w ∷ []
+open-more rows w n = grind (arith, flat_map-append, append_assoc, append-nil, replicate-append-replicate n 1 w)
+
+-- and one less
+pub take-pushed : (waits : List (Option ℕ)) (w : Option ℕ) → take (length (waits ++ w ∷ []) - 1) (waits ++ w ∷ []) ≡ waits
+take-pushed waits w =
+    let long : length (waits ++ w ∷ []) - 1 ≡ length waits = omega (arith, length-append waits (w ∷ [])) in
+    ap (λ n. take n (waits ++ w ∷ [])) long ∙ take-append_seam waits (w ∷ [])
+
+-- the last of a list ends it
+ends_with : (rows : List Alike) (r : Alike) → slice_get rows (length rows - 1) ≡ Some r → rows ≡ take (length rows - 1) rows ++ r ∷ []
+ends_with [] r e = absurd (cc e)
+ends_with (q ∷ []) r e = cc e
+ends_with (q ∷ p ∷ rows) r e = grind (arith, ends_with (p ∷ rows) r)
+
+-- what waits for the innermost
+pub open-last : (rows : List Alike) (r : Alike) → 0 < r.times → slice_get rows (length rows - 1) ≡ Some r → last_or None (open_isolates rows) ≡ r.wait
+open-last rows r some e = by_times (r.times - 1) (omega arith)
+  where
+    before : List Alike
+    before = take (length rows - 1) rows
+
+    by_times : (n : ℕ) → suc n ≡ r.times → last_or None (open_isolates rows) ≡ r.wait
+    by_times n is =
+        let same : open_isolates rows ≡ open_isolates (before ++ record { wait = r.wait; times = n } ∷ []) ++ r.wait ∷ [] = ap open_isolates (ends_with rows r e) ∙ rw (← is) (open-more before r.wait n) in
+        ap (last_or None) same ∙ last_or-append None (open_isolates (before ++ record { wait = r.wait; times = n } ∷ [])) r.wait
