@@ -10,6 +10,7 @@ pub mod Explicit
 pub mod Flat
 pub mod FoundBrackets
 pub mod Implicit
+pub mod InPlace
 pub mod Isolates
 pub mod Laws
 pub mod Layout

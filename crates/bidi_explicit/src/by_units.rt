@@ -1,10 +1,8 @@
 //! The explicit pass from code unit to code unit, for the crates above.
 
-ghost use Rattle.std.specs.Prelude.{◌≡◌, ◌+◌, ◌*◌, ◌≤◌, [], length, map, IsTrue, OnOk};
-ghost use Rattle.bidi_base.specs.declared.char_data.BidiClass.TheVariants.{L};
-ghost use Rattle.bidi_base.specs.Explicit.{explicit_levels, processing_classes as processing_classes_of};
-ghost use Rattle.bidi_base.specs.Text.{per_unit, per_char, is_per_char};
-ghost use Rattle.bidi_base.specs.Units.{bounds, level_run_ranges};
+ghost use Rattle.std.specs.Prelude.{◌+◌, ◌*◌, ◌≤◌, length, map, OnOk};
+ghost use Rattle.bidi_base.specs.InPlace.{AreExplicitLevels, CanFindExplicitLevels};
+ghost use Rattle.bidi_base.specs.Units.{bounds};
 
 use crate::explicit::{Stride, compute_by, compute_fresh};
 use bidi_base::char_data::BidiClass;
@@ -28,19 +26,10 @@ pub fn compute<T: TextSource>(
     processing_classes: &mut [BidiClass],
     runs: &mut LevelRunVec,
 ) -> Result<(), AllocError>
-    requires explicit { para_level ≤ 125 }
-    requires original { IsTrue (is_per_char ⟦<BidiClass as PartialEq>⟧.eq T.units (T.characters text) original_classes.now) }
-    requires levels { length levels.old ≡ length original_classes.now }
-    requires processing { processing_classes.old ≡ original_classes.now }
-    requires runs { runs.old.items ≡ [] }
-    ensures levels { let stored = per_char L T.units (T.characters text) original_classes.now in
-        OnOk result (levels.new ≡ per_unit T.units (T.characters text) (explicit_levels para_level stored)) }
-    ensures classes { let stored = per_char L T.units (T.characters text) original_classes.now in
-        OnOk result (processing_classes.new
-        ≡ per_unit T.units (T.characters text) (processing_classes_of para_level stored)) }
-    ensures runs { let stored = per_char L T.units (T.characters text) original_classes.now in
-        OnOk result (map bounds runs.new.items
-        ≡ level_run_ranges T.units (T.characters text) stored (explicit_levels para_level stored)) }
+    requires { CanFindExplicitLevels T.units (T.characters text) para_level original_classes.now levels.old
+        processing_classes.old (map bounds runs.old.items) }
+    ensures { OnOk result (AreExplicitLevels T.units (T.characters text) para_level original_classes.now levels.new
+        processing_classes.new (map bounds runs.new.items)) }
 {
     compute_fresh::<T, Brand>(
         alloc,
@@ -72,19 +61,10 @@ pub fn compute_counted<T: TextSource, S: Ledger>(
     runs: &mut LevelRunVec,
     steps: &mut Steps<S>,
 ) -> Result<(), AllocError>
-    requires explicit { para_level ≤ 125 }
-    requires original { IsTrue (is_per_char ⟦<BidiClass as PartialEq>⟧.eq T.units (T.characters text) original_classes.now) }
-    requires levels { length levels.old ≡ length original_classes.now }
-    requires processing { processing_classes.old ≡ original_classes.now }
-    requires runs { runs.old.items ≡ [] }
-    ensures levels { let stored = per_char L T.units (T.characters text) original_classes.now in
-        OnOk result (levels.new ≡ per_unit T.units (T.characters text) (explicit_levels para_level stored)) }
-    ensures classes { let stored = per_char L T.units (T.characters text) original_classes.now in
-        OnOk result (processing_classes.new
-        ≡ per_unit T.units (T.characters text) (processing_classes_of para_level stored)) }
-    ensures runs { let stored = per_char L T.units (T.characters text) original_classes.now in
-        OnOk result (map bounds runs.new.items
-        ≡ level_run_ranges T.units (T.characters text) stored (explicit_levels para_level stored)) }
+    requires { CanFindExplicitLevels T.units (T.characters text) para_level original_classes.now levels.old
+        processing_classes.old (map bounds runs.old.items) }
+    ensures found { OnOk result (AreExplicitLevels T.units (T.characters text) para_level original_classes.now levels.new
+        processing_classes.new (map bounds runs.new.items)) }
     ensures at_least { OnOk result (steps.old + length (T.characters text) ≤ steps.new) }
     ensures at_most { OnOk result (steps.new ≤ steps.old + 4 * length original_classes.now) }
 {

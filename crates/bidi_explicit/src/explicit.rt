@@ -1,12 +1,11 @@
 //! Explicit levels and directions (X1 to X8), and level runs (BD7), in place over the code units of one
 //! paragraph.
 
-ghost use Rattle.std.specs.Prelude.{◌≡◌, ℕ, ◌+◌, ◌*◌, ◌-◌, ◌≤◌, ◌||◌, [], if◌then◌else◌, length, map, unwrap_or, IsTrue, OnOk, IfOk};
-ghost use Rattle.bidi_base.specs.declared.char_data.BidiClass.TheVariants.{L, BN};
+ghost use Rattle.std.specs.Prelude.{◌≡◌, ℕ, ◌+◌, ◌*◌, ◌-◌, ◌≤◌, ◌||◌, if◌then◌else◌, length, map, unwrap_or, OnOk, IfOk};
+ghost use Rattle.bidi_base.specs.declared.char_data.BidiClass.TheVariants.{BN};
 ghost use Rattle.bidi_base.specs.Classes.{is_paragraph_separator, is_removed};
-ghost use Rattle.bidi_base.specs.Explicit.{explicit_levels, processing_classes as processing_classes_of};
-ghost use Rattle.bidi_base.specs.Text.{per_unit, per_char, is_per_char};
-ghost use Rattle.bidi_base.specs.Units.{bounds, level_run_ranges};
+ghost use Rattle.bidi_base.specs.InPlace.{AreExplicitLevels, CanFindExplicitLevels};
+ghost use Rattle.bidi_base.specs.Units.{bounds};
 ghost use Rattle.bidi_explicit.specs.Stride.{count_of};
 ghost use Rattle.bidi_runs.specs.ExplicitPass.{filled, runs_before, run_start as run_start_after};
 
@@ -149,19 +148,10 @@ pub fn compute<T: TextSource>(
     processing_classes: &mut [BidiClass],
     runs: &mut LevelRunVec,
 ) -> Result<(), AllocError>
-    requires explicit { para_level ≤ 125 }
-    requires original { IsTrue (is_per_char ⟦<BidiClass as PartialEq>⟧.eq T.units (T.characters text) original_classes.now) }
-    requires levels { length levels.old ≡ length original_classes.now }
-    requires processing { processing_classes.old ≡ original_classes.now }
-    requires runs { runs.old.items ≡ [] }
-    ensures levels { let stored = per_char L T.units (T.characters text) original_classes.now in
-        OnOk result (levels.new ≡ per_unit T.units (T.characters text) (explicit_levels para_level stored)) }
-    ensures classes { let stored = per_char L T.units (T.characters text) original_classes.now in
-        OnOk result (processing_classes.new
-        ≡ per_unit T.units (T.characters text) (processing_classes_of para_level stored)) }
-    ensures runs { let stored = per_char L T.units (T.characters text) original_classes.now in
-        OnOk result (map bounds runs.new.items
-        ≡ level_run_ranges T.units (T.characters text) stored (explicit_levels para_level stored)) }
+    requires { CanFindExplicitLevels T.units (T.characters text) para_level original_classes.now levels.old
+        processing_classes.old (map bounds runs.old.items) }
+    ensures { OnOk result (AreExplicitLevels T.units (T.characters text) para_level original_classes.now levels.new
+        processing_classes.new (map bounds runs.new.items)) }
 {
     compute_fresh::<T, Brand>(
         alloc,
@@ -188,22 +178,13 @@ pub(crate) fn compute_fresh<T: TextSource, S: Ledger>(
     runs: &mut LevelRunVec,
     blank: Blank,
 ) -> Result<(), AllocError>
-    requires explicit { para_level ≤ 125 }
-    requires original { IsTrue (is_per_char ⟦<BidiClass as PartialEq>⟧.eq T.units (T.characters text) original_classes.now) }
-    requires levels { length levels.old ≡ length original_classes.now }
-    requires processing { processing_classes.old ≡ original_classes.now }
-    requires runs { runs.old.items ≡ [] }
+    requires paragraph { CanFindExplicitLevels T.units (T.characters text) para_level original_classes.now levels.old
+        processing_classes.old (map bounds runs.old.items) }
     requires name { blank.name ≡ S.name }
     requires parts { blank.parts ≡ S.parts }
     requires one { blank.parts ≡ 1 }
-    ensures levels { let stored = per_char L T.units (T.characters text) original_classes.now in
-        OnOk result (levels.new ≡ per_unit T.units (T.characters text) (explicit_levels para_level stored)) }
-    ensures classes { let stored = per_char L T.units (T.characters text) original_classes.now in
-        OnOk result (processing_classes.new
-        ≡ per_unit T.units (T.characters text) (processing_classes_of para_level stored)) }
-    ensures runs { let stored = per_char L T.units (T.characters text) original_classes.now in
-        OnOk result (map bounds runs.new.items
-        ≡ level_run_ranges T.units (T.characters text) stored (explicit_levels para_level stored)) }
+    ensures { OnOk result (AreExplicitLevels T.units (T.characters text) para_level original_classes.now levels.new
+        processing_classes.new (map bounds runs.new.items)) }
 {
     let mut steps = Steps::<S>::new(blank);
     compute_by(
@@ -233,19 +214,10 @@ pub fn compute_counted<T: TextSource, S: Ledger>(
     runs: &mut LevelRunVec,
     steps: &mut Steps<S>,
 ) -> Result<(), AllocError>
-    requires explicit { para_level ≤ 125 }
-    requires original { IsTrue (is_per_char ⟦<BidiClass as PartialEq>⟧.eq T.units (T.characters text) original_classes.now) }
-    requires levels { length levels.old ≡ length original_classes.now }
-    requires processing { processing_classes.old ≡ original_classes.now }
-    requires runs { runs.old.items ≡ [] }
-    ensures levels { let stored = per_char L T.units (T.characters text) original_classes.now in
-        OnOk result (levels.new ≡ per_unit T.units (T.characters text) (explicit_levels para_level stored)) }
-    ensures classes { let stored = per_char L T.units (T.characters text) original_classes.now in
-        OnOk result (processing_classes.new
-        ≡ per_unit T.units (T.characters text) (processing_classes_of para_level stored)) }
-    ensures runs { let stored = per_char L T.units (T.characters text) original_classes.now in
-        OnOk result (map bounds runs.new.items
-        ≡ level_run_ranges T.units (T.characters text) stored (explicit_levels para_level stored)) }
+    requires { CanFindExplicitLevels T.units (T.characters text) para_level original_classes.now levels.old
+        processing_classes.old (map bounds runs.old.items) }
+    ensures found { OnOk result (AreExplicitLevels T.units (T.characters text) para_level original_classes.now levels.new
+        processing_classes.new (map bounds runs.new.items)) }
     ensures at_least { OnOk result (steps.old + length (T.characters text) ≤ steps.new) }
     ensures at_most { OnOk result (steps.new ≤ steps.old + 4 * length (T.characters text)) }
 {
@@ -273,19 +245,10 @@ pub(crate) fn compute_by<T: TextSource, S: Ledger>(
     runs: &mut LevelRunVec,
     steps: &mut Steps<S>,
 ) -> Result<(), AllocError>
-    requires explicit { para_level ≤ 125 }
-    requires original { IsTrue (is_per_char ⟦<BidiClass as PartialEq>⟧.eq T.units (T.characters text) original_classes.now) }
-    requires levels { length levels.old ≡ length original_classes.now }
-    requires processing { processing_classes.old ≡ original_classes.now }
-    requires runs { runs.old.items ≡ [] }
-    ensures levels { let stored = per_char L T.units (T.characters text) original_classes.now in
-        OnOk result (levels.new ≡ per_unit T.units (T.characters text) (explicit_levels para_level stored)) }
-    ensures classes { let stored = per_char L T.units (T.characters text) original_classes.now in
-        OnOk result (processing_classes.new
-        ≡ per_unit T.units (T.characters text) (processing_classes_of para_level stored)) }
-    ensures runs { let stored = per_char L T.units (T.characters text) original_classes.now in
-        OnOk result (map bounds runs.new.items
-        ≡ level_run_ranges T.units (T.characters text) stored (explicit_levels para_level stored)) }
+    requires { CanFindExplicitLevels T.units (T.characters text) para_level original_classes.now levels.old
+        processing_classes.old (map bounds runs.old.items) }
+    ensures found { OnOk result (AreExplicitLevels T.units (T.characters text) para_level original_classes.now levels.new
+        processing_classes.new (map bounds runs.new.items)) }
     ensures at_least { OnOk result (steps.old + length (T.characters text) ≤ steps.new) }
     ensures at_most { OnOk result (steps.new
         ≤ steps.old + 4 * count_of stride (length original_classes.now) (length (T.characters text))) }

@@ -1,5 +1,6 @@
 -- The steps of N0 and N1 over a sequence, one after the other.
 use Rattle.bidi_base.proofs.Common.{◌≡◌, ℕ, ◌+◌, ◌<◌, ◌≤◌, Bool, true, false, ◌&&◌, if◌then◌else◌, List, [], ◌∷◌, length, map, find, slice_get, Option, Some, None, refl, sym, ap, ◌∙◌, arith, ◌⊎◌, rules, All, list_all, Range, cases_Bool, cases_lt, and_parts, and_left, and_right, nil_from_length, length-map, get_or_past, length-range_with_len, get_or-map-range_with_len, bracket_pairs, is_l_or_r, is_kept_in_place, is_weak_resolved, direction_of, n0, n1_rule, n1_n2, n2_rule, neutral_classes, at_places, class_at, first_or, indexes, level_at, Source, place, text_len, is_per_char, per_unit, IsPerChar, bounds, in_runs, kept_in_place, units_in_runs, AreLines}
+use Rattle.bidi_base.specs.InPlace.{AreNeutralsResolvedUpToN1}
 use Rattle.bidi_base.specs.declared.char_data.BidiClass.{BidiClass}
 use Rattle.bidi_base.specs.declared.char_data.BidiClass.TheVariants.{L, BN}
 use Rattle.bidi_base.specs.declared.data_source.BidiMatchedOpeningBracket.{BidiMatchedOpeningBracket}
@@ -99,15 +100,8 @@ neutral_classes-none level sos eos source brackets = search (rules, nil_from_len
 -- ---- the end
 
 -- the classes after the steps, over the units: N2 alone is left
-pub record IsUpToN1 (len_of : ℕ → ℕ) (chars : List ℕ) (source : Source) (levels : List ℕ) (original old new : List BidiClass) (runs : List (Range ℕ)) (sos eos : BidiClass) : Type 0 where
-  pub kept : let read = kept_in_place len_of chars old (map bounds runs) in
-      let places = map (place len_of chars) read in
-      let level = level_at levels (first_or 0 places) in
-      map (n2_rule (direction_of level)) (at_places L new places)
-      ≡ neutral_classes level sos eos (at_places L original places) (map source.bracket_of (at_places 0 chars read)) (at_places L old places)
-  pub removed : (u : ℕ) → class_at old u ≡ BN → class_at new u ≡ BN
-  pub outside : (u : ℕ) → in_runs (map bounds runs) u ≡ false → class_at new u ≡ class_at old u
-  pub per_char : is_per_char class_eq len_of chars new ≡ true
+abbrev pub IsUpToN1 : (ℕ → ℕ) → List ℕ → Source → List ℕ → List BidiClass → List BidiClass → List BidiClass → List (Range ℕ) → BidiClass → BidiClass → Type 0
+IsUpToN1 len_of chars source levels original old new runs sos eos = AreNeutralsResolvedUpToN1 len_of chars source (map bounds runs) sos eos levels original old new
 
 module _ (len_of : ℕ → ℕ) (h : HasUnits len_of) (chars : List ℕ) (source : Source) (original old mid : List BidiClass) (runs : List (Range ℕ)) (e sos : BidiClass) (ready : IsReady len_of chars runs sos old)
     (p : IsPaired len_of chars original old mid runs e sos (pairs_in len_of chars source old runs)) where

@@ -1,5 +1,6 @@
 -- N2 over the units of a sequence, once N0 and N1 are done.
 use Rattle.bidi_base.proofs.Common.{◌≡◌, ℕ, ◌+◌, ◌<◌, ◌≤◌, true, false, List, [], ◌∷◌, length, map, find, None, refl, ◌∙◌, arith, All, Range, cases_Bool, All-head, All-tail, is_kept_in_place, direction_of, n2_rule, neutral_classes, at_places, class_at, first_or, level_at, Source, place, is_per_char, IsPerChar, bounds, in_runs, kept_in_place, units_in_runs}
+use Rattle.bidi_base.specs.InPlace.{AreNeutralsResolved}
 use Rattle.bidi_base.specs.declared.char_data.BidiClass.{BidiClass}
 use Rattle.bidi_base.specs.declared.char_data.BidiClass.TheVariants.{L, BN}
 use Rattle.bidi_text.proofs.PerCharTests.{class_eq, class_test}
@@ -11,14 +12,8 @@ use Rattle.bidi_neutral.proofs.OneDirection.{at_read}
 use Rattle.bidi_runs.proofs.PassOverText.{IsPerChar-alike, alike_class, in_runs-alike}
 
 -- the classes after all steps, over the units
-pub record IsResolved (len_of : ℕ → ℕ) (chars : List ℕ) (source : Source) (levels : List ℕ) (original old new : List BidiClass) (runs : List (Range ℕ)) (sos eos : BidiClass) : Type 0 where
-  pub kept : let read = kept_in_place len_of chars old (map bounds runs) in
-      let places = map (place len_of chars) read in
-      at_places L new places
-      ≡ neutral_classes (level_at levels (first_or 0 places)) sos eos (at_places L original places) (map source.bracket_of (at_places 0 chars read)) (at_places L old places)
-  pub removed : (u : ℕ) → class_at old u ≡ BN → class_at new u ≡ BN
-  pub outside : (u : ℕ) → in_runs (map bounds runs) u ≡ false → class_at new u ≡ class_at old u
-  pub per_char : is_per_char class_eq len_of chars new ≡ true
+abbrev pub IsResolved : (ℕ → ℕ) → List ℕ → Source → List ℕ → List BidiClass → List BidiClass → List BidiClass → List (Range ℕ) → BidiClass → BidiClass → Type 0
+IsResolved len_of chars source levels original old new runs sos eos = AreNeutralsResolved len_of chars source (map bounds runs) sos eos levels original old new
 
 at_each : (f : BidiClass → BidiClass) (now new : List BidiClass) (ps : List ℕ) → All (λ u. class_at new u ≡ f (class_at now u)) ps → at_places L new ps ≡ map f (at_places L now ps)
 at_each f now new [] a = refl
@@ -28,7 +23,7 @@ at_each f now new (p ∷ ps) a = simp (
 )
 
 -- without a character that is read nothing is to be done
-pub kept-none : (len_of : ℕ → ℕ) (h : HasUnits len_of) (chars : List ℕ) (source : Source) (levels : List ℕ) (original old : List BidiClass) (runs : List (Range ℕ)) (sos eos : BidiClass) → IsReady len_of chars runs sos old
+kept-none : (len_of : ℕ → ℕ) (h : HasUnits len_of) (chars : List ℕ) (source : Source) (levels : List ℕ) (original old : List BidiClass) (runs : List (Range ℕ)) (sos eos : BidiClass) → IsReady len_of chars runs sos old
     → None ≡ find (λ u. is_kept_in_place (class_at old u)) (units_in_runs (map bounds runs))
     → (let read = kept_in_place len_of chars old (map bounds runs) in let places = map (place len_of chars) read in
     at_places L old places
@@ -39,6 +34,15 @@ kept-none len_of h chars source levels original old runs sos eos ready found =
       none-read len_of h chars runs sos old ready found,
       (IsUpToN1-none len_of h chars source levels original old runs sos eos ready found).kept,
     )
+
+pub resolved-none : (len_of : ℕ → ℕ) (h : HasUnits len_of) (chars : List ℕ) (source : Source) (levels : List ℕ) (original old : List BidiClass) (runs : List (Range ℕ)) (sos eos : BidiClass) → is_per_char class_eq len_of chars old ≡ true → IsReady len_of chars runs sos old
+    → None ≡ find (λ u. is_kept_in_place (class_at old u)) (units_in_runs (map bounds runs)) → IsResolved len_of chars source levels original old old runs sos eos
+resolved-none len_of h chars source levels original old runs sos eos per ready found = record {
+  kept = kept-none len_of h chars source levels original old runs sos eos ready found;
+  removed = λ u gone. gone;
+  outside = λ u out. refl;
+  per_char = per;
+}
 
 module _ (len_of : ℕ → ℕ) (h : HasUnits len_of) (chars : List ℕ) (runs : List (Range ℕ)) (sos eos : BidiClass) (source : Source) (levels : List ℕ) (original old : List BidiClass) (ready : IsReady len_of chars runs sos old)
     (now new : List BidiClass) (up : IsUpToN1 len_of chars source levels original old now runs sos eos) where

@@ -3,20 +3,14 @@
 //! A sequence with a single direction needs only N2. For other sequences the pass finds the brackets first,
 //! and then resolves all classes in place. So it makes all allocations before it writes the first class.
 
-ghost use Rattle.std.specs.Prelude.{◌≡◌, ℕ, List, [], ◌∷◌, ◌++◌, false, length, map, IsTrue, OnOk, OnErr, Option};
-ghost use Rattle.std.specs.List.{list_all};
-ghost use Rattle.bidi_base.specs.declared.char_data.BidiClass.TheVariants.{L, BN};
-ghost use Rattle.bidi_base.specs.declared.data_source.BidiMatchedOpeningBracket.{BidiMatchedOpeningBracket};
-ghost use Rattle.bidi_base.specs.Classes.{is_l_or_r, is_weak_resolved};
-ghost use Rattle.bidi_base.specs.Levels.{direction_of};
-ghost use Rattle.bidi_base.specs.Neutral.{n0, n2_rule, neutral_classes};
-ghost use Rattle.bidi_base.specs.Places.{at_places, class_at, first_or};
-ghost use Rattle.bidi_base.specs.Sequences.{level_at};
-ghost use Rattle.bidi_base.specs.Text.{is_per_char, place, text_len, IsLine};
-ghost use Rattle.bidi_base.specs.Units.{bounds, in_runs, kept_in_place, AreLines};
-ghost use Rattle.bidi_base.specs.declared.brackets.Bracket.{Bracket};
+ghost use Rattle.std.specs.Prelude.{◌≡◌, List, ◌∷◌, ◌++◌, [], length, map, IsTrue, OnOk, OnErr};
+ghost use Rattle.bidi_base.specs.Classes.{is_l_or_r};
 ghost use Rattle.bidi_base.specs.FoundBrackets.{brackets_from};
+ghost use Rattle.bidi_base.specs.InPlace.{AreNeutralsResolved, AreNeutralsResolvedUpToN1, CanResolveNeutrals};
 ghost use Rattle.bidi_base.specs.PairSearch.{HasRead};
+ghost use Rattle.bidi_base.specs.Text.{text_len, IsLine};
+ghost use Rattle.bidi_base.specs.Units.{bounds, kept_in_place, AreLines};
+ghost use Rattle.bidi_base.specs.declared.brackets.Bracket.{Bracket};
 ghost use Rattle.bidi_neutral.specs.NeutralPass.{pairs_in, placed_brackets, HasGatheredNothing, IsPaired, IsReady};
 ghost use Rattle.bidi_runs.specs.RunSequence.{lent_runs, lent_sos, lent_eos, runs as runs_of, sos as sos_of, eos as eos_of};
 
@@ -68,26 +62,11 @@ impl NeutralResolver {
         original_classes: &[BidiClass],
         processing_classes: &mut [BidiClass],
     ) -> Result<(), AllocError>
-        requires per_char { IsTrue (is_per_char ⟦<BidiClass as PartialEq>⟧.eq T.units (T.characters text) processing_classes.old) }
-        requires fits { AreLines T.units (T.characters text) (map bounds (runs_of sequence.now)) }
-        requires levels { length levels.now ≡ length processing_classes.old }
-        requires original { length original_classes.now ≡ length processing_classes.old }
-        requires resolved { let places = map (place T.units (T.characters text))
-            (kept_in_place T.units (T.characters text) processing_classes.old
-            (map bounds (runs_of sequence.now))) in
-            IsTrue (list_all is_weak_resolved (at_places L processing_classes.old places)) }
-        ensures kept { let indexes = kept_in_place T.units (T.characters text) processing_classes.old
-            (map bounds (runs_of sequence.now)) in
-            let places = map (place T.units (T.characters text)) indexes in
-            OnOk result (at_places L processing_classes.new places
-            ≡ neutral_classes (level_at levels.now (first_or 0 places)) (sos_of sequence.now)
-            (eos_of sequence.now) (at_places L original_classes.now places)
-            (map (D.source data_source.now).bracket_of (at_places 0 (T.characters text) indexes))
-            (at_places L processing_classes.old places)) }
-        ensures removed { (u : ℕ) → class_at processing_classes.old u ≡ BN → class_at processing_classes.new u ≡ BN }
-        ensures outside { (u : ℕ) → in_runs (map bounds (runs_of sequence.now)) u ≡ false
-            → class_at processing_classes.new u ≡ class_at processing_classes.old u }
-        ensures per_char { IsTrue (is_per_char ⟦<BidiClass as PartialEq>⟧.eq T.units (T.characters text) processing_classes.new) }
+        requires { CanResolveNeutrals T.units (T.characters text) (map bounds (runs_of sequence.now)) levels.now
+            original_classes.now processing_classes.old }
+        ensures resolved { OnOk result (AreNeutralsResolved T.units (T.characters text) (D.source data_source.now)
+            (map bounds (runs_of sequence.now)) (sos_of sequence.now) (eos_of sequence.now) levels.now
+            original_classes.now processing_classes.old processing_classes.new) }
         ensures refused { OnErr result (processing_classes.new ≡ processing_classes.old) }
     {
         self.resolve_lent(
@@ -110,26 +89,11 @@ impl NeutralResolver {
         original_classes: &[BidiClass],
         processing_classes: &mut [BidiClass],
     ) -> Result<(), AllocError>
-        requires per_char { IsTrue (is_per_char ⟦<BidiClass as PartialEq>⟧.eq T.units (T.characters text) processing_classes.old) }
-        requires fits { AreLines T.units (T.characters text) (map bounds (lent_runs sequence)) }
-        requires levels { length levels.now ≡ length processing_classes.old }
-        requires original { length original_classes.now ≡ length processing_classes.old }
-        requires resolved { let places = map (place T.units (T.characters text))
-            (kept_in_place T.units (T.characters text) processing_classes.old
-            (map bounds (lent_runs sequence))) in
-            IsTrue (list_all is_weak_resolved (at_places L processing_classes.old places)) }
-        ensures kept { let indexes = kept_in_place T.units (T.characters text) processing_classes.old
-            (map bounds (lent_runs sequence.entry)) in
-            let places = map (place T.units (T.characters text)) indexes in
-            OnOk result (at_places L processing_classes.new places
-            ≡ neutral_classes (level_at levels.now (first_or 0 places)) (lent_sos sequence.entry)
-            (lent_eos sequence.entry) (at_places L original_classes.now places)
-            (map (D.source data_source.now).bracket_of (at_places 0 (T.characters text) indexes))
-            (at_places L processing_classes.old places)) }
-        ensures removed { (u : ℕ) → class_at processing_classes.old u ≡ BN → class_at processing_classes.new u ≡ BN }
-        ensures outside { (u : ℕ) → in_runs (map bounds (lent_runs sequence.entry)) u ≡ false
-            → class_at processing_classes.new u ≡ class_at processing_classes.old u }
-        ensures per_char { IsTrue (is_per_char ⟦<BidiClass as PartialEq>⟧.eq T.units (T.characters text) processing_classes.new) }
+        requires { CanResolveNeutrals T.units (T.characters text) (map bounds (lent_runs sequence)) levels.now
+            original_classes.now processing_classes.old }
+        ensures resolved { OnOk result (AreNeutralsResolved T.units (T.characters text) (D.source data_source.now)
+            (map bounds (lent_runs sequence.entry)) (lent_sos sequence.entry) (lent_eos sequence.entry) levels.now
+            original_classes.now processing_classes.old processing_classes.new) }
         ensures refused { OnErr result (processing_classes.new ≡ processing_classes.old) }
     {
         let runs = sequence.runs();
@@ -162,27 +126,11 @@ impl NeutralResolver {
         original_classes: &[BidiClass],
         processing_classes: &mut [BidiClass],
     ) -> Result<(), AllocError>
-        requires per_char { IsTrue (is_per_char ⟦<BidiClass as PartialEq>⟧.eq T.units (T.characters text) processing_classes.old) }
-        requires fits { AreLines T.units (T.characters text) (map bounds (lent_runs sequence)) }
-        requires levels { length levels.now ≡ length processing_classes.old }
-        requires original { length original_classes.now ≡ length processing_classes.old }
-        requires resolved { let places = map (place T.units (T.characters text))
-            (kept_in_place T.units (T.characters text) processing_classes.old
-            (map bounds (lent_runs sequence))) in
-            IsTrue (list_all is_weak_resolved (at_places L processing_classes.old places)) }
-        ensures kept { let indexes = kept_in_place T.units (T.characters text) processing_classes.old
-            (map bounds (lent_runs sequence.entry)) in
-            let places = map (place T.units (T.characters text)) indexes in
-            let level = level_at levels.now (first_or 0 places) in
-            OnOk result (map (n2_rule (direction_of level)) (at_places L processing_classes.new places)
-            ≡ neutral_classes level (lent_sos sequence.entry) (lent_eos sequence.entry)
-            (at_places L original_classes.now places)
-            (map (D.source data_source.now).bracket_of (at_places 0 (T.characters text) indexes))
-            (at_places L processing_classes.old places)) }
-        ensures removed { (u : ℕ) → class_at processing_classes.old u ≡ BN → class_at processing_classes.new u ≡ BN }
-        ensures outside { (u : ℕ) → in_runs (map bounds (lent_runs sequence.entry)) u ≡ false
-            → class_at processing_classes.new u ≡ class_at processing_classes.old u }
-        ensures per_char { IsTrue (is_per_char ⟦<BidiClass as PartialEq>⟧.eq T.units (T.characters text) processing_classes.new) }
+        requires { CanResolveNeutrals T.units (T.characters text) (map bounds (lent_runs sequence)) levels.now
+            original_classes.now processing_classes.old }
+        ensures resolved { OnOk result (AreNeutralsResolvedUpToN1 T.units (T.characters text) (D.source data_source.now)
+            (map bounds (lent_runs sequence.entry)) (lent_sos sequence.entry) (lent_eos sequence.entry) levels.now
+            original_classes.now processing_classes.old processing_classes.new) }
         ensures refused { OnErr result (processing_classes.new ≡ processing_classes.old) }
     {
         let runs = sequence.runs();
@@ -328,25 +276,11 @@ pub fn resolve_neutral<D: BidiDataSource, T: TextSource>(
     original_classes: &[BidiClass],
     processing_classes: &mut [BidiClass],
 ) -> Result<(), AllocError>
-    requires per_char { IsTrue (is_per_char ⟦<BidiClass as PartialEq>⟧.eq T.units (T.characters text) processing_classes.old) }
-    requires fits { AreLines T.units (T.characters text) (map bounds (runs_of sequence.now)) }
-    requires levels { length levels.now ≡ length processing_classes.old }
-    requires original { length original_classes.now ≡ length processing_classes.old }
-    requires resolved { let places = map (place T.units (T.characters text))
-        (kept_in_place T.units (T.characters text) processing_classes.old (map bounds (runs_of sequence.now))) in
-        IsTrue (list_all is_weak_resolved (at_places L processing_classes.old places)) }
-    ensures kept { let indexes = kept_in_place T.units (T.characters text) processing_classes.old
-        (map bounds (runs_of sequence.now)) in
-        let places = map (place T.units (T.characters text)) indexes in
-        OnOk result (at_places L processing_classes.new places
-        ≡ neutral_classes (level_at levels.now (first_or 0 places)) (sos_of sequence.now) (eos_of sequence.now)
-        (at_places L original_classes.now places)
-        (map (D.source data_source.now).bracket_of (at_places 0 (T.characters text) indexes))
-        (at_places L processing_classes.old places)) }
-    ensures removed { (u : ℕ) → class_at processing_classes.old u ≡ BN → class_at processing_classes.new u ≡ BN }
-    ensures outside { (u : ℕ) → in_runs (map bounds (runs_of sequence.now)) u ≡ false
-        → class_at processing_classes.new u ≡ class_at processing_classes.old u }
-    ensures per_char { IsTrue (is_per_char ⟦<BidiClass as PartialEq>⟧.eq T.units (T.characters text) processing_classes.new) }
+    requires { CanResolveNeutrals T.units (T.characters text) (map bounds (runs_of sequence.now)) levels.now
+        original_classes.now processing_classes.old }
+    ensures resolved { OnOk result (AreNeutralsResolved T.units (T.characters text) (D.source data_source.now)
+        (map bounds (runs_of sequence.now)) (sos_of sequence.now) (eos_of sequence.now) levels.now
+        original_classes.now processing_classes.old processing_classes.new) }
     ensures refused { OnErr result (processing_classes.new ≡ processing_classes.old) }
 {
     NeutralResolver::new(alloc).resolve(

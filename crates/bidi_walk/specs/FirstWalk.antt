@@ -1,5 +1,5 @@
 -- What the walk over a text holds of the isolates that are open, and what one more character does to it.
-use Rattle.std.specs.Prelude.{◌≡◌, ℕ, ◌+◌, ◌-◌, Bool, false, not, ◌&&◌, ◌||◌, ◌==◌, nat_lt, if◌then◌else◌, List, [], ◌∷◌, ◌++◌, take, drop, map, All, Option, Some, None, unwrap_or}
+use Rattle.std.specs.Prelude.{◌≡◌, ℕ, ◌+◌, ◌-◌, Bool, false, not, ◌&&◌, ◌||◌, ◌==◌, nat_lt, if◌then◌else◌, List, [], ◌∷◌, ◌++◌, take, drop, map, All, Option, Some, None, unwrap_or, length, IsTrue, MatchOption}
 use Rattle.std.specs.Option.{is_some, is_none}
 use Rattle.std.specs.declared.ops.Range.{Range}
 use Rattle.bidi_base.specs.declared.char_data.BidiClass.{BidiClass}
@@ -7,7 +7,7 @@ use Rattle.bidi_base.specs.Classes.{is_strong, is_initiator, is_pdi, is_paragrap
 use Rattle.bidi_base.specs.Isolates.{level_by, resolved_fsi}
 use Rattle.bidi_base.specs.Reading.{innermost, outer, is_fsi, filled}
 use Rattle.bidi_base.specs.Source.{Source}
-use Rattle.bidi_base.specs.Text.{text_len, char_index, per_unit}
+use Rattle.bidi_base.specs.Text.{text_len, char_index, is_boundary, per_unit}
 use Rattle.bidi_walk.specs.ClassSet.{has}
 use Rattle.bidi_walk.specs.ParagraphFlags.{is_counted, with_class, flags_of}
 use Rattle.bidi_walk.specs.ParagraphInfo.{ranges_of, levels_of}
@@ -113,3 +113,14 @@ pub record IsMet (source : Source) (len_of : ℕ → ℕ) (minded : ClassSet) (c
   pub begins : met.start ≡ from + text_len len_of read
   pub class : met.class ≡ source.class_of met.c
   pub written : AreWritten source len_of (read ++ met.c ∷ []) from (met.start + len_of met.c) old new
+
+-- what a reader of a text asks of the index at which it begins, and of the classes that it writes to
+pub record CanReadOn (len_of : ℕ → ℕ) (chars : List ℕ) (from : ℕ) (classes : List BidiClass) : Type 0 where
+  pub sized : length classes ≡ text_len len_of chars
+  pub begins : IsTrue (is_boundary len_of chars from)
+
+-- what it leaves: it has read up to a character whose class is minded, or else up to `to`
+abbrev pub IsReadOn : Source → (ℕ → ℕ) → List ℕ → ClassSet → ℕ → Option Met → ℕ → List BidiClass → List BidiClass → Type 0
+IsReadOn source len_of chars minded from result to old new =
+    MatchOption result (IsSkimmed source len_of minded (ahead len_of chars from) from to old new)
+    (λ met. IsMet source len_of minded (ahead len_of chars from) from met old new)

@@ -6,7 +6,7 @@ ghost use Rattle.bidi_base.specs.Paragraphs.{begins_with_line_feed, ranges_from}
 ghost use Rattle.bidi_base.specs.Stored.{text_classes, paragraph_levels};
 ghost use Rattle.bidi_base.specs.Text.{place as place_of, text_len, per_unit, is_boundary as is_boundary_of};
 ghost use Rattle.bidi_walk.specs.ClassSet.{has};
-ghost use Rattle.bidi_walk.specs.FirstWalk.{waiting, classes_after, minds, ahead, IsFresh, IsReadBy, IsClosed, IsSkimmed, IsMet};
+ghost use Rattle.bidi_walk.specs.FirstWalk.{classes_after, minds, waiting, CanReadOn, IsClosed, IsFresh, IsReadBy, IsReadOn};
 ghost use Rattle.bidi_walk.specs.declared.first_walk.reading.Reading.{Reading};
 ghost use Rattle.bidi_walk.specs.ParagraphInfo.{ranges_of, levels_of};
 ghost use Rattle.bidi_walk.specs.ParagraphFlags.{paragraph_flags};
@@ -151,13 +151,9 @@ fn seek_minded<D: BidiDataSource, T: TextSource>(
     from: usize,
     minded: ClassSet,
 ) -> Option<Met>
-    requires sized { length classes.old ≡ text_len T.units (T.characters text) }
-    requires begins { IsTrue (is_boundary_of T.units (T.characters text) from) }
-    ensures { MatchOption result
-        (IsSkimmed (D.source data_source.now) T.units minded (ahead T.units (T.characters text) from) from
-        (text_len T.units (T.characters text)) classes.old classes.new)
-        (λ met. IsMet (D.source data_source.now) T.units minded (ahead T.units (T.characters text) from) from met
-        classes.old classes.new) }
+    requires { CanReadOn T.units (T.characters text) from classes.old }
+    ensures { IsReadOn (D.source data_source.now) T.units (T.characters text) minded from result (text_len T.units (T.characters text))
+        classes.old classes.new }
 {
     let mut at = from;
     while at < classes.len() {
@@ -185,13 +181,9 @@ fn next_minded<D: BidiDataSource, T: TextSource>(
     minded: ClassSet,
     after_control: bool,
 ) -> Option<Met>
-    requires sized { length classes.old ≡ text_len T.units (T.characters text) }
-    requires begins { IsTrue (is_boundary_of T.units (T.characters text) from) }
-    ensures { MatchOption result
-        (IsSkimmed (D.source data_source.now) T.units minded (ahead T.units (T.characters text) from) from
-        (text_len T.units (T.characters text)) classes.old classes.new)
-        (λ met. IsMet (D.source data_source.now) T.units minded (ahead T.units (T.characters text) from) from met
-        classes.old classes.new) }
+    requires { CanReadOn T.units (T.characters text) from classes.old }
+    ensures { IsReadOn (D.source data_source.now) T.units (T.characters text) minded from result (text_len T.units (T.characters text))
+        classes.old classes.new }
 {
     let mut at = from;
     if after_control && T::READS_IN_PLACE && classes.len() - from >= NEAR + AT_ONCE {

@@ -1,5 +1,6 @@
 -- The weak passes over the units of a text: what stands at the characters once all are done.
 use Rattle.bidi_base.proofs.Common.{◌≡◌, ℕ, zero, suc, ◌+◌, ◌-◌, ◌<◌, ◌≤◌, Bool, true, false, List, [], length, map, get_or, refl, sym, ap, ◌∙◌, arith, inl, inr, All, filter, range_with_len, cases_Bool, cases_eq, and_parts, and_left, and_right, length-map, is_kept_in_place, at_places, class_at, carried, w1_rule, w1, weak_classes, is_per_char, place, per_unit, IsLine, IsPerChar, are_ordered, in_runs, kept_in_place, units_in_runs, AreLines}
+use Rattle.bidi_base.specs.InPlace.{AreWeakTypesResolved}
 use Rattle.bidi_base.specs.declared.char_data.BidiClass.{BidiClass}
 use Rattle.bidi_base.specs.declared.char_data.BidiClass.TheVariants.{L, BN}
 use Rattle.bidi_base.proofs.PlaceLemmas.{char_at-place, line_places, place-more, place-mono, unit_of}
@@ -47,13 +48,6 @@ module _ (len_of : ℕ → ℕ) (h : HasUnits len_of) (chars : List ℕ) where
       ]
 
 -- ---- the passes, one behind another
-
--- what holds at the end
-pub record IsResolved (len_of : ℕ → ℕ) (chars : List ℕ) (runs : List (ℕ × ℕ)) (sos : BidiClass) (old new : List BidiClass) : Type 0 where
-  pub kept : let places = map (place len_of chars) (kept_in_place len_of chars old runs) in at_places L new places ≡ weak_classes sos (at_places L old places)
-  pub removed : (u : ℕ) → class_at old u ≡ BN → class_at new u ≡ BN
-  pub outside : (u : ℕ) → in_runs runs u ≡ false → class_at new u ≡ class_at old u
-  pub per_char : is_per_char class_eq len_of chars new ≡ true
 
 -- a class that is changed by itself where a unit is marked
 at_marked-map : (f : BidiClass → BidiClass) (mark : ℕ → Bool) (xs ys : List BidiClass) (low n : ℕ) → ((k : ℕ) → mark k ≡ true → class_at xs k ≡ f (class_at ys k)) → at_places L xs (filter mark (range_with_len low n)) ≡ map f (at_places L ys (filter mark (range_with_len low n)))
@@ -118,8 +112,8 @@ module _ (len_of : ℕ → ℕ) (h : HasUnits len_of) (chars : List ℕ) (runs :
       many : length answers ≡ length ks
       many = length-weak_classes sos (at_places L old (map (place len_of chars) ks)) ∙ length-at_places L old (map (place len_of chars) ks) ∙ length-map ks (place len_of chars)
 
-      pub IsResolved-passes : IsResolved len_of chars runs sos old c3
-      IsResolved-passes = record {
+      pub AreWeakTypesResolved-passes : AreWeakTypesResolved len_of chars runs sos old c3
+      AreWeakTypesResolved-passes = record {
         kept = rw per.2 (let us = per_unit len_of chars per.0 in read_units-new len_of h chars per.0 per.1 runs lines c3 (weak_classes sos (at_places L us (map (place len_of chars) (kept_in_place len_of chars us runs)))) (rw per.2 at many) (rw per.2 at at_units));
         removed = λ u is. unseen u (and_right (in_runs runs u) (is_kept_in_place (class_at old u)) (ap is_kept_in_place is)) ∙ is;
         outside = λ u out. unseen u (and_left (in_runs runs u) (is_kept_in_place (class_at old u)) out);

@@ -2,12 +2,12 @@
 
 ghost use Rattle.std.specs.Prelude.{◌≡◌, ℕ, ◌+◌, ◌-◌, ◌*◌, ◌<◌, ◌≤◌, false, List, length, map, IsTrue};
 ghost use Rattle.bidi_base.specs.Classes.{is_l_or_r};
-ghost use Rattle.bidi_base.specs.Places.{at_places, class_at};
-ghost use Rattle.bidi_base.specs.Text.{IsLine, is_per_char, place, text_len, IsPerChar};
-ghost use Rattle.bidi_base.specs.Units.{bounds, are_ordered, chars_in_runs, in_runs, kept_in_place, units_in_runs, AreLines};
-ghost use Rattle.bidi_base.specs.Weak.{carried, weak_classes};
+ghost use Rattle.bidi_base.specs.InPlace.{AreWeakTypesResolved, CanResolveWeakTypes};
+ghost use Rattle.bidi_base.specs.Places.{class_at};
+ghost use Rattle.bidi_base.specs.Text.{IsPerChar};
+ghost use Rattle.bidi_base.specs.Units.{bounds, are_ordered, chars_in_runs, units_in_runs, AreLines};
+ghost use Rattle.bidi_base.specs.Weak.{carried};
 ghost use Rattle.bidi_base.specs.declared.char_data.BidiClass.{BidiClass};
-ghost use Rattle.bidi_base.specs.declared.char_data.BidiClass.TheVariants.{L, BN};
 ghost use Rattle.bidi_runs.specs.RunSequence.{lent_runs, lent_sos, runs as runs_of, sos as sos_of};
 ghost use Rattle.bidi_weak.specs.WeakPass.{is_mark_or_number};
 ghost use Rattle.bidi_weak.specs.WeakWalk.{is_any_of, is_any_wide, len_at, part_of, wide_part_of, IsMarked, IsWalked};
@@ -47,16 +47,9 @@ pub fn resolve_weak<T: TextSource>(
     sequence: &IsolatingRunSequence,
     processing_classes: &mut [BidiClass],
 )
-    requires per_char { IsTrue (is_per_char ⟦<BidiClass as PartialEq>⟧.eq T.units (T.characters text) processing_classes.old) }
-    requires fits { AreLines T.units (T.characters text) (map bounds (runs_of sequence.now)) }
-    ensures kept { let places = map (place T.units (T.characters text))
-        (kept_in_place T.units (T.characters text) processing_classes.old (map bounds (runs_of sequence.now))) in
-        at_places L processing_classes.new places
-        ≡ weak_classes (sos_of sequence.now) (at_places L processing_classes.old places) }
-    ensures removed { (u : ℕ) → class_at processing_classes.old u ≡ BN → class_at processing_classes.new u ≡ BN }
-    ensures outside { (u : ℕ) → in_runs (map bounds (runs_of sequence.now)) u ≡ false
-        → class_at processing_classes.new u ≡ class_at processing_classes.old u }
-    ensures per_char { IsTrue (is_per_char ⟦<BidiClass as PartialEq>⟧.eq T.units (T.characters text) processing_classes.new) }
+    requires { CanResolveWeakTypes T.units (T.characters text) (map bounds (runs_of sequence.now)) processing_classes.old }
+    ensures { AreWeakTypesResolved T.units (T.characters text) (map bounds (runs_of sequence.now))
+        (sos_of sequence.now) processing_classes.old processing_classes.new }
 {
     resolve_weak_lent(text, sequence.lend(), processing_classes)
 }
@@ -74,16 +67,9 @@ pub fn resolve_weak_counted<T: TextSource, S: Ledger>(
     processing_classes: &mut [BidiClass],
     steps: &mut Steps<S>,
 )
-    requires per_char { IsTrue (is_per_char ⟦<BidiClass as PartialEq>⟧.eq T.units (T.characters text) processing_classes.old) }
-    requires fits { AreLines T.units (T.characters text) (map bounds (runs_of sequence.now)) }
-    ensures kept { let places = map (place T.units (T.characters text))
-        (kept_in_place T.units (T.characters text) processing_classes.old (map bounds (runs_of sequence.now))) in
-        at_places L processing_classes.new places
-        ≡ weak_classes (sos_of sequence.now) (at_places L processing_classes.old places) }
-    ensures removed { (u : ℕ) → class_at processing_classes.old u ≡ BN → class_at processing_classes.new u ≡ BN }
-    ensures outside { (u : ℕ) → in_runs (map bounds (runs_of sequence.now)) u ≡ false
-        → class_at processing_classes.new u ≡ class_at processing_classes.old u }
-    ensures per_char { IsTrue (is_per_char ⟦<BidiClass as PartialEq>⟧.eq T.units (T.characters text) processing_classes.new) }
+    requires { CanResolveWeakTypes T.units (T.characters text) (map bounds (runs_of sequence.now)) processing_classes.old }
+    ensures resolved { AreWeakTypesResolved T.units (T.characters text) (map bounds (runs_of sequence.now))
+        (sos_of sequence.now) processing_classes.old processing_classes.new }
     ensures at_least { steps.old
         + length (chars_in_runs T.units (T.characters text) (map bounds (runs_of sequence.now)))
         ≤ steps.new }
@@ -98,16 +84,9 @@ pub fn resolve_weak_lent<T: TextSource>(
     sequence: LentSequence<'_>,
     processing_classes: &mut [BidiClass],
 )
-    requires per_char { IsTrue (is_per_char ⟦<BidiClass as PartialEq>⟧.eq T.units (T.characters text) processing_classes.old) }
-    requires fits { AreLines T.units (T.characters text) (map bounds (lent_runs sequence)) }
-    ensures kept { let places = map (place T.units (T.characters text)) (kept_in_place T.units (T.characters text)
-        processing_classes.old (map bounds (lent_runs sequence.entry))) in
-        at_places L processing_classes.new places
-        ≡ weak_classes (lent_sos sequence.entry) (at_places L processing_classes.old places) }
-    ensures removed { (u : ℕ) → class_at processing_classes.old u ≡ BN → class_at processing_classes.new u ≡ BN }
-    ensures outside { (u : ℕ) → in_runs (map bounds (lent_runs sequence.entry)) u ≡ false
-        → class_at processing_classes.new u ≡ class_at processing_classes.old u }
-    ensures per_char { IsTrue (is_per_char ⟦<BidiClass as PartialEq>⟧.eq T.units (T.characters text) processing_classes.new) }
+    requires { CanResolveWeakTypes T.units (T.characters text) (map bounds (lent_runs sequence)) processing_classes.old }
+    ensures { AreWeakTypesResolved T.units (T.characters text) (map bounds (lent_runs sequence.entry))
+        (lent_sos sequence.entry) processing_classes.old processing_classes.new }
 {
     resolve_weak_fresh::<T, Brand>(text, sequence, processing_classes, Blank::new(1))
 }
@@ -119,19 +98,12 @@ fn resolve_weak_fresh<T: TextSource, S: Ledger>(
     processing_classes: &mut [BidiClass],
     blank: Blank,
 )
-    requires per_char { IsTrue (is_per_char ⟦<BidiClass as PartialEq>⟧.eq T.units (T.characters text) processing_classes.old) }
-    requires fits { AreLines T.units (T.characters text) (map bounds (lent_runs sequence)) }
+    requires sequence { CanResolveWeakTypes T.units (T.characters text) (map bounds (lent_runs sequence)) processing_classes.old }
     requires name { blank.name ≡ S.name }
     requires parts { blank.parts ≡ S.parts }
     requires one { blank.parts ≡ 1 }
-    ensures kept { let places = map (place T.units (T.characters text)) (kept_in_place T.units (T.characters text)
-        processing_classes.old (map bounds (lent_runs sequence.entry))) in
-        at_places L processing_classes.new places
-        ≡ weak_classes (lent_sos sequence.entry) (at_places L processing_classes.old places) }
-    ensures removed { (u : ℕ) → class_at processing_classes.old u ≡ BN → class_at processing_classes.new u ≡ BN }
-    ensures outside { (u : ℕ) → in_runs (map bounds (lent_runs sequence.entry)) u ≡ false
-        → class_at processing_classes.new u ≡ class_at processing_classes.old u }
-    ensures per_char { IsTrue (is_per_char ⟦<BidiClass as PartialEq>⟧.eq T.units (T.characters text) processing_classes.new) }
+    ensures { AreWeakTypesResolved T.units (T.characters text) (map bounds (lent_runs sequence.entry))
+        (lent_sos sequence.entry) processing_classes.old processing_classes.new }
 {
     let mut steps = Steps::<S>::new(blank);
     resolve_weak_lent_counted(text, sequence, processing_classes, &mut steps)
@@ -144,16 +116,9 @@ fn resolve_weak_lent_counted<T: TextSource, S: Ledger>(
     processing_classes: &mut [BidiClass],
     steps: &mut Steps<S>,
 )
-    requires per_char { IsTrue (is_per_char ⟦<BidiClass as PartialEq>⟧.eq T.units (T.characters text) processing_classes.old) }
-    requires fits { AreLines T.units (T.characters text) (map bounds (lent_runs sequence)) }
-    ensures kept { let places = map (place T.units (T.characters text)) (kept_in_place T.units (T.characters text)
-        processing_classes.old (map bounds (lent_runs sequence.entry))) in
-        at_places L processing_classes.new places
-        ≡ weak_classes (lent_sos sequence.entry) (at_places L processing_classes.old places) }
-    ensures removed { (u : ℕ) → class_at processing_classes.old u ≡ BN → class_at processing_classes.new u ≡ BN }
-    ensures outside { (u : ℕ) → in_runs (map bounds (lent_runs sequence.entry)) u ≡ false
-        → class_at processing_classes.new u ≡ class_at processing_classes.old u }
-    ensures per_char { IsTrue (is_per_char ⟦<BidiClass as PartialEq>⟧.eq T.units (T.characters text) processing_classes.new) }
+    requires { CanResolveWeakTypes T.units (T.characters text) (map bounds (lent_runs sequence)) processing_classes.old }
+    ensures resolved { AreWeakTypesResolved T.units (T.characters text) (map bounds (lent_runs sequence.entry))
+        (lent_sos sequence.entry) processing_classes.old processing_classes.new }
     ensures at_least { steps.old
         + length (chars_in_runs T.units (T.characters text) (map bounds (lent_runs sequence.entry)))
         ≤ steps.new }

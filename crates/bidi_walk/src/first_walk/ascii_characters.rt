@@ -3,7 +3,7 @@ ghost use Rattle.std.specs.Prelude.{◌≡◌, ℕ, ◌+◌, ◌<◌, ◌≤◌,
 ghost use Rattle.bidi_base.specs.Places.{class_at};
 ghost use Rattle.bidi_base.specs.Text.{text_len, is_boundary as is_boundary_of};
 ghost use Rattle.bidi_walk.specs.ClassSet.{has};
-ghost use Rattle.bidi_walk.specs.FirstWalk.{ahead, IsSkimmed, IsMet};
+ghost use Rattle.bidi_walk.specs.FirstWalk.{ahead, CanReadOn, IsMet, IsReadOn, IsSkimmed};
 ghost use Rattle.bidi_walk.specs.declared.first_walk.ascii_characters.TheConstants.{ASCII_BLOCK};
 
 use super::met::Met;
@@ -24,13 +24,9 @@ fn skim_each<D: BidiDataSource, T: TextSource>(
     limit: usize,
     minded: ClassSet,
 ) -> Option<Met>
-    requires sized { length classes.old ≡ text_len T.units (T.characters text) }
-    requires begins { IsTrue (is_boundary_of T.units (T.characters text) at.old) }
-    ensures { MatchOption result
-        (IsSkimmed (D.source data_source.now) T.units minded (ahead T.units (T.characters text) at.old) at.old at.new
-        classes.old classes.new)
-        (λ met. IsMet (D.source data_source.now) T.units minded (ahead T.units (T.characters text) at.old) at.old met
-        classes.old classes.new) }
+    requires { CanReadOn T.units (T.characters text) at.old classes.old }
+    ensures { IsReadOn (D.source data_source.now) T.units (T.characters text) minded at.old result at.new classes.old
+        classes.new }
 {
     let mut start = *at;
     while start < limit {
@@ -91,8 +87,7 @@ fn skim_blocks<D: BidiDataSource, T: TextSource>(
     at: &mut usize,
     minded: ClassSet,
 )
-    requires sized { length classes.old ≡ text_len T.units (T.characters text) }
-    requires begins { IsTrue (is_boundary_of T.units (T.characters text) at.old) }
+    requires { CanReadOn T.units (T.characters text) at.old classes.old }
     ensures read { IsSkimmed (D.source data_source.now) T.units minded (ahead T.units (T.characters text) at.old)
         at.old at.new classes.old classes.new }
     ensures order { at.old ≤ at.new }
@@ -123,13 +118,9 @@ pub(super) fn skim<D: BidiDataSource, T: TextSource>(
     at: &mut usize,
     minded: ClassSet,
 ) -> Option<Met>
-    requires sized { length classes.old ≡ text_len T.units (T.characters text) }
-    requires begins { IsTrue (is_boundary_of T.units (T.characters text) at.old) }
-    ensures { MatchOption result
-        (IsSkimmed (D.source data_source.now) T.units minded (ahead T.units (T.characters text) at.old) at.old at.new
-        classes.old classes.new)
-        (λ met. IsMet (D.source data_source.now) T.units minded (ahead T.units (T.characters text) at.old) at.old met
-        classes.old classes.new) }
+    requires { CanReadOn T.units (T.characters text) at.old classes.old }
+    ensures { IsReadOn (D.source data_source.now) T.units (T.characters text) minded at.old result at.new classes.old
+        classes.new }
 {
     while *at < classes.len() {
         let limit = *at + (classes.len() - *at).min(ONE_BY_ONE);

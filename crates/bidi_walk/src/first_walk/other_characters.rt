@@ -4,7 +4,7 @@ ghost use Rattle.std.specs.Prelude.{◌≡◌, ℕ, ◌+◌, ◌-◌, ◌<◌, �
 ghost use Rattle.bidi_base.specs.Places.{class_at};
 ghost use Rattle.bidi_base.specs.Text.{text_len, is_boundary as is_boundary_of};
 ghost use Rattle.bidi_walk.specs.ClassSet.{has};
-ghost use Rattle.bidi_walk.specs.FirstWalk.{ahead, IsSkimmed, IsMet};
+ghost use Rattle.bidi_walk.specs.FirstWalk.{ahead, CanReadOn, IsMet, IsReadOn, IsSkimmed};
 ghost use Rattle.bidi_walk.specs.declared.first_walk.unit_classes.TheConstants.{AT_ONCE};
 ghost use Rattle.bidi_walk.specs.declared.first_walk.other_characters.TheConstants.{LOW_BLOCK, LOW_LIMIT};
 
@@ -116,13 +116,9 @@ fn read_block<D: BidiDataSource, T: TextSource>(
     at: &mut usize,
     minded: ClassSet,
 ) -> Option<Met>
-    requires sized { length classes.old ≡ text_len T.units (T.characters text) }
-    requires begins { IsTrue (is_boundary_of T.units (T.characters text) at.old) }
-    ensures met { MatchOption result
-        (IsSkimmed (D.source data_source.now) T.units minded (ahead T.units (T.characters text) at.old) at.old at.new
-        classes.old classes.new)
-        (λ met. IsMet (D.source data_source.now) T.units minded (ahead T.units (T.characters text) at.old) at.old met
-        classes.old classes.new) }
+    requires { CanReadOn T.units (T.characters text) at.old classes.old }
+    ensures met { IsReadOn (D.source data_source.now) T.units (T.characters text) minded at.old result at.new classes.old
+        classes.new }
     ensures passed { result ≡ None → at.old < length classes.new → at.old < at.new }
 {
     let start = *at;
@@ -154,14 +150,10 @@ pub(super) fn read_in_place<D: BidiDataSource, T: TextSource>(
     limit: usize,
     minded: ClassSet,
 ) -> Option<Met>
-    requires sized { length classes.old ≡ text_len T.units (T.characters text) }
-    requires begins { IsTrue (is_boundary_of T.units (T.characters text) at.old) }
+    requires place { CanReadOn T.units (T.characters text) at.old classes.old }
     requires room { limit + (AT_ONCE - 1) ≤ length classes.old }
-    ensures met { MatchOption result
-        (IsSkimmed (D.source data_source.now) T.units minded (ahead T.units (T.characters text) at.old) at.old at.new
-        classes.old classes.new)
-        (λ met. IsMet (D.source data_source.now) T.units minded (ahead T.units (T.characters text) at.old) at.old met
-        classes.old classes.new) }
+    ensures met { IsReadOn (D.source data_source.now) T.units (T.characters text) minded at.old result at.new classes.old
+        classes.new }
     ensures passed { result ≡ None → limit ≤ at.new }
 {
     let mut start = *at;
@@ -188,13 +180,9 @@ fn read_low_blocks<D: BidiDataSource, T: TextSource>(
     at: &mut usize,
     minded: ClassSet,
 ) -> Option<Met>
-    requires sized { length classes.old ≡ text_len T.units (T.characters text) }
-    requires begins { IsTrue (is_boundary_of T.units (T.characters text) at.old) }
-    ensures met { MatchOption result
-        (IsSkimmed (D.source data_source.now) T.units minded (ahead T.units (T.characters text) at.old) at.old at.new
-        classes.old classes.new)
-        (λ met. IsMet (D.source data_source.now) T.units minded (ahead T.units (T.characters text) at.old) at.old met
-        classes.old classes.new) }
+    requires { CanReadOn T.units (T.characters text) at.old classes.old }
+    ensures met { IsReadOn (D.source data_source.now) T.units (T.characters text) minded at.old result at.new classes.old
+        classes.new }
 {
     let mut start = *at;
     let limit = start.saturating_add(BLOCK);
@@ -226,13 +214,9 @@ pub(super) fn read_on<D: BidiDataSource, T: TextSource>(
     at: &mut usize,
     minded: ClassSet,
 ) -> Option<Met>
-    requires sized { length classes.old ≡ text_len T.units (T.characters text) }
-    requires begins { IsTrue (is_boundary_of T.units (T.characters text) at.old) }
-    ensures met { MatchOption result
-        (IsSkimmed (D.source data_source.now) T.units minded (ahead T.units (T.characters text) at.old) at.old at.new
-        classes.old classes.new)
-        (λ met. IsMet (D.source data_source.now) T.units minded (ahead T.units (T.characters text) at.old) at.old met
-        classes.old classes.new) }
+    requires { CanReadOn T.units (T.characters text) at.old classes.old }
+    ensures met { IsReadOn (D.source data_source.now) T.units (T.characters text) minded at.old result at.new classes.old
+        classes.new }
     ensures passed { result ≡ None → at.old < length classes.new → at.old < at.new }
 {
     let end = at.saturating_add(BLOCK);

@@ -16,9 +16,12 @@ skimmed g c = elim c.if-after_control.branch [
   | else-after_control w ↦ rw (w.classes-is, w.at-is) (IsSkimmed-start _ _ _ _ _ _)
 ]
 
-pub seek_minded-requires-clause-begins : goal.seek_minded-requires-clause-begins
-seek_minded-requires-clause-begins g c =
-    is_boundary-skimmed _ _ _ _ _ _ _ _ (skimmed g (goal.at.seek_minded-requires-clause-begins g c).Joined-after_control) g.met.T.TextSource.has_units (g.T.TextSource.characters c.args.text) c.requires.begins refl
+pub seek_minded-requires : goal.seek_minded-requires
+seek_minded-requires g c = record {
+  sized = grind arith;
+  begins = is_boundary-skimmed _ _ _ _ _ _ _ _ (skimmed g (goal.at.seek_minded-requires g c).Joined-after_control) g.met.T.TextSource.has_units (g.T.TextSource.characters c.args.text) c.requires.begins refl;
+}
+
 
 pub returns : goal.returns
 returns g c =

@@ -19,8 +19,12 @@ loop-met-init g c = (
   c.new-walk.ensures.base,
 )
 
-pub next_minded-requires-clause-begins : goal.next_minded-requires-clause-begins
-next_minded-requires-clause-begins g c = grind (arith, is_boundary-place)
+pub next_minded-requires : goal.next_minded-requires
+next_minded-requires g c = record {
+  sized = grind arith;
+  begins = grind (arith, is_boundary-place);
+}
+
 
 -- the character that was met
 met_at : (g : Over) (c : In-Some g)

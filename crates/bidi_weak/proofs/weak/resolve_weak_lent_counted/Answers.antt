@@ -9,7 +9,8 @@ use Rattle.bidi_runs.specs.RunSequence.{lent_runs, lent_sos}
 use Rattle.bidi_weak.specs.WeakPass.{left_over}
 use Rattle.bidi_weak.specs.WeakWalk.{len_at, IsMarked, IsWalked}
 use Rattle.bidi_weak.proofs.CountedUnits.{characters-at_most}
-use Rattle.bidi_weak.proofs.WeakText.{IsResolved, IsResolved-passes, lines-within}
+use Rattle.bidi_base.specs.InPlace.{AreWeakTypesResolved}
+use Rattle.bidi_weak.proofs.WeakText.{AreWeakTypesResolved-passes, lines-within}
 use Rattle.bidi_weak.proofs.weak.resolve_weak_lent_counted.Goals as goal
 
 -- what the steps over the runs `read` of a sequence stand on
@@ -26,9 +27,9 @@ ready len_of h chars sequence read old is lines per =
 resolved : (len_of : ℕ → ℕ) → HasUnits len_of → (chars : List ℕ) (sequence : LentSequence) (read : List (Range ℕ)) (sos : BidiClass) → read ≡ lent_runs sequence → sos ≡ lent_sos sequence → (old c1 c2 c3 : List BidiClass) → IsReady len_of chars read old
     → IsMarked (map bounds read) (carried sos) old c1 → IsWalked (len_at len_of chars) (map bounds read) sos c1 c2
     → ((u : ℕ) → in_runs (map bounds read) u ≡ true → class_at c3 u ≡ left_over (class_at c2 u)) → ((u : ℕ) → in_runs (map bounds read) u ≡ false → class_at c3 u ≡ class_at c2 u) → length c3 ≡ length c2
-    → IsResolved len_of chars (map bounds (lent_runs sequence)) (lent_sos sequence) old c3
+    → AreWeakTypesResolved len_of chars (map bounds (lent_runs sequence)) (lent_sos sequence) old c3
 resolved len_of h chars sequence read sos runs_are sos_is old c1 c2 c3 w marks numbers changed same long =
-    rw (runs_are, sos_is) at (IsResolved-passes len_of h chars (map bounds read) w.lines w.ordered sos old w.per c1 marks c2 c3 numbers changed same long)
+    rw (runs_are, sos_is) at (AreWeakTypesResolved-passes len_of h chars (map bounds read) w.lines w.ordered sos old w.per c1 marks c2 c3 numbers changed same long)
 
 pub resolve_marks_and_numbers-requires-clause-lines : goal.resolve_marks_and_numbers-requires-clause-lines
 resolve_marks_and_numbers-requires-clause-lines g c = grind arith

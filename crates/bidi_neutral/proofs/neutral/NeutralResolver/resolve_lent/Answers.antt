@@ -2,7 +2,7 @@ use Rattle.bidi_base.proofs.Common.{◌≡◌, ◌<◌, length, map, find, Some,
 use Rattle.bidi_neutral.specs.NeutralPass.{IsReady}
 use Rattle.bidi_runs.specs.RunSequence.{lent_runs, lent_sos, lent_eos}
 use Rattle.bidi_neutral.proofs.NeutralSteps.{IsReady-sequence, IsUpToN1, runs-within, first-is, first-within}
-use Rattle.bidi_neutral.proofs.Settled.{kept-none, IsResolved, IsResolved-settled}
+use Rattle.bidi_neutral.proofs.Settled.{resolved-none, IsResolved, IsResolved-settled}
 use Rattle.bidi_neutral.proofs.neutral.NeutralResolver.resolve_lent.Given.{Over}
 use Rattle.bidi_neutral.proofs.neutral.NeutralResolver.resolve_lent.Goals as goal
 use Rattle.bidi_neutral.proofs.neutral.NeutralResolver.resolve_lent.Goals.{After-runs-runs, In-Some}
@@ -32,11 +32,11 @@ within g c =
 pub bounds-levels-first : goal.bounds-levels-first
 bounds-levels-first g c = within g c
 
-pub returns-in_default-clause-kept : goal.returns-in_default-clause-kept
-returns-in_default-clause-kept g c =
+pub returns-in_default-clause-resolved : goal.returns-in_default-clause-resolved
+returns-in_default-clause-resolved g c =
     let none = simp c.runs-runs.ensures at (sym c.in_default.is ∙ c.first_kept.ensures) in
-    kept-none g.T.TextSource.units g.met.T.TextSource.has_units (g.T.TextSource.characters c.args.text) (g.D.BidiDataSource.source c.args.data_source.now) c.args.levels.now c.args.original_classes.now c.args.processing_classes.now
-    (lent_runs c.args.sequence) (lent_sos c.args.sequence) (lent_eos c.args.sequence) (ready g (goal.at.returns-in_default-clause-kept g c).After-runs-runs) none
+    resolved-none g.T.TextSource.units g.met.T.TextSource.has_units (g.T.TextSource.characters c.args.text) (g.D.BidiDataSource.source c.args.data_source.now) c.args.levels.now c.args.original_classes.now c.args.processing_classes.now
+    (lent_runs c.args.sequence) (lent_sos c.args.sequence) (lent_eos c.args.sequence) c.requires.per_char (ready g (goal.at.returns-in_default-clause-resolved g c).After-runs-runs) none
 
 pub settle_rest-requires : goal.settle_rest-requires
 settle_rest-requires g c = search (rules, first_kept-requires)
@@ -45,8 +45,8 @@ settle_rest-requires g c = search (rules, first_kept-requires)
 resolved : (g : Over) (c : goal.After-processing_classes-2-1 g) → IsResolved g.T.TextSource.units (g.T.TextSource.characters c.args.text) (g.D.BidiDataSource.source c.args.data_source.now) c.args.levels.now c.args.original_classes.now c.args.processing_classes.now c.settle_rest.new.classes
     (lent_runs c.args.sequence) (lent_sos c.args.sequence) (lent_eos c.args.sequence)
 resolved g c =
-    let first = (goal.at.returns-clause-kept g c).In-Some in
-    let r = ready g (goal.at.returns-clause-kept g c).After-runs-runs in
+    let first = (goal.at.returns-clause-resolved g c).In-Some in
+    let r = ready g (goal.at.returns-clause-resolved g c).After-runs-runs in
     let units = g.T.TextSource.units in
     let chars = g.T.TextSource.characters c.args.text in
     let runs = lent_runs c.args.sequence in
@@ -63,14 +63,5 @@ resolved g c =
     (λ u inside. c.settle_rest.ensures.changed u (simp same_runs inside))
     (λ u out. c.settle_rest.ensures.same u (simp same_runs out))
 
-pub returns-clause-kept : goal.returns-clause-kept
-returns-clause-kept g c = (resolved g c).kept
-
-pub returns-clause-removed : goal.returns-clause-removed
-returns-clause-removed g c = (resolved g c).removed
-
-pub returns-clause-outside : goal.returns-clause-outside
-returns-clause-outside g c = (resolved g c).outside
-
-pub returns-clause-per_char : goal.returns-clause-per_char
-returns-clause-per_char g c = (resolved g c).per_char
+pub returns-clause-resolved : goal.returns-clause-resolved
+returns-clause-resolved g c = resolved g c

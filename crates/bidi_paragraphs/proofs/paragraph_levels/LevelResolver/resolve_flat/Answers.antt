@@ -93,7 +93,7 @@ answered g c =
     AreLevels-all _ _ _ _ _ _ _ c.resolve_up_to_n1.new.processing_classes c.fill.new.self c.resolve_levels.new.levels (fits g n) levels_are
     (joined-sequences _ g.met.T.TextSource.has_units _ (source g n) (given g n).bracket_of _ (fits g n) c.requires.flat _ (same g n))
     (AreResolvedTo-more _ _ _ _ _ _ (fits g n) [] _ (lines g n) (next g n) _ c.resolve_up_to_n1.new.processing_classes c.args.paragraph.now.original_classes.now c.fill.new.self
-    c.args.paragraph.now.stored levels_are weak c.in_ok-resolve_up_to_n1.ensures.kept c.in_ok-resolve_up_to_n1.ensures.removed c.in_ok-resolve_up_to_n1.ensures.outside c.in_ok-resolve_up_to_n1.ensures.per_char)
+    c.args.paragraph.now.stored levels_are weak c.in_ok-resolve_up_to_n1.ensures.resolved.kept c.in_ok-resolve_up_to_n1.ensures.resolved.removed c.in_ok-resolve_up_to_n1.ensures.resolved.outside c.in_ok-resolve_up_to_n1.ensures.resolved.per_char)
     c.resolve_levels.ensures.levels
 
 pub returns : goal.returns

@@ -128,7 +128,7 @@ loop-first-preserved g c =
           w.resolve_weak_lent.ensures.kept w.resolve_weak_lent.ensures.removed w.resolve_weak_lent.ensures.outside w.resolve_weak_lent.ensures.per_char in
           rw (w.classes-is, prepared-more _ _ _ _ _ _ _ _ _ _ is_ready c.loop-first.first s within here is)
           (AreResolvedTo-more _ _ _ _ _ _ is_ready.fits _ s line next _ w.resolve_up_to_n1.new.processing_classes c.args.paragraph.now.original_classes.now _
-          c.args.paragraph.now.stored is_ready.levels_is weak w.in_ok-resolve_up_to_n1.ensures.kept w.in_ok-resolve_up_to_n1.ensures.removed w.in_ok-resolve_up_to_n1.ensures.outside w.in_ok-resolve_up_to_n1.ensures.per_char)
+          c.args.paragraph.now.stored is_ready.levels_is weak w.in_ok-resolve_up_to_n1.ensures.resolved.kept w.in_ok-resolve_up_to_n1.ensures.resolved.removed w.in_ok-resolve_up_to_n1.ensures.resolved.outside w.in_ok-resolve_up_to_n1.ensures.resolved.per_char)
       | in_default w ↦
           let other : begins c.prepare.new.self.links c.loop-first.first ≡ false = sym c.in_ok-sequence.ensures.begins ∙ ap is_some w.in_default.is in
           rw (w.classes-is, prepared-same _ _ _ _ _ _ _ _ _ _ is_ready c.loop-first.first other) c.loop-first.invariant

@@ -8,8 +8,12 @@ use Rattle.bidi_walk.proofs.first_walk.ascii_characters.skim.Goals.{In_default}
 pub loop-at-init : goal.loop-at-init
 loop-at-init g c = IsSkimmed-start _ _ _ _ _ _
 
-pub skim_each-requires-clause-begins : goal.skim_each-requires-clause-begins
-skim_each-requires-clause-begins g c = is_boundary-skimmed _ _ _ _ _ _ _ _ c.loop-at.invariant g.met.T.TextSource.has_units (g.T.TextSource.characters c.args.text) c.requires.begins refl
+pub skim_each-requires : goal.skim_each-requires
+skim_each-requires g c = record {
+  sized = grind arith;
+  begins = is_boundary-skimmed _ _ _ _ _ _ _ _ c.loop-at.invariant g.met.T.TextSource.has_units (g.T.TextSource.characters c.args.text) c.requires.begins refl;
+}
+
 
 pub returns-in-Some : goal.returns-in-Some
 returns-in-Some g c =
@@ -23,9 +27,12 @@ each g c = IsSkimmed-on _ _ _ _ _ _ _ _ c.loop-at.invariant g.met.T.TextSource.h
 pub returns-then-at-limit : goal.returns-then-at-limit
 returns-then-at-limit g c = each g (goal.at.returns-then-at-limit g c).In_default
 
-pub skim_blocks-requires-clause-begins : goal.skim_blocks-requires-clause-begins
-skim_blocks-requires-clause-begins g c =
-    is_boundary-skimmed _ _ _ _ _ _ _ _ (each g (goal.at.skim_blocks-requires-clause-begins g c).In_default) g.met.T.TextSource.has_units (g.T.TextSource.characters c.args.text) c.requires.begins refl
+pub skim_blocks-requires : goal.skim_blocks-requires
+skim_blocks-requires g c = record {
+  sized = grind arith;
+  begins = is_boundary-skimmed _ _ _ _ _ _ _ _ (each g (goal.at.skim_blocks-requires g c).In_default) g.met.T.TextSource.has_units (g.T.TextSource.characters c.args.text) c.requires.begins refl;
+}
+
 
 pub loop-at-preserved : goal.loop-at-preserved
 loop-at-preserved g c =
