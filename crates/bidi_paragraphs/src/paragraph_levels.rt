@@ -9,7 +9,7 @@ ghost use Rattle.bidi_base.specs.Sequences.{is_kept_at, sequences};
 ghost use Rattle.bidi_base.specs.Stored.{AreResolved, levels_in};
 ghost use Rattle.bidi_base.specs.Text.{text_len, is_per_char, per_unit, per_char};
 ghost use Rattle.bidi_base.specs.Units.{bounds, AreLines};
-ghost use Rattle.bidi_runs.specs.Links.{linked_sequences, sequences_of, AreLinked};
+ghost use Rattle.bidi_runs.specs.Links.{linked_runs, linked_sequences, sequences_of, AreLinked};
 ghost use Rattle.bidi_walk.specs.ParagraphFlags.{flags_of};
 
 use crate::settled::is_settled;
@@ -57,12 +57,10 @@ pub struct ClassifiedParagraph<'a, D: BidiDataSource, T: TextSource> {
 pub struct LevelResolver {
     /// The class of each code unit, as far as the passes have resolved it.
     classes: SmallVec<BidiClass, FEW_UNITS>,
-    /// The level runs.
+    /// The level runs. Those of the sequence at hand stand after them if there are several.
     runs: LevelRunVec,
     /// The isolating run sequences, as links between the level runs.
     links: RunLinks,
-    /// The level runs of a sequence of two or more.
-    chain: LevelRunVec,
     neutrals: NeutralResolver,
 }
 
@@ -73,7 +71,6 @@ impl LevelResolver {
             classes: SmallVec::new(alloc),
             runs: Vec::new(alloc),
             links: RunLinks::new(alloc),
-            chain: Vec::new(alloc),
             neutrals: NeutralResolver::new(alloc),
         }
     }
@@ -98,11 +95,11 @@ impl LevelResolver {
         ensures sequences { let stored = per_char L T.units (T.characters paragraph.now.text)
             paragraph.now.original_classes.now in
             OnOk result (sequences_of T.units (T.characters paragraph.now.text) stored
-            (linked_sequences self.new.links (map bounds self.new.runs.items))
+            (linked_sequences self.new.links (linked_runs self.new.links self.new.runs.items))
             ≡ sequences paragraph.now.level stored (explicit_levels paragraph.now.level stored)) }
         ensures fits { OnOk result (All (λ s. AreLines T.units (T.characters paragraph.now.text) s.runs)
-            (linked_sequences self.new.links (map bounds self.new.runs.items))) }
-        ensures linked { OnOk result (AreLinked self.new.links (map bounds self.new.runs.items)) }
+            (linked_sequences self.new.links (linked_runs self.new.links self.new.runs.items))) }
+        ensures linked { OnOk result (AreLinked self.new.links (linked_runs self.new.links self.new.runs.items)) }
     {
         let original_classes = paragraph.original_classes;
         self.classes.clear();
@@ -118,18 +115,14 @@ impl LevelResolver {
             self.classes.as_mut_slice(),
             &mut self.runs,
         )?;
-        let has_isolates = paragraph.flags.has_isolates();
         self.links.link(
             paragraph.text,
             paragraph.level,
             original_classes,
             levels,
-            &self.runs,
-            has_isolates,
-        )?;
-        let longest = if has_isolates { self.runs.len() } else { 0 };
-        self.chain.reserve_exact(longest)?;
-        Ok(())
+            self.runs.as_slice(),
+            paragraph.flags.has_isolates(),
+        )
     }
 
     /// Copies the classes of a paragraph in which nothing opens a level, with BN for characters that X9
@@ -209,11 +202,11 @@ impl LevelResolver {
             (sequences level stored (explicit_levels level stored))) }
     {
         self.prepare(alloc, paragraph, levels)?;
-        let runs = self.runs.as_slice();
         let links = &self.links;
         let classes = self.classes.as_mut_slice();
-        for first in 0..runs.len() {
-            if let Some(sequence) = links.sequence(runs, first, &mut self.chain)? {
+        for first in 0..links.run_count() {
+            if let Some(found) = links.gather(&mut self.runs, first)? {
+                let sequence = found.lend(self.runs.as_slice());
                 if is_settled(sequence, levels, classes) {
                     continue;
                 }

@@ -1,5 +1,5 @@
 -- A sequence's runs, as the links lead to them one after another.
-use Rattle.bidi_base.proofs.Common.{◌≡◌, ℕ, zero, suc, ◌+◌, ◌-◌, ◌<◌, ◌≤◌, List, [], ◌∷◌, ◌++◌, length, map, get_or, Option, Some, None, refl, sym, ap, ◌∙◌, arith, append-nil, append_assoc, drop-cons, take, drop, subst, is_some, unwrap_or, IsTrue, get_or_default, Range, map-append, get_or-map, last_or, chain, bounds}
+use Rattle.bidi_base.proofs.Common.{◌≡◌, ℕ, zero, suc, ◌+◌, ◌-◌, ◌<◌, ◌≤◌, List, [], ◌∷◌, ◌++◌, length, map, get_or, Option, Some, None, refl, sym, ap, ◌∙◌, arith, append-nil, append_assoc, drop-cons, take, drop, take-append-le, drop-append-le, get_or-take, subst, is_some, unwrap_or, IsTrue, get_or_default, Range, map-append, get_or-map, last_or, chain, bounds}
 use Rattle.bidi_base.proofs.ChainLemmas.{chain-None}
 use Rattle.bidi_base.proofs.Lists.{last_or-append}
 use Rattle.bidi_base.specs.Units.{is_run_sequence}
@@ -54,6 +54,23 @@ module _ (links : RunLinks) (runs : List (Range ℕ)) (linked : AreLinked links 
         reaches = omega (arith, h.reaches, order.0, order.1);
         within = order.1;
       }
+
+  -- the runs that were linked stand before those that are copied
+  module _ (list : List (Range ℕ)) (n : ℕ) (is : n ≡ length links.next.items) (kept : take n list ≡ runs) (room : n ≤ length list) where
+    pub copied-kept : (r : Range ℕ) → take n (list ++ r ∷ []) ≡ runs
+    copied-kept r = take-append-le n list (r ∷ []) room ∙ kept
+
+    pub copied-more : (r : Range ℕ) → drop n (list ++ r ∷ []) ≡ drop n list ++ r ∷ []
+    copied-more r = drop-append-le n list (r ∷ []) room
+
+    pub copied-is : (k : ℕ) (d : Range ℕ) → k < n → get_or list k d ≡ get_or runs k d
+    copied-is k d within = sym (get_or-take n list k d within) ∙ ap (λ (l : List (Range ℕ)). get_or l k d) kept
+
+    -- a run by itself
+    pub copied-one : (k : ℕ) → k < n → n ≡ length runs → take (k + 1 - k) (drop k list) ≡ take (k + 1 - k) (drop k runs)
+    copied-one k within all =
+        let width : k + 1 - k ≡ 1 = omega arith in
+        rw (width, drop-cons list k no_range (omega (arith, within, room)), drop-cons runs k no_range (omega (arith, within, all)), copied-is k no_range within) refl
 
   pub record IsWholeChain (last : ℕ) (came : List (Range ℕ)) : Type 0 where
     pub runs_are : map bounds came ≡ map (λ r. get_or (map bounds runs) r (0, 0)) (run_chain links first)

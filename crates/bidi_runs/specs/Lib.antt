@@ -1,4 +1,5 @@
 pub mod ExplicitPass
+pub mod Gathered
 pub mod Joining
 pub mod Links
 pub mod RunSequence

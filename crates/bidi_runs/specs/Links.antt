@@ -1,14 +1,19 @@
 -- Level runs that are linked to isolating run sequences.
-use Rattle.std.specs.Prelude.{◌≡◌, ℕ, ◌<◌, Bool, true, IsTrue, if◌then◌else◌, ◌==◌, List, [], ◌∷◌, ◌++◌, length, map, filter, get_or, slice_set, Option, Some, None, is_some, unwrap_or}
+use Rattle.std.specs.Prelude.{◌≡◌, ℕ, ◌<◌, Bool, true, IsTrue, if◌then◌else◌, ◌==◌, List, [], ◌∷◌, ◌++◌, length, map, filter, get_or, slice_set, take, Option, Some, None, is_some, unwrap_or}
 use Rattle.bidi_base.specs.declared.char_data.BidiClass.{BidiClass}
 use Rattle.bidi_base.specs.declared.char_data.BidiClass.TheVariants.{L}
 use Rattle.std.specs.List.{range_with_len}
+use Rattle.std.specs.declared.ops.Range.{Range}
 use Rattle.bidi_base.specs.Places.{chain, last_or}
 use Rattle.bidi_base.specs.Sequences.{RunSequence, has_places}
-use Rattle.bidi_base.specs.Units.{is_run_sequence}
+use Rattle.bidi_base.specs.Units.{bounds, is_run_sequence}
 use Rattle.bidi_runs.specs.Joining.{JoinedRuns, characters_of}
 use Rattle.bidi_runs.specs.declared.prepare.links.RunLinks.{RunLinks}
 use Rattle.bidi_runs.specs.declared.prepare.links.RunSides.{RunSides}
+
+-- the level runs that were linked: those with which a list begins
+abbrev pub linked_runs : RunLinks → List (Range ℕ) → List (ℕ × ℕ)
+linked_runs links runs = map bounds (take (length links.next.items) runs)
 
 -- one more run, to which a link leads from the run at r
 abbrev pub with_link : Option ℕ → List ℕ → List ℕ

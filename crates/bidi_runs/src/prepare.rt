@@ -4,6 +4,7 @@
 ghost use Rattle.std.specs.Prelude.{◌≡◌};
 ghost use Rattle.bidi_base.specs.Classes.{is_removed, is_kept};
 
+mod gathered;
 mod joining;
 mod lent;
 mod links;
@@ -13,7 +14,8 @@ mod waiting;
 
 use bidi_base::char_data::BidiClass;
 use bidi_base::classes::is_removed;
-pub use joining::{isolating_run_sequences, join_level_runs};
+pub use gathered::GatheredSequence;
+pub use joining::isolating_run_sequences;
 pub use lent::LentSequence;
 pub use links::RunLinks;
 pub use sequence::{BackwardsFrom, ForwardsFrom, IsolatingRunSequence};

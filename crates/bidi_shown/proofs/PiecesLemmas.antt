@@ -1,12 +1,11 @@
 -- In whatever pieces a text comes, the same is shown.
 use Rattle.bidi_base.proofs.Common.{◌≡◌, ◌≢◌, ◌∙◌, ℕ, suc, if◌then◌else◌, length-take, take_more, ◌+◌, ◌-◌, ◌<◌, ◌≤◌, ◌++◌, ◌==◌, nat_lt, true, false, List, [], ◌∷◌, length, take, drop, get_or, flat_map, refl, sym, ap, subst, arith, nat_tests, eqb-true, cases_Bool, inl, inr, append_assoc, append-nil, take-append-drop, take-append_seam, drop-append_seam, flat_map-append, length-append, get_or-append_seam, chars, chars-nil, encode_utf8, IsUtf8, IsUtf8-past_char, IsCharBoundary, Source, is_paragraph_separator, cr_lf_together, onto_first}
-use Rattle.std.specs.List.{concat}
-use Rattle.std.proofs.lemmas.Str.{chars-append, chars_past_char, encode_ascii, IsCharBoundary-before_ascii, IsUtf8-drop, IsCharBoundary-after_ascii, IsUtf8-take}
+use Rattle.std.proofs.lemmas.Str.{chars-append, chars_past_char, encode_ascii, IsCharBoundary-before_ascii, IsUtf8-append, IsUtf8-drop, IsCharBoundary-after_ascii, IsUtf8-take}
 use Rattle.bidi_unicode.specs.Unicode.{unicode_source}
 use Rattle.bidi_visual.specs.Shown.{own_chars, paragraphs_in, shown_paragraph, shown_text}
 use Rattle.bidi_visual.specs.declared.view.View.{View}
 use Rattle.bidi_visual.proofs.QuietLemmas.{feed-separates}
-use Rattle.bidi_shown.specs.Streams.{whole_lines, shown_bytes, shown_pieces}
+use Rattle.bidi_shown.specs.Streams.{whole_lines, shown_bytes, shown_now, pending_after, IsShownTo}
 
 -- ---- the paragraphs of a text that has a line feed
 
@@ -113,23 +112,42 @@ ends_line (b ∷ bs) some = elim (cases_Bool (nat_lt 0 (whole_lines bs))) [
   ]
 ]
 
-pub shown_pieces-whole : (view : View) (pieces : List (List ℕ)) (kept : List ℕ) → IsUtf8 (kept ++ concat pieces) → shown_pieces view kept pieces ≡ shown_bytes view (kept ++ concat pieces)
-shown_pieces-whole view [] kept utf8 = simp append-nil
-shown_pieces-whole view (piece ∷ pieces) kept utf8 = elim (cases_Bool (whole_lines piece == 0)) [
-  | inl none ↦
-      let same : kept ++ (piece ++ concat pieces) ≡ (kept ++ piece) ++ concat pieces = sym (append_assoc kept piece (concat pieces)) in
-      simp none (shown_pieces-whole view pieces (kept ++ piece) (subst IsUtf8 same utf8) ∙ ap (shown_bytes view) (sym same))
+-- Nothing came, and nothing is shown.
+pub IsShownTo-start : (view : View) → IsShownTo view [] [] []
+IsShownTo-start view = λ rest utf8. (utf8, refl)
+
+-- One more piece came.
+pub IsShownTo-more : (view : View) (kept piece came shown : List ℕ) → (0 < whole_lines piece → IsUtf8 (kept ++ take (whole_lines piece) piece))
+    → IsShownTo view kept came shown → IsShownTo view (pending_after kept piece) (came ++ piece) (shown ++ shown_now view kept piece)
+IsShownTo-more view kept piece came shown lines_utf8 was = elim (cases_Bool (whole_lines piece == 0)) [
+  | inl none ↦ simp none (λ rest utf8.
+      let same : kept ++ (piece ++ rest) ≡ (kept ++ piece) ++ rest = sym (append_assoc kept piece rest) in
+      let now = was (piece ++ rest) (subst IsUtf8 (sym same) utf8) in
+      simp (append_assoc, append-nil) now)
   | inr some ↦
       let end = ends_line piece (grind (arith, nat_tests, some)) in
-      let rest : List ℕ = drop (whole_lines piece) piece ++ concat pieces in
+      let after : List ℕ = drop (whole_lines piece) piece in
       let front : List ℕ = kept ++ end.front in
       let lines : kept ++ take (whole_lines piece) piece ≡ front ++ 0x0A ∷ [] = ap (λ l. kept ++ l) end.is ∙ sym (append_assoc kept end.front (0x0A ∷ [])) in
-      let cut : piece ≡ (end.front ++ 0x0A ∷ []) ++ drop (whole_lines piece) piece = sym (take-append-drop (whole_lines piece) piece) ∙ ap (λ l. l ++ drop (whole_lines piece) piece) end.is in
-      let whole : kept ++ (piece ++ concat pieces) ≡ front ++ 0x0A ∷ rest = ap (λ l. kept ++ (l ++ concat pieces)) cut ∙ simp append_assoc in
-      let valid : IsUtf8 (front ++ 0x0A ∷ rest) = subst IsUtf8 whole utf8 in
-      let later : shown_pieces view (drop (whole_lines piece) piece) pieces ≡ shown_bytes view rest = shown_pieces-whole view pieces (drop (whole_lines piece) piece) (feed-chars rest (at-feed front rest valid).1).1 in
-      simp (some, lines, later) (sym (shown_bytes-append view front rest valid) ∙ ap (shown_bytes view) (sym whole))
+      let lines_valid : IsUtf8 (front ++ 0x0A ∷ []) = subst IsUtf8 lines (lines_utf8 (grind (arith, nat_tests, some))) in
+      let cut : piece ≡ (end.front ++ 0x0A ∷ []) ++ after = sym (take-append-drop (whole_lines piece) piece) ∙ ap (λ l. l ++ after) end.is in
+      simp some (λ rest utf8.
+      let whole : kept ++ (piece ++ rest) ≡ front ++ 0x0A ∷ (after ++ rest) = ap (λ l. kept ++ (l ++ rest)) cut ∙ simp append_assoc in
+      let valid : IsUtf8 (front ++ 0x0A ∷ (after ++ rest)) = subst IsUtf8 (append_assoc front (0x0A ∷ []) (after ++ rest)) (IsUtf8-append (front ++ 0x0A ∷ []) (after ++ rest) lines_valid utf8) in
+      let now = was (piece ++ rest) (subst IsUtf8 (sym whole) valid) in
+      let all : came ++ (piece ++ rest) ≡ (came ++ piece) ++ rest = sym (append_assoc came piece rest) in
+      let both : shown_bytes view (kept ++ take (whole_lines piece) piece) ++ shown_bytes view (after ++ rest) ≡ shown_bytes view (kept ++ (piece ++ rest)) =
+          ap (λ l. shown_bytes view l ++ shown_bytes view (after ++ rest)) lines ∙ sym (shown_bytes-append view front (after ++ rest) valid) ∙ ap (shown_bytes view) (sym whole) in (
+        subst IsUtf8 all now.0,
+        append_assoc shown (shown_bytes view (kept ++ take (whole_lines piece) piece)) (shown_bytes view (after ++ rest)) ∙ ap (λ l. shown ++ l) both ∙ now.1 ∙ ap (shown_bytes view) all,
+      ))
 ]
+
+-- No more comes.
+pub IsShownTo-end : (view : View) (kept came shown : List ℕ) → IsUtf8 kept → IsShownTo view kept came shown → IsUtf8 came × (shown ++ shown_bytes view kept ≡ shown_bytes view came)
+IsShownTo-end view kept came shown utf8 was =
+    let now = was [] (subst IsUtf8 (sym (append-nil kept)) utf8) in
+    simp append-nil at now
 
 -- ---- the whole lines, read from the end
 

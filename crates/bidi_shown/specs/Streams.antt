@@ -1,6 +1,6 @@
 -- A text that comes in pieces: what is shown with each, and what is kept.
-use Rattle.std.specs.Prelude.{ℕ, ◌+◌, ◌==◌, nat_lt, if◌then◌else◌, List, [], ◌∷◌, ◌++◌, take, drop}
-use Rattle.std.specs.Str.{chars}
+use Rattle.std.specs.Prelude.{◌≡◌, ℕ, ◌+◌, ◌==◌, nat_lt, if◌then◌else◌, List, [], ◌∷◌, ◌++◌, take, drop}
+use Rattle.std.specs.Str.{chars, IsUtf8}
 use Rattle.bidi_unicode.specs.Unicode.{unicode_source}
 use Rattle.bidi_visual.specs.Shown.{shown_text}
 use Rattle.bidi_visual.specs.declared.view.View.{View}
@@ -28,7 +28,9 @@ shown_now view kept piece =
 abbrev pub pending_after : List ℕ → List ℕ → List ℕ
 pending_after kept piece = if whole_lines piece == 0 then kept ++ piece else drop (whole_lines piece) piece
 
--- what is shown of a text that comes in these pieces after bytes that are kept, up to its end
-abbrev pub shown_pieces : View → List ℕ → List (List ℕ) → List ℕ
-shown_pieces view kept [] = shown_bytes view kept
-shown_pieces view kept (piece ∷ pieces) = shown_now view kept piece ++ shown_pieces view (pending_after kept piece) pieces
+-- Of the bytes that came, some are shown and the others kept. Whatever comes yet: what is shown, and then what the kept
+-- bytes and the rest show, is what all bytes show as one text.
+abbrev pub IsShownTo : View → List ℕ → List ℕ → List ℕ → Type 0
+IsShownTo view kept came shown =
+    (rest : List ℕ) → IsUtf8 (kept ++ rest) → IsUtf8 (came ++ rest)
+    × (shown ++ shown_bytes view (kept ++ rest) ≡ shown_bytes view (came ++ rest))

@@ -150,60 +150,20 @@ pub fn isolating_run_sequences<T: TextSource>(
     ensures runs { OnOk result (IsPermutation (map bounds runs.items) (flat_map run_bounds out.new.items)) }
     ensures fits { OnOk result (All (λ s. AreLines T.units (T.characters text) (run_bounds s)) out.new.items) }
 {
-    join_level_runs(
-        alloc,
-        text,
-        para_level,
-        original_classes,
-        levels,
-        runs.as_slice(),
-        has_isolate_controls,
-        out,
-    )
-}
-
-/// Like [`isolating_run_sequences`], but borrows the level runs.
-pub fn join_level_runs<T: TextSource>(
-    alloc: Global,
-    text: T,
-    para_level: Level,
-    original_classes: &[BidiClass],
-    levels: &[Level],
-    runs: &[LevelRun],
-    has_isolate_controls: bool,
-    out: &mut IsolatingRunSequenceVec,
-) -> Result<(), AllocError>
-    requires original { IsTrue (is_per_char ⟦<BidiClass as PartialEq>⟧.eq T.units (T.characters text) original_classes.now) }
-    requires levels { IsTrue (is_per_char ⟦<Level as PartialEq>⟧.eq T.units (T.characters text) levels.now) }
-    requires runs { let stored = per_char L T.units (T.characters text) original_classes.now in
-        map bounds runs.now
-        ≡ level_run_ranges T.units (T.characters text) stored (per_char 0 T.units (T.characters text) levels.now) }
-    requires isolates { IsTrue (list_any is_initiator original_classes.now) → IsTrue has_isolate_controls }
-    requires out { out.old.items ≡ [] }
-    ensures sequences { let stored = per_char L T.units (T.characters text) original_classes.now in
-        OnOk result (sequences_in T.units (T.characters text) stored out.new.items
-        ≡ sequences para_level stored (per_char 0 T.units (T.characters text) levels.now)) }
-    // Only the levels of characters that X9 keeps need be the explicit ones.
-    ensures explicit { let stored = per_char L T.units (T.characters text) original_classes.now in
-        OnOk result (HasExplicitLevels para_level stored (per_char 0 T.units (T.characters text) levels.now)
-        → sequences_in T.units (T.characters text) stored out.new.items
-        ≡ sequences para_level stored (explicit_levels para_level stored)) }
-    ensures runs { OnOk result (IsPermutation (map bounds runs.now) (flat_map run_bounds out.new.items)) }
-    ensures fits { OnOk result (All (λ s. AreLines T.units (T.characters text) (run_bounds s)) out.new.items) }
-{
+    let mut runs = runs;
     let mut links = RunLinks::new(alloc);
     links.link(
         text,
         para_level,
         original_classes,
         levels,
-        runs,
+        runs.as_slice(),
         has_isolate_controls,
     )?;
-    let mut chain = Vec::new(alloc);
-    for first in 0..runs.len() {
-        if let Some(sequence) = links.sequence(runs, first, &mut chain)? {
-            out.push(IsolatingRunSequence::copied(alloc, sequence)?)?;
+    for first in 0..links.run_count() {
+        if let Some(sequence) = links.gather(&mut runs, first)? {
+            let lent = sequence.lend(runs.as_slice());
+            out.push(IsolatingRunSequence::copied(alloc, lent)?)?;
         }
     }
     Ok(())

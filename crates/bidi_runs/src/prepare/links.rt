@@ -1,7 +1,8 @@
 //! Isolating run sequences as links from level run to level run (BD13, X10).
 
-ghost use Rattle.std.specs.Prelude.{◌≡◌, ◌<◌, [], length, map, flat_map, get_or, All, IsPermutation, IsTrue, OnOk, IfOk, IfSome, is_some, if◌then◌else◌};
+ghost use Rattle.std.specs.Prelude.{◌≡◌, ℕ, ◌<◌, [], ◌∷◌, ◌++◌, length, map, drop, flat_map, get_or, All, IsPermutation, IsTrue, OnOk, IfOk, IfSome, is_some, if◌then◌else◌};
 ghost use Rattle.std.specs.List.{list_any};
+ghost use Rattle.std.specs.declared.ops.Range.{Range};
 ghost use Rattle.bidi_base.specs.declared.char_data.BidiClass.TheVariants.{L};
 ghost use Rattle.bidi_base.specs.Classes.{is_initiator};
 ghost use Rattle.bidi_base.specs.Explicit.{explicit_levels};
@@ -13,7 +14,7 @@ ghost use Rattle.bidi_runs.specs.Joining.{read_units};
 
 use super::joining::{kept_end, level_after, read_run, side};
 use super::waiting::Waiting;
-use super::{LentSequence, LevelRun, LevelRunVec};
+use super::{GatheredSequence, LevelRun, LevelRunVec};
 use bidi_base::char_data::BidiClass;
 use bidi_base::level::Level;
 use bidi_text::text::TextSource;
@@ -44,8 +45,8 @@ pub struct RunLinks {
 }
 
 impl RunLinks {
-    ghost use Rattle.bidi_runs.specs.RunSequence.{lent_joined};
-    ghost use Rattle.bidi_runs.specs.Links.{with_link, with_sides, begins, next_run, run_chain, sequence_at, linked_sequences, sequences_of, AreLinked};
+    ghost use Rattle.bidi_runs.specs.Gathered.{IsGatheredIn};
+    ghost use Rattle.bidi_runs.specs.Links.{with_link, with_sides, begins, next_run, run_chain, sequence_at, linked_runs, linked_sequences, sequences_of, AreLinked};
 
     /// Creates links between no runs. Does not allocate.
     pub fn new(alloc: Global) -> RunLinks {
@@ -184,56 +185,71 @@ impl RunLinks {
         }
     }
 
-    /// Writes the runs of a sequence to `chain`, in text order. `first` begins it. Returns the index of its
-    /// last run.
-    fn gather(
-        &self,
-        runs: &[LevelRun],
-        first: usize,
-        chain: &mut LevelRunVec,
-    ) -> Result<usize, AllocError>
-        requires linked { AreLinked self.now (map bounds runs.now) }
-        requires first { first < length runs.now }
-        ensures runs { OnOk result (map bounds chain.new.items
-            ≡ map (λ r. get_or (map bounds runs.now) r (0, 0)) (run_chain self.now first)) }
-        ensures last { IfOk result (λ last. last ≡ last_or first (run_chain self.now first)) }
-        ensures inside { IfOk result (λ last. last < length runs.now) }
+    /// How many level runs were linked.
+    pub fn run_count(&self) -> usize
+        ensures { result ≡ length self.now.next.items }
     {
-        chain.clear();
+        self.next.len()
+    }
+
+    /// Copies the runs of a sequence to the end of the list of runs, in text order. `first` begins it. Returns
+    /// the index of its last run.
+    fn copy_chain(&self, runs: &mut LevelRunVec, first: usize) -> Result<usize, AllocError>
+        requires linked { AreLinked self.now (linked_runs self.now runs.old.items) }
+        requires first { first < length self.now.next.items }
+        ensures kept { OnOk result (linked_runs self.now runs.new.items ≡ linked_runs self.now runs.old.items) }
+        ensures runs { OnOk result (map bounds (drop (length self.now.next.items) runs.new.items)
+            ≡ map (λ r. get_or (linked_runs self.now runs.old.items) r (0, 0)) (run_chain self.now first)) }
+        ensures last { IfOk result (λ last. last ≡ last_or first (run_chain self.now first)) }
+        ensures inside { IfOk result (λ last. last < length self.now.next.items) }
+    {
+        runs.truncate(self.next.len());
+        push_copy(runs, first)?;
         let mut last = first;
-        chain.push(runs[first].start..runs[first].end)?;
         while let Some(next) = self.next_run(last) {
-            chain.push(runs[next].start..runs[next].end)?;
+            push_copy(runs, next)?;
             last = next;
         }
         Ok(last)
     }
 
-    /// Returns the sequence that begins with the run at an index, or `None` if that run continues a sequence.
+    /// Finds the sequence that begins with the run at an index. Returns `None` if that run continues a sequence.
     ///
-    /// `runs` are the level runs that were linked. The runs of the sequence are borrowed from them if it has
-    /// one run. Otherwise they are written to `chain`. Only then can the call allocate. If an allocation
-    /// fails, returns an error.
-    pub fn sequence<'s>(
+    /// `runs` begins with the level runs that were linked. A sequence of one run is found among them. The runs
+    /// of any other sequence are copied to the end of `runs`, in place of those of the sequence before. Only
+    /// then can the call allocate. If an allocation fails, returns an error, and `runs` begins as before.
+    pub fn gather(
         &self,
-        runs: &'s [LevelRun],
+        runs: &mut LevelRunVec,
         first: usize,
-        chain: &'s mut LevelRunVec,
-    ) -> Result<Option<LentSequence<'s>>, AllocError>
-        requires linked { AreLinked self.now (map bounds runs.now) }
-        requires first { first < length runs.now }
+    ) -> Result<Option<GatheredSequence>, AllocError>
+        requires linked { AreLinked self.now (linked_runs self.now runs.old.items) }
+        requires first { first < length self.now.next.items }
+        ensures kept { OnOk result (linked_runs self.now runs.new.items ≡ linked_runs self.now runs.old.items) }
         ensures begins { IfOk result (λ found. is_some found ≡ begins self.now first) }
-        ensures sequence { IfOk result (λ found.
-            IfSome found (λ s. lent_joined s ≡ sequence_at self.now (map bounds runs.now) first)) }
+        ensures sequence { IfOk result (λ found. IfSome found
+            (λ s. IsGatheredIn s runs.new.items (sequence_at self.now (linked_runs self.now runs.old.items) first))) }
     {
         let Some(sos) = self.sides[first].sos else {
             return Ok(None);
         };
         if self.next_run(first).is_none() {
             let eos = self.sides[first].eos;
-            return Ok(Some(LentSequence::new(&runs[first..first + 1], sos, eos)));
+            return Ok(Some(GatheredSequence::new(first, first + 1, sos, eos)));
         }
-        let last = self.gather(runs, first, chain)?;
-        Ok(Some(LentSequence::new(chain.as_slice(), sos, self.sides[last].eos)))
+        let last = self.copy_chain(runs, first)?;
+        let eos = self.sides[last].eos;
+        Ok(Some(GatheredSequence::new(self.next.len(), runs.len(), sos, eos)))
     }
+}
+
+/// Copies the run at an index to the end of the list.
+fn push_copy(runs: &mut LevelRunVec, index: usize) -> Result<(), AllocError>
+    requires { index < length runs.old.items }
+    ensures { (d : Range ℕ) → OnOk result (runs.new.items ≡ runs.old.items ++ get_or runs.old.items index d ∷ []) }
+{
+    let run = &runs[index];
+    let copy = run.start..run.end;
+    runs.push(copy)?;
+    Ok(())
 }

@@ -22,7 +22,6 @@ seek_minded-requires g c = record {
   begins = is_boundary-skimmed _ _ _ _ _ _ _ _ (skimmed g (goal.at.seek_minded-requires g c).Joined-after_control) g.met.T.TextSource.has_units (g.T.TextSource.characters c.args.text) c.requires.begins refl;
 }
 
-
 pub returns : goal.returns
 returns g c =
     met-on _ _ _ _ _ _ _ _ (skimmed g (goal.at.returns g c).Joined-after_control) g.met.T.TextSource.has_units (g.T.TextSource.characters c.args.text) c.requires.begins refl _ _ _ c.seek_minded.ensures

@@ -11,7 +11,6 @@ skim-requires g c = record {
   begins = is_boundary-skimmed _ _ _ _ _ _ _ _ c.loop-at.invariant g.met.T.TextSource.has_units (g.T.TextSource.characters c.args.text) c.requires.begins refl;
 }
 
-
 pub returns-in-Some : goal.returns-in-Some
 returns-in-Some g c =
     IsMet-on _ _ _ _ _ _ _ _ c.loop-at.invariant g.met.T.TextSource.has_units (g.T.TextSource.characters c.args.text) c.requires.begins refl c.in-Some.met c.skim.new.classes c.in-Some.ensures
@@ -20,9 +19,8 @@ pub read_on-requires : goal.read_on-requires
 read_on-requires g c = record {
   sized = grind arith;
   begins = let h = IsSkimmed-on _ _ _ _ _ _ _ _ c.loop-at.invariant g.met.T.TextSource.has_units (g.T.TextSource.characters c.args.text) c.requires.begins refl _ _ c.in_default.ensures in
-    is_boundary-skimmed _ _ _ _ _ _ _ _ h g.met.T.TextSource.has_units (g.T.TextSource.characters c.args.text) c.requires.begins refl;
+      is_boundary-skimmed _ _ _ _ _ _ _ _ h g.met.T.TextSource.has_units (g.T.TextSource.characters c.args.text) c.requires.begins refl;
 }
-
 
 pub returns-in-Some-read_on : goal.returns-in-Some-read_on
 returns-in-Some-read_on g c =

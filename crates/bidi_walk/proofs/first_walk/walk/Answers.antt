@@ -25,7 +25,6 @@ next_minded-requires g c = record {
   begins = grind (arith, is_boundary-place);
 }
 
-
 -- the character that was met
 met_at : (g : Over) (c : In-Some g)
     → IsAt (g.D.BidiDataSource.source c.args.data_source.now) g.T.TextSource.units (g.T.TextSource.characters c.args.text) c.args.split c.args.base c.in-Some.met (seen c.next_minded.new.classes c.loop-met.walk) c.loop-met.walk.reading

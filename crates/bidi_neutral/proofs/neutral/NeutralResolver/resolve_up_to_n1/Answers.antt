@@ -80,4 +80,6 @@ resolved g c embedding r =
     r c.in_ok-resolve_brackets.ensures.paired (ap is_l_or_r embedding ∙ direction_of-l_or_r (level_at c.args.levels.now c.in-Some.first)) c.eos-eos.result c.resolve_opposite.new.classes c.resolve_opposite.auto.classes c.resolve_opposite.ensures.kept c.resolve_opposite.ensures.others c.resolve_opposite.ensures.own c.args.levels.now c.in-Some.first (sym c.in-Some.is ∙ c.first_kept.ensures) embedding)
 
 pub returns-clause-resolved : goal.returns-clause-resolved
-returns-clause-resolved g c = grind (arith, begins, ready, resolved)
+returns-clause-resolved g c =
+    let r = ready g (goal.at.returns-clause-resolved g c).After-sos-sos in
+    resolved g (goal.at.returns-clause-resolved g c).After-resolve_opposite (begins g (goal.at.returns-clause-resolved g c).After-eos-eos r) r

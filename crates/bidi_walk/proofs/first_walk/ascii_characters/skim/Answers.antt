@@ -1,4 +1,4 @@
-use Rattle.bidi_base.proofs.Common.{refl}
+use Rattle.bidi_base.proofs.Common.{arith, refl}
 use Rattle.bidi_walk.specs.FirstWalk.{ahead, IsSkimmed}
 use Rattle.bidi_walk.proofs.Skimmed.{IsSkimmed-start, is_boundary-skimmed, IsSkimmed-on, IsMet-on}
 use Rattle.bidi_walk.proofs.first_walk.ascii_characters.skim.Given.{Over}
@@ -13,7 +13,6 @@ skim_each-requires g c = record {
   sized = grind arith;
   begins = is_boundary-skimmed _ _ _ _ _ _ _ _ c.loop-at.invariant g.met.T.TextSource.has_units (g.T.TextSource.characters c.args.text) c.requires.begins refl;
 }
-
 
 pub returns-in-Some : goal.returns-in-Some
 returns-in-Some g c =
@@ -32,7 +31,6 @@ skim_blocks-requires g c = record {
   sized = grind arith;
   begins = is_boundary-skimmed _ _ _ _ _ _ _ _ (each g (goal.at.skim_blocks-requires g c).In_default) g.met.T.TextSource.has_units (g.T.TextSource.characters c.args.text) c.requires.begins refl;
 }
-
 
 pub loop-at-preserved : goal.loop-at-preserved
 loop-at-preserved g c =

@@ -14,7 +14,6 @@ read_in_place-requires-clause-place g c = record {
   begins = is_boundary-skimmed _ _ _ _ _ _ _ _ c.in_default.ensures.met g.met.T.TextSource.has_units (g.T.TextSource.characters c.args.text) c.requires.begins refl;
 }
 
-
 pub returns-then-left-ge-AT_ONCE-clause-met : goal.returns-then-left-ge-AT_ONCE-clause-met
 returns-then-left-ge-AT_ONCE-clause-met g c = met-on _ _ _ _ _ _ _ _ c.in_default.ensures.met g.met.T.TextSource.has_units (g.T.TextSource.characters c.args.text) c.requires.begins refl c.read_in_place.result c.read_in_place.new.at c.read_in_place.new.classes c.read_in_place.ensures.met
 
@@ -23,7 +22,6 @@ read_block-requires g c = record {
   sized = grind arith;
   begins = is_boundary-skimmed _ _ _ _ _ _ _ _ c.in_default.ensures.met g.met.T.TextSource.has_units (g.T.TextSource.characters c.args.text) c.requires.begins refl;
 }
-
 
 pub returns-else-READS_IN_PLACE-clause-met : goal.returns-else-READS_IN_PLACE-clause-met
 returns-else-READS_IN_PLACE-clause-met g c = met-on _ _ _ _ _ _ _ _ c.in_default.ensures.met g.met.T.TextSource.has_units (g.T.TextSource.characters c.args.text) c.requires.begins refl c.read_block.result c.read_block.new.at c.read_block.new.classes c.read_block.ensures.met
