@@ -137,7 +137,7 @@ IsShownTo-more view kept piece came shown lines_utf8 was = elim (cases_Bool (who
       let now = was (piece ++ rest) (subst IsUtf8 (sym whole) valid) in
       let all : came ++ (piece ++ rest) ≡ (came ++ piece) ++ rest = sym (append_assoc came piece rest) in
       let both : shown_bytes view (kept ++ take (whole_lines piece) piece) ++ shown_bytes view (after ++ rest) ≡ shown_bytes view (kept ++ (piece ++ rest)) =
-          ap (λ l. shown_bytes view l ++ shown_bytes view (after ++ rest)) lines ∙ sym (shown_bytes-append view front (after ++ rest) valid) ∙ ap (shown_bytes view) (sym whole) in (
+      ap (λ l. shown_bytes view l ++ shown_bytes view (after ++ rest)) lines ∙ sym (shown_bytes-append view front (after ++ rest) valid) ∙ ap (shown_bytes view) (sym whole) in (
         subst IsUtf8 all now.0,
         append_assoc shown (shown_bytes view (kept ++ take (whole_lines piece) piece)) (shown_bytes view (after ++ rest)) ∙ ap (λ l. shown ++ l) both ∙ now.1 ∙ ap (shown_bytes view) all,
       ))

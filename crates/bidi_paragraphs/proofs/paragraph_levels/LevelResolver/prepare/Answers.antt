@@ -26,16 +26,20 @@ link-requires g c =
     record {
       original = grind (arith, stored-is_per_char);
       levels = grind (arith, is_per_char-per_unit, length-explicit_levels, length-per_char);
-      runs = rw (read g (goal.at.link-requires g c).In_ok-compute) (ap (map bounds) c.deref.ensures.value ∙ c.in_ok-compute.ensures.runs);
+      runs = rw (read g (goal.at.link-requires g c).In_ok-compute) (ap (map bounds) c.as_slice.ensures.value ∙ c.in_ok-compute.ensures.runs);
       isolates = λ some.
-          c.has_isolates-has_isolates.ensures ∙ has_isolates-flags c.args.paragraph.now.flags (map class_of cs) c.args.paragraph.now.own_flags ∙ initiators-stored g.T.TextSource.units cs (map class_of cs) c.args.paragraph.now.original_classes.now c.args.paragraph.now.stored some;
+          c.has_isolates.ensures ∙ has_isolates-flags c.args.paragraph.now.flags (map class_of cs) c.args.paragraph.now.own_flags ∙ initiators-stored g.T.TextSource.units cs (map class_of cs) c.args.paragraph.now.original_classes.now c.args.paragraph.now.stored some;
     }
 
+-- the runs that were linked are all
+all_linked : (g : Over) (c : After-link g) → linked_runs c.link.new.self c.compute.new.runs.items ≡ map bounds c.compute.new.runs.items
+all_linked g c = ?
+
 pub returns-clause-sequences : goal.returns-clause-sequences
-returns-clause-sequences g c = rw (c.deref.ensures.value, read g (goal.at.returns-clause-sequences g c).In_ok-compute) at c.in_ok-link.ensures.sequences
+returns-clause-sequences g c = ?
 
 pub returns-clause-fits : goal.returns-clause-fits
-returns-clause-fits g c = rw c.deref.ensures.value at c.in_ok-link.ensures.fits
+returns-clause-fits g c = ?
 
 pub returns-clause-linked : goal.returns-clause-linked
-returns-clause-linked g c = rw c.deref.ensures.value at c.in_ok-link.ensures.linked
+returns-clause-linked g c = ?

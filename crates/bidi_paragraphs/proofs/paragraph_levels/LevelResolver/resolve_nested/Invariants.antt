@@ -1,7 +1,7 @@
--- The sequences that begin before the next run are resolved.
-use Rattle.bidi_base.proofs.Common.{List, ℕ, map, stored_classes, bounds}
+-- The sequences that begin before the next run are resolved, and the linked runs stay.
+use Rattle.bidi_base.proofs.Common.{◌≡◌, List, ℕ, map, stored_classes}
 use Rattle.bidi_runs.specs.Joining.{characters_of}
-use Rattle.bidi_runs.specs.Links.{sequences_before}
+use Rattle.bidi_runs.specs.Links.{linked_runs, sequences_before}
 use Rattle.bidi_paragraphs.proofs.LevelPasses.{AreResolvedTo}
 use Rattle.bidi_paragraphs.proofs.paragraph_levels.LevelResolver.resolve_nested.Given as goal
 
@@ -12,4 +12,8 @@ invariant-loop-first g l =
     let cs : List ℕ = g.T.TextSource.characters l.paragraph.text in
     let given = g.D.BidiDataSource.source l.paragraph.data_source.now in
     let source = map given.class_of cs in
-    AreResolvedTo len h cs source given.bracket_of l.paragraph.level (map (characters_of len cs (stored_classes source)) (sequences_before l.links (map bounds l.runs) l.first)) l.classes
+    let runs = linked_runs l.links l.initial.self.runs.items in
+    record {
+      kept : linked_runs l.links l.self.runs.items ≡ runs;
+      resolved : AreResolvedTo len h cs source given.bracket_of l.paragraph.level (map (characters_of len cs (stored_classes source)) (sequences_before l.links runs l.first)) l.classes;
+    }

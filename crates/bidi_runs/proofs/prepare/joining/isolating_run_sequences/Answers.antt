@@ -20,7 +20,7 @@ loop-first-preserved g c =
           let here : begins links first ≡ true = sym c.in_ok-sequence.ensures.begins ∙ ap is_some w.in-Some.is in
           let found = rw w.in-Some.is at c.in_ok-sequence.ensures.sequence in
           let is : lent_joined w.lend-lent.result ≡ sequence_at links runs first =
-              w.lend-lent.ensures ∙ ap (gathered_in w.in-Some.sequence) w.as_slice-in-Some.ensures.value ∙ found.is ∙ ap (λ (rs : List (ℕ × ℕ)). sequence_at links rs first) h.kept in
+          w.lend-lent.ensures ∙ ap (gathered_in w.in-Some.sequence) w.as_slice-in-Some.ensures.value ∙ found.is ∙ ap (λ (rs : List (ℕ × ℕ)). sequence_at links rs first) h.kept in
           record {
             kept = kept;
             copied = rw (w.out-is, w.in_ok-push.ensures.items) (copied-more links runs first c.loop-first.out.items _ h.copied here (w.in_ok-copied.ensures ∙ is));

@@ -64,7 +64,7 @@ returns-clause-sequence c =
     let end_is : c.len-2.result ≡ length list = grind arith in
     let cut : take (length list - n) (drop n list) ≡ drop n list = take_all (length list - n) (drop n list) (omega (arith, length-drop n list)) in
     let whole : IsWholeChain links runs linked first long last (drop n list) =
-        record { runs_are = came.runs; final = came.last; within = omega (arith, came.inside, all) } in
+    record { runs_are = came.runs; final = came.last; within = omega (arith, came.inside, all) } in
     let is = sequence_at-chain links runs linked first long within c.in-Some.sos eos sos_is last (drop n list) whole eos_is in
     rw (c.new-2.ensures, start_is, end_is) (record {
       ordered = room;
