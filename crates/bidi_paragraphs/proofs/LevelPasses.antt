@@ -1,5 +1,5 @@
 -- The passes over the units of a paragraph, put together: what they leave once some sequences are resolved, and once all are.
-use Rattle.bidi_base.proofs.Common.{◌≡◌, ℕ, zero, suc, ◌+◌, ◌<◌, ◌≤◌, true, false, List, [], ◌∷◌, ◌++◌, length, get_or, take, map, Option, refl, sym, ap, ◌∙◌, arith, filter, list_all, length-map, get_or-map, get_or_default, get_or-append_seam, take-append_seam, length-append, map-append, is_l_or_r, length-replicate, nil_from_length, get_or-zip, length-zip, is_weak_resolved, class_at, at_places, first_or, stored_classes, explicit_levels, explicit_classes, processing_classes, RunSequence, level_at, has_places, sequences, weak_classes, direction_of, n2_rule, neutral_classes, implicit_level, AreResolved, text_len, place, is_per_char, per_unit, per_char, AreLines, in_runs, kept_in_runs, kept_in_place}
+use Rattle.bidi_base.proofs.Common.{◌≡◌, ℕ, Range, bounds, take_all, zero, suc, ◌+◌, ◌<◌, ◌≤◌, true, false, List, [], ◌∷◌, ◌++◌, length, get_or, take, map, Option, refl, sym, ap, ◌∙◌, arith, filter, list_all, length-map, get_or-map, get_or_default, get_or-append_seam, take-append_seam, length-append, map-append, is_l_or_r, length-replicate, nil_from_length, get_or-zip, length-zip, is_weak_resolved, class_at, at_places, first_or, stored_classes, explicit_levels, explicit_classes, processing_classes, RunSequence, level_at, has_places, sequences, weak_classes, direction_of, n2_rule, neutral_classes, implicit_level, AreResolved, text_len, place, is_per_char, per_unit, per_char, AreLines, in_runs, kept_in_runs, kept_in_place}
 use Rattle.std.specs.Prelude.{zip, replicate}
 use Rattle.std.specs.List.{All}
 use Rattle.bidi_base.specs.declared.char_data.BidiClass.{BidiClass}
@@ -15,7 +15,7 @@ use Rattle.bidi_base.proofs.UnitsLemmas.{per_unit-from_is_per_char, is_per_char-
 use Rattle.bidi_laws.proofs.NeutralSource.{neutral_classes-source, marks-stored_classes}
 use Rattle.bidi_laws.proofs.StoredLemmas.{explicit_levels-IsExplicitIn}
 use Rattle.bidi_runs.specs.Joining.{JoinedRuns, characters_of}
-use Rattle.bidi_runs.specs.Links.{begins, sequence_at, sequences_before, linked_sequences, sequences_of}
+use Rattle.bidi_runs.specs.Links.{begins, sequence_at, sequences_before, linked_runs, linked_sequences, sequences_of, AreLinked}
 use Rattle.bidi_runs.specs.declared.prepare.links.RunLinks.{RunLinks}
 use Rattle.bidi_runs.proofs.LinkedSequences.{IsPart, linked_sequences-part, sequences_before-more, sequences_before-same}
 use Rattle.bidi_paragraphs.proofs.SequencesInPlace.{IsUnderWay, IsNext, IsWeakNext, IsWeakNext-from, weak_next-resolved, IsUnderWay-more, IsUnderWay-start, IsNext-at, AreResolved-all}
@@ -266,3 +266,7 @@ module _ (len_of : ℕ → ℕ) (h : HasUnits len_of) (chars : List ℕ) (source
     AreLevels-from r units new all now is =
         AreLevels-all (map (characters_of len_of chars stored) (sequences_before links runs r)) units unit_levels new ready.fits ready.levels_is
         (ap (λ (k : ℕ). filter has_places (map (characters_of len_of chars stored) (sequences_before links runs k))) all ∙ ready.sequences_are) now is
+
+-- the runs that were linked are all of a list
+pub linked_runs-all : (links : RunLinks) (runs : List (Range ℕ)) → AreLinked links (map bounds runs) → linked_runs links runs ≡ map bounds runs
+linked_runs-all links runs linked = ap (map bounds) (take_all (length links.next.items) runs (omega (arith, linked.all_next, length-map runs bounds)))

@@ -122,7 +122,8 @@ impl LevelResolver {
             levels,
             self.runs.as_slice(),
             paragraph.flags.has_isolates(),
-        )
+        )?;
+        Ok(())
     }
 
     /// Copies the classes of a paragraph in which nothing opens a level, with BN for characters that X9
@@ -203,10 +204,11 @@ impl LevelResolver {
     {
         self.prepare(alloc, paragraph, levels)?;
         let links = &self.links;
+        let runs = &mut self.runs;
         let classes = self.classes.as_mut_slice();
         for first in 0..links.run_count() {
-            if let Some(found) = links.gather(&mut self.runs, first)? {
-                let sequence = found.lend(self.runs.as_slice());
+            if let Some(found) = links.gather(runs, first)? {
+                let sequence = found.lend(runs.as_slice());
                 if is_settled(sequence, levels, classes) {
                     continue;
                 }

@@ -3,14 +3,22 @@ use Rattle.bidi_base.specs.declared.char_data.BidiClass.TheVariants.{L}
 use Rattle.bidi_laws.proofs.ExplicitLemmas.{length-explicit_levels}
 use Rattle.bidi_base.proofs.PerUnit.{length-per_char, per_char-per_unit}
 use Rattle.bidi_base.proofs.UnitsLemmas.{is_per_char-per_unit}
+use Rattle.bidi_runs.specs.Links.{linked_runs}
+use Rattle.bidi_paragraphs.proofs.LevelPasses.{linked_runs-all}
 use Rattle.bidi_walk.proofs.FlagsLemmas.{has_isolates-flags}
 use Rattle.bidi_paragraphs.proofs.FilledUnits.{initiators-stored, stored-is_per_char}
 use Rattle.bidi_paragraphs.proofs.paragraph_levels.LevelResolver.prepare.Given.{Over}
 use Rattle.bidi_paragraphs.proofs.paragraph_levels.LevelResolver.prepare.Goals as goal
-use Rattle.bidi_paragraphs.proofs.paragraph_levels.LevelResolver.prepare.Goals.{In_ok-compute}
+use Rattle.bidi_paragraphs.proofs.paragraph_levels.LevelResolver.prepare.Goals.{In_ok-compute, In_ok-link}
 
-pub compute-requires-clause-original : goal.compute-requires-clause-original
-compute-requires-clause-original g c = grind (arith, stored-is_per_char)
+pub compute-requires : goal.compute-requires
+compute-requires g c = record {
+  explicit = c.args.paragraph.now.low;
+  original = grind (arith, stored-is_per_char);
+  levels = c.requires;
+  processing = grind arith;
+  runs = grind arith;
+}
 
 -- the levels, read one a character
 read : (g : Over) (c : In_ok-compute g) → let cs = g.T.TextSource.characters c.args.paragraph.now.text in
@@ -32,14 +40,15 @@ link-requires g c =
     }
 
 -- the runs that were linked are all
-all_linked : (g : Over) (c : After-link g) → linked_runs c.link.new.self c.compute.new.runs.items ≡ map bounds c.compute.new.runs.items
-all_linked g c = ?
+all_linked : (g : Over) (c : In_ok-link g) → linked_runs c.link.new.self c.compute.new.runs.items ≡ map bounds c.compute.new.runs.items
+all_linked g c = linked_runs-all c.link.new.self c.compute.new.runs.items (rw c.as_slice.ensures.value at c.in_ok-link.ensures.linked)
 
 pub returns-clause-sequences : goal.returns-clause-sequences
-returns-clause-sequences g c = ?
+returns-clause-sequences g c =
+    rw (all_linked g (goal.at.returns-clause-sequences g c).In_ok-link) (rw (c.as_slice.ensures.value, read g (goal.at.returns-clause-sequences g c).In_ok-compute) at c.in_ok-link.ensures.sequences)
 
 pub returns-clause-fits : goal.returns-clause-fits
-returns-clause-fits g c = ?
+returns-clause-fits g c = rw (all_linked g (goal.at.returns-clause-fits g c).In_ok-link) (rw c.as_slice.ensures.value at c.in_ok-link.ensures.fits)
 
 pub returns-clause-linked : goal.returns-clause-linked
-returns-clause-linked g c = ?
+returns-clause-linked g c = rw (all_linked g (goal.at.returns-clause-linked g c).In_ok-link) (rw c.as_slice.ensures.value at c.in_ok-link.ensures.linked)

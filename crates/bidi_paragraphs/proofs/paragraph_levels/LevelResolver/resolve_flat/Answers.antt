@@ -60,20 +60,19 @@ resolve_weak_lent-requires g c =
     let n = (goal.at.resolve_weak_lent-requires g c).After-new-sequence in
     record { per_char = AreResolvedTo-per_char _ _ _ _ _ _ [] _ (fits g n) (begun g n); fits = lines g n }
 
-pub resolve_up_to_n1-requires-clause-fits : goal.resolve_up_to_n1-requires-clause-fits
-resolve_up_to_n1-requires-clause-fits g c = lines g (goal.at.resolve_up_to_n1-requires-clause-fits g c).After-new-sequence
-
-pub resolve_up_to_n1-requires-clause-levels : goal.resolve_up_to_n1-requires-clause-levels
-resolve_up_to_n1-requires-clause-levels g c =
-    omega (arith, c.requires.long, c.fill.auto.self, c.resolve_weak_lent.auto.processing_classes, long g (goal.at.resolve_up_to_n1-requires-clause-levels g c).After-new-sequence)
-
-pub resolve_up_to_n1-requires-clause-resolved : goal.resolve_up_to_n1-requires-clause-resolved
-resolve_up_to_n1-requires-clause-resolved g c =
-    let n = (goal.at.resolve_up_to_n1-requires-clause-resolved g c).After-new-sequence in
+pub resolve_up_to_n1-requires : goal.resolve_up_to_n1-requires
+resolve_up_to_n1-requires g c =
+    let n = (goal.at.resolve_up_to_n1-requires g c).After-new-sequence in
     let weak =
     AreWeakTo-from _ _ _ _ _ _ (fits g n) [] _ (lines g n) (next g n) _ _ (begun g n)
     c.resolve_weak_lent.ensures.kept c.resolve_weak_lent.ensures.removed c.resolve_weak_lent.ensures.outside c.resolve_weak_lent.ensures.per_char in
-    AreWeakTo-resolved _ _ _ _ _ _ (fits g n) [] _ (lines g n) (next g n) _ weak
+    record {
+      per_char = c.resolve_weak_lent.ensures.per_char;
+      fits = lines g n;
+      levels = omega (arith, c.requires.long, c.fill.auto.self, c.resolve_weak_lent.auto.processing_classes, long g n);
+      original = grind (arith, length-map);
+      resolved = AreWeakTo-resolved _ _ _ _ _ _ (fits g n) [] _ (lines g n) (next g n) _ weak;
+    }
 
 pub resolve_levels-requires-clause-lengths : goal.resolve_levels-requires-clause-lengths
 resolve_levels-requires-clause-lengths g c =

@@ -1,45 +1,55 @@
 -- The passes one after another.
-use Rattle.bidi_base.proofs.Common.{◌≡◌, ◌∙◌, ◌<◌, List, ℕ, nat_lt, Bool, true, false, ◌&&◌, is_some, length, map, ap, sym, arith, rules, length-map, bounds, are_ordered, is_l_or_r, refl}
+use Rattle.bidi_base.proofs.Common.{◌≡◌, ◌∙◌, ◌<◌, List, ℕ, nat_lt, Bool, true, false, ◌&&◌, is_some, length, map, ap, sym, arith, rules, length-map, are_ordered, is_l_or_r, refl}
 use Rattle.bidi_base.proofs.PerUnit.{length-per_unit}
 use Rattle.bidi_laws.proofs.StoredSteps.{length-stored_classes}
-use Rattle.bidi_runs.specs.Links.{begins, sequence_at, linked_sequences}
+use Rattle.bidi_runs.specs.Gathered.{gathered_in}
+use Rattle.bidi_runs.specs.Links.{begins, sequence_at, linked_runs, linked_sequences}
 use Rattle.bidi_runs.specs.declared.prepare.lent.LentSequence.{LentSequence}
+use Rattle.bidi_runs.specs.declared.prepare.links.RunLinks.{RunLinks}
 use Rattle.bidi_runs.specs.RunSequence.{lent_joined}
 use Rattle.bidi_paragraphs.proofs.LevelPasses.{ArePrepared, AreResolvedTo-start, AreResolvedTo-per_char, AreResolvedTo-long, AreWeakTo-from, AreWeakTo-resolved, AreResolvedTo-more, prepared, prepared-next, prepared-lines, prepared-more, prepared-same, prepared-long, prepared-low, AreLevels-from}
 use Rattle.bidi_paragraphs.proofs.SettledSequences.{lines-within, settled-left}
 use Rattle.bidi_paragraphs.proofs.paragraph_levels.LevelResolver.resolve_nested.Given.{Over}
 use Rattle.bidi_paragraphs.proofs.paragraph_levels.LevelResolver.resolve_nested.Goals as goal
-use Rattle.bidi_paragraphs.proofs.paragraph_levels.LevelResolver.resolve_nested.Goals.{After-as_slice-runs, In-Some, in-Some+else-is_settled+in_ok-resolve_up_to_n1, in_default}
+use Rattle.bidi_paragraphs.proofs.paragraph_levels.LevelResolver.resolve_nested.Goals.{In_ok-prepare, After-lend-sequence, in-Some+else-is_settled+in_ok-resolve_up_to_n1, in_default}
 
 pub prepare-requires : goal.prepare-requires
 prepare-requires g c = grind (arith, length-per_unit, length-stored_classes, length-map)
 
 pub loop-first-init : goal.loop-first-init
 loop-first-init g c =
-    AreResolvedTo-start _ g.met.T.TextSource.has_units _ _ _ c.args.paragraph.now.level c.args.paragraph.now.original_classes.now _ (length-map (g.T.TextSource.characters c.args.paragraph.now.text) _) c.args.paragraph.now.stored
-    (c.as_mut_slice-classes.ensures.value ∙ c.in_ok-prepare.ensures.classes)
+    record {
+      kept = refl;
+      resolved = AreResolvedTo-start _ g.met.T.TextSource.has_units _ _ _ c.args.paragraph.now.level c.args.paragraph.now.original_classes.now _ (length-map (g.T.TextSource.characters c.args.paragraph.now.text) _) c.args.paragraph.now.stored
+          (c.as_mut_slice-classes.ensures.value ∙ c.in_ok-prepare.ensures.classes);
+    }
 
 -- the sequences are those of the paragraph
-ready : (g : Over) (c : After-as_slice-runs g)
+ready : (g : Over) (c : In_ok-prepare g)
     → ArePrepared g.T.TextSource.units g.met.T.TextSource.has_units (g.T.TextSource.characters c.args.paragraph.now.text)
     (map (g.D.BidiDataSource.source c.args.paragraph.now.data_source.now).class_of (g.T.TextSource.characters c.args.paragraph.now.text))
     (g.D.BidiDataSource.source c.args.paragraph.now.data_source.now).bracket_of c.args.paragraph.now.level c.args.paragraph.now.original_classes.now c.prepare.new.levels
-    (linked_sequences c.prepare.new.self.links (map bounds c.as_slice-runs.result.now))
+    (linked_sequences c.prepare.new.self.links (linked_runs c.prepare.new.self.links c.prepare.new.self.runs.items))
 ready g c =
     let len = g.T.TextSource.units in
     let cs : List ℕ = g.T.TextSource.characters c.args.paragraph.now.text in
     let given = g.D.BidiDataSource.source c.args.paragraph.now.data_source.now in
-    rw c.as_slice-runs.ensures.value (prepared len _ cs _ given.bracket_of _ c.args.paragraph.now.original_classes.now _ _ (length-map cs given.class_of) c.args.paragraph.now.stored c.in_ok-prepare.ensures.levels c.in_ok-prepare.ensures.sequences c.in_ok-prepare.ensures.fits)
+    prepared len _ cs _ given.bracket_of _ c.args.paragraph.now.original_classes.now _ _ (length-map cs given.class_of) c.args.paragraph.now.stored c.in_ok-prepare.ensures.levels c.in_ok-prepare.ensures.sequences c.in_ok-prepare.ensures.fits
 
-pub sequence-requires : goal.sequence-requires
-sequence-requires g c = record { linked = rw c.as_slice-runs.ensures.value c.in_ok-prepare.ensures.linked; first = omega arith }
+-- the sequence at hand: it begins with the run at hand, and it is the one that the links lead to
+record IsAtHand (links : RunLinks) (runs : List (ℕ × ℕ)) (first : ℕ) (s : LentSequence) : Type 0 where
+  within : first < length runs
+  here : begins links first ≡ true
+  is : lent_joined s ≡ sequence_at links runs first
 
--- a sequence begins with the run at hand, and it is the one that is lent
-here : (g : Over) (c : In-Some g) → begins c.prepare.new.self.links c.loop-first.first ≡ true
-here g c = sym c.in_ok-sequence.ensures.begins ∙ ap is_some c.in-Some.is
-
-is_lent : (g : Over) (c : In-Some g) → lent_joined c.in-Some.sequence ≡ sequence_at c.prepare.new.self.links (map bounds c.as_slice-runs.result.now) c.loop-first.first
-is_lent g c = rw c.in-Some.is at c.in_ok-sequence.ensures.sequence
+at_hand : (g : Over) (c : After-lend-sequence g) → IsAtHand c.prepare.new.self.links (linked_runs c.prepare.new.self.links c.prepare.new.self.runs.items) c.loop-first.first c.lend-sequence.result
+at_hand g c =
+    let links = c.prepare.new.self.links in
+    let found = rw c.in-Some.is at c.in_ok-found.ensures.sequence in record {
+      within = grind (arith, c.in_ok-prepare.ensures.linked.all_next);
+      here = sym c.in_ok-found.ensures.begins ∙ ap is_some c.in-Some.is;
+      is = c.lend-sequence.ensures ∙ ap (gathered_in c.in-Some.found) c.as_slice.ensures.value ∙ found.is ∙ ap (λ (rs : List (ℕ × ℕ)). sequence_at links rs c.loop-first.first) c.loop-first.invariant.kept;
+    }
 
 -- it has L or R before it
 third : (a b c d : Bool) → a && (b && (c && d)) ≡ true → c ≡ true
@@ -53,96 +63,107 @@ side s =
 pub is_settled-requires-clause-inside : goal.is_settled-requires-clause-inside
 is_settled-requires-clause-inside g c =
     let at = goal.at.is_settled-requires-clause-inside g c in
-    let within : c.loop-first.first < length (map bounds c.as_slice-runs.result.now) = omega (arith, length-map c.as_slice-runs.result.now bounds) in
-    lines-within g.T.TextSource.units (g.T.TextSource.characters c.args.paragraph.now.text) c.loop-first.classes (lent_joined c.in-Some.sequence).runs
-    (AreResolvedTo-long _ _ _ _ _ _ _ _ (length-map (g.T.TextSource.characters c.args.paragraph.now.text) _) c.loop-first.invariant)
-    (prepared-lines _ _ _ _ _ _ _ _ _ _ (ready g at.After-as_slice-runs) c.loop-first.first (lent_joined c.in-Some.sequence) within (here g at.In-Some) (is_lent g at.In-Some))
+    let hand = at_hand g at.After-lend-sequence in
+    lines-within g.T.TextSource.units (g.T.TextSource.characters c.args.paragraph.now.text) c.loop-first.classes (lent_joined c.lend-sequence.result).runs
+    (AreResolvedTo-long _ _ _ _ _ _ _ _ (length-map (g.T.TextSource.characters c.args.paragraph.now.text) _) c.loop-first.invariant.resolved)
+    (prepared-lines _ _ _ _ _ _ _ _ _ _ (ready g at.In_ok-prepare) c.loop-first.first (lent_joined c.lend-sequence.result) hand.within hand.here hand.is)
 
 pub is_settled-requires-clause-levels : goal.is_settled-requires-clause-levels
 is_settled-requires-clause-levels g c =
-    let is_ready = ready g (goal.at.is_settled-requires-clause-levels g c).After-as_slice-runs in
-    omega (arith, prepared-long _ _ _ _ _ _ _ _ _ _ is_ready, AreResolvedTo-long _ _ _ _ _ _ _ _ is_ready.fits c.loop-first.invariant)
+    let is_ready = ready g (goal.at.is_settled-requires-clause-levels g c).In_ok-prepare in
+    omega (arith, prepared-long _ _ _ _ _ _ _ _ _ _ is_ready, AreResolvedTo-long _ _ _ _ _ _ _ _ is_ready.fits c.loop-first.invariant.resolved)
 
 pub loop-first-preserved-then-is_settled : goal.loop-first-preserved-then-is_settled
 loop-first-preserved-then-is_settled g c =
     let at = goal.at.loop-first-preserved-then-is_settled g c in
-    let is_ready = ready g at.After-as_slice-runs in
-    let s = lent_joined c.in-Some.sequence in
+    let is_ready = ready g at.In_ok-prepare in
+    let hand = at_hand g at.After-lend-sequence in
+    let s = lent_joined c.lend-sequence.result in
     let chars : List ℕ = g.T.TextSource.characters c.args.paragraph.now.text in
-    let within : c.loop-first.first < length (map bounds c.as_slice-runs.result.now) = omega (arith, length-map c.as_slice-runs.result.now bounds) in
-    let begins_here = here g at.In-Some in
-    let is = is_lent g at.In-Some in
-    let next = prepared-next _ _ _ _ _ _ _ _ _ _ is_ready c.loop-first.first s within begins_here is (side c.in-Some.sequence) in
-    let line = prepared-lines _ _ _ _ _ _ _ _ _ _ is_ready c.loop-first.first s within begins_here is in
-    let per = AreResolvedTo-per_char _ _ _ _ _ _ _ _ (length-map chars _) c.loop-first.invariant in
+    let next = prepared-next _ _ _ _ _ _ _ _ _ _ is_ready c.loop-first.first s hand.within hand.here hand.is (side c.lend-sequence.result) in
+    let line = prepared-lines _ _ _ _ _ _ _ _ _ _ is_ready c.loop-first.first s hand.within hand.here hand.is in
+    let per = AreResolvedTo-per_char _ _ _ _ _ _ _ _ (length-map chars _) c.loop-first.invariant.resolved in
     let left =
-    settled-left g.T.TextSource.units g.met.T.TextSource.has_units chars c.in-Some.sequence c.prepare.new.levels c.loop-first.classes line per (g.D.BidiDataSource.source c.args.paragraph.now.data_source.now) c.args.paragraph.now.original_classes.now
+    settled-left g.T.TextSource.units g.met.T.TextSource.has_units chars c.lend-sequence.result c.prepare.new.levels c.loop-first.classes line per (g.D.BidiDataSource.source c.args.paragraph.now.data_source.now) c.args.paragraph.now.original_classes.now
     (c.is_settled.ensures c.if-is_settled.true) in
-    let weak = AreWeakTo-from _ _ _ _ _ _ is_ready.fits _ s line next _ c.loop-first.classes c.loop-first.invariant left.weak (λ u gone. gone) (λ u out. refl) per in
+    let weak = AreWeakTo-from _ _ _ _ _ _ is_ready.fits _ s line next _ c.loop-first.classes c.loop-first.invariant.resolved left.weak (λ u gone. gone) (λ u out. refl) per in
     let neutral = left.neutral in
-    rw (prepared-more _ _ _ _ _ _ _ _ _ _ is_ready c.loop-first.first s within begins_here is)
-    (AreResolvedTo-more _ _ _ _ _ _ is_ready.fits _ s line next _ c.loop-first.classes c.args.paragraph.now.original_classes.now _
-    c.args.paragraph.now.stored is_ready.levels_is weak neutral.kept neutral.removed neutral.outside neutral.per_char)
+    record {
+      kept = c.in_ok-found.ensures.kept ∙ c.loop-first.invariant.kept;
+      resolved = rw (prepared-more _ _ _ _ _ _ _ _ _ _ is_ready c.loop-first.first s hand.within hand.here hand.is)
+          (AreResolvedTo-more _ _ _ _ _ _ is_ready.fits _ s line next _ c.loop-first.classes c.args.paragraph.now.original_classes.now _
+          c.args.paragraph.now.stored is_ready.levels_is weak neutral.kept neutral.removed neutral.outside neutral.per_char);
+    }
 
 pub resolve_weak_lent-requires : goal.resolve_weak_lent-requires
 resolve_weak_lent-requires g c =
     let at = goal.at.resolve_weak_lent-requires g c in
-    let within : c.loop-first.first < length (map bounds c.as_slice-runs.result.now) = omega (arith, length-map c.as_slice-runs.result.now bounds) in
-    record {
-      per_char = AreResolvedTo-per_char _ _ _ _ _ _ _ _ (length-map (g.T.TextSource.characters c.args.paragraph.now.text) _) c.loop-first.invariant;
-      fits = prepared-lines _ _ _ _ _ _ _ _ _ _ (ready g at.After-as_slice-runs) c.loop-first.first (lent_joined c.in-Some.sequence) within (here g at.In-Some) (is_lent g at.In-Some);
+    let hand = at_hand g at.After-lend-sequence in record {
+      per_char = AreResolvedTo-per_char _ _ _ _ _ _ _ _ (length-map (g.T.TextSource.characters c.args.paragraph.now.text) _) c.loop-first.invariant.resolved;
+      fits = prepared-lines _ _ _ _ _ _ _ _ _ _ (ready g at.In_ok-prepare) c.loop-first.first (lent_joined c.lend-sequence.result) hand.within hand.here hand.is;
     }
 
 pub resolve_up_to_n1-requires : goal.resolve_up_to_n1-requires
 resolve_up_to_n1-requires g c =
     let at = goal.at.resolve_up_to_n1-requires g c in
-    let is_ready = ready g at.After-as_slice-runs in
-    let s = lent_joined c.in-Some.sequence in
-    let within : c.loop-first.first < length (map bounds c.as_slice-runs.result.now) = omega (arith, length-map c.as_slice-runs.result.now bounds) in
-    let next = prepared-next _ _ _ _ _ _ _ _ _ _ is_ready c.loop-first.first s within (here g at.In-Some) (is_lent g at.In-Some) (side c.in-Some.sequence) in
-    let line = prepared-lines _ _ _ _ _ _ _ _ _ _ is_ready c.loop-first.first s within (here g at.In-Some) (is_lent g at.In-Some) in
+    let is_ready = ready g at.In_ok-prepare in
+    let hand = at_hand g at.After-lend-sequence in
+    let s = lent_joined c.lend-sequence.result in
+    let next = prepared-next _ _ _ _ _ _ _ _ _ _ is_ready c.loop-first.first s hand.within hand.here hand.is (side c.lend-sequence.result) in
+    let line = prepared-lines _ _ _ _ _ _ _ _ _ _ is_ready c.loop-first.first s hand.within hand.here hand.is in
     let weak =
-    AreWeakTo-from _ _ _ _ _ _ is_ready.fits _ s line next _ c.resolve_weak_lent.new.processing_classes c.loop-first.invariant
+    AreWeakTo-from _ _ _ _ _ _ is_ready.fits _ s line next _ c.resolve_weak_lent.new.processing_classes c.loop-first.invariant.resolved
     c.resolve_weak_lent.ensures.kept c.resolve_weak_lent.ensures.removed c.resolve_weak_lent.ensures.outside c.resolve_weak_lent.ensures.per_char in
     record {
       per_char = first_of (search rules, grind arith);
       fits = line;
-      levels = omega (arith, prepared-long _ _ _ _ _ _ _ _ _ _ is_ready, AreResolvedTo-long _ _ _ _ _ _ _ _ is_ready.fits c.loop-first.invariant, c.resolve_weak_lent.auto.processing_classes);
+      levels = omega (arith, prepared-long _ _ _ _ _ _ _ _ _ _ is_ready, AreResolvedTo-long _ _ _ _ _ _ _ _ is_ready.fits c.loop-first.invariant.resolved, c.resolve_weak_lent.auto.processing_classes);
       original = grind (arith, length-map, length-per_unit, length-stored_classes);
       resolved = AreWeakTo-resolved _ _ _ _ _ _ is_ready.fits _ s line next _ weak;
     }
 
 pub loop-first-preserved : goal.loop-first-preserved
 loop-first-preserved g c =
-    let is_ready = ready g (goal.at.loop-first-preserved g c).After-as_slice-runs in
-    let within : c.loop-first.first < length (map bounds c.as_slice-runs.result.now) = omega (arith, length-map c.as_slice-runs.result.now bounds) in
+    let at = goal.at.loop-first-preserved g c in
+    let is_ready = ready g at.In_ok-prepare in
+    let links = c.prepare.new.self.links in
+    let runs = linked_runs links c.prepare.new.self.runs.items in
+    let h = c.loop-first.invariant in
+    let kept = c.in_ok-found.ensures.kept ∙ h.kept in
     elim c.match-branch-3.branch [
       | in-Some+else-is_settled+in_ok-resolve_up_to_n1 w ↦
-          let here : begins c.prepare.new.self.links c.loop-first.first ≡ true = sym c.in_ok-sequence.ensures.begins ∙ ap is_some w.in-Some.is in
-          let s = lent_joined w.in-Some.sequence in
-          let is : s ≡ sequence_at c.prepare.new.self.links (map bounds c.as_slice-runs.result.now) c.loop-first.first = rw w.in-Some.is at c.in_ok-sequence.ensures.sequence in
-          let next = prepared-next _ _ _ _ _ _ _ _ _ _ is_ready c.loop-first.first s within here is (side w.in-Some.sequence) in
+          let found = rw w.in-Some.is at c.in_ok-found.ensures.sequence in
+          let s = lent_joined w.lend-sequence.result in
+          let within : c.loop-first.first < length runs = grind (arith, c.in_ok-prepare.ensures.linked.all_next) in
+          let here : begins links c.loop-first.first ≡ true = sym c.in_ok-found.ensures.begins ∙ ap is_some w.in-Some.is in
+          let is : s ≡ sequence_at links runs c.loop-first.first =
+          w.lend-sequence.ensures ∙ ap (gathered_in w.in-Some.found) w.as_slice.ensures.value ∙ found.is ∙ ap (λ (rs : List (ℕ × ℕ)). sequence_at links rs c.loop-first.first) h.kept in
+          let next = prepared-next _ _ _ _ _ _ _ _ _ _ is_ready c.loop-first.first s within here is (side w.lend-sequence.result) in
           let line = prepared-lines _ _ _ _ _ _ _ _ _ _ is_ready c.loop-first.first s within here is in
           let weak =
-          AreWeakTo-from _ _ _ _ _ _ is_ready.fits _ s line next _ w.resolve_weak_lent.new.processing_classes c.loop-first.invariant
+          AreWeakTo-from _ _ _ _ _ _ is_ready.fits _ s line next _ w.resolve_weak_lent.new.processing_classes h.resolved
           w.resolve_weak_lent.ensures.kept w.resolve_weak_lent.ensures.removed w.resolve_weak_lent.ensures.outside w.resolve_weak_lent.ensures.per_char in
-          rw (w.classes-is, prepared-more _ _ _ _ _ _ _ _ _ _ is_ready c.loop-first.first s within here is)
-          (AreResolvedTo-more _ _ _ _ _ _ is_ready.fits _ s line next _ w.resolve_up_to_n1.new.processing_classes c.args.paragraph.now.original_classes.now _
-          c.args.paragraph.now.stored is_ready.levels_is weak w.in_ok-resolve_up_to_n1.ensures.resolved.kept w.in_ok-resolve_up_to_n1.ensures.resolved.removed w.in_ok-resolve_up_to_n1.ensures.resolved.outside w.in_ok-resolve_up_to_n1.ensures.resolved.per_char)
+          record {
+            kept = kept;
+            resolved = rw (w.classes-is, prepared-more _ _ _ _ _ _ _ _ _ _ is_ready c.loop-first.first s within here is)
+                (AreResolvedTo-more _ _ _ _ _ _ is_ready.fits _ s line next _ w.resolve_up_to_n1.new.processing_classes c.args.paragraph.now.original_classes.now _
+                c.args.paragraph.now.stored is_ready.levels_is weak w.in_ok-resolve_up_to_n1.ensures.resolved.kept w.in_ok-resolve_up_to_n1.ensures.resolved.removed w.in_ok-resolve_up_to_n1.ensures.resolved.outside w.in_ok-resolve_up_to_n1.ensures.resolved.per_char);
+          }
       | in_default w ↦
-          let other : begins c.prepare.new.self.links c.loop-first.first ≡ false = sym c.in_ok-sequence.ensures.begins ∙ ap is_some w.in_default.is in
-          rw (w.classes-is, prepared-same _ _ _ _ _ _ _ _ _ _ is_ready c.loop-first.first other) c.loop-first.invariant
+          let other : begins links c.loop-first.first ≡ false = sym c.in_ok-found.ensures.begins ∙ ap is_some w.in_default.is in
+          record { kept = kept; resolved = rw (w.classes-is, prepared-same _ _ _ _ _ _ _ _ _ _ is_ready c.loop-first.first other) h.resolved }
     ]
 
 pub resolve_levels-requires : goal.resolve_levels-requires
 resolve_levels-requires g c =
-    let is_ready = ready g (goal.at.resolve_levels-requires g c).After-as_slice-runs in record {
-      lengths = omega (arith, prepared-long _ _ _ _ _ _ _ _ _ _ is_ready, AreResolvedTo-long _ _ _ _ _ _ _ _ is_ready.fits c.loop-first.invariant);
+    let is_ready = ready g (goal.at.resolve_levels-requires g c).In_ok-prepare in record {
+      lengths = omega (arith, prepared-long _ _ _ _ _ _ _ _ _ _ is_ready, AreResolvedTo-long _ _ _ _ _ _ _ _ is_ready.fits c.loop-first.invariant.resolved);
       explicit = prepared-low _ _ _ _ _ _ _ _ _ _ is_ready c.args.paragraph.now.low;
     }
 
 pub returns : goal.returns
 returns g c =
-    let all : c.loop-first.first ≡ length (map bounds c.as_slice-runs.result.now) = omega (arith, length-map c.as_slice-runs.result.now bounds) in
-    let levels = AreLevels-from _ _ _ _ _ _ _ _ _ _ (ready g (goal.at.returns g c).After-as_slice-runs) _ _ _ all c.loop-first.invariant c.resolve_levels.ensures.levels in
+    let runs = linked_runs c.prepare.new.self.links c.prepare.new.self.runs.items in
+    let all : c.loop-first.first ≡ length runs = grind (arith, c.in_ok-prepare.ensures.linked.all_next) in
+    let levels = AreLevels-from _ _ _ _ _ _ _ _ _ _ (ready g (goal.at.returns g c).In_ok-prepare) _ _ _ all c.loop-first.invariant.resolved c.resolve_levels.ensures.levels in
     record { per_char = levels.even; resolved = levels.resolved }

@@ -12,8 +12,8 @@ invariant-loop-first g l =
     let cs : List ℕ = g.T.TextSource.characters l.paragraph.text in
     let given = g.D.BidiDataSource.source l.paragraph.data_source.now in
     let source = map given.class_of cs in
-    let runs = linked_runs l.links l.initial.self.runs.items in
+    let runs = linked_runs l.links l.initial.runs.items in
     record {
-      kept : linked_runs l.links l.self.runs.items ≡ runs;
+      kept : linked_runs l.links l.runs.items ≡ runs;
       resolved : AreResolvedTo len h cs source given.bracket_of l.paragraph.level (map (characters_of len cs (stored_classes source)) (sequences_before l.links runs l.first)) l.classes;
     }
