@@ -143,6 +143,13 @@ IsShownTo-more view kept piece came shown lines_utf8 was = elim (cases_Bool (who
       ))
 ]
 
+-- The same, where what is shown stands behind something.
+pub IsShownTo-pushed : (view : View) (kept piece came before out out' kept' : List ℕ) → (0 < whole_lines piece → IsUtf8 (kept ++ take (whole_lines piece) piece))
+    → out' ≡ out ++ shown_now view kept piece → kept' ≡ pending_after kept piece → IsShownTo view kept came (before ++ out) → IsShownTo view kept' (came ++ piece) (before ++ out')
+IsShownTo-pushed view kept piece came before out out' kept' lines_utf8 out_is kept_is was =
+    let now = IsShownTo-more view kept piece came (before ++ out) lines_utf8 was in
+    rw (kept_is, out_is, sym (append_assoc before out (shown_now view kept piece))) now
+
 -- No more comes.
 pub IsShownTo-end : (view : View) (kept came shown : List ℕ) → IsUtf8 kept → IsShownTo view kept came shown → IsUtf8 came × (shown ++ shown_bytes view kept ≡ shown_bytes view came)
 IsShownTo-end view kept came shown utf8 was =

@@ -146,7 +146,8 @@ impl Stream {
             → IsShownTo view (pending_of self.old) came (before ++ string_bytes out.old)
             → OnOk result (IsUtf8 came × (before ++ string_bytes out.new ≡ shown_text unicode_source view (chars came))) }
     {
-        self.show_pending(alloc, view, out)
+        self.show_pending(alloc, view, out)?;
+        Ok(())
     }
 
     // Appends the lines of the bytes that are kept, and keeps none.
