@@ -1,5 +1,5 @@
 -- Which findings an allow-list allows.
-use Rattle.std.specs.Prelude.{◌≡◌, ℕ, ◌+◌, ◌-◌, ◌<◌, ◌≤◌, flat_map, get_or, ◌==◌, Bool, true, false, not, nat_eq, nat_le, ◌&&◌, ◌||◌, if◌then◌else◌, List, [], ◌∷◌, ◌++◌, find, length, slice_index, take, drop, map, codes, Option, Some, None, is_none, ⊤}
+use Rattle.std.specs.Prelude.{◌≡◌, ℕ, ◌+◌, ◌-◌, ◌<◌, ◌≤◌, flat_map, get_or, ◌==◌, Bool, true, false, not, nat_eq, nat_le, ◌&&◌, ◌||◌, if◌then◌else◌, List, [], find, length, slice_index, take, drop, codes, Option, Some, None, is_none, ⊤}
 use Rattle.std.specs.Char.{is_ascii_digit}
 use Rattle.std.specs.List.{starts_with, ends_with, list_all, list_any, slice_split}
 use Rattle.std.specs.Option.{option_to_list}

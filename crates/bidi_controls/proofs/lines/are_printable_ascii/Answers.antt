@@ -1,4 +1,4 @@
-use Rattle.bidi_base.proofs.Common.{◌≡◌, ℕ, ◌+◌, ◌<◌, ◌&&◌, ◌∷◌, ◌++◌, [], ◌∙◌, true, Bool, List, All, All-push, get_or, length, take, take_all, take_more, and_parts, ap, arith, refl, subst, sym}
+use Rattle.bidi_base.proofs.Common.{◌≡◌, ℕ, ◌+◌, ◌<◌, ◌&&◌, ◌∷◌, ◌++◌, [], ◌∙◌, true, Bool, List, All, All-push, get_or, length, take, take_all, take_more, and_parts, ap, arith, subst, sym}
 use Rattle.bidi_controls.specs.Lines.{is_printable_ascii}
 use Rattle.bidi_controls.proofs.lines.are_printable_ascii.Goals as goal
 

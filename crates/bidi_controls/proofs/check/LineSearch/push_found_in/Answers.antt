@@ -1,4 +1,4 @@
-use Rattle.bidi_base.proofs.Common.{◌≡◌, ℕ, ◌+◌, ◌-◌, ◌++◌, ◌≤◌, List, [], ◌∷◌, length, length-drop, length-take-le, take, sym, ap, ap₂, arith, append_assoc, append-nil, ◌∙◌, Source}
+use Rattle.bidi_base.proofs.Common.{◌≡◌, ℕ, ◌+◌, ◌-◌, ◌++◌, ◌≤◌, List, [], ◌∷◌, length, length-drop, length-take-le, sym, ap, ap₂, arith, append_assoc, append-nil, ◌∙◌, Source}
 use Rattle.bidi_controls.specs.Findings.{findings_in_line, findings_in_paragraph, findings_in_paragraphs}
 use Rattle.bidi_controls.specs.Lines.{lines_of}
 use Rattle.bidi_controls.specs.declared.finding.Finding.{Finding}
