@@ -1,0 +1,55 @@
+-- The records of the passes over code units, and the clauses that they stand for, in the words of the definitions.
+use Rattle.bidi_base.proofs.Common.{◌≡◌, ◌↔◌, ℕ, false, List, map, IsTrue, refl}
+use Rattle.std.proofs.Common.{Result, Ok, Err, OnOk, OnErr}
+use Rattle.bidi_base.specs.declared.char_data.BidiClass.{BidiClass}
+use Rattle.bidi_base.specs.declared.char_data.BidiClass.TheVariants.{L, BN}
+use Rattle.bidi_base.specs.Explicit.{explicit_levels, processing_classes}
+use Rattle.bidi_base.specs.InPlace.{AreExplicitLevels, AreWeakTypesResolved, AreNeutralsResolved}
+use Rattle.bidi_base.specs.Neutral.{neutral_classes}
+use Rattle.bidi_base.specs.Places.{at_places, class_at, first_or}
+use Rattle.bidi_base.specs.Sequences.{level_at}
+use Rattle.bidi_base.specs.Source.{Source}
+use Rattle.bidi_base.specs.Text.{is_per_char, per_char, per_unit, place}
+use Rattle.bidi_base.specs.Units.{in_runs, kept_in_place, level_run_ranges}
+use Rattle.bidi_base.specs.Weak.{weak_classes}
+use Rattle.bidi_text.proofs.PerCharTests.{class_eq}
+
+module _ (len_of : ℕ → ℕ) (chars : List ℕ) where
+  -- the explicit pass
+  pub explicit-clauses : (paragraph : ℕ) (stored_units : List BidiClass) (levels : List ℕ) (classes : List BidiClass) (runs : List (ℕ × ℕ)) →
+      let stored = per_char L len_of chars stored_units in
+      AreExplicitLevels len_of chars paragraph stored_units levels classes runs
+      ↔ (levels ≡ per_unit len_of chars (explicit_levels paragraph stored))
+      × (classes ≡ per_unit len_of chars (processing_classes paragraph stored))
+      × (runs ≡ level_run_ranges len_of chars stored (explicit_levels paragraph stored))
+  explicit-clauses paragraph stored_units levels classes runs =
+      (λ all. (all.levels, all.classes, all.runs), λ all. record { levels = all.0; classes = all.1; runs = all.2 })
+
+  module _ (runs : List (ℕ × ℕ)) (sos eos : BidiClass) (old new : List BidiClass) where
+    abbrev places : List ℕ
+    places = map (place len_of chars) (kept_in_place len_of chars old runs)
+
+    -- the weak pass
+    pub weak-clauses : AreWeakTypesResolved len_of chars runs sos old new
+        ↔ (at_places L new places ≡ weak_classes sos (at_places L old places))
+        × ((u : ℕ) → class_at old u ≡ BN → class_at new u ≡ BN)
+        × ((u : ℕ) → in_runs runs u ≡ false → class_at new u ≡ class_at old u)
+        × IsTrue (is_per_char class_eq len_of chars new)
+    weak-clauses =
+        (λ all. (all.kept, all.removed, all.outside, all.per_char), λ all. record { kept = all.0; removed = all.1; outside = all.2; per_char = all.3 })
+
+    -- the neutral pass: where an allocation fails, the classes stay, so that all clauses but the first hold then too
+    pub neutral-clauses : {A E : Type 0} (result : Result A E) (source : Source) (levels : List ℕ) (original : List BidiClass) → IsTrue (is_per_char class_eq len_of chars old) → OnErr result (new ≡ old)
+        → OnOk result (AreNeutralsResolved len_of chars source runs sos eos levels original old new)
+        → OnOk result (at_places L new places
+        ≡ neutral_classes (level_at levels (first_or 0 places)) sos eos (at_places L original places) (map source.bracket_of (at_places 0 chars (kept_in_place len_of chars old runs))) (at_places L old places))
+        × ((u : ℕ) → class_at old u ≡ BN → class_at new u ≡ BN)
+        × ((u : ℕ) → in_runs runs u ≡ false → class_at new u ≡ class_at old u)
+        × IsTrue (is_per_char class_eq len_of chars new)
+    neutral-clauses (Ok a) source levels original per refused all = (all.kept, all.removed, all.outside, all.per_char)
+    neutral-clauses (Err e) source levels original per refused all = (
+      tt,
+      λ u gone. rw refused gone,
+      λ u out. rw refused refl,
+      rw refused per,
+    )
