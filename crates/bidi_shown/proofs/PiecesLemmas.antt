@@ -112,10 +112,6 @@ ends_line (b ∷ bs) some = elim (cases_Bool (nat_lt 0 (whole_lines bs))) [
   ]
 ]
 
--- Nothing came, and nothing is shown.
-pub IsShownTo-start : (view : View) → IsShownTo view [] [] []
-IsShownTo-start view = λ rest utf8. (utf8, refl)
-
 -- One more piece came.
 pub IsShownTo-more : (view : View) (kept piece came shown : List ℕ) → (0 < whole_lines piece → IsUtf8 (kept ++ take (whole_lines piece) piece))
     → IsShownTo view kept came shown → IsShownTo view (pending_after kept piece) (came ++ piece) (shown ++ shown_now view kept piece)

@@ -28,8 +28,8 @@ shown_now view kept piece =
 abbrev pub pending_after : List ℕ → List ℕ → List ℕ
 pending_after kept piece = if whole_lines piece == 0 then kept ++ piece else drop (whole_lines piece) piece
 
--- Of the bytes that came, some are shown and the others kept. Whatever comes yet: what is shown, and then what the kept
--- bytes and the rest show, is what all bytes show as one text.
+-- The bytes `came`, those of `kept` last; the others were shown, as `shown`. For any bytes `rest` after them: if `kept` and
+-- `rest` together are UTF-8, then so are all bytes, and `shown` and what `kept` and `rest` show are what all bytes show.
 abbrev pub IsShownTo : View → List ℕ → List ℕ → List ℕ → Type 0
 IsShownTo view kept came shown =
     (rest : List ℕ) → IsUtf8 (kept ++ rest) → IsUtf8 (came ++ rest)

@@ -1,7 +1,8 @@
 //! A text that comes in pieces, of which whole lines are shown at once.
-ghost use Rattle.std.specs.Prelude.{◌≡◌, ℕ, ◌++◌, ◌≤◌, List, [], length, take, OnOk, IfErr, string_bytes};
+ghost use Rattle.std.specs.Prelude.{◌≡◌, ℕ, ◌++◌, ◌≤◌, List, [], length, OnOk, IfErr, string_bytes};
 ghost use Rattle.std.specs.Str.{chars, IsUtf8};
 ghost use Rattle.bidi_unicode.specs.Unicode.{unicode_source};
+ghost use Rattle.bidi_visual.specs.declared.view.View.{View};
 ghost use Rattle.bidi_visual.specs.Shown.{shown_text};
 ghost use Rattle.bidi_shown.specs.Faults.{TellsBytes};
 ghost use Rattle.bidi_shown.specs.Streams.{whole_lines as whole_lines_of};
@@ -43,8 +44,8 @@ impl StreamFault {
 
 /// A text that comes in pieces.
 ///
-/// It keeps the bytes after the last line feed that has come, and shows the lines before. In whatever pieces a text
-/// comes, the same is shown.
+/// It keeps the bytes after the last line feed that has come, and shows the lines before. In whatever pieces a text of
+/// UTF-8 comes, the same is shown.
 #[derive(Drop)]
 pub struct Stream {
     memory: Memory,
@@ -100,7 +101,8 @@ impl Stream {
 
     /// Returns a text of which nothing has come. Does not allocate.
     pub fn new(alloc: Global) -> Stream
-        ensures { pending_of result ≡ [] }
+        ensures pending { pending_of result ≡ [] }
+        ensures whole { (view : View) → IsShownTo view (pending_of result) [] [] }
     {
         Stream {
             memory: Memory::new(alloc),
@@ -121,9 +123,10 @@ impl Stream {
     ) -> Result<(), StreamFault>
         ensures shown { OnOk result (string_bytes out.new ≡ string_bytes out.old ++ shown_now view (pending_of self.old) piece.now) }
         ensures pending { OnOk result (pending_of self.new ≡ pending_after (pending_of self.old) piece.now) }
-        ensures whole { (came before : List ℕ)
-            → IsShownTo view (pending_of self.old) came (before ++ string_bytes out.old)
-            → OnOk result (IsShownTo view (pending_of self.new) (came ++ piece.now) (before ++ string_bytes out.new)) }
+        // `taken` is what the caller took out of `out` before.
+        ensures whole { (came taken : List ℕ)
+            → IsShownTo view (pending_of self.old) came (taken ++ string_bytes out.old)
+            → OnOk result (IsShownTo view (pending_of self.new) (came ++ piece.now) (taken ++ string_bytes out.new)) }
     {
         let count = whole_lines(piece);
         if count == 0 {
@@ -142,9 +145,9 @@ impl Stream {
         ensures utf8 { OnOk result (IsUtf8 (pending_of self.old)) }
         ensures shown { OnOk result (string_bytes out.new
             ≡ string_bytes out.old ++ shown_text unicode_source view (chars (pending_of self.old))) }
-        ensures whole { (came before : List ℕ)
-            → IsShownTo view (pending_of self.old) came (before ++ string_bytes out.old)
-            → OnOk result (IsUtf8 came × (before ++ string_bytes out.new ≡ shown_text unicode_source view (chars came))) }
+        ensures whole { (came taken : List ℕ)
+            → IsShownTo view (pending_of self.old) came (taken ++ string_bytes out.old)
+            → OnOk result (IsUtf8 came × (taken ++ string_bytes out.new ≡ shown_text unicode_source view (chars came))) }
     {
         self.show_pending(alloc, view, out)?;
         Ok(())
