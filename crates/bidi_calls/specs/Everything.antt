@@ -1,8 +1,9 @@
 -- Everything about a line: what one call writes of it, and which buffers have room for that.
-use Rattle.std.specs.Prelude.{◌≡◌, ℕ, Bool, ◌&&◌, ◌||◌, nat_le, nat_lt, List, length, map, Option, Result, OnOk, OnErr, IfOk}
+use Rattle.std.specs.Prelude.{◌≡◌, ℕ, ◌<◌, ◌≤◌, All, IsTrue, Bool, ◌&&◌, ◌||◌, nat_le, nat_lt, List, length, map, Option, Result, OnOk, OnErr, IfOk}
 use Rattle.std.specs.Option.{option_or}
+use Rattle.std.specs.declared.ops.Range.{Range}
 use Rattle.bidi_base.specs.Display.{visual_runs}
-use Rattle.bidi_base.specs.Text.{one_unit}
+use Rattle.bidi_base.specs.Text.{one_unit, text_len, IsLine}
 use Rattle.bidi_calls.specs.declared.buffers.LineBuffers.{LineBuffers}
 use Rattle.bidi_calls.specs.declared.line.KeptLine.{KeptLine}
 use Rattle.bidi_calls.specs.Kept.{written_if_room}
@@ -91,3 +92,15 @@ everything_of_chars chars l = line_shown one_unit chars l (reordered_chars chars
 -- a byte of UTF-8 begins a character
 abbrev pub begins_character : ℕ → Bool
 begins_character byte = nat_lt byte 0x80 || nat_le 0xC0 byte
+
+-- each unit of a text is a character, if the flag is set
+abbrev pub AreCharsIf : Bool → (ℕ → ℕ) → List ℕ → Type 0
+AreCharsIf flag len_of chars = IsTrue flag → text_len len_of chars ≡ length chars
+
+-- each range begins and ends at a character
+abbrev pub AreLines : (ℕ → ℕ) → List ℕ → List (Range ℕ) → Type 0
+AreLines len_of chars ranges = All (λ r. IsLine len_of chars r.start r.end) ranges
+
+-- each range begins at one of so many units, and ends with them
+abbrev pub AreWithin : ℕ → List (Range ℕ) → Type 0
+AreWithin units ranges = All (λ r. r.start < units × r.end ≤ units) ranges

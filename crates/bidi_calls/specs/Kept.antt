@@ -1,5 +1,5 @@
 -- What a call leaves in the buffers of its caller, and what it finds wrong.
-use Rattle.std.specs.Prelude.{◌≡◌, ℕ, ◌==◌, ◌&&◌, nat_le, if◌then◌else◌, List, length, ◌++◌, drop, map, Option, Result, OnOk, OnErr, IfOk}
+use Rattle.std.specs.Prelude.{◌≡◌, ℕ, ◌==◌, ◌&&◌, nat_le, IsTrue, if◌then◌else◌, List, length, ◌++◌, drop, map, Option, Some, IsUtf8, Result, OnOk, OnErr, IfOk}
 use Rattle.std.specs.Option.{option_or}
 use Rattle.bidi_base.specs.Classes.{class_number}
 use Rattle.bidi_base.specs.Paragraphs.{ranges_from}
@@ -9,11 +9,14 @@ use Rattle.bidi_base.specs.Text.{per_unit}
 use Rattle.unicode_bidi.specs.SplitRule.{pieces_by}
 use Rattle.bidi_walk.specs.declared.split_rule.SplitRule.{SplitRule}
 use Rattle.bidi_numbers.specs.declared.fault.Fault.{Fault}
-use Rattle.bidi_numbers.specs.declared.fault.Fault.TheVariants.{BadBaseLevel, BadSplit, NoRoom}
+use Rattle.bidi_numbers.specs.declared.fault.Fault.TheVariants.{BadBaseLevel, BadSplit, NoRoom, NotUtf8}
+use Rattle.bidi_numbers.specs.declared.rows.BracketPair.{BracketPair}
+use Rattle.bidi_numbers.specs.declared.rows.ClassRange.{ClassRange}
 use Rattle.bidi_numbers.specs.declared.rows.Paragraph.{Paragraph}
+use Rattle.bidi_numbers.specs.Tables.{tables_fault}
 use Rattle.bidi_calls.specs.declared.buffers.AnalysisBuffers.{AnalysisBuffers}
 use Rattle.bidi_calls.specs.declared.buffers.Settings.{Settings}
-use Rattle.bidi_numbers.specs.Faults.{fault_unless, has_room_or_none}
+use Rattle.bidi_numbers.specs.Faults.{FaultsAs, fault_unless, has_room_or_none}
 use Rattle.bidi_numbers.specs.Numbers.{is_base, is_split, base_of, split_of}
 use Rattle.bidi_numbers.specs.Rows.{paragraph_rows}
 
@@ -24,6 +27,16 @@ written xs buffer = xs ++ drop (length xs) buffer
 -- the same of one that may have no room at all, and is then left as it is
 abbrev pub written_if_room : {A : Type 0} → List A → List A → List A
 written_if_room xs buffer = if length buffer == 0 then buffer else written xs buffer
+
+-- a buffer has room for a list, or is empty
+abbrev pub HasRoomOrNone : {A B : Type 0} → List A → List B → Type 0
+HasRoomOrNone xs buffer = IsTrue (has_room_or_none (length xs) (length buffer))
+
+-- the call writes a list to the front of a buffer, or nothing after a fault, and returns the number of its entries
+pub record WritesList {A : Type 0} (xs : List A) (result : Result ℕ Fault) (before after : List A) : Type 0 where
+  pub kept : OnErr result (after ≡ before)
+  pub list : OnOk result (after ≡ written xs before)
+  pub count : IfOk result (λ count. count ≡ length xs)
 
 -- the numbers of the stored classes of a text's units (X5c)
 abbrev pub class_numbers : Source → Option SplitRule → (ℕ → ℕ) → List ℕ → List ℕ
@@ -89,3 +102,8 @@ pub record WritesAnalysis (found : Analysis) (result : Result ℕ Fault) (before
   pub paragraphs : OnOk result (after.paragraphs.now ≡ written_if_room found.paragraphs before.paragraphs.now)
   pub count : IfOk result (λ count. count ≡ length found.paragraphs)
   pub buffers : AreSame before after
+
+-- what a call that reads tables tells of a text that is not UTF-8: what is wrong with the tables is told first
+abbrev pub TellsNotUtf8ByTables : Result ℕ Fault → List ClassRange → List BracketPair → List ℕ → Type 0
+TellsNotUtf8ByTables result ranges brackets text =
+    ¬ (IsUtf8 text) → FaultsAs result (option_or (tables_fault ranges brackets) (Some NotUtf8))

@@ -4,7 +4,7 @@ ghost use Rattle.bidi_base.specs.Classes.{class_number};
 ghost use Rattle.bidi_base.specs.Text.{text_len};
 ghost use Rattle.std.specs.Result.{result_err};
 ghost use Rattle.bidi_numbers.specs.Faults.{FaultsAs, fault_unless, has_room_or_none};
-ghost use Rattle.bidi_calls.specs.Kept.{written, written_if_room, analysis_of, analysis_by, analysis_fault, paragraphs_fault, WritesAnalysis};
+ghost use Rattle.bidi_calls.specs.Kept.{written, written_if_room, HasRoomOrNone, analysis_of, analysis_by, analysis_fault, paragraphs_fault, WritesAnalysis};
 ghost use Rattle.bidi_numbers.specs.Numbers.{base_of, split_of, direction_number, direction_in};
 ghost use Rattle.bidi_numbers.specs.Rows.{paragraph_row};
 ghost use Rattle.unicode_bidi.specs.ParagraphInfo.{range_of, level_of};
@@ -89,7 +89,7 @@ fn write_paragraphs(out: &mut [Paragraph], paragraphs: &[ParagraphInfo])
 
 // Writes paragraphs as rows to the front of a buffer, unless the buffer is empty.
 fn put_paragraphs(out: &mut [Paragraph], paragraphs: &[ParagraphInfo])
-    requires { IsTrue (has_room_or_none (length paragraphs.now) (length out.old)) }
+    requires { HasRoomOrNone paragraphs.now out.old }
     ensures { out.new
         ≡ written_if_room
         (map (λ p. paragraph_row (((range_of p).start, (range_of p).end), level_of p)) paragraphs.now) out.old }

@@ -5,10 +5,10 @@ ghost use Rattle.bidi_base.specs.Display.{run_of, visual_runs, AreVisualRuns};
 ghost use Rattle.bidi_base.specs.Levels.{is_odd};
 ghost use Rattle.bidi_base.specs.Order.{visual_order as visual_order_of};
 ghost use Rattle.bidi_base.specs.Text.{text_len, per_char, one_unit, IsLine, IsPerChar};
-ghost use Rattle.bidi_calls.specs.Everything.{everything_of_chars, line_shown, room_fault, WritesLine};
-ghost use Rattle.bidi_calls.specs.Kept.{written_if_room};
-ghost use Rattle.bidi_calls.specs.Lines.{IsSound, shown_levels};
-ghost use Rattle.bidi_calls.specs.Shown.{is_even, order_of_line, reordered_chars};
+ghost use Rattle.bidi_calls.specs.Everything.{everything_of_chars, line_shown, room_fault, WritesLine, AreLines, AreWithin};
+ghost use Rattle.bidi_calls.specs.Kept.{written_if_room, HasRoomOrNone};
+ghost use Rattle.bidi_calls.specs.Lines.{IsSound, IsAsLongAs, shown_levels};
+ghost use Rattle.bidi_calls.specs.Shown.{is_even, chars_at};
 ghost use Rattle.bidi_numbers.specs.Faults.{FaultsAs, has_room_or_none};
 ghost use Rattle.bidi_numbers.specs.Rows.{run_row};
 ghost use Rattle.bidi_lines.specs.ShownLevels.{levels as levels_of};
@@ -31,7 +31,7 @@ use unicode_bidi::{Level, TextSource};
 
 // Writes levels to the front of a buffer, unless the buffer is empty.
 fn put_levels(out: &mut [u8], levels: &[Level])
-    requires { IsTrue (has_room_or_none (length levels.now) (length out.old)) }
+    requires { HasRoomOrNone levels.now out.old }
     ensures { out.new ≡ written_if_room levels.now out.old }
 {
     if !out.is_empty() {
@@ -41,9 +41,9 @@ fn put_levels(out: &mut [u8], levels: &[Level])
 
 // Writes the text of a line, run by run, to the front of a buffer, unless the buffer is empty.
 fn put_text<T: LineText>(text: T, levels: &[Level], runs: &[Range<usize>], out: &mut [T::Unit])
-    requires room { IsTrue (has_room_or_none (length levels.now) (length out.old)) }
+    requires room { HasRoomOrNone levels.now out.old }
     requires visual { AreVisualRuns 0 levels.now (map run_of runs.now) }
-    requires boundaries { All (λ r. IsLine T.units (T.characters text) r.start r.end) runs.now }
+    requires boundaries { AreLines T.units (T.characters text) runs.now }
     ensures { out.new
         ≡ written_if_room
         (flat_map (run_units T.units T.encode (T.characters text) (T.units_of text) 0 levels.now) (map run_of runs.now))
@@ -56,7 +56,7 @@ fn put_text<T: LineText>(text: T, levels: &[Level], runs: &[Range<usize>], out: 
 
 // Writes the visual order of levels to the front of a buffer, unless the buffer is empty.
 fn put_order(out: &mut [usize], levels: &[Level])
-    requires { IsTrue (has_room_or_none (length levels.now) (length out.old)) }
+    requires { HasRoomOrNone levels.now out.old }
     ensures { out.new ≡ written_if_room (visual_order_of levels.now) out.old }
 {
     if !out.is_empty() {
@@ -150,7 +150,7 @@ pub fn show_text<T: CountedText>(
 ) -> Result<usize, Fault>
     requires sound { IsSound line.now }
     requires even { is_even T.units (T.characters text) line.now ≡ true }
-    requires units { text_len T.units (T.characters text) + line.now.start ≡ line.now.end }
+    requires units { IsAsLongAs T.units (T.characters text) line.now }
     requires one_a_unit { length (T.units_of text) ≡ text_len T.units (T.characters text) }
     requires encoded { (c : ℕ) → length (T.encode c) ≡ T.units c }
     ensures fault { let shown = line_shown T.units (T.characters text) line.now
@@ -192,10 +192,10 @@ fn write_each_run(chars: &[u32], levels: &[Level], runs: &[Range<usize>], out: &
     requires one_a_unit { length chars.now ≡ length levels.now }
     requires room { length out.old ≡ length levels.now }
     requires visual { AreVisualRuns 0 levels.now (map run_of runs.now) }
-    requires within { All (λ r. r.start < length levels.now × r.end ≤ length levels.now) runs.now }
+    requires within { AreWithin (length levels.now) runs.now }
     requires ordered { All (λ r. r.start ≤ r.end) runs.now }
     requires whole { sum_by (λ r. r.end - r.start) runs.now ≡ length levels.now }
-    ensures { out.new ≡ map (λ k. get_or chars.now k 0) (visual_order_of levels.now) }
+    ensures { out.new ≡ chars_at chars.now (visual_order_of levels.now) }
 {
     let mut at = 0;
     for run in runs {
@@ -215,7 +215,7 @@ pub fn write_chars(chars: &[u32], levels: &[Level], runs: &[Range<usize>], out: 
     requires one_a_unit { length chars.now ≡ length levels.now }
     requires room { length out.old ≡ length levels.now }
     requires visual { AreVisualRuns 0 levels.now (map run_of runs.now) }
-    ensures { out.new ≡ map (λ k. get_or chars.now k 0) (visual_order_of levels.now) }
+    ensures { out.new ≡ chars_at chars.now (visual_order_of levels.now) }
 {
     write_each_run(chars, levels, runs, out);
 }
@@ -223,9 +223,9 @@ pub fn write_chars(chars: &[u32], levels: &[Level], runs: &[Range<usize>], out: 
 // Writes the characters of a line from left to right to the front of a buffer, unless the buffer is empty.
 fn put_chars(chars: &[u32], levels: &[Level], runs: &[Range<usize>], out: &mut [u32])
     requires one_a_unit { length chars.now ≡ length levels.now }
-    requires room { IsTrue (has_room_or_none (length levels.now) (length out.old)) }
+    requires room { HasRoomOrNone levels.now out.old }
     requires visual { AreVisualRuns 0 levels.now (map run_of runs.now) }
-    ensures { out.new ≡ written_if_room (map (λ k. get_or chars.now k 0) (visual_order_of levels.now)) out.old }
+    ensures { out.new ≡ written_if_room (chars_at chars.now (visual_order_of levels.now)) out.old }
 {
     if !out.is_empty() {
         write_chars(chars, levels, runs, &mut out[..levels.len()]);

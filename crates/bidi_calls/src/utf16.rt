@@ -5,10 +5,10 @@ ghost use Rattle.bidi_base.specs.Text.{is_boundary};
 ghost use Rattle.bidi_base.specs.Utf16.{utf16_text, utf16_len};
 ghost use Rattle.bidi_numbers.specs.Faults.{FaultsAs};
 ghost use Rattle.bidi_calls.specs.Everything.{everything, everything_fault, WritesLine};
-ghost use Rattle.bidi_calls.specs.Kept.{written, analysis_by, analysis_fault, WritesAnalysis};
+ghost use Rattle.bidi_calls.specs.Kept.{analysis_by, analysis_fault, WritesAnalysis, WritesList};
 ghost use Rattle.bidi_calls.specs.Lines.{IsSound, line_fault};
 ghost use Rattle.bidi_numbers.specs.Numbers.{direction_in};
-ghost use Rattle.bidi_calls.specs.Shown.{own_units, reordered, text_fault, cuts_utf16, shown_fault, order_of_line, map_fault};
+ghost use Rattle.bidi_calls.specs.Shown.{own_units, fault_of_line, reordered, text_fault, cuts_utf16, shown_fault, order_of_line, map_fault};
 ghost use Rattle.std.specs.Option.{option_or};
 ghost use Rattle.std.specs.Result.{result_err};
 
@@ -77,11 +77,8 @@ fn reorder(
     requires sound { IsSound line.now }
     requires units { length text.now + line.now.start ≡ line.now.end }
     ensures fault { FaultsAs result (shown_fault utf16_len encode_utf16 (utf16_text text.now) text.now line.now (length out.old)) }
-    ensures kept { OnErr result (out.new ≡ out.old) }
-    ensures text { OnOk result (out.new
-        ≡ written (reordered utf16_len encode_utf16 (utf16_text text.now) text.now line.now) out.old) }
-    ensures count { IfOk result (λ count. count
-        ≡ length (reordered utf16_len encode_utf16 (utf16_text text.now) text.now line.now)) }
+    ensures writes { WritesList (reordered utf16_len encode_utf16 (utf16_text text.now) text.now line.now)
+        result out.old out.new }
 {
     let even = is_even_utf16(text, line.class_numbers(), line.level_numbers());
     check(even, Fault::UnevenCharacter)?;
@@ -99,15 +96,11 @@ pub fn reorder_line(
     out: &mut [u16],
 ) -> Result<usize, Fault>
     ensures fault { let units = own_units text.now line.now in
-        let told = option_or (line_fault line.now)
-        (option_or (text_fault text.now line.now (cuts_utf16 text.now line.now))
-        (shown_fault utf16_len encode_utf16 (utf16_text units) units line.now (length out.old))) in
+        let told = fault_of_line text.now line.now (cuts_utf16 text.now line.now)
+        (shown_fault utf16_len encode_utf16 (utf16_text units) units line.now (length out.old)) in
         FaultsAs result told }
-    ensures kept { OnErr result (out.new ≡ out.old) }
-    ensures text { let units = own_units text.now line.now in
-        OnOk result (out.new ≡ written (reordered utf16_len encode_utf16 (utf16_text units) units line.now) out.old) }
-    ensures count { let units = own_units text.now line.now in
-        IfOk result (λ count. count ≡ length (reordered utf16_len encode_utf16 (utf16_text units) units line.now)) }
+    ensures writes { let units = own_units text.now line.now in
+        WritesList (reordered utf16_len encode_utf16 (utf16_text units) units line.now) result out.old out.new }
 {
     line.check()?;
     check_text(text, line)?;
@@ -122,15 +115,11 @@ pub fn line_map(
     out: &mut [usize],
 ) -> Result<usize, Fault>
     ensures fault { let units = own_units text.now line.now in
-        let told = option_or (line_fault line.now)
-        (option_or (text_fault text.now line.now (cuts_utf16 text.now line.now))
-        (map_fault utf16_len (utf16_text units) line.now (length out.old))) in
+        let told = fault_of_line text.now line.now (cuts_utf16 text.now line.now)
+        (map_fault utf16_len (utf16_text units) line.now (length out.old)) in
         FaultsAs result told }
-    ensures kept { OnErr result (out.new ≡ out.old) }
-    ensures order { OnOk result (out.new
-        ≡ written (order_of_line utf16_len (utf16_text (own_units text.now line.now)) line.now) out.old) }
-    ensures count { IfOk result (λ count. count
-        ≡ length (order_of_line utf16_len (utf16_text (own_units text.now line.now)) line.now)) }
+    ensures writes { let units = own_units text.now line.now in
+        WritesList (order_of_line utf16_len (utf16_text units) line.now) result out.old out.new }
 {
     line.check()?;
     check_text(text, line)?;
@@ -168,9 +157,8 @@ pub fn show_line(
     out: &mut LineBuffers<'_, u16>,
 ) -> Result<usize, Fault>
     ensures fault { let units = own_units text.now line.now in
-        let told = option_or (line_fault line.now)
-        (option_or (text_fault text.now line.now (cuts_utf16 text.now line.now))
-        (everything_fault utf16_len encode_utf16 (utf16_text units) units line.now out.old)) in
+        let told = fault_of_line text.now line.now (cuts_utf16 text.now line.now)
+        (everything_fault utf16_len encode_utf16 (utf16_text units) units line.now out.old) in
         FaultsAs result told }
     ensures writes { let units = own_units text.now line.now in
         WritesLine (everything utf16_len encode_utf16 (utf16_text units) units line.now) result out.old out.new }

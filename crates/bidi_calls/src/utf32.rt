@@ -5,10 +5,10 @@ ghost use Rattle.std.specs.Option.{option_or};
 ghost use Rattle.bidi_base.specs.Text.{one_unit};
 ghost use Rattle.bidi_numbers.specs.Faults.{FaultsAs, fault_unless};
 ghost use Rattle.bidi_calls.specs.Everything.{everything_of_chars, room_fault, WritesLine};
-ghost use Rattle.bidi_calls.specs.Kept.{written, analysis_by, analysis_fault, WritesAnalysis};
+ghost use Rattle.bidi_calls.specs.Kept.{written, analysis_by, analysis_fault, WritesAnalysis, WritesList};
 ghost use Rattle.bidi_calls.specs.Lines.{IsSound, line_fault};
 ghost use Rattle.bidi_numbers.specs.Numbers.{direction_in};
-ghost use Rattle.bidi_calls.specs.Shown.{own_units, reordered_chars, chars_fault, text_fault, order_of_line, map_fault};
+ghost use Rattle.bidi_calls.specs.Shown.{own_units, fault_of_line, reordered_chars, chars_fault, text_fault, order_of_line, map_fault};
 ghost use Rattle.bidi_numbers.specs.Texts.{is_scalar};
 
 use crate::buffers::{AnalysisBuffers, LineBuffers, Settings};
@@ -98,8 +98,7 @@ pub fn reorder_line(
     out: &mut [u32],
 ) -> Result<usize, Fault>
     ensures fault { let chars = own_units text.now line.now in
-        FaultsAs result (option_or (line_fault line.now)
-        (option_or (text_fault text.now line.now false) (chars_fault chars (length out.old)))) }
+        FaultsAs result (fault_of_line text.now line.now false (chars_fault chars (length out.old))) }
     ensures kept { OnErr result (out.new ≡ out.old) }
     ensures text { OnOk result (out.new ≡ written (reordered_chars (own_units text.now line.now) line.now) out.old) }
     ensures count { IfOk result (λ count. count ≡ length (own_units text.now line.now)) }
@@ -117,12 +116,10 @@ pub fn line_map(
     out: &mut [usize],
 ) -> Result<usize, Fault>
     ensures fault { let chars = own_units text.now line.now in
-        FaultsAs result (option_or (line_fault line.now) (option_or (text_fault text.now line.now false)
+        FaultsAs result (fault_of_line text.now line.now false
         (option_or (fault_unless (list_all is_scalar chars) Fault.NotScalar)
-        (map_fault one_unit chars line.now (length out.old))))) }
-    ensures kept { OnErr result (out.new ≡ out.old) }
-    ensures order { OnOk result (out.new ≡ written (order_of_line one_unit (own_units text.now line.now) line.now) out.old) }
-    ensures count { IfOk result (λ count. count ≡ length (order_of_line one_unit (own_units text.now line.now) line.now)) }
+        (map_fault one_unit chars line.now (length out.old)))) }
+    ensures writes { WritesList (order_of_line one_unit (own_units text.now line.now) line.now) result out.old out.new }
 {
     line.check()?;
     check(text.len() == line.levels.len(), Fault::UnequalLengths)?;
@@ -141,9 +138,9 @@ pub fn show_line(
     out: &mut LineBuffers<'_, u32>,
 ) -> Result<usize, Fault>
     ensures fault { let chars = own_units text.now line.now in
-        FaultsAs result (option_or (line_fault line.now) (option_or (text_fault text.now line.now false)
+        FaultsAs result (fault_of_line text.now line.now false
         (option_or (fault_unless (list_all is_scalar chars) Fault.NotScalar)
-        (room_fault (everything_of_chars chars line.now) out.old)))) }
+        (room_fault (everything_of_chars chars line.now) out.old))) }
     ensures writes { WritesLine (everything_of_chars (own_units text.now line.now) line.now) result out.old out.new }
 {
     line.check()?;

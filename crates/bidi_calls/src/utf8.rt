@@ -4,10 +4,10 @@ ghost use Rattle.std.specs.Char.{len_utf8};
 ghost use Rattle.std.specs.Str.{chars};
 ghost use Rattle.bidi_numbers.specs.Faults.{FaultsAs};
 ghost use Rattle.bidi_calls.specs.Everything.{everything, everything_fault, WritesLine};
-ghost use Rattle.bidi_calls.specs.Kept.{written, analysis_by, analysis_fault, WritesAnalysis};
+ghost use Rattle.bidi_calls.specs.Kept.{analysis_by, analysis_fault, WritesAnalysis, WritesList};
 ghost use Rattle.bidi_calls.specs.Lines.{IsSound, line_fault};
 ghost use Rattle.bidi_numbers.specs.Numbers.{direction_in};
-ghost use Rattle.bidi_calls.specs.Shown.{own_units, reordered, text_fault, cuts_utf8, is_even, shown_fault, order_of_line, map_fault};
+ghost use Rattle.bidi_calls.specs.Shown.{own_units, fault_of_line, TellsNotUtf8, reordered, text_fault, cuts_utf8, is_even, shown_fault, order_of_line, map_fault};
 ghost use Rattle.std.specs.Option.{option_or};
 ghost use Rattle.std.specs.Result.{result_err};
 
@@ -75,9 +75,7 @@ fn reorder(alloc: Global, text: &str, line: &KeptLine<'_>, out: &mut [u8]) -> Re
     requires sound { IsSound line.now }
     requires units { length text.now + line.now.start ≡ line.now.end }
     ensures fault { FaultsAs result (shown_fault len_utf8 encode_utf8 (chars text.now) text.now line.now (length out.old)) }
-    ensures kept { OnErr result (out.new ≡ out.old) }
-    ensures text { OnOk result (out.new ≡ written (reordered len_utf8 encode_utf8 (chars text.now) text.now line.now) out.old) }
-    ensures count { IfOk result (λ count. count ≡ length (reordered len_utf8 encode_utf8 (chars text.now) text.now line.now)) }
+    ensures writes { WritesList (reordered len_utf8 encode_utf8 (chars text.now) text.now line.now) result out.old out.new }
 {
     let even = is_even_utf8(text, line.class_numbers(), line.level_numbers());
     check(even, Fault::UnevenCharacter)?;
@@ -94,19 +92,13 @@ pub fn reorder_line(
     line: &KeptLine<'_>,
     out: &mut [u8],
 ) -> Result<usize, Fault>
-    ensures not_utf8 { let told = option_or (line_fault line.now)
-        (option_or (text_fault text.now line.now (cuts_utf8 text.now line.now)) (Some Fault.NotUtf8)) in
-        ¬ (IsUtf8 (own_units text.now line.now)) → FaultsAs result told }
+    ensures not_utf8 { TellsNotUtf8 result text.now line.now }
     ensures fault { let units = own_units text.now line.now in
-        let told = option_or (line_fault line.now)
-        (option_or (text_fault text.now line.now (cuts_utf8 text.now line.now))
-        (shown_fault len_utf8 encode_utf8 (chars units) units line.now (length out.old))) in
+        let told = fault_of_line text.now line.now (cuts_utf8 text.now line.now)
+        (shown_fault len_utf8 encode_utf8 (chars units) units line.now (length out.old)) in
         IsUtf8 units → FaultsAs result told }
-    ensures kept { OnErr result (out.new ≡ out.old) }
-    ensures text { let units = own_units text.now line.now in
-        OnOk result (out.new ≡ written (reordered len_utf8 encode_utf8 (chars units) units line.now) out.old) }
-    ensures count { let units = own_units text.now line.now in
-        IfOk result (λ count. count ≡ length (reordered len_utf8 encode_utf8 (chars units) units line.now)) }
+    ensures writes { let units = own_units text.now line.now in
+        WritesList (reordered len_utf8 encode_utf8 (chars units) units line.now) result out.old out.new }
 {
     line.check()?;
     check_text(text, line)?;
@@ -121,18 +113,13 @@ pub fn line_map(
     line: &KeptLine<'_>,
     out: &mut [usize],
 ) -> Result<usize, Fault>
-    ensures not_utf8 { let told = option_or (line_fault line.now)
-        (option_or (text_fault text.now line.now (cuts_utf8 text.now line.now)) (Some Fault.NotUtf8)) in
-        ¬ (IsUtf8 (own_units text.now line.now)) → FaultsAs result told }
+    ensures not_utf8 { TellsNotUtf8 result text.now line.now }
     ensures fault { let units = own_units text.now line.now in
-        let told = option_or (line_fault line.now)
-        (option_or (text_fault text.now line.now (cuts_utf8 text.now line.now))
-        (map_fault len_utf8 (chars units) line.now (length out.old))) in
+        let told = fault_of_line text.now line.now (cuts_utf8 text.now line.now)
+        (map_fault len_utf8 (chars units) line.now (length out.old)) in
         IsUtf8 units → FaultsAs result told }
-    ensures kept { OnErr result (out.new ≡ out.old) }
-    ensures order { OnOk result (out.new
-        ≡ written (order_of_line len_utf8 (chars (own_units text.now line.now)) line.now) out.old) }
-    ensures count { IfOk result (λ count. count ≡ length (order_of_line len_utf8 (chars (own_units text.now line.now)) line.now)) }
+    ensures writes { let units = own_units text.now line.now in
+        WritesList (order_of_line len_utf8 (chars units) line.now) result out.old out.new }
 {
     line.check()?;
     check_text(text, line)?;
@@ -169,13 +156,10 @@ pub fn show_line(
     line: &KeptLine<'_>,
     out: &mut LineBuffers<'_, u8>,
 ) -> Result<usize, Fault>
-    ensures not_utf8 { let told = option_or (line_fault line.now)
-        (option_or (text_fault text.now line.now (cuts_utf8 text.now line.now)) (Some Fault.NotUtf8)) in
-        ¬ (IsUtf8 (own_units text.now line.now)) → FaultsAs result told }
+    ensures not_utf8 { TellsNotUtf8 result text.now line.now }
     ensures fault { let units = own_units text.now line.now in
-        let told = option_or (line_fault line.now)
-        (option_or (text_fault text.now line.now (cuts_utf8 text.now line.now))
-        (everything_fault len_utf8 encode_utf8 (chars units) units line.now out.old)) in
+        let told = fault_of_line text.now line.now (cuts_utf8 text.now line.now)
+        (everything_fault len_utf8 encode_utf8 (chars units) units line.now out.old) in
         IsUtf8 units → FaultsAs result told }
     ensures writes { let units = own_units text.now line.now in
         WritesLine (everything len_utf8 encode_utf8 (chars units) units line.now) result out.old out.new }
