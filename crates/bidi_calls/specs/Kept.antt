@@ -67,7 +67,8 @@ analysis_of source base split len_of chars = record {
 
 -- the same by the numbers that a caller passes
 abbrev pub analysis_by : Source → Settings → (ℕ → ℕ) → List ℕ → Analysis
-analysis_by source settings len_of chars = analysis_of source (base_of settings.base) (split_of settings.split) len_of chars
+analysis_by source settings len_of chars =
+    analysis_of source (base_of settings.base) (split_of settings.split) len_of chars
 
 -- what is wrong with the room for the paragraphs
 abbrev pub paragraphs_fault : Analysis → AnalysisBuffers → Option Fault
@@ -79,7 +80,8 @@ abbrev pub analysis_fault : Settings → ℕ → Analysis → AnalysisBuffers �
 analysis_fault settings units found before =
     option_or (fault_unless (is_base settings.base) BadBaseLevel)
     (option_or (fault_unless (is_split settings.split) BadSplit)
-    (option_or (fault_unless (nat_le units (length before.classes.now) && nat_le units (length before.levels.now)) NoRoom)
+    (option_or
+    (fault_unless (nat_le units (length before.classes.now) && nat_le units (length before.levels.now)) NoRoom)
     (paragraphs_fault found before)))
 
 -- no buffer has changed

@@ -36,8 +36,8 @@ pub fn analyse_utf8(
         IsUtf8 text.now
         → FaultsAs result (option_or (tables_fault ranges.now brackets.now)
         (analysis_fault settings (length text.now) found out.old)) }
-    ensures writes { WritesAnalysis (analysis_by (rows_source ranges.now brackets.now) settings len_utf8 (chars text.now))
-        result out.old out.new }
+    ensures writes { let found = analysis_by (rows_source ranges.now brackets.now) settings len_utf8 (chars text.now) in
+        WritesAnalysis found result out.old out.new }
 {
     let tables = Tables::new(alloc, ranges, brackets)?;
     match tables.source() {
@@ -80,11 +80,13 @@ pub fn analyse_utf16(
     settings: Settings,
     out: &mut AnalysisBuffers<'_>,
 ) -> Result<usize, Fault>
-    ensures fault { let found = analysis_by (rows_source ranges.now brackets.now) settings utf16_len (utf16_text text.now) in
+    ensures fault { let found = analysis_by (rows_source ranges.now brackets.now) settings utf16_len
+        (utf16_text text.now) in
         FaultsAs result (option_or (tables_fault ranges.now brackets.now)
         (analysis_fault settings (length text.now) found out.old)) }
-    ensures writes { WritesAnalysis (analysis_by (rows_source ranges.now brackets.now) settings utf16_len (utf16_text text.now))
-        result out.old out.new }
+    ensures writes { let found = analysis_by (rows_source ranges.now brackets.now) settings utf16_len
+        (utf16_text text.now) in
+        WritesAnalysis found result out.old out.new }
 {
     let tables = Tables::new(alloc, ranges, brackets)?;
     match tables.source() {
@@ -130,8 +132,8 @@ pub fn analyse_utf32(
         FaultsAs result (option_or (tables_fault ranges.now brackets.now)
         (option_or (fault_unless (list_all is_scalar text.now) Fault.NotScalar)
         (analysis_fault settings (length text.now) found out.old))) }
-    ensures writes { WritesAnalysis (analysis_by (rows_source ranges.now brackets.now) settings one_unit text.now)
-        result out.old out.new }
+    ensures writes { let found = analysis_by (rows_source ranges.now brackets.now) settings one_unit text.now in
+        WritesAnalysis found result out.old out.new }
 {
     let tables = Tables::new(alloc, ranges, brackets)?;
     match tables.source() {

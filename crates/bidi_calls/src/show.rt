@@ -140,8 +140,8 @@ fn put_order_of<T: CountedText>(
 /// Writes all about a line: its levels after L1, its visual runs, its character order, and its text (L2).
 ///
 /// Writes each part to its buffer, unless that buffer is empty. Also writes the number of the line's characters, and
-/// returns the number of runs. `text` is the line's text, with one class and one level for each of
-/// its characters. A line of up to 256 code units with up to 16 runs needs no allocation. Writes nothing after a fault.
+/// returns the number of runs. `text` is the line's text, with one class and one level for each of its characters. A
+/// line of up to 256 code units with up to 16 runs needs no allocation. Writes nothing after a fault.
 pub fn show_text<T: CountedText>(
     alloc: Global,
     text: T,

@@ -35,7 +35,8 @@ pub fn analyse<D: BidiDataSource>(
 ) -> Result<usize, Fault>
     ensures fault { let found = analysis_by (D.source data_source.now) settings utf16_len (utf16_text text.now) in
         FaultsAs result (analysis_fault settings (length text.now) found out.old) }
-    ensures writes { WritesAnalysis (analysis_by (D.source data_source.now) settings utf16_len (utf16_text text.now)) result out.old out.new }
+    ensures writes { WritesAnalysis (analysis_by (D.source data_source.now) settings utf16_len (utf16_text text.now))
+        result out.old out.new }
 {
     checked::analyse(alloc, data_source, Utf16Text::new(text), settings, out)
 }
@@ -136,9 +137,10 @@ fn show(
 ) -> Result<usize, Fault>
     requires sound { IsSound line.now }
     requires units { length text.now + line.now.start ≡ line.now.end }
-    ensures fault { FaultsAs result (everything_fault utf16_len encode_utf16 (utf16_text text.now) text.now line.now
-        out.old) }
-    ensures writes { WritesLine (everything utf16_len encode_utf16 (utf16_text text.now) text.now line.now) result out.old out.new }
+    ensures fault { FaultsAs result (everything_fault utf16_len encode_utf16 (utf16_text text.now) text.now
+        line.now out.old) }
+    ensures writes { WritesLine (everything utf16_len encode_utf16 (utf16_text text.now) text.now line.now)
+        result out.old out.new }
 {
     let even = is_even_utf16(text, line.class_numbers(), line.level_numbers());
     check(even, Fault::UnevenCharacter)?;

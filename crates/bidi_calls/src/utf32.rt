@@ -36,7 +36,8 @@ pub fn analyse<D: BidiDataSource>(
     ensures fault { let found = analysis_by (D.source data_source.now) settings one_unit text.now in
         FaultsAs result (option_or (fault_unless (list_all is_scalar text.now) Fault.NotScalar)
         (analysis_fault settings (length text.now) found out.old)) }
-    ensures writes { WritesAnalysis (analysis_by (D.source data_source.now) settings one_unit text.now) result out.old out.new }
+    ensures writes { WritesAnalysis (analysis_by (D.source data_source.now) settings one_unit text.now)
+        result out.old out.new }
 {
     check(all_scalar(text), Fault::NotScalar)?;
     let chars = chars_of(alloc, text)?;

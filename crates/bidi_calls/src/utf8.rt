@@ -36,7 +36,8 @@ pub fn analyse<D: BidiDataSource>(
     ensures not_utf8 { ¬ (IsUtf8 text.now) → result ≡ Err Fault.NotUtf8 }
     ensures fault { let found = analysis_by (D.source data_source.now) settings len_utf8 (chars text.now) in
         IsUtf8 text.now → FaultsAs result (analysis_fault settings (length text.now) found out.old) }
-    ensures writes { WritesAnalysis (analysis_by (D.source data_source.now) settings len_utf8 (chars text.now)) result out.old out.new }
+    ensures writes { WritesAnalysis (analysis_by (D.source data_source.now) settings len_utf8 (chars text.now))
+        result out.old out.new }
 {
     let text = StrText::new(utf8(text)?);
     checked::analyse(alloc, data_source, text, settings, out)
@@ -75,7 +76,8 @@ fn reorder(alloc: Global, text: &str, line: &KeptLine<'_>, out: &mut [u8]) -> Re
     requires sound { IsSound line.now }
     requires units { length text.now + line.now.start ≡ line.now.end }
     ensures fault { FaultsAs result (shown_fault len_utf8 encode_utf8 (chars text.now) text.now line.now (length out.old)) }
-    ensures writes { WritesList (reordered len_utf8 encode_utf8 (chars text.now) text.now line.now) result out.old out.new }
+    ensures writes { WritesList (reordered len_utf8 encode_utf8 (chars text.now) text.now line.now)
+        result out.old out.new }
 {
     let even = is_even_utf8(text, line.class_numbers(), line.level_numbers());
     check(even, Fault::UnevenCharacter)?;
@@ -136,9 +138,10 @@ fn show(
 ) -> Result<usize, Fault>
     requires sound { IsSound line.now }
     requires units { length text.now + line.now.start ≡ line.now.end }
-    ensures fault { FaultsAs result (everything_fault len_utf8 encode_utf8 (chars text.now) text.now line.now
-        out.old) }
-    ensures writes { WritesLine (everything len_utf8 encode_utf8 (chars text.now) text.now line.now) result out.old out.new }
+    ensures fault { FaultsAs result (everything_fault len_utf8 encode_utf8 (chars text.now) text.now
+        line.now out.old) }
+    ensures writes { WritesLine (everything len_utf8 encode_utf8 (chars text.now) text.now line.now)
+        result out.old out.new }
 {
     let even = is_even_utf8(text, line.class_numbers(), line.level_numbers());
     check(even, Fault::UnevenCharacter)?;
