@@ -1,4 +1,5 @@
 //! The exports over texts of UTF-16.
+use bidi_calls::buffers::{AnalysisBuffers, LineBuffers, Settings};
 use bidi_calls::by_tables::{analyse_utf16, base_direction_utf16};
 use bidi_calls::line::KeptLine;
 use bidi_calls::utf16::{analyse, base_direction, line_map, reorder_line, show_line};
@@ -17,16 +18,13 @@ pub extern "C" fn unicode_bidi_analyse_utf16(
     levels: &mut [u8],
     paragraphs: &mut [Paragraph],
 ) -> i64 {
-    answer(analyse(
-        alloc,
-        &UnicodeData,
-        text,
-        base,
-        split,
+    let settings = Settings { base, split };
+    let mut out = AnalysisBuffers {
         classes,
         levels,
         paragraphs,
-    ))
+    };
+    answer(analyse(alloc, &UnicodeData, text, settings, &mut out))
 }
 
 #[unsafe(no_mangle)]
@@ -46,9 +44,13 @@ pub extern "C" fn unicode_bidi_analyse_by_tables_utf16(
     levels: &mut [u8],
     paragraphs: &mut [Paragraph],
 ) -> i64 {
-    answer(analyse_utf16(
-        alloc, ranges, brackets, text, base, split, classes, levels, paragraphs,
-    ))
+    let settings = Settings { base, split };
+    let mut out = AnalysisBuffers {
+        classes,
+        levels,
+        paragraphs,
+    };
+    answer(analyse_utf16(alloc, ranges, brackets, text, settings, &mut out))
 }
 
 #[unsafe(no_mangle)]
@@ -126,5 +128,12 @@ pub extern "C" fn unicode_bidi_show_line_utf16(
         start,
         end,
     };
-    answer(show_line(alloc, text, line, line_levels, runs, order, out, characters))
+    let mut buffers = LineBuffers {
+        levels: line_levels,
+        runs,
+        order,
+        text: out,
+        characters,
+    };
+    answer(show_line(alloc, text, line, &mut buffers))
 }

@@ -4,10 +4,7 @@ use Rattle.bidi_base.proofs.Lists.{map-reverse}
 use Rattle.bidi_lines.proofs.LineInText.{length-part}
 use Rattle.bidi_lines.proofs.Pieces.{get_or-between, length-between}
 use Rattle.std.proofs.lemmas.List.{map-append}
-
--- the characters at some indexes
-abbrev pub chars_at : List ℕ → List ℕ → List ℕ
-chars_at chars ks = map (λ k. get_or chars k 0) ks
+use Rattle.bidi_calls.specs.Shown.{chars_at}
 
 -- those at consecutive indexes
 chars_at-between : (chars : List ℕ) (a b : ℕ) → b ≤ length chars → chars_at chars (between a b) ≡ slice_range chars a b

@@ -1,8 +1,10 @@
 -- Everything about a line: what one call writes of it, and which buffers have room for that.
-use Rattle.std.specs.Prelude.{◌≡◌, ℕ, Bool, ◌&&◌, ◌||◌, nat_le, nat_lt, List, length, map, Option}
+use Rattle.std.specs.Prelude.{◌≡◌, ℕ, ◌<◌, ◌≤◌, All, IsTrue, Bool, ◌&&◌, ◌||◌, nat_le, nat_lt, List, length, map, Option, Result, OnOk, OnErr, IfOk}
 use Rattle.std.specs.Option.{option_or}
+use Rattle.std.specs.declared.ops.Range.{Range}
 use Rattle.bidi_base.specs.Display.{visual_runs}
-use Rattle.bidi_base.specs.Text.{one_unit}
+use Rattle.bidi_base.specs.Text.{one_unit, text_len, IsLine}
+use Rattle.bidi_calls.specs.declared.buffers.LineBuffers.{LineBuffers}
 use Rattle.bidi_calls.specs.declared.line.KeptLine.{KeptLine}
 use Rattle.bidi_calls.specs.Kept.{written_if_room}
 use Rattle.bidi_calls.specs.Lines.{shown_levels}
@@ -20,50 +22,65 @@ pub record LineShown (X : Type 0) : Type 0 where
   pub order : List ℕ
   pub text : List X
 
--- the four buffers of a call
-abbrev pub buffers : {X : Type 0} → List ℕ → List Run → List ℕ → List X → LineShown X
-buffers levels runs order text = record { levels = levels; runs = runs; order = order; text = text }
-
 -- the visual runs of a line as rows
 abbrev pub run_rows : KeptLine → List Run
 run_rows l = map (run_row l.start (shown_levels l)) (visual_runs l.start (shown_levels l))
 
 -- a line with these characters: its levels after L1, its visual runs, the order of its characters, and this text
 abbrev pub line_shown : {X : Type 0} → (ℕ → ℕ) → List ℕ → KeptLine → List X → LineShown X
-line_shown len_of chars l text = buffers (shown_levels l) (run_rows l) (order_of_line len_of chars l) text
+line_shown len_of chars l text =
+    record { levels = shown_levels l; runs = run_rows l; order = order_of_line len_of chars l; text = text }
 
 -- each buffer has room for its part, or is empty
-abbrev pub has_room_for : {X : Type 0} → LineShown X → LineShown X → Bool
+abbrev pub has_room_for : {X : Type 0} → LineShown X → LineBuffers X → Bool
 has_room_for shown before =
-    has_room_or_none (length shown.levels) (length before.levels)
-    && (has_room_or_none (length shown.runs) (length before.runs)
-    && (has_room_or_none (length shown.order) (length before.order)
-    && has_room_or_none (length shown.text) (length before.text)))
+    has_room_or_none (length shown.levels) (length before.levels.now)
+    && (has_room_or_none (length shown.runs) (length before.runs.now)
+    && (has_room_or_none (length shown.order) (length before.order.now)
+    && has_room_or_none (length shown.text) (length before.text.now)))
 
 -- what is wrong with the room for all of it
-abbrev pub room_fault : {X : Type 0} → LineShown X → LineShown X → Option Fault
+abbrev pub room_fault : {X : Type 0} → LineShown X → LineBuffers X → Option Fault
 room_fault shown before = fault_unless (has_room_for shown before) NoRoom
 
--- the call has written its part to each buffer that is not empty
-pub record IsWritten {X : Type 0} (shown before after : LineShown X) : Type 0 where
-  pub levels : after.levels ≡ written_if_room shown.levels before.levels
-  pub runs : after.runs ≡ written_if_room shown.runs before.runs
-  pub order : after.order ≡ written_if_room shown.order before.order
-  pub text : after.text ≡ written_if_room shown.text before.text
+-- each buffer that is not empty has its part
+pub record IsWritten {X : Type 0} (shown : LineShown X) (before after : LineBuffers X) : Type 0 where
+  pub levels : after.levels.now ≡ written_if_room shown.levels before.levels.now
+  pub runs : after.runs.now ≡ written_if_room shown.runs before.runs.now
+  pub order : after.order.now ≡ written_if_room shown.order before.order.now
+  pub text : after.text.now ≡ written_if_room shown.text before.text.now
+  pub characters : after.characters.now ≡ length shown.order
 
--- the call has written nothing
-pub record IsKept {X : Type 0} (before after : LineShown X) : Type 0 where
-  pub levels : after.levels ≡ before.levels
-  pub runs : after.runs ≡ before.runs
-  pub order : after.order ≡ before.order
-  pub text : after.text ≡ before.text
+-- no buffer has changed
+pub record IsKept {X : Type 0} (before after : LineBuffers X) : Type 0 where
+  pub levels : after.levels.now ≡ before.levels.now
+  pub runs : after.runs.now ≡ before.runs.now
+  pub order : after.order.now ≡ before.order.now
+  pub text : after.text.now ≡ before.text.now
+  pub characters : after.characters.now ≡ before.characters.now
+
+-- the fields still are the buffers of the caller
+pub record IsSame {X : Type 0} (before after : LineBuffers X) : Type 0 where
+  pub levels : after.levels.ghost_name ≡ before.levels.ghost_name
+  pub runs : after.runs.ghost_name ≡ before.runs.ghost_name
+  pub order : after.order.ghost_name ≡ before.order.ghost_name
+  pub text : after.text.ghost_name ≡ before.text.ghost_name
+  pub characters : after.characters.ghost_name ≡ before.characters.ghost_name
+
+-- the call writes what a line shows to the buffers, or nothing after a fault, and returns the number of runs
+pub record WritesLine {X : Type 0} (line : LineShown X) (result : Result ℕ Fault) (before after : LineBuffers X)
+    : Type 0 where
+  pub kept : OnErr result (IsKept before after)
+  pub shown : OnOk result (IsWritten line before after)
+  pub count : IfOk result (λ count. count ≡ length line.runs)
+  pub buffers : IsSame before after
 
 -- a line of UTF-8 or UTF-16 with these characters and units, and its text from left to right
 abbrev pub everything : (ℕ → ℕ) → (ℕ → List ℕ) → List ℕ → List ℕ → KeptLine → LineShown ℕ
 everything len_of encode chars units l = line_shown len_of chars l (reordered len_of encode chars units l)
 
 -- what is wrong with the units of that line, and with the room for all of it
-abbrev pub everything_fault : (ℕ → ℕ) → (ℕ → List ℕ) → List ℕ → List ℕ → KeptLine → LineShown ℕ → Option Fault
+abbrev pub everything_fault : (ℕ → ℕ) → (ℕ → List ℕ) → List ℕ → List ℕ → KeptLine → LineBuffers ℕ → Option Fault
 everything_fault len_of encode chars units l before =
     option_or (fault_unless (is_even len_of chars l) UnevenCharacter)
     (room_fault (everything len_of encode chars units l) before)
@@ -75,3 +92,15 @@ everything_of_chars chars l = line_shown one_unit chars l (reordered_chars chars
 -- a byte of UTF-8 begins a character
 abbrev pub begins_character : ℕ → Bool
 begins_character byte = nat_lt byte 0x80 || nat_le 0xC0 byte
+
+-- each unit of a text is a character, if the flag is set
+abbrev pub AreCharsIf : Bool → (ℕ → ℕ) → List ℕ → Type 0
+AreCharsIf flag len_of chars = IsTrue flag → text_len len_of chars ≡ length chars
+
+-- each range begins and ends at a character
+abbrev pub AreLines : (ℕ → ℕ) → List ℕ → List (Range ℕ) → Type 0
+AreLines len_of chars ranges = All (λ r. IsLine len_of chars r.start r.end) ranges
+
+-- each range begins at one of so many units, and ends with them
+abbrev pub AreWithin : ℕ → List (Range ℕ) → Type 0
+AreWithin units ranges = All (λ r. r.start < units × r.end ≤ units) ranges

@@ -1,9 +1,10 @@
 -- A line whose classes and levels the caller has kept: what is wrong with it, and what it shows.
-use Rattle.std.specs.Prelude.{◌≡◌, ℕ, ◌-◌, ◌≤◌, Bool, IsTrue, ◌&&◌, ◌==◌, nat_le, List, length, map, slice_range, Option}
+use Rattle.std.specs.Prelude.{◌≡◌, ℕ, ◌+◌, ◌-◌, ◌≤◌, Bool, IsTrue, ◌&&◌, ◌==◌, nat_le, List, length, map, slice_range, Option}
 use Rattle.std.specs.List.{list_all}
 use Rattle.std.specs.Option.{option_or}
 use Rattle.bidi_base.specs.Display.{visual_runs}
 use Rattle.bidi_base.specs.Line.{line_levels}
+use Rattle.bidi_base.specs.Text.{text_len}
 use Rattle.bidi_numbers.specs.declared.fault.Fault.{Fault}
 use Rattle.bidi_numbers.specs.declared.fault.Fault.TheVariants.{UnequalLengths, BadLine, BadClass, BadLevel, NoRoom}
 use Rattle.bidi_calls.specs.declared.line.KeptLine.{KeptLine}
@@ -21,6 +22,10 @@ own_classes l = slice_range l.classes.now l.start l.end
 
 abbrev pub own_levels : KeptLine → List ℕ
 own_levels l = slice_range l.levels.now l.start l.end
+
+-- a text with these characters has as many units as the line
+abbrev pub IsAsLongAs : (ℕ → ℕ) → List ℕ → KeptLine → Type 0
+IsAsLongAs len_of chars l = text_len len_of chars + l.start ≡ l.end
 
 -- a line of which nothing is wrong
 pub record IsSound (l : KeptLine) : Type 0 where

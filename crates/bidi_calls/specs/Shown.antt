@@ -1,5 +1,5 @@
 -- What a line shows, from the classes and levels that are kept of it.
-use Rattle.std.specs.Prelude.{ℕ, Bool, not, ◌&&◌, ◌||◌, ◌==◌, nat_le, List, length, map, slice_range, get_or, Option}
+use Rattle.std.specs.Prelude.{ℕ, Bool, not, ◌&&◌, ◌||◌, ◌==◌, nat_le, List, length, map, slice_range, get_or, Option, Some, Result, IsUtf8}
 use Rattle.std.specs.List.{list_all}
 use Rattle.std.specs.Option.{option_or}
 use Rattle.bidi_base.specs.contracts.char_data.BidiClassPartialEq.TheImpl.{ghosts as class_test}
@@ -11,10 +11,10 @@ use Rattle.bidi_base.specs.Order.{visual_order}
 use Rattle.bidi_base.specs.Text.{per_char, is_per_char, is_boundary}
 use Rattle.bidi_base.specs.Utf16.{utf16_text, utf16_len}
 use Rattle.bidi_numbers.specs.declared.fault.Fault.{Fault}
-use Rattle.bidi_numbers.specs.declared.fault.Fault.TheVariants.{UnequalLengths, CutCharacter, UnevenCharacter, NoRoom, NotScalar}
+use Rattle.bidi_numbers.specs.declared.fault.Fault.TheVariants.{UnequalLengths, CutCharacter, UnevenCharacter, NoRoom, NotScalar, NotUtf8}
 use Rattle.bidi_calls.specs.declared.line.KeptLine.{KeptLine}
-use Rattle.bidi_numbers.specs.Faults.{fault_unless}
-use Rattle.bidi_calls.specs.Lines.{own_classes, own_levels, shown_levels}
+use Rattle.bidi_numbers.specs.Faults.{FaultsAs, fault_unless}
+use Rattle.bidi_calls.specs.Lines.{line_fault, own_classes, own_levels, shown_levels}
 use Rattle.bidi_numbers.specs.Numbers.{class_numbered}
 use Rattle.bidi_numbers.specs.Texts.{goes_on, is_scalar}
 
@@ -45,6 +45,15 @@ cuts_utf8 text l = goes_on text l.start || goes_on text l.end
 abbrev pub cuts_utf16 : List ℕ → KeptLine → Bool
 cuts_utf16 text l = not (is_boundary utf16_len (utf16_text text) l.start && is_boundary utf16_len (utf16_text text) l.end)
 
+-- what is wrong with a line: with its range and its numbers, then with its place in the text, and then the rest
+abbrev pub fault_of_line : List ℕ → KeptLine → Bool → Option Fault → Option Fault
+fault_of_line text l cuts rest = option_or (line_fault l) (option_or (text_fault text l cuts) rest)
+
+-- what a call tells of a line whose bytes are not UTF-8
+abbrev pub TellsNotUtf8 : Result ℕ Fault → List ℕ → KeptLine → Type 0
+TellsNotUtf8 result text l =
+    ¬ (IsUtf8 (own_units text l)) → FaultsAs result (fault_of_line text l (cuts_utf8 text l) (Some NotUtf8))
+
 -- the classes and the levels are equal within each character
 abbrev pub is_even : (ℕ → ℕ) → List ℕ → KeptLine → Bool
 is_even len_of chars l =
@@ -64,9 +73,13 @@ order_of_line len_of chars l = visual_order (per_char 0 len_of chars (shown_leve
 abbrev pub map_fault : (ℕ → ℕ) → List ℕ → KeptLine → ℕ → Option Fault
 map_fault len_of chars l room = fault_unless (nat_le (length (order_of_line len_of chars l)) room) NoRoom
 
+-- the characters at some indexes
+abbrev pub chars_at : List ℕ → List ℕ → List ℕ
+chars_at chars ks = map (λ k. get_or chars k 0) ks
+
 -- the characters of a line from left to right (L2), where each is a unit
 unfoldable pub reordered_chars : List ℕ → KeptLine → List ℕ
-reordered_chars chars l = map (λ k. get_or chars k 0) (visual_order (shown_levels l))
+reordered_chars chars l = chars_at chars (visual_order (shown_levels l))
 
 -- what is wrong with the characters of a line, and with the room for them
 abbrev pub chars_fault : List ℕ → ℕ → Option Fault

@@ -7,14 +7,15 @@ ghost use Rattle.std.specs.Str.{chars};
 ghost use Rattle.bidi_base.specs.Text.{one_unit};
 ghost use Rattle.bidi_base.specs.Utf16.{utf16_text, utf16_len};
 ghost use Rattle.bidi_numbers.specs.Faults.{FaultsAs, fault_unless};
-ghost use Rattle.bidi_calls.specs.Kept.{written, written_if_room, class_numbers, level_numbers, paragraphs_in, analysis_fault};
-ghost use Rattle.bidi_numbers.specs.Numbers.{base_of, split_of, direction_in};
+ghost use Rattle.bidi_calls.specs.Kept.{TellsNotUtf8ByTables, analysis_by, analysis_fault, WritesAnalysis};
+ghost use Rattle.bidi_numbers.specs.Numbers.{direction_in};
 ghost use Rattle.bidi_numbers.specs.Tables.{tables_fault, rows_source};
 ghost use Rattle.bidi_numbers.specs.Texts.{is_scalar};
 
+use crate::buffers::{AnalysisBuffers, Settings};
 use crate::{utf8, utf16, utf32};
 use bidi_numbers::fault::Fault;
-use bidi_numbers::rows::{BracketPair, ClassRange, Paragraph};
+use bidi_numbers::rows::{BracketPair, ClassRange};
 use bidi_numbers::tables::Tables;
 use std::alloc::Global;
 
@@ -27,42 +28,20 @@ pub fn analyse_utf8(
     ranges: &[ClassRange],
     brackets: &[BracketPair],
     text: &[u8],
-    base: u8,
-    split: u8,
-    classes: &mut [u8],
-    levels: &mut [u8],
-    paragraphs: &mut [Paragraph],
+    settings: Settings,
+    out: &mut AnalysisBuffers<'_>,
 ) -> Result<usize, Fault>
-    ensures not_utf8 { ¬ (IsUtf8 text.now)
-        → FaultsAs result (option_or (tables_fault ranges.now brackets.now) (Some Fault.NotUtf8)) }
-    ensures fault { let rows = paragraphs_in (rows_source ranges.now brackets.now) (base_of base) (split_of split)
-        len_utf8 (chars text.now) in
+    ensures not_utf8 { TellsNotUtf8ByTables result ranges.now brackets.now text.now }
+    ensures fault { let found = analysis_by (rows_source ranges.now brackets.now) settings len_utf8 (chars text.now) in
         IsUtf8 text.now
         → FaultsAs result (option_or (tables_fault ranges.now brackets.now)
-        (analysis_fault base split (length text.now) (length classes.old) (length levels.old) (length rows)
-        (length paragraphs.old))) }
-    ensures kept { OnErr result ((classes.new ≡ classes.old) × (levels.new ≡ levels.old) × (paragraphs.new ≡ paragraphs.old)) }
-
-    ensures classes { OnOk result (classes.new
-        ≡ written (class_numbers (rows_source ranges.now brackets.now) (split_of split) len_utf8 (chars text.now))
-        classes.old) }
-    ensures levels { OnOk result (levels.new
-        ≡ written
-        (level_numbers (rows_source ranges.now brackets.now) (base_of base) (split_of split) len_utf8
-        (chars text.now))
-        levels.old) }
-    ensures paragraphs { let rows = paragraphs_in (rows_source ranges.now brackets.now) (base_of base)
-        (split_of split) len_utf8 (chars text.now) in
-        OnOk result (paragraphs.new ≡ written_if_room rows paragraphs.old) }
-    ensures count { let rows = paragraphs_in (rows_source ranges.now brackets.now) (base_of base) (split_of split)
-        len_utf8 (chars text.now) in
-        IfOk result (λ count. count ≡ length rows) }
+        (analysis_fault settings (length text.now) found out.old)) }
+    ensures writes { let found = analysis_by (rows_source ranges.now brackets.now) settings len_utf8 (chars text.now) in
+        WritesAnalysis found result out.old out.new }
 {
     let tables = Tables::new(alloc, ranges, brackets)?;
     match tables.source() {
-        Ok(source) => utf8::analyse(
-            alloc, &source, text, base, split, classes, levels, paragraphs,
-        ),
+        Ok(source) => utf8::analyse(alloc, &source, text, settings, out),
         Err(fault) => Err(fault),
     }
 }
@@ -78,8 +57,7 @@ pub fn base_direction_utf8(
     text: &[u8],
     full: bool,
 ) -> Result<usize, Fault>
-    ensures not_utf8 { ¬ (IsUtf8 text.now)
-        → FaultsAs result (option_or (tables_fault ranges.now brackets.now) (Some Fault.NotUtf8)) }
+    ensures not_utf8 { TellsNotUtf8ByTables result ranges.now brackets.now text.now }
     ensures fault { IsUtf8 text.now → FaultsAs result (tables_fault ranges.now brackets.now) }
     ensures direction { IfOk result (λ n. n ≡ direction_in (rows_source ranges.now brackets.now) full (chars text.now)) }
 {
@@ -99,39 +77,20 @@ pub fn analyse_utf16(
     ranges: &[ClassRange],
     brackets: &[BracketPair],
     text: &[u16],
-    base: u8,
-    split: u8,
-    classes: &mut [u8],
-    levels: &mut [u8],
-    paragraphs: &mut [Paragraph],
+    settings: Settings,
+    out: &mut AnalysisBuffers<'_>,
 ) -> Result<usize, Fault>
-    ensures fault { let rows = paragraphs_in (rows_source ranges.now brackets.now) (base_of base) (split_of split)
-        utf16_len (utf16_text text.now) in
-        FaultsAs result (option_or (tables_fault ranges.now brackets.now) (analysis_fault base split (length text.now)
-        (length classes.old) (length levels.old) (length rows) (length paragraphs.old))) }
-    ensures kept { OnErr result ((classes.new ≡ classes.old) × (levels.new ≡ levels.old) × (paragraphs.new ≡ paragraphs.old)) }
-
-    ensures classes { OnOk result (classes.new
-        ≡ written
-        (class_numbers (rows_source ranges.now brackets.now) (split_of split) utf16_len (utf16_text text.now))
-        classes.old) }
-    ensures levels { OnOk result (levels.new
-        ≡ written
-        (level_numbers (rows_source ranges.now brackets.now) (base_of base) (split_of split) utf16_len
-        (utf16_text text.now))
-        levels.old) }
-    ensures paragraphs { let rows = paragraphs_in (rows_source ranges.now brackets.now) (base_of base)
-        (split_of split) utf16_len (utf16_text text.now) in
-        OnOk result (paragraphs.new ≡ written_if_room rows paragraphs.old) }
-    ensures count { let rows = paragraphs_in (rows_source ranges.now brackets.now) (base_of base) (split_of split)
-        utf16_len (utf16_text text.now) in
-        IfOk result (λ count. count ≡ length rows) }
+    ensures fault { let found = analysis_by (rows_source ranges.now brackets.now) settings utf16_len
+        (utf16_text text.now) in
+        FaultsAs result (option_or (tables_fault ranges.now brackets.now)
+        (analysis_fault settings (length text.now) found out.old)) }
+    ensures writes { let found = analysis_by (rows_source ranges.now brackets.now) settings utf16_len
+        (utf16_text text.now) in
+        WritesAnalysis found result out.old out.new }
 {
     let tables = Tables::new(alloc, ranges, brackets)?;
     match tables.source() {
-        Ok(source) => utf16::analyse(
-            alloc, &source, text, base, split, classes, levels, paragraphs,
-        ),
+        Ok(source) => utf16::analyse(alloc, &source, text, settings, out),
         Err(fault) => Err(fault),
     }
 }
@@ -166,40 +125,19 @@ pub fn analyse_utf32(
     ranges: &[ClassRange],
     brackets: &[BracketPair],
     text: &[u32],
-    base: u8,
-    split: u8,
-    classes: &mut [u8],
-    levels: &mut [u8],
-    paragraphs: &mut [Paragraph],
+    settings: Settings,
+    out: &mut AnalysisBuffers<'_>,
 ) -> Result<usize, Fault>
-    ensures fault { let rows = paragraphs_in (rows_source ranges.now brackets.now) (base_of base) (split_of split)
-        one_unit text.now in
+    ensures fault { let found = analysis_by (rows_source ranges.now brackets.now) settings one_unit text.now in
         FaultsAs result (option_or (tables_fault ranges.now brackets.now)
         (option_or (fault_unless (list_all is_scalar text.now) Fault.NotScalar)
-        (analysis_fault base split (length text.now) (length classes.old) (length levels.old) (length rows)
-        (length paragraphs.old)))) }
-    ensures kept { OnErr result ((classes.new ≡ classes.old) × (levels.new ≡ levels.old) × (paragraphs.new ≡ paragraphs.old)) }
-
-    ensures classes { OnOk result (classes.new
-        ≡ written (class_numbers (rows_source ranges.now brackets.now) (split_of split) one_unit text.now)
-        classes.old) }
-    ensures levels { OnOk result (levels.new
-        ≡ written
-        (level_numbers (rows_source ranges.now brackets.now) (base_of base) (split_of split) one_unit
-        text.now)
-        levels.old) }
-    ensures paragraphs { let rows = paragraphs_in (rows_source ranges.now brackets.now) (base_of base)
-        (split_of split) one_unit text.now in
-        OnOk result (paragraphs.new ≡ written_if_room rows paragraphs.old) }
-    ensures count { let rows = paragraphs_in (rows_source ranges.now brackets.now) (base_of base) (split_of split)
-        one_unit text.now in
-        IfOk result (λ count. count ≡ length rows) }
+        (analysis_fault settings (length text.now) found out.old))) }
+    ensures writes { let found = analysis_by (rows_source ranges.now brackets.now) settings one_unit text.now in
+        WritesAnalysis found result out.old out.new }
 {
     let tables = Tables::new(alloc, ranges, brackets)?;
     match tables.source() {
-        Ok(source) => utf32::analyse(
-            alloc, &source, text, base, split, classes, levels, paragraphs,
-        ),
+        Ok(source) => utf32::analyse(alloc, &source, text, settings, out),
         Err(fault) => Err(fault),
     }
 }

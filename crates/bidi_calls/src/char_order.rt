@@ -4,6 +4,7 @@ ghost use Rattle.bidi_base.specs.Display.{run_of, visual_runs};
 ghost use Rattle.bidi_base.specs.Order.{visual_order};
 ghost use Rattle.bidi_base.specs.Places.{between};
 ghost use Rattle.bidi_base.specs.Text.{text_len, char_index, is_boundary, subrange, per_char, IsLine, IsPerChar};
+ghost use Rattle.bidi_calls.specs.Everything.{AreCharsIf};
 
 use crate::counted::CountedText;
 use std::ops::Range;
@@ -48,7 +49,7 @@ fn write_indexes(first: usize, is_rtl: bool, out: &mut [usize])
 // Returns how many characters a range of units has. If each unit of the text is a character, this does not count.
 fn count_in<T: CountedText>(text: T, units: Range<usize>, are_chars: bool) -> usize
     requires is_line { IsLine T.units (T.characters text) units.start units.end }
-    requires are_chars { IsTrue are_chars → text_len T.units (T.characters text) ≡ length (T.characters text) }
+    requires are_chars { AreCharsIf are_chars T.units (T.characters text) }
     ensures { result ≡ length (subrange T.units (T.characters text) units.start units.end) }
 {
     if are_chars {
@@ -68,7 +69,7 @@ fn index_at<T: CountedText>(
     requires at { IsTrue (is_boundary T.units (T.characters text) at) }
     requires near { IsTrue (is_boundary T.units (T.characters text) near) }
     requires before { before ≡ char_index T.units (T.characters text) near }
-    requires are_chars { IsTrue are_chars → text_len T.units (T.characters text) ≡ length (T.characters text) }
+    requires are_chars { AreCharsIf are_chars T.units (T.characters text) }
     ensures { result ≡ char_index T.units (T.characters text) at }
 {
     if near <= at {
@@ -93,7 +94,7 @@ fn first_index<T: CountedText>(
     requires left { IsTrue (is_boundary T.units (T.characters text) left.now.end) }
     requires begins { indexes.now.start ≡ char_index T.units (T.characters text) left.now.start }
     requires ends { indexes.now.end ≡ char_index T.units (T.characters text) left.now.end }
-    requires are_chars { IsTrue are_chars → text_len T.units (T.characters text) ≡ length (T.characters text) }
+    requires are_chars { AreCharsIf are_chars T.units (T.characters text) }
     ensures { result ≡ char_index T.units (T.characters text) run.now.start }
 {
     if run.end == left.start {

@@ -4,11 +4,12 @@ ghost use Rattle.bidi_base.specs.Classes.{class_number};
 ghost use Rattle.bidi_base.specs.Text.{text_len};
 ghost use Rattle.std.specs.Result.{result_err};
 ghost use Rattle.bidi_numbers.specs.Faults.{FaultsAs, fault_unless, has_room_or_none};
-ghost use Rattle.bidi_calls.specs.Kept.{written, written_if_room, class_numbers, level_numbers, paragraphs_in, analysis_fault};
+ghost use Rattle.bidi_calls.specs.Kept.{written, written_if_room, HasRoomOrNone, analysis_of, analysis_by, analysis_fault, paragraphs_fault, WritesAnalysis};
 ghost use Rattle.bidi_numbers.specs.Numbers.{base_of, split_of, direction_number, direction_in};
 ghost use Rattle.bidi_numbers.specs.Rows.{paragraph_row};
 ghost use Rattle.unicode_bidi.specs.ParagraphInfo.{range_of, level_of};
 
+use crate::buffers::{AnalysisBuffers, Settings};
 use bidi_lines::shown_levels::FEW_UNITS;
 use bidi_numbers::fault::{Fault, check, check_room_or_none};
 use bidi_numbers::numbers::{base_level, number_of, split_rule};
@@ -48,6 +49,22 @@ pub fn write_levels(out: &mut [u8], levels: &[Level])
     }
 }
 
+// Writes the numbers of classes to the front of a buffer.
+fn put_classes(out: &mut [u8], classes: &[BidiClass])
+    requires { length classes.now ≤ length out.old }
+    ensures { out.new ≡ written (map class_number classes.now) out.old }
+{
+    write_classes(&mut out[..classes.len()], classes);
+}
+
+// Writes the numbers of levels to the front of a buffer.
+fn put_levels(out: &mut [u8], levels: &[Level])
+    requires { length levels.now ≤ length out.old }
+    ensures { out.new ≡ written levels.now out.old }
+{
+    write_levels(&mut out[..levels.len()], levels);
+}
+
 // Returns a paragraph as a row.
 fn row_of(paragraph: &ParagraphInfo) -> Paragraph
     ensures { result ≡ paragraph_row (((range_of paragraph.now).start, (range_of paragraph.now).end), level_of paragraph.now) }
@@ -72,7 +89,7 @@ fn write_paragraphs(out: &mut [Paragraph], paragraphs: &[ParagraphInfo])
 
 // Writes paragraphs as rows to the front of a buffer, unless the buffer is empty.
 fn put_paragraphs(out: &mut [Paragraph], paragraphs: &[ParagraphInfo])
-    requires { IsTrue (has_room_or_none (length paragraphs.now) (length out.old)) }
+    requires { HasRoomOrNone paragraphs.now out.old }
     ensures { out.new
         ≡ written_if_room
         (map (λ p. paragraph_row (((range_of p).start, (range_of p).end), level_of p)) paragraphs.now) out.old }
@@ -105,33 +122,20 @@ fn write_analysis<D: BidiDataSource, T: TextSource>(
     asked: &AskedText<D, T>,
     own_classes: &mut [BidiClass],
     own_levels: &mut [Level],
-    classes: &mut [u8],
-    levels: &mut [u8],
-    paragraphs: &mut [Paragraph],
+    out: &mut AnalysisBuffers<'_>,
 ) -> Result<usize, Fault>
     requires low { IfSome asked.now.base (λ level. level ≤ 125) }
     requires own_classes { length own_classes.old ≡ text_len T.units (T.characters asked.now.text) }
     requires own_levels { length own_levels.old ≡ text_len T.units (T.characters asked.now.text) }
-    requires class_room { text_len T.units (T.characters asked.now.text) ≤ length classes.old }
-    requires level_room { text_len T.units (T.characters asked.now.text) ≤ length levels.old }
-    ensures fault { let rows = paragraphs_in (D.source asked.now.data_source.now) asked.now.base asked.now.split T.units
+    requires class_room { text_len T.units (T.characters asked.now.text) ≤ length out.old.classes.now }
+    requires level_room { text_len T.units (T.characters asked.now.text) ≤ length out.old.levels.now }
+    ensures fault { let found = analysis_of (D.source asked.now.data_source.now) asked.now.base asked.now.split T.units
         (T.characters asked.now.text) in
-        FaultsAs result (fault_unless (has_room_or_none (length rows) (length paragraphs.old)) Fault.NoRoom) }
-    ensures kept { OnErr result ((classes.new ≡ classes.old) × (levels.new ≡ levels.old) × (paragraphs.new ≡ paragraphs.old)) }
-    ensures classes { OnOk result (classes.new
-        ≡ written (class_numbers (D.source asked.now.data_source.now) asked.now.split T.units
-        (T.characters asked.now.text)) classes.old) }
-    ensures levels { OnOk result (levels.new
-        ≡ written (level_numbers (D.source asked.now.data_source.now) asked.now.base asked.now.split T.units
-        (T.characters asked.now.text)) levels.old) }
-    ensures paragraphs { let rows = paragraphs_in (D.source asked.now.data_source.now) asked.now.base asked.now.split
-        T.units (T.characters asked.now.text) in
-        OnOk result (paragraphs.new ≡ written_if_room rows paragraphs.old) }
-    ensures count { let rows = paragraphs_in (D.source asked.now.data_source.now) asked.now.base asked.now.split T.units
+        FaultsAs result (paragraphs_fault found out.old) }
+    ensures writes { let found = analysis_of (D.source asked.now.data_source.now) asked.now.base asked.now.split T.units
         (T.characters asked.now.text) in
-        IfOk result (λ count. count ≡ length rows) }
+        WritesAnalysis found result out.old out.new }
 {
-    let len = own_classes.len();
     let mut analyser = Analyser::new(alloc);
     analyser.analyse(
         alloc,
@@ -143,51 +147,33 @@ fn write_analysis<D: BidiDataSource, T: TextSource>(
         own_levels,
     )?;
     let found = analyser.paragraphs();
-    check_room_or_none(found.len(), paragraphs.len())?;
-    write_classes(&mut classes[..len], own_classes);
-    write_levels(&mut levels[..len], own_levels);
-    put_paragraphs(paragraphs, found);
+    check_room_or_none(found.len(), out.paragraphs.len())?;
+    put_classes(out.classes, own_classes);
+    put_levels(out.levels, own_levels);
+    put_paragraphs(out.paragraphs, found);
     Ok(found.len())
 }
 
 /// Writes the class and the level of each code unit of a text, and its paragraphs.
 ///
-/// Returns the number of paragraphs. If `paragraphs` is empty, only counts them. `base` and `split` are numbers: see
-/// `base_level` and `split_rule`. Writes nothing after a fault.
+/// Returns the number of paragraphs. If the buffer for paragraphs is empty, only counts them. Writes nothing after a
+/// fault.
 pub fn analyse<D: BidiDataSource, T: TextSource>(
     alloc: Global,
     data_source: &D,
     text: T,
-    base: u8,
-    split: u8,
-    classes: &mut [u8],
-    levels: &mut [u8],
-    paragraphs: &mut [Paragraph],
+    settings: Settings,
+    out: &mut AnalysisBuffers<'_>,
 ) -> Result<usize, Fault>
-    ensures fault { let rows = paragraphs_in (D.source data_source.now) (base_of base) (split_of split) T.units
-        (T.characters text) in
-        FaultsAs result (analysis_fault base split (text_len T.units (T.characters text)) (length classes.old)
-        (length levels.old) (length rows) (length paragraphs.old)) }
-    ensures kept { OnErr result ((classes.new ≡ classes.old) × (levels.new ≡ levels.old) × (paragraphs.new ≡ paragraphs.old)) }
-
-    ensures classes { OnOk result (classes.new
-        ≡ written (class_numbers (D.source data_source.now) (split_of split) T.units (T.characters text))
-        classes.old) }
-    ensures levels { OnOk result (levels.new
-        ≡ written
-        (level_numbers (D.source data_source.now) (base_of base) (split_of split) T.units (T.characters text))
-        levels.old) }
-    ensures paragraphs { let rows = paragraphs_in (D.source data_source.now) (base_of base) (split_of split) T.units
-        (T.characters text) in
-        OnOk result (paragraphs.new ≡ written_if_room rows paragraphs.old) }
-    ensures count { let rows = paragraphs_in (D.source data_source.now) (base_of base) (split_of split) T.units
-        (T.characters text) in
-        IfOk result (λ count. count ≡ length rows) }
+    ensures fault { let found = analysis_by (D.source data_source.now) settings T.units (T.characters text) in
+        FaultsAs result (analysis_fault settings (text_len T.units (T.characters text)) found out.old) }
+    ensures writes { WritesAnalysis (analysis_by (D.source data_source.now) settings T.units (T.characters text))
+        result out.old out.new }
 {
-    let base = base_level(base)?;
-    let split = split_rule(split)?;
+    let base = base_level(settings.base)?;
+    let split = split_rule(settings.split)?;
     let len = text.len();
-    check_room(len, classes.len(), levels.len())?;
+    check_room(len, out.classes.len(), out.levels.len())?;
     let asked = AskedText {
         data_source,
         text,
@@ -202,9 +188,7 @@ pub fn analyse<D: BidiDataSource, T: TextSource>(
             &asked,
             &mut few_classes[..len],
             &mut few_levels[..len],
-            classes,
-            levels,
-            paragraphs,
+            out,
         )
     } else {
         let mut many_classes = vec![in alloc; BidiClass::L; len]?;
@@ -214,9 +198,7 @@ pub fn analyse<D: BidiDataSource, T: TextSource>(
             &asked,
             many_classes.as_mut_slice(),
             many_levels.as_mut_slice(),
-            classes,
-            levels,
-            paragraphs,
+            out,
         )
     }
 }

@@ -7,7 +7,7 @@ ghost use Rattle.bidi_base.specs.contracts.char_data.BidiClassPartialEq.TheImpl.
 ghost use Rattle.bidi_base.specs.contracts.level.LevelPartialEq.TheImpl.{ghosts as level_test};
 ghost use Rattle.bidi_base.specs.Text.{is_per_char};
 ghost use Rattle.bidi_base.specs.Utf16.{is_pair as is_pair_of, splits_pair, utf16_text, utf16_len};
-ghost use Rattle.bidi_calls.specs.Even.{IsEvenAt, IsEvenBetween};
+ghost use Rattle.bidi_calls.specs.Even.{IsEvenAt, IsEvenBetween, IsEvenText};
 ghost use Rattle.bidi_numbers.specs.Numbers.{class_numbered, is_class};
 ghost use Rattle.bidi_numbers.specs.Texts.{goes_on as goes_on_at};
 
@@ -29,7 +29,7 @@ fn is_even_at(goes_on: bool, classes: &[u8], levels: &[u8], at: usize) -> bool
 fn is_even_by_bytes(bytes: &[u8], classes: &[u8], levels: &[u8]) -> bool
     requires classes { length classes.now ≡ length bytes.now }
     requires levels { length levels.now ≡ length bytes.now }
-    ensures { IsTrue result ↔ IsEvenBetween (goes_on_at bytes.now) classes.now levels.now 1 (length bytes.now) }
+    ensures { IsTrue result ↔ IsEvenText bytes.now classes.now levels.now }
 {
     let mut even = true;
     for at in 1..bytes.len() {
@@ -62,7 +62,7 @@ fn is_even_by_blocks(bytes: &[u8], classes: &[u8], levels: &[u8]) -> bool
     requires some { 16 < length bytes.now }
     requires classes { length classes.now ≡ length bytes.now }
     requires levels { length levels.now ≡ length bytes.now }
-    ensures { IsTrue result ↔ IsEvenBetween (goes_on_at bytes.now) classes.now levels.now 1 (length bytes.now) }
+    ensures { IsTrue result ↔ IsEvenText bytes.now classes.now levels.now }
 {
     let last = bytes.len() - 16;
     let mut at = 1;

@@ -1,6 +1,7 @@
 //! The library's calls over numbers and buffers. Each call tests every condition that the library requires.
 #![tactic(auto)]
 
+pub mod buffers;
 pub mod by_tables;
 pub mod char_order;
 pub mod checked;

@@ -7,8 +7,8 @@ ghost use Rattle.bidi_base.specs.Order.{visual_order as visual_order_of};
 ghost use Rattle.bidi_base.specs.Text.{text_len, place, per_char};
 ghost use Rattle.bidi_lines.specs.ShownLevels.{levels as levels_of};
 ghost use Rattle.bidi_numbers.specs.Faults.{FaultsAs, fault_unless, has_room_or_none};
-ghost use Rattle.bidi_calls.specs.Kept.{written, written_if_room};
-ghost use Rattle.bidi_calls.specs.Lines.{lies_in, IsSound, own_classes, own_levels, line_fault, levels_fault, runs_fault, order_fault, shown_levels};
+ghost use Rattle.bidi_calls.specs.Kept.{written, written_if_room, WritesList};
+ghost use Rattle.bidi_calls.specs.Lines.{lies_in, IsSound, IsAsLongAs, own_classes, own_levels, line_fault, levels_fault, runs_fault, order_fault, shown_levels};
 ghost use Rattle.bidi_numbers.specs.Numbers.{class_numbered, is_class, is_level};
 ghost use Rattle.bidi_calls.specs.Shown.{is_even, order_of_line, map_fault};
 ghost use Rattle.bidi_text_lines.specs.Written.{shown_units};
@@ -120,7 +120,7 @@ pub fn write_text<T: LineText>(
 ) -> Result<(), AllocError>
     requires sound { IsSound line.now }
     requires even { is_even T.units (T.characters text) line.now ≡ true }
-    requires units { text_len T.units (T.characters text) + line.now.start ≡ line.now.end }
+    requires units { IsAsLongAs T.units (T.characters text) line.now }
     requires room { length out.old ≡ text_len T.units (T.characters text) }
     ensures text { OnOk result (out.new ≡ shown_units T.units T.encode (T.characters text) (T.units_of text) 0 (shown_levels line.now)) }
     ensures kept { OnErr result (out.new ≡ out.old) }
@@ -179,11 +179,9 @@ pub fn map_characters<T: TextSource>(
     out: &mut [usize],
 ) -> Result<usize, Fault>
     requires sound { IsSound line.now }
-    requires units { text_len T.units (T.characters text) + line.now.start ≡ line.now.end }
+    requires units { IsAsLongAs T.units (T.characters text) line.now }
     ensures fault { FaultsAs result (map_fault T.units (T.characters text) line.now (length out.old)) }
-    ensures kept { OnErr result (out.new ≡ out.old) }
-    ensures order { OnOk result (out.new ≡ written (order_of_line T.units (T.characters text) line.now) out.old) }
-    ensures count { IfOk result (λ count. count ≡ length (order_of_line T.units (T.characters text) line.now)) }
+    ensures writes { WritesList (order_of_line T.units (T.characters text) line.now) result out.old out.new }
 {
     let mut shown = line.shown(alloc)?;
     shown.keep_first_units(text);

@@ -1,7 +1,8 @@
 //! The visual runs of a line, as the rows that a caller reads.
 ghost use Rattle.std.specs.Prelude.{◌≡◌, ◌+◌, ◌<◌, ◌≤◌, IsTrue, length, map, All};
 ghost use Rattle.bidi_base.specs.Display.{run_of, visual_runs, AreVisualRuns};
-ghost use Rattle.bidi_calls.specs.Kept.{written_if_room};
+ghost use Rattle.bidi_calls.specs.Everything.{AreWithin};
+ghost use Rattle.bidi_calls.specs.Kept.{written_if_room, HasRoomOrNone};
 ghost use Rattle.bidi_numbers.specs.Faults.{has_room_or_none};
 ghost use Rattle.bidi_numbers.specs.Rows.{run_row};
 
@@ -27,7 +28,7 @@ fn row_of(levels: &[Level], start: usize, run: &Range<usize>) -> Run
 // Writes runs as rows.
 fn write_rows(out: &mut [Run], levels: &[Level], start: usize, runs: &[Range<usize>])
     requires same_len { length out.old ≡ length runs.now }
-    requires within { All (λ r. r.start < length levels.now × r.end ≤ length levels.now) runs.now }
+    requires within { AreWithin (length levels.now) runs.now }
     requires whole { start + length levels.now ≤ usize.MAX }
     ensures { out.new ≡ map (λ r. run_row start levels.now (start + r.start, start + r.end)) runs.now }
 {
@@ -41,7 +42,7 @@ fn write_rows(out: &mut [Run], levels: &[Level], start: usize, runs: &[Range<usi
 /// `levels` has the level of each code unit of the line after L1. `runs` count from the line's first code unit. The
 /// rows count from the text's first code unit: the line begins at the code unit `start`.
 pub fn put_runs(out: &mut [Run], levels: &[Level], start: usize, runs: &[Range<usize>])
-    requires room { IsTrue (has_room_or_none (length runs.now) (length out.old)) }
+    requires room { HasRoomOrNone runs.now out.old }
     requires visual { AreVisualRuns 0 levels.now (map run_of runs.now) }
     requires runs { map run_of runs.now ≡ visual_runs 0 levels.now }
     requires whole { start + length levels.now ≤ usize.MAX }

@@ -5,15 +5,16 @@ ghost use Rattle.bidi_base.specs.Display.{run_of, visual_runs, AreVisualRuns};
 ghost use Rattle.bidi_base.specs.Levels.{is_odd};
 ghost use Rattle.bidi_base.specs.Order.{visual_order as visual_order_of};
 ghost use Rattle.bidi_base.specs.Text.{text_len, per_char, one_unit, IsLine, IsPerChar};
-ghost use Rattle.bidi_calls.specs.Everything.{buffers, everything_of_chars, line_shown, run_rows, room_fault, IsWritten, IsKept};
-ghost use Rattle.bidi_calls.specs.Kept.{written_if_room};
-ghost use Rattle.bidi_calls.specs.Lines.{IsSound, shown_levels};
-ghost use Rattle.bidi_calls.specs.Shown.{is_even, order_of_line, reordered_chars};
+ghost use Rattle.bidi_calls.specs.Everything.{everything_of_chars, line_shown, room_fault, WritesLine, AreLines, AreWithin};
+ghost use Rattle.bidi_calls.specs.Kept.{written_if_room, HasRoomOrNone};
+ghost use Rattle.bidi_calls.specs.Lines.{IsSound, IsAsLongAs, shown_levels};
+ghost use Rattle.bidi_calls.specs.Shown.{is_even, chars_at};
 ghost use Rattle.bidi_numbers.specs.Faults.{FaultsAs, has_room_or_none};
 ghost use Rattle.bidi_numbers.specs.Rows.{run_row};
 ghost use Rattle.bidi_lines.specs.ShownLevels.{levels as levels_of};
 ghost use Rattle.bidi_text_lines.specs.Written.{run_units, shown_units};
 
+use crate::buffers::LineBuffers;
 use crate::char_order::{COUNTED_RUNS, write_char_order};
 use crate::checked::write_levels;
 use crate::counted::CountedText;
@@ -23,7 +24,6 @@ use bidi_lines::shown_levels::ShownLevels;
 use bidi_lines::visual_order::write_visual_order;
 use bidi_lines::visual_runs::LineRuns;
 use bidi_numbers::fault::{Fault, check};
-use bidi_numbers::rows::Run;
 use bidi_text_lines::line_text::{LineText, write_runs};
 use std::alloc::Global;
 use std::ops::Range;
@@ -31,7 +31,7 @@ use unicode_bidi::{Level, TextSource};
 
 // Writes levels to the front of a buffer, unless the buffer is empty.
 fn put_levels(out: &mut [u8], levels: &[Level])
-    requires { IsTrue (has_room_or_none (length levels.now) (length out.old)) }
+    requires { HasRoomOrNone levels.now out.old }
     ensures { out.new ≡ written_if_room levels.now out.old }
 {
     if !out.is_empty() {
@@ -41,9 +41,9 @@ fn put_levels(out: &mut [u8], levels: &[Level])
 
 // Writes the text of a line, run by run, to the front of a buffer, unless the buffer is empty.
 fn put_text<T: LineText>(text: T, levels: &[Level], runs: &[Range<usize>], out: &mut [T::Unit])
-    requires room { IsTrue (has_room_or_none (length levels.now) (length out.old)) }
+    requires room { HasRoomOrNone levels.now out.old }
     requires visual { AreVisualRuns 0 levels.now (map run_of runs.now) }
-    requires boundaries { All (λ r. IsLine T.units (T.characters text) r.start r.end) runs.now }
+    requires boundaries { AreLines T.units (T.characters text) runs.now }
     ensures { out.new
         ≡ written_if_room
         (flat_map (run_units T.units T.encode (T.characters text) (T.units_of text) 0 levels.now) (map run_of runs.now))
@@ -56,7 +56,7 @@ fn put_text<T: LineText>(text: T, levels: &[Level], runs: &[Range<usize>], out: 
 
 // Writes the visual order of levels to the front of a buffer, unless the buffer is empty.
 fn put_order(out: &mut [usize], levels: &[Level])
-    requires { IsTrue (has_room_or_none (length levels.now) (length out.old)) }
+    requires { HasRoomOrNone levels.now out.old }
     ensures { out.new ≡ written_if_room (visual_order_of levels.now) out.old }
 {
     if !out.is_empty() {
@@ -72,24 +72,17 @@ fn has_room(count: usize, room: usize) -> bool
 }
 
 // Returns whether each buffer is empty or has room for its part of the line.
-fn have_room(
-    units: usize,
-    runs: usize,
-    characters: usize,
-    level_room: usize,
-    run_room: usize,
-    order_room: usize,
-    text_room: usize,
-) -> bool
+fn have_room<U>(units: usize, runs: usize, characters: usize, out: &LineBuffers<'_, U>) -> bool
     ensures { result
-        ≡ (has_room_or_none units level_room
-        && (has_room_or_none runs run_room
-        && (has_room_or_none characters order_room && has_room_or_none units text_room))) }
+        ≡ (has_room_or_none units (length out.now.levels.now)
+        && (has_room_or_none runs (length out.now.runs.now)
+        && (has_room_or_none characters (length out.now.order.now)
+        && has_room_or_none units (length out.now.text.now)))) }
 {
-    has_room(units, level_room)
-        && has_room(runs, run_room)
-        && has_room(characters, order_room)
-        && has_room(units, text_room)
+    has_room(units, out.levels.len())
+        && has_room(runs, out.runs.len())
+        && has_room(characters, out.order.len())
+        && has_room(units, out.text.len())
 }
 
 // Keeps one level for each of a line's `len` characters. If each character is one unit, there is nothing to do.
@@ -146,35 +139,26 @@ fn put_order_of<T: CountedText>(
 
 /// Writes all about a line: its levels after L1, its visual runs, its character order, and its text (L2).
 ///
-/// Writes each part to its buffer, unless that buffer is empty. Also writes the number of the line's characters to
-/// `characters`, and returns the number of runs. `text` is the line's text, with one class and one level for each of
-/// its characters. A line of up to 256 code units with up to 16 runs needs no allocation. Writes nothing after a fault.
+/// Writes each part to its buffer, unless that buffer is empty. Also writes the number of the line's characters, and
+/// returns the number of runs. `text` is the line's text, with one class and one level for each of its characters. A
+/// line of up to 256 code units with up to 16 runs needs no allocation. Writes nothing after a fault.
 pub fn show_text<T: CountedText>(
     alloc: Global,
     text: T,
     line: &KeptLine<'_>,
-    levels: &mut [u8],
-    runs: &mut [Run],
-    order: &mut [usize],
-    out: &mut [T::Unit],
-    characters: &mut usize,
+    out: &mut LineBuffers<'_, T::Unit>,
 ) -> Result<usize, Fault>
     requires sound { IsSound line.now }
     requires even { is_even T.units (T.characters text) line.now ≡ true }
-    requires units { text_len T.units (T.characters text) + line.now.start ≡ line.now.end }
+    requires units { IsAsLongAs T.units (T.characters text) line.now }
     requires one_a_unit { length (T.units_of text) ≡ text_len T.units (T.characters text) }
     requires encoded { (c : ℕ) → length (T.encode c) ≡ T.units c }
     ensures fault { let shown = line_shown T.units (T.characters text) line.now
         (shown_units T.units T.encode (T.characters text) (T.units_of text) 0 (shown_levels line.now)) in
-        FaultsAs result (room_fault shown (buffers levels.old runs.old order.old out.old)) }
-    ensures kept { OnErr result
-        (IsKept (buffers levels.old runs.old order.old out.old) (buffers levels.new runs.new order.new out.new)
-        × (characters.new ≡ characters.old)) }
-    ensures shown { let shown = line_shown T.units (T.characters text) line.now
+        FaultsAs result (room_fault shown out.old) }
+    ensures writes { let shown = line_shown T.units (T.characters text) line.now
         (shown_units T.units T.encode (T.characters text) (T.units_of text) 0 (shown_levels line.now)) in
-        OnOk result (IsWritten shown (buffers levels.old runs.old order.old out.old) (buffers levels.new runs.new order.new out.new)) }
-    ensures characters { OnOk result (characters.new ≡ length (order_of_line T.units (T.characters text) line.now)) }
-    ensures count { IfOk result (λ count. count ≡ length (run_rows line.now)) }
+        WritesLine shown result out.old out.new }
 {
     let mut shown = line.shown(alloc)?;
     let mut found = LineRuns::new(alloc);
@@ -182,21 +166,13 @@ pub fn show_text<T: CountedText>(
     let units = shown.as_slice().len();
     let count = found.as_slice().len();
     let len = text.count_characters();
-    let fits = have_room(
-        units,
-        count,
-        len,
-        levels.len(),
-        runs.len(),
-        order.len(),
-        out.len(),
-    );
+    let fits = have_room(units, count, len, out);
     check(fits, Fault::NoRoom)?;
-    put_levels(levels, shown.as_slice());
-    put_runs(runs, shown.as_slice(), line.start, found.as_slice());
-    put_text(text, shown.as_slice(), found.as_slice(), out);
-    put_order_of(order, text, len, found.as_slice(), &mut shown);
-    *characters = len;
+    put_levels(out.levels, shown.as_slice());
+    put_runs(out.runs, shown.as_slice(), line.start, found.as_slice());
+    put_text(text, shown.as_slice(), found.as_slice(), out.text);
+    put_order_of(out.order, text, len, found.as_slice(), &mut shown);
+    *out.characters = len;
     Ok(count)
 }
 
@@ -216,10 +192,10 @@ fn write_each_run(chars: &[u32], levels: &[Level], runs: &[Range<usize>], out: &
     requires one_a_unit { length chars.now ≡ length levels.now }
     requires room { length out.old ≡ length levels.now }
     requires visual { AreVisualRuns 0 levels.now (map run_of runs.now) }
-    requires within { All (λ r. r.start < length levels.now × r.end ≤ length levels.now) runs.now }
+    requires within { AreWithin (length levels.now) runs.now }
     requires ordered { All (λ r. r.start ≤ r.end) runs.now }
     requires whole { sum_by (λ r. r.end - r.start) runs.now ≡ length levels.now }
-    ensures { out.new ≡ map (λ k. get_or chars.now k 0) (visual_order_of levels.now) }
+    ensures { out.new ≡ chars_at chars.now (visual_order_of levels.now) }
 {
     let mut at = 0;
     for run in runs {
@@ -239,7 +215,7 @@ pub fn write_chars(chars: &[u32], levels: &[Level], runs: &[Range<usize>], out: 
     requires one_a_unit { length chars.now ≡ length levels.now }
     requires room { length out.old ≡ length levels.now }
     requires visual { AreVisualRuns 0 levels.now (map run_of runs.now) }
-    ensures { out.new ≡ map (λ k. get_or chars.now k 0) (visual_order_of levels.now) }
+    ensures { out.new ≡ chars_at chars.now (visual_order_of levels.now) }
 {
     write_each_run(chars, levels, runs, out);
 }
@@ -247,9 +223,9 @@ pub fn write_chars(chars: &[u32], levels: &[Level], runs: &[Range<usize>], out: 
 // Writes the characters of a line from left to right to the front of a buffer, unless the buffer is empty.
 fn put_chars(chars: &[u32], levels: &[Level], runs: &[Range<usize>], out: &mut [u32])
     requires one_a_unit { length chars.now ≡ length levels.now }
-    requires room { IsTrue (has_room_or_none (length levels.now) (length out.old)) }
+    requires room { HasRoomOrNone levels.now out.old }
     requires visual { AreVisualRuns 0 levels.now (map run_of runs.now) }
-    ensures { out.new ≡ written_if_room (map (λ k. get_or chars.now k 0) (visual_order_of levels.now)) out.old }
+    ensures { out.new ≡ written_if_room (chars_at chars.now (visual_order_of levels.now)) out.old }
 {
     if !out.is_empty() {
         write_chars(chars, levels, runs, &mut out[..levels.len()]);
@@ -263,43 +239,24 @@ pub fn show_chars(
     alloc: Global,
     chars: &[u32],
     line: &KeptLine<'_>,
-    levels: &mut [u8],
-    runs: &mut [Run],
-    order: &mut [usize],
-    out: &mut [u32],
-    characters: &mut usize,
+    out: &mut LineBuffers<'_, u32>,
 ) -> Result<usize, Fault>
     requires sound { IsSound line.now }
     requires units { length chars.now + line.now.start ≡ line.now.end }
-    ensures fault { FaultsAs result
-        (room_fault (everything_of_chars chars.now line.now) (buffers levels.old runs.old order.old out.old)) }
-    ensures kept { OnErr result
-        (IsKept (buffers levels.old runs.old order.old out.old) (buffers levels.new runs.new order.new out.new)
-        × (characters.new ≡ characters.old)) }
-    ensures shown { OnOk result (IsWritten (everything_of_chars chars.now line.now)
-        (buffers levels.old runs.old order.old out.old) (buffers levels.new runs.new order.new out.new)) }
-    ensures characters { OnOk result (characters.new ≡ length (order_of_line one_unit chars.now line.now)) }
-    ensures count { IfOk result (λ count. count ≡ length (run_rows line.now)) }
+    ensures fault { FaultsAs result (room_fault (everything_of_chars chars.now line.now) out.old) }
+    ensures writes { WritesLine (everything_of_chars chars.now line.now) result out.old out.new }
 {
     let shown = line.shown(alloc)?;
     let mut found = LineRuns::new(alloc);
     found.find(shown.as_slice(), 0)?;
     let units = chars.len();
     let count = found.as_slice().len();
-    let fits = have_room(
-        units,
-        count,
-        units,
-        levels.len(),
-        runs.len(),
-        order.len(),
-        out.len(),
-    );
+    let fits = have_room(units, count, units, out);
     check(fits, Fault::NoRoom)?;
-    put_levels(levels, shown.as_slice());
-    put_runs(runs, shown.as_slice(), line.start, found.as_slice());
-    put_chars(chars, shown.as_slice(), found.as_slice(), out);
-    put_order(order, shown.as_slice());
-    *characters = units;
+    put_levels(out.levels, shown.as_slice());
+    put_runs(out.runs, shown.as_slice(), line.start, found.as_slice());
+    put_chars(chars, shown.as_slice(), found.as_slice(), out.text);
+    put_order(out.order, shown.as_slice());
+    *out.characters = units;
     Ok(count)
 }

@@ -4,71 +4,41 @@ ghost use Rattle.std.specs.Char.Escape.{encode_utf16};
 ghost use Rattle.bidi_base.specs.Text.{is_boundary};
 ghost use Rattle.bidi_base.specs.Utf16.{utf16_text, utf16_len};
 ghost use Rattle.bidi_numbers.specs.Faults.{FaultsAs};
-ghost use Rattle.bidi_calls.specs.Everything.{buffers, everything, everything_fault, run_rows, IsWritten, IsKept};
-ghost use Rattle.bidi_calls.specs.Kept.{written, written_if_room, class_numbers, level_numbers, paragraphs_in, analysis_fault};
+ghost use Rattle.bidi_calls.specs.Everything.{everything, everything_fault, WritesLine};
+ghost use Rattle.bidi_calls.specs.Kept.{analysis_by, analysis_fault, WritesAnalysis, WritesList};
 ghost use Rattle.bidi_calls.specs.Lines.{IsSound, line_fault};
-ghost use Rattle.bidi_numbers.specs.Numbers.{base_of, split_of, direction_in};
-ghost use Rattle.bidi_calls.specs.Shown.{own_units, reordered, text_fault, cuts_utf16, shown_fault, order_of_line, map_fault};
+ghost use Rattle.bidi_numbers.specs.Numbers.{direction_in};
+ghost use Rattle.bidi_calls.specs.Shown.{own_units, fault_of_line, reordered, text_fault, cuts_utf16, shown_fault, order_of_line, map_fault};
 ghost use Rattle.std.specs.Option.{option_or};
 ghost use Rattle.std.specs.Result.{result_err};
 
+use crate::buffers::{AnalysisBuffers, LineBuffers, Settings};
 use crate::checked;
 use crate::even::is_even_utf16;
 use crate::line::{KeptLine, map_characters, write_text};
 use crate::show::show_text;
 use bidi_numbers::fault::{Fault, check};
-use bidi_numbers::rows::{Paragraph, Run};
 use std::alloc::Global;
 use unicode_bidi::BidiDataSource;
 use unicode_bidi::text::{TextSource, Utf16Text};
 
 /// Writes the class and the level of each code unit of a text, and its paragraphs.
 ///
-/// Returns the number of paragraphs. If `paragraphs` is empty, only counts them. `base` is a level up to 125, or 255
-/// for none. `split` is 0 for one paragraph, 1 for `EachSeparator`, or 2 for `CrLfTogether`. Writes nothing after a
+/// Returns the number of paragraphs. If the buffer for paragraphs is empty, only counts them. Writes nothing after a
 /// fault.
 pub fn analyse<D: BidiDataSource>(
     alloc: Global,
     data_source: &D,
     text: &[u16],
-    base: u8,
-    split: u8,
-    classes: &mut [u8],
-    levels: &mut [u8],
-    paragraphs: &mut [Paragraph],
+    settings: Settings,
+    out: &mut AnalysisBuffers<'_>,
 ) -> Result<usize, Fault>
-    ensures fault { let rows = paragraphs_in (D.source data_source.now) (base_of base) (split_of split) utf16_len
-        (utf16_text text.now) in
-        FaultsAs result (analysis_fault base split (length text.now) (length classes.old) (length levels.old)
-        (length rows) (length paragraphs.old)) }
-    ensures kept { OnErr result ((classes.new ≡ classes.old) × (levels.new ≡ levels.old) × (paragraphs.new ≡ paragraphs.old)) }
-
-    ensures classes { OnOk result (classes.new
-        ≡ written (class_numbers (D.source data_source.now) (split_of split) utf16_len (utf16_text text.now))
-        classes.old) }
-    ensures levels { OnOk result (levels.new
-        ≡ written
-        (level_numbers (D.source data_source.now) (base_of base) (split_of split) utf16_len
-        (utf16_text text.now))
-        levels.old) }
-    ensures paragraphs { let rows = paragraphs_in (D.source data_source.now) (base_of base) (split_of split) utf16_len
-        (utf16_text text.now) in
-        OnOk result (paragraphs.new ≡ written_if_room rows paragraphs.old) }
-    ensures count { let rows = paragraphs_in (D.source data_source.now) (base_of base) (split_of split) utf16_len
-        (utf16_text text.now) in
-        IfOk result (λ count. count ≡ length rows) }
+    ensures fault { let found = analysis_by (D.source data_source.now) settings utf16_len (utf16_text text.now) in
+        FaultsAs result (analysis_fault settings (length text.now) found out.old) }
+    ensures writes { WritesAnalysis (analysis_by (D.source data_source.now) settings utf16_len (utf16_text text.now))
+        result out.old out.new }
 {
-    let text = Utf16Text::new(text);
-    checked::analyse(
-        alloc,
-        data_source,
-        text,
-        base,
-        split,
-        classes,
-        levels,
-        paragraphs,
-    )
+    checked::analyse(alloc, data_source, Utf16Text::new(text), settings, out)
 }
 
 /// Returns the number of a text's base direction: 0 for left to right, 1 for right to left, 2 for mixed.
@@ -108,11 +78,8 @@ fn reorder(
     requires sound { IsSound line.now }
     requires units { length text.now + line.now.start ≡ line.now.end }
     ensures fault { FaultsAs result (shown_fault utf16_len encode_utf16 (utf16_text text.now) text.now line.now (length out.old)) }
-    ensures kept { OnErr result (out.new ≡ out.old) }
-    ensures text { OnOk result (out.new
-        ≡ written (reordered utf16_len encode_utf16 (utf16_text text.now) text.now line.now) out.old) }
-    ensures count { IfOk result (λ count. count
-        ≡ length (reordered utf16_len encode_utf16 (utf16_text text.now) text.now line.now)) }
+    ensures writes { WritesList (reordered utf16_len encode_utf16 (utf16_text text.now) text.now line.now)
+        result out.old out.new }
 {
     let even = is_even_utf16(text, line.class_numbers(), line.level_numbers());
     check(even, Fault::UnevenCharacter)?;
@@ -130,15 +97,11 @@ pub fn reorder_line(
     out: &mut [u16],
 ) -> Result<usize, Fault>
     ensures fault { let units = own_units text.now line.now in
-        let told = option_or (line_fault line.now)
-        (option_or (text_fault text.now line.now (cuts_utf16 text.now line.now))
-        (shown_fault utf16_len encode_utf16 (utf16_text units) units line.now (length out.old))) in
+        let told = fault_of_line text.now line.now (cuts_utf16 text.now line.now)
+        (shown_fault utf16_len encode_utf16 (utf16_text units) units line.now (length out.old)) in
         FaultsAs result told }
-    ensures kept { OnErr result (out.new ≡ out.old) }
-    ensures text { let units = own_units text.now line.now in
-        OnOk result (out.new ≡ written (reordered utf16_len encode_utf16 (utf16_text units) units line.now) out.old) }
-    ensures count { let units = own_units text.now line.now in
-        IfOk result (λ count. count ≡ length (reordered utf16_len encode_utf16 (utf16_text units) units line.now)) }
+    ensures writes { let units = own_units text.now line.now in
+        WritesList (reordered utf16_len encode_utf16 (utf16_text units) units line.now) result out.old out.new }
 {
     line.check()?;
     check_text(text, line)?;
@@ -153,15 +116,11 @@ pub fn line_map(
     out: &mut [usize],
 ) -> Result<usize, Fault>
     ensures fault { let units = own_units text.now line.now in
-        let told = option_or (line_fault line.now)
-        (option_or (text_fault text.now line.now (cuts_utf16 text.now line.now))
-        (map_fault utf16_len (utf16_text units) line.now (length out.old))) in
+        let told = fault_of_line text.now line.now (cuts_utf16 text.now line.now)
+        (map_fault utf16_len (utf16_text units) line.now (length out.old)) in
         FaultsAs result told }
-    ensures kept { OnErr result (out.new ≡ out.old) }
-    ensures order { OnOk result (out.new
-        ≡ written (order_of_line utf16_len (utf16_text (own_units text.now line.now)) line.now) out.old) }
-    ensures count { IfOk result (λ count. count
-        ≡ length (order_of_line utf16_len (utf16_text (own_units text.now line.now)) line.now)) }
+    ensures writes { let units = own_units text.now line.now in
+        WritesList (order_of_line utf16_len (utf16_text units) line.now) result out.old out.new }
 {
     line.check()?;
     check_text(text, line)?;
@@ -174,61 +133,40 @@ fn show(
     alloc: Global,
     text: &[u16],
     line: &KeptLine<'_>,
-    levels: &mut [u8],
-    runs: &mut [Run],
-    order: &mut [usize],
-    out: &mut [u16],
-    characters: &mut usize,
+    out: &mut LineBuffers<'_, u16>,
 ) -> Result<usize, Fault>
     requires sound { IsSound line.now }
     requires units { length text.now + line.now.start ≡ line.now.end }
-    ensures fault { FaultsAs result (everything_fault utf16_len encode_utf16 (utf16_text text.now) text.now line.now
-        (buffers levels.old runs.old order.old out.old)) }
-    ensures kept { OnErr result
-        (IsKept (buffers levels.old runs.old order.old out.old) (buffers levels.new runs.new order.new out.new)
-        × (characters.new ≡ characters.old)) }
-    ensures shown { OnOk result (IsWritten (everything utf16_len encode_utf16 (utf16_text text.now) text.now line.now)
-        (buffers levels.old runs.old order.old out.old) (buffers levels.new runs.new order.new out.new)) }
-    ensures characters { OnOk result (characters.new ≡ length (order_of_line utf16_len (utf16_text text.now) line.now)) }
-    ensures count { IfOk result (λ count. count ≡ length (run_rows line.now)) }
+    ensures fault { FaultsAs result (everything_fault utf16_len encode_utf16 (utf16_text text.now) text.now
+        line.now out.old) }
+    ensures writes { WritesLine (everything utf16_len encode_utf16 (utf16_text text.now) text.now line.now)
+        result out.old out.new }
 {
     let even = is_even_utf16(text, line.class_numbers(), line.level_numbers());
     check(even, Fault::UnevenCharacter)?;
     let own = Utf16Text::new(text);
-    show_text(alloc, own, line, levels, runs, order, out, characters)
+    show_text(alloc, own, line, out)
 }
 
 /// Writes all about a line: its levels after L1, its visual runs, its character order, and its text (L2).
 ///
-/// Writes each part to its buffer, unless that buffer is empty. Also writes the number of the line's characters to
-/// `characters`, and returns the number of its runs. Writes nothing after a fault.
+/// Writes each part to its buffer, unless that buffer is empty. Also writes the number of the line's characters, and
+/// returns the number of its runs. Writes nothing after a fault.
 pub fn show_line(
     alloc: Global,
     text: &[u16],
     line: &KeptLine<'_>,
-    levels: &mut [u8],
-    runs: &mut [Run],
-    order: &mut [usize],
-    out: &mut [u16],
-    characters: &mut usize,
+    out: &mut LineBuffers<'_, u16>,
 ) -> Result<usize, Fault>
     ensures fault { let units = own_units text.now line.now in
-        let told = option_or (line_fault line.now)
-        (option_or (text_fault text.now line.now (cuts_utf16 text.now line.now))
-        (everything_fault utf16_len encode_utf16 (utf16_text units) units line.now (buffers levels.old runs.old order.old out.old))) in
+        let told = fault_of_line text.now line.now (cuts_utf16 text.now line.now)
+        (everything_fault utf16_len encode_utf16 (utf16_text units) units line.now out.old) in
         FaultsAs result told }
-    ensures kept { OnErr result
-        (IsKept (buffers levels.old runs.old order.old out.old) (buffers levels.new runs.new order.new out.new)
-        × (characters.new ≡ characters.old)) }
-    ensures shown { let units = own_units text.now line.now in
-        OnOk result (IsWritten (everything utf16_len encode_utf16 (utf16_text units) units line.now)
-        (buffers levels.old runs.old order.old out.old) (buffers levels.new runs.new order.new out.new)) }
-    ensures characters { OnOk result (characters.new
-        ≡ length (order_of_line utf16_len (utf16_text (own_units text.now line.now)) line.now)) }
-    ensures count { IfOk result (λ count. count ≡ length (run_rows line.now)) }
+    ensures writes { let units = own_units text.now line.now in
+        WritesLine (everything utf16_len encode_utf16 (utf16_text units) units line.now) result out.old out.new }
 {
     line.check()?;
     check_text(text, line)?;
     let own = &text[line.start..line.end];
-    show(alloc, own, line, levels, runs, order, out, characters)
+    show(alloc, own, line, out)
 }

@@ -4,19 +4,19 @@ ghost use Rattle.std.specs.List.{list_all};
 ghost use Rattle.std.specs.Option.{option_or};
 ghost use Rattle.bidi_base.specs.Text.{one_unit};
 ghost use Rattle.bidi_numbers.specs.Faults.{FaultsAs, fault_unless};
-ghost use Rattle.bidi_calls.specs.Everything.{buffers, everything_of_chars, run_rows, room_fault, IsWritten, IsKept};
-ghost use Rattle.bidi_calls.specs.Kept.{written, written_if_room, class_numbers, level_numbers, paragraphs_in, analysis_fault};
+ghost use Rattle.bidi_calls.specs.Everything.{everything_of_chars, room_fault, WritesLine};
+ghost use Rattle.bidi_calls.specs.Kept.{written, analysis_by, analysis_fault, WritesAnalysis, WritesList};
 ghost use Rattle.bidi_calls.specs.Lines.{IsSound, line_fault};
-ghost use Rattle.bidi_numbers.specs.Numbers.{base_of, split_of, direction_in};
-ghost use Rattle.bidi_calls.specs.Shown.{own_units, reordered_chars, chars_fault, text_fault, order_of_line, map_fault};
+ghost use Rattle.bidi_numbers.specs.Numbers.{direction_in};
+ghost use Rattle.bidi_calls.specs.Shown.{own_units, fault_of_line, reordered_chars, chars_fault, text_fault, order_of_line, map_fault};
 ghost use Rattle.bidi_numbers.specs.Texts.{is_scalar};
 
+use crate::buffers::{AnalysisBuffers, LineBuffers, Settings};
 use crate::checked;
 use crate::line::{KeptLine, order_units};
 use crate::show::{show_chars, write_chars};
 use bidi_lines::visual_runs::LineRuns;
 use bidi_numbers::fault::{Fault, check};
-use bidi_numbers::rows::{Paragraph, Run};
 use bidi_numbers::texts::{all_scalar, chars_of};
 use std::alloc::Global;
 use unicode_bidi::BidiDataSource;
@@ -24,48 +24,25 @@ use unicode_bidi::text::CharsText;
 
 /// Writes the class and the level of each character of a list, and its paragraphs.
 ///
-/// Returns the number of paragraphs. If `paragraphs` is empty, only counts them. `base` is a level up to 125, or 255
-/// for none. `split` is 0 for one paragraph, 1 for `EachSeparator`, or 2 for `CrLfTogether`. Writes nothing after a
+/// Returns the number of paragraphs. If the buffer for paragraphs is empty, only counts them. Writes nothing after a
 /// fault.
 pub fn analyse<D: BidiDataSource>(
     alloc: Global,
     data_source: &D,
     text: &[u32],
-    base: u8,
-    split: u8,
-    classes: &mut [u8],
-    levels: &mut [u8],
-    paragraphs: &mut [Paragraph],
+    settings: Settings,
+    out: &mut AnalysisBuffers<'_>,
 ) -> Result<usize, Fault>
-    ensures fault { let rows = paragraphs_in (D.source data_source.now) (base_of base) (split_of split) one_unit
-        text.now in
+    ensures fault { let found = analysis_by (D.source data_source.now) settings one_unit text.now in
         FaultsAs result (option_or (fault_unless (list_all is_scalar text.now) Fault.NotScalar)
-        (analysis_fault base split (length text.now) (length classes.old) (length levels.old) (length rows)
-        (length paragraphs.old))) }
-    ensures kept { OnErr result ((classes.new ≡ classes.old) × (levels.new ≡ levels.old) × (paragraphs.new ≡ paragraphs.old)) }
-
-    ensures classes { OnOk result (classes.new
-        ≡ written (class_numbers (D.source data_source.now) (split_of split) one_unit text.now) classes.old) }
-    ensures levels { OnOk result (levels.new
-        ≡ written (level_numbers (D.source data_source.now) (base_of base) (split_of split) one_unit text.now)
-        levels.old) }
-    ensures paragraphs { let rows = paragraphs_in (D.source data_source.now) (base_of base) (split_of split) one_unit text.now in
-        OnOk result (paragraphs.new ≡ written_if_room rows paragraphs.old) }
-    ensures count { let rows = paragraphs_in (D.source data_source.now) (base_of base) (split_of split) one_unit text.now in
-        IfOk result (λ count. count ≡ length rows) }
+        (analysis_fault settings (length text.now) found out.old)) }
+    ensures writes { WritesAnalysis (analysis_by (D.source data_source.now) settings one_unit text.now)
+        result out.old out.new }
 {
     check(all_scalar(text), Fault::NotScalar)?;
     let chars = chars_of(alloc, text)?;
-    checked::analyse(
-        alloc,
-        data_source,
-        CharsText::new(chars.as_slice()),
-        base,
-        split,
-        classes,
-        levels,
-        paragraphs,
-    )
+    let text = CharsText::new(chars.as_slice());
+    checked::analyse(alloc, data_source, text, settings, out)
 }
 
 /// Returns the number of a text's base direction: 0 for left to right, 1 for right to left, 2 for mixed.
@@ -122,8 +99,7 @@ pub fn reorder_line(
     out: &mut [u32],
 ) -> Result<usize, Fault>
     ensures fault { let chars = own_units text.now line.now in
-        FaultsAs result (option_or (line_fault line.now)
-        (option_or (text_fault text.now line.now false) (chars_fault chars (length out.old)))) }
+        FaultsAs result (fault_of_line text.now line.now false (chars_fault chars (length out.old))) }
     ensures kept { OnErr result (out.new ≡ out.old) }
     ensures text { OnOk result (out.new ≡ written (reordered_chars (own_units text.now line.now) line.now) out.old) }
     ensures count { IfOk result (λ count. count ≡ length (own_units text.now line.now)) }
@@ -141,12 +117,10 @@ pub fn line_map(
     out: &mut [usize],
 ) -> Result<usize, Fault>
     ensures fault { let chars = own_units text.now line.now in
-        FaultsAs result (option_or (line_fault line.now) (option_or (text_fault text.now line.now false)
+        FaultsAs result (fault_of_line text.now line.now false
         (option_or (fault_unless (list_all is_scalar chars) Fault.NotScalar)
-        (map_fault one_unit chars line.now (length out.old))))) }
-    ensures kept { OnErr result (out.new ≡ out.old) }
-    ensures order { OnOk result (out.new ≡ written (order_of_line one_unit (own_units text.now line.now) line.now) out.old) }
-    ensures count { IfOk result (λ count. count ≡ length (order_of_line one_unit (own_units text.now line.now) line.now)) }
+        (map_fault one_unit chars line.now (length out.old)))) }
+    ensures writes { WritesList (order_of_line one_unit (own_units text.now line.now) line.now) result out.old out.new }
 {
     line.check()?;
     check(text.len() == line.levels.len(), Fault::UnequalLengths)?;
@@ -156,33 +130,23 @@ pub fn line_map(
 
 /// Writes all about a line: its levels after L1, its visual runs, its character order, and its text (L2).
 ///
-/// Writes each part to its buffer, unless that buffer is empty. Also writes the number of the line's characters to
-/// `characters`, and returns the number of its runs. Writes nothing after a fault.
+/// Writes each part to its buffer, unless that buffer is empty. Also writes the number of the line's characters, and
+/// returns the number of its runs. Writes nothing after a fault.
 pub fn show_line(
     alloc: Global,
     text: &[u32],
     line: &KeptLine<'_>,
-    levels: &mut [u8],
-    runs: &mut [Run],
-    order: &mut [usize],
-    out: &mut [u32],
-    characters: &mut usize,
+    out: &mut LineBuffers<'_, u32>,
 ) -> Result<usize, Fault>
     ensures fault { let chars = own_units text.now line.now in
-        FaultsAs result (option_or (line_fault line.now) (option_or (text_fault text.now line.now false)
+        FaultsAs result (fault_of_line text.now line.now false
         (option_or (fault_unless (list_all is_scalar chars) Fault.NotScalar)
-        (room_fault (everything_of_chars chars line.now) (buffers levels.old runs.old order.old out.old))))) }
-    ensures kept { OnErr result
-        (IsKept (buffers levels.old runs.old order.old out.old) (buffers levels.new runs.new order.new out.new)
-        × (characters.new ≡ characters.old)) }
-    ensures shown { OnOk result (IsWritten (everything_of_chars (own_units text.now line.now) line.now)
-        (buffers levels.old runs.old order.old out.old) (buffers levels.new runs.new order.new out.new)) }
-    ensures characters { OnOk result (characters.new ≡ length (order_of_line one_unit (own_units text.now line.now) line.now)) }
-    ensures count { IfOk result (λ count. count ≡ length (run_rows line.now)) }
+        (room_fault (everything_of_chars chars line.now) out.old))) }
+    ensures writes { WritesLine (everything_of_chars (own_units text.now line.now) line.now) result out.old out.new }
 {
     line.check()?;
     check(text.len() == line.levels.len(), Fault::UnequalLengths)?;
     let chars = &text[line.start..line.end];
     check(all_scalar(chars), Fault::NotScalar)?;
-    show_chars(alloc, chars, line, levels, runs, order, out, characters)
+    show_chars(alloc, chars, line, out)
 }

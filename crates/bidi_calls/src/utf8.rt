@@ -3,20 +3,20 @@ ghost use Rattle.std.specs.Prelude.{◌≡◌, ◌+◌, ◌-◌, ◌≤◌, nat_
 ghost use Rattle.std.specs.Char.{len_utf8};
 ghost use Rattle.std.specs.Str.{chars};
 ghost use Rattle.bidi_numbers.specs.Faults.{FaultsAs};
-ghost use Rattle.bidi_calls.specs.Everything.{buffers, everything, everything_fault, run_rows, IsWritten, IsKept};
-ghost use Rattle.bidi_calls.specs.Kept.{written, written_if_room, class_numbers, level_numbers, paragraphs_in, analysis_fault};
+ghost use Rattle.bidi_calls.specs.Everything.{everything, everything_fault, WritesLine};
+ghost use Rattle.bidi_calls.specs.Kept.{analysis_by, analysis_fault, WritesAnalysis, WritesList};
 ghost use Rattle.bidi_calls.specs.Lines.{IsSound, line_fault};
-ghost use Rattle.bidi_numbers.specs.Numbers.{base_of, split_of, direction_in};
-ghost use Rattle.bidi_calls.specs.Shown.{own_units, reordered, text_fault, cuts_utf8, is_even, shown_fault, order_of_line, map_fault};
+ghost use Rattle.bidi_numbers.specs.Numbers.{direction_in};
+ghost use Rattle.bidi_calls.specs.Shown.{own_units, fault_of_line, TellsNotUtf8, reordered, text_fault, cuts_utf8, is_even, shown_fault, order_of_line, map_fault};
 ghost use Rattle.std.specs.Option.{option_or};
 ghost use Rattle.std.specs.Result.{result_err};
 
+use crate::buffers::{AnalysisBuffers, LineBuffers, Settings};
 use crate::checked;
 use crate::even::is_even_utf8;
 use crate::line::{KeptLine, map_characters, write_text};
 use crate::show::show_text;
 use bidi_numbers::fault::{Fault, check};
-use bidi_numbers::rows::{Paragraph, Run};
 use bidi_numbers::texts::{goes_on, utf8};
 use std::alloc::Global;
 use unicode_bidi::BidiDataSource;
@@ -24,51 +24,23 @@ use unicode_bidi::text::StrText;
 
 /// Writes the class and the level of each byte of a text, and its paragraphs.
 ///
-/// Returns the number of paragraphs. If `paragraphs` is empty, only counts them. `base` is a level up to 125, or 255
-/// for none. `split` is 0 for one paragraph, 1 for `EachSeparator`, or 2 for `CrLfTogether`. Writes nothing after a
+/// Returns the number of paragraphs. If the buffer for paragraphs is empty, only counts them. Writes nothing after a
 /// fault.
 pub fn analyse<D: BidiDataSource>(
     alloc: Global,
     data_source: &D,
     text: &[u8],
-    base: u8,
-    split: u8,
-    classes: &mut [u8],
-    levels: &mut [u8],
-    paragraphs: &mut [Paragraph],
+    settings: Settings,
+    out: &mut AnalysisBuffers<'_>,
 ) -> Result<usize, Fault>
     ensures not_utf8 { ¬ (IsUtf8 text.now) → result ≡ Err Fault.NotUtf8 }
-    ensures fault { let rows = paragraphs_in (D.source data_source.now) (base_of base) (split_of split) len_utf8
-        (chars text.now) in
-        IsUtf8 text.now
-        → FaultsAs result (analysis_fault base split (length text.now) (length classes.old) (length levels.old)
-        (length rows) (length paragraphs.old)) }
-    ensures kept { OnErr result ((classes.new ≡ classes.old) × (levels.new ≡ levels.old) × (paragraphs.new ≡ paragraphs.old)) }
-
-    ensures classes { OnOk result (classes.new
-        ≡ written (class_numbers (D.source data_source.now) (split_of split) len_utf8 (chars text.now))
-        classes.old) }
-    ensures levels { OnOk result (levels.new
-        ≡ written
-        (level_numbers (D.source data_source.now) (base_of base) (split_of split) len_utf8 (chars text.now))
-        levels.old) }
-    ensures paragraphs { let rows = paragraphs_in (D.source data_source.now) (base_of base) (split_of split) len_utf8
-        (chars text.now) in
-        OnOk result (paragraphs.new ≡ written_if_room rows paragraphs.old) }
-    ensures count { let rows = paragraphs_in (D.source data_source.now) (base_of base) (split_of split) len_utf8 (chars text.now) in
-        IfOk result (λ count. count ≡ length rows) }
+    ensures fault { let found = analysis_by (D.source data_source.now) settings len_utf8 (chars text.now) in
+        IsUtf8 text.now → FaultsAs result (analysis_fault settings (length text.now) found out.old) }
+    ensures writes { WritesAnalysis (analysis_by (D.source data_source.now) settings len_utf8 (chars text.now))
+        result out.old out.new }
 {
     let text = StrText::new(utf8(text)?);
-    checked::analyse(
-        alloc,
-        data_source,
-        text,
-        base,
-        split,
-        classes,
-        levels,
-        paragraphs,
-    )
+    checked::analyse(alloc, data_source, text, settings, out)
 }
 
 /// Returns the number of a text's base direction: 0 for left to right, 1 for right to left, 2 for mixed.
@@ -104,9 +76,8 @@ fn reorder(alloc: Global, text: &str, line: &KeptLine<'_>, out: &mut [u8]) -> Re
     requires sound { IsSound line.now }
     requires units { length text.now + line.now.start ≡ line.now.end }
     ensures fault { FaultsAs result (shown_fault len_utf8 encode_utf8 (chars text.now) text.now line.now (length out.old)) }
-    ensures kept { OnErr result (out.new ≡ out.old) }
-    ensures text { OnOk result (out.new ≡ written (reordered len_utf8 encode_utf8 (chars text.now) text.now line.now) out.old) }
-    ensures count { IfOk result (λ count. count ≡ length (reordered len_utf8 encode_utf8 (chars text.now) text.now line.now)) }
+    ensures writes { WritesList (reordered len_utf8 encode_utf8 (chars text.now) text.now line.now)
+        result out.old out.new }
 {
     let even = is_even_utf8(text, line.class_numbers(), line.level_numbers());
     check(even, Fault::UnevenCharacter)?;
@@ -123,19 +94,13 @@ pub fn reorder_line(
     line: &KeptLine<'_>,
     out: &mut [u8],
 ) -> Result<usize, Fault>
-    ensures not_utf8 { let told = option_or (line_fault line.now)
-        (option_or (text_fault text.now line.now (cuts_utf8 text.now line.now)) (Some Fault.NotUtf8)) in
-        ¬ (IsUtf8 (own_units text.now line.now)) → FaultsAs result told }
+    ensures not_utf8 { TellsNotUtf8 result text.now line.now }
     ensures fault { let units = own_units text.now line.now in
-        let told = option_or (line_fault line.now)
-        (option_or (text_fault text.now line.now (cuts_utf8 text.now line.now))
-        (shown_fault len_utf8 encode_utf8 (chars units) units line.now (length out.old))) in
+        let told = fault_of_line text.now line.now (cuts_utf8 text.now line.now)
+        (shown_fault len_utf8 encode_utf8 (chars units) units line.now (length out.old)) in
         IsUtf8 units → FaultsAs result told }
-    ensures kept { OnErr result (out.new ≡ out.old) }
-    ensures text { let units = own_units text.now line.now in
-        OnOk result (out.new ≡ written (reordered len_utf8 encode_utf8 (chars units) units line.now) out.old) }
-    ensures count { let units = own_units text.now line.now in
-        IfOk result (λ count. count ≡ length (reordered len_utf8 encode_utf8 (chars units) units line.now)) }
+    ensures writes { let units = own_units text.now line.now in
+        WritesList (reordered len_utf8 encode_utf8 (chars units) units line.now) result out.old out.new }
 {
     line.check()?;
     check_text(text, line)?;
@@ -150,18 +115,13 @@ pub fn line_map(
     line: &KeptLine<'_>,
     out: &mut [usize],
 ) -> Result<usize, Fault>
-    ensures not_utf8 { let told = option_or (line_fault line.now)
-        (option_or (text_fault text.now line.now (cuts_utf8 text.now line.now)) (Some Fault.NotUtf8)) in
-        ¬ (IsUtf8 (own_units text.now line.now)) → FaultsAs result told }
+    ensures not_utf8 { TellsNotUtf8 result text.now line.now }
     ensures fault { let units = own_units text.now line.now in
-        let told = option_or (line_fault line.now)
-        (option_or (text_fault text.now line.now (cuts_utf8 text.now line.now))
-        (map_fault len_utf8 (chars units) line.now (length out.old))) in
+        let told = fault_of_line text.now line.now (cuts_utf8 text.now line.now)
+        (map_fault len_utf8 (chars units) line.now (length out.old)) in
         IsUtf8 units → FaultsAs result told }
-    ensures kept { OnErr result (out.new ≡ out.old) }
-    ensures order { OnOk result (out.new
-        ≡ written (order_of_line len_utf8 (chars (own_units text.now line.now)) line.now) out.old) }
-    ensures count { IfOk result (λ count. count ≡ length (order_of_line len_utf8 (chars (own_units text.now line.now)) line.now)) }
+    ensures writes { let units = own_units text.now line.now in
+        WritesList (order_of_line len_utf8 (chars units) line.now) result out.old out.new }
 {
     line.check()?;
     check_text(text, line)?;
@@ -174,64 +134,41 @@ fn show(
     alloc: Global,
     text: &str,
     line: &KeptLine<'_>,
-    levels: &mut [u8],
-    runs: &mut [Run],
-    order: &mut [usize],
-    out: &mut [u8],
-    characters: &mut usize,
+    out: &mut LineBuffers<'_, u8>,
 ) -> Result<usize, Fault>
     requires sound { IsSound line.now }
     requires units { length text.now + line.now.start ≡ line.now.end }
-    ensures fault { FaultsAs result (everything_fault len_utf8 encode_utf8 (chars text.now) text.now line.now
-        (buffers levels.old runs.old order.old out.old)) }
-    ensures kept { OnErr result
-        (IsKept (buffers levels.old runs.old order.old out.old) (buffers levels.new runs.new order.new out.new)
-        × (characters.new ≡ characters.old)) }
-    ensures shown { OnOk result (IsWritten (everything len_utf8 encode_utf8 (chars text.now) text.now line.now)
-        (buffers levels.old runs.old order.old out.old) (buffers levels.new runs.new order.new out.new)) }
-    ensures characters { OnOk result (characters.new ≡ length (order_of_line len_utf8 (chars text.now) line.now)) }
-    ensures count { IfOk result (λ count. count ≡ length (run_rows line.now)) }
+    ensures fault { FaultsAs result (everything_fault len_utf8 encode_utf8 (chars text.now) text.now
+        line.now out.old) }
+    ensures writes { WritesLine (everything len_utf8 encode_utf8 (chars text.now) text.now line.now)
+        result out.old out.new }
 {
     let even = is_even_utf8(text, line.class_numbers(), line.level_numbers());
     check(even, Fault::UnevenCharacter)?;
     let own = StrText::new(text);
-    show_text(alloc, own, line, levels, runs, order, out, characters)
+    show_text(alloc, own, line, out)
 }
 
 /// Writes all about a line: its levels after L1, its visual runs, its character order, and its text (L2).
 ///
-/// Writes each part to its buffer, unless that buffer is empty. Also writes the number of the line's characters to
-/// `characters`, and returns the number of its runs. Writes nothing after a fault.
+/// Writes each part to its buffer, unless that buffer is empty. Also writes the number of the line's characters, and
+/// returns the number of its runs. Writes nothing after a fault.
 pub fn show_line(
     alloc: Global,
     text: &[u8],
     line: &KeptLine<'_>,
-    levels: &mut [u8],
-    runs: &mut [Run],
-    order: &mut [usize],
-    out: &mut [u8],
-    characters: &mut usize,
+    out: &mut LineBuffers<'_, u8>,
 ) -> Result<usize, Fault>
-    ensures not_utf8 { let told = option_or (line_fault line.now)
-        (option_or (text_fault text.now line.now (cuts_utf8 text.now line.now)) (Some Fault.NotUtf8)) in
-        ¬ (IsUtf8 (own_units text.now line.now)) → FaultsAs result told }
+    ensures not_utf8 { TellsNotUtf8 result text.now line.now }
     ensures fault { let units = own_units text.now line.now in
-        let told = option_or (line_fault line.now)
-        (option_or (text_fault text.now line.now (cuts_utf8 text.now line.now))
-        (everything_fault len_utf8 encode_utf8 (chars units) units line.now (buffers levels.old runs.old order.old out.old))) in
+        let told = fault_of_line text.now line.now (cuts_utf8 text.now line.now)
+        (everything_fault len_utf8 encode_utf8 (chars units) units line.now out.old) in
         IsUtf8 units → FaultsAs result told }
-    ensures kept { OnErr result
-        (IsKept (buffers levels.old runs.old order.old out.old) (buffers levels.new runs.new order.new out.new)
-        × (characters.new ≡ characters.old)) }
-    ensures shown { let units = own_units text.now line.now in
-        OnOk result (IsWritten (everything len_utf8 encode_utf8 (chars units) units line.now)
-        (buffers levels.old runs.old order.old out.old) (buffers levels.new runs.new order.new out.new)) }
-    ensures characters { OnOk result (characters.new
-        ≡ length (order_of_line len_utf8 (chars (own_units text.now line.now)) line.now)) }
-    ensures count { IfOk result (λ count. count ≡ length (run_rows line.now)) }
+    ensures writes { let units = own_units text.now line.now in
+        WritesLine (everything len_utf8 encode_utf8 (chars units) units line.now) result out.old out.new }
 {
     line.check()?;
     check_text(text, line)?;
     let own = utf8(&text[line.start..line.end])?;
-    show(alloc, own, line, levels, runs, order, out, characters)
+    show(alloc, own, line, out)
 }

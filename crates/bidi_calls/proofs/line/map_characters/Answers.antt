@@ -1,4 +1,4 @@
-use Rattle.bidi_base.proofs.Common.{refl, ap, sym, ◌∙◌, arith, length, per_char, visual_order}
+use Rattle.bidi_base.proofs.Common.{rules, refl, ap, sym, ◌∙◌, arith, length, per_char, visual_order}
 use Rattle.bidi_calls.proofs.KeptLines.{length-visual_order}
 use Rattle.bidi_calls.specs.Lines.{shown_levels}
 use Rattle.bidi_calls.specs.Shown.{order_of_line}
@@ -18,16 +18,10 @@ returns-clause-fault g c =
     let long = ap length levels ∙ sym (length-visual_order (per_char 0 g.T.TextSource.units (g.T.TextSource.characters c.args.text) (shown_levels c.args.line.now))) in
     rw (← long) (grind arith)
 
-pub returns-clause-order : goal.returns-clause-order
+pub returns-clause-writes : goal.returns-clause-writes
 unfolding order_of_line
-returns-clause-order g c =
+returns-clause-writes g c =
     let levels = c.as_slice-levels.ensures ∙ c.keep_first_units.ensures ∙ ap (per_char 0 g.T.TextSource.units (g.T.TextSource.characters c.args.text)) c.in_ok-shown.ensures.levels in
     let long = ap length levels ∙ sym (length-visual_order (per_char 0 g.T.TextSource.units (g.T.TextSource.characters c.args.text) (shown_levels c.args.line.now))) in
     let order = c.write_visual_order.ensures.order ∙ ap visual_order levels in
-    rw (order, long) refl
-
-pub returns-clause-count : goal.returns-clause-count
-unfolding order_of_line
-returns-clause-count g c =
-    let levels = c.as_slice-levels.ensures ∙ c.keep_first_units.ensures ∙ ap (per_char 0 g.T.TextSource.units (g.T.TextSource.characters c.args.text)) c.in_ok-shown.ensures.levels in
-    ap length levels ∙ sym (length-visual_order (per_char 0 g.T.TextSource.units (g.T.TextSource.characters c.args.text) (shown_levels c.args.line.now)))
+    record { kept = search rules; list = rw (order, long) refl; count = long }

@@ -1,10 +1,9 @@
-use Rattle.bidi_base.proofs.Common.{◌≡◌, List, ℕ, map, length, sym, ap, ap₂, ◌∙◌, flat_map, length-map, arith, run_of, visual_runs, visual_order, subst, per_char, IsPerChar}
+use Rattle.bidi_base.proofs.Common.{rules, ◌≡◌, List, ℕ, map, length, sym, ap, ap₂, ◌∙◌, flat_map, length-map, arith, run_of, visual_runs, visual_order, subst, per_char, IsPerChar}
 use Rattle.bidi_text_lines.proofs.WrittenRuns.{ranges_at_boundaries}
 use Rattle.bidi_text_lines.specs.Written.{run_units, shown_units}
 use Rattle.bidi_calls.proofs.KeptText.{kept-runs, kept-even, length-shown}
 use Rattle.bidi_calls.proofs.ShownLine.{length-order, told-room}
 use Rattle.bidi_calls.proofs.ShownRuns.{length-rows}
-use Rattle.bidi_calls.specs.Everything.{buffers}
 use Rattle.bidi_calls.specs.Kept.{written_if_room}
 use Rattle.bidi_calls.specs.Lines.{shown_levels}
 use Rattle.bidi_calls.specs.Shown.{order_of_line}
@@ -21,7 +20,7 @@ returns-in_err-check-clause-fault g c =
     let count = length-rows l.start (shown_levels l) c.as_slice-count.result.now runs in
     let text = shown_units len g.T.LineText.encode cs (g.T.LineText.units_of c.args.text) 0 (shown_levels l) in
     let long = length-shown len g.met.T.TextSource.has_units cs l c.requires.sound c.requires.even c.requires.units g.T.LineText.encode (g.T.LineText.units_of c.args.text) c.requires.one_a_unit c.requires.encoded in
-    rw (told-room len cs l text (buffers c.args.levels.now c.args.runs.now c.args.order.now c.args.out.now) (length c.as_slice-units.result.now) (length c.as_slice-count.result.now) c.count_characters-len.result c.have_room-fits.result
+    rw (told-room len cs l text c.args.out.now (length c.as_slice-units.result.now) (length c.as_slice-count.result.now) c.count_characters-len.result c.have_room-fits.result
     (ap length (sym levels)) count (long ∙ ap length (sym levels)) c.count_characters-len.ensures c.have_room-fits.ensures)
     (grind arith)
 
@@ -55,35 +54,30 @@ returns-clause-fault g c =
     let count = length-rows l.start (shown_levels l) c.as_slice-count.result.now runs in
     let text = shown_units len g.T.LineText.encode cs (g.T.LineText.units_of c.args.text) 0 (shown_levels l) in
     let long = length-shown len g.met.T.TextSource.has_units cs l c.requires.sound c.requires.even c.requires.units g.T.LineText.encode (g.T.LineText.units_of c.args.text) c.requires.one_a_unit c.requires.encoded in
-    rw (told-room len cs l text (buffers c.args.levels.now c.args.runs.now c.args.order.now c.args.out.now) (length c.as_slice-units.result.now) (length c.as_slice-count.result.now) c.count_characters-len.result c.have_room-fits.result
+    rw (told-room len cs l text c.args.out.now (length c.as_slice-units.result.now) (length c.as_slice-count.result.now) c.count_characters-len.result c.have_room-fits.result
     (ap length (sym levels)) count (long ∙ ap length (sym levels)) c.count_characters-len.ensures c.have_room-fits.ensures)
     (grind arith)
 
-pub returns-clause-shown : goal.returns-clause-shown
+pub returns-clause-writes : goal.returns-clause-writes
 unfolding order_of_line
-returns-clause-shown g c =
+returns-clause-writes g c =
     let len = g.T.TextSource.units in
     let cs : List ℕ = g.T.TextSource.characters c.args.text in
     let l = c.args.line.now in
     let order = ap (per_char 0 len cs) c.in_ok-shown.ensures.levels in
     let runs = c.as_slice-6.ensures ∙ c.in_ok-find.ensures.runs ∙ ap (visual_runs 0) (c.as_slice.ensures ∙ c.in_ok-shown.ensures.levels) in
     let shown = c.in_ok-shown.ensures.levels in
+    let found = c.as_slice-count.ensures ∙ c.in_ok-find.ensures.runs ∙ ap (visual_runs 0) (c.as_slice.ensures ∙ shown) in
     record {
-      levels = c.put_levels.ensures ∙ ap (λ xs. written_if_room xs c.args.levels.now) (c.as_slice-2.ensures ∙ shown);
-      runs = c.put_runs.ensures ∙ ap (λ xs. written_if_room (map (run_row l.start xs) (visual_runs l.start xs)) c.args.runs.now) (c.as_slice-3.ensures ∙ shown);
-      order = c.put_order_of.ensures ∙ ap (λ xs. written_if_room (visual_order xs) c.args.order.now) order;
-      text = c.put_text.ensures
-          ∙ ap₂ (λ xs rs. written_if_room (flat_map (run_units len g.T.LineText.encode cs (g.T.LineText.units_of c.args.text) 0 xs) rs) c.args.out.now) (c.as_slice-5.ensures ∙ shown) runs;
+      kept = search rules;
+      shown = record {
+        levels = c.put_levels.ensures ∙ ap (λ xs. written_if_room xs c.args.out.now.levels.now) (c.as_slice-2.ensures ∙ shown);
+        runs = c.put_runs.ensures ∙ ap (λ xs. written_if_room (map (run_row l.start xs) (visual_runs l.start xs)) c.args.out.now.runs.now) (c.as_slice-3.ensures ∙ shown);
+        order = c.put_order_of.ensures ∙ ap (λ xs. written_if_room (visual_order xs) c.args.out.now.order.now) order;
+        text = c.put_text.ensures
+            ∙ ap₂ (λ xs rs. written_if_room (flat_map (run_units len g.T.LineText.encode cs (g.T.LineText.units_of c.args.text) 0 xs) rs) c.args.out.now.text.now) (c.as_slice-5.ensures ∙ shown) runs;
+        characters = c.count_characters-len.ensures ∙ sym (length-order len cs l);
+      };
+      count = sym (length-rows l.start (shown_levels l) c.as_slice-count.result.now found);
+      buffers = search rules;
     }
-
-pub returns-clause-characters : goal.returns-clause-characters
-returns-clause-characters g c = c.count_characters-len.ensures ∙ sym (length-order g.T.TextSource.units (g.T.TextSource.characters c.args.text) c.args.line.now)
-
-pub returns-clause-count : goal.returns-clause-count
-returns-clause-count g c =
-    let len = g.T.TextSource.units in
-    let cs : List ℕ = g.T.TextSource.characters c.args.text in
-    let l = c.args.line.now in
-    let runs = c.as_slice-count.ensures ∙ c.in_ok-find.ensures.runs ∙ ap (visual_runs 0) (c.as_slice.ensures ∙ c.in_ok-shown.ensures.levels) in
-    let count = length-rows l.start (shown_levels l) c.as_slice-count.result.now runs in
-    sym count

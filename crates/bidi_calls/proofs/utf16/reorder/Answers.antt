@@ -1,4 +1,4 @@
-use Rattle.bidi_base.proofs.Common.{◌≡◌, ◌+◌, true, false, sym, refl, ap, ◌∙◌, arith, nat_tests, ℕ, length, length-take-le, utf16_text, utf16_len}
+use Rattle.bidi_base.proofs.Common.{rules, ◌≡◌, ◌+◌, true, false, sym, refl, ap, ◌∙◌, arith, nat_tests, ℕ, length, length-take-le, utf16_text, utf16_len}
 use Rattle.std.specs.Char.Escape.{encode_utf16}
 use Rattle.bidi_text.proofs.Utf16Lemmas.{has_units, text_len-utf16}
 use Rattle.bidi_calls.proofs.KeptText.{kept-text, length-kept, told-uneven, told-room}
@@ -45,19 +45,12 @@ returns-clause-fault c =
     let units = ap (λ n. n + c.args.line.now.start) long ∙ c.requires.units in
     rw (told-room utf16_len encode_utf16 (utf16_text c.args.text.now) c.args.text.now c.args.line.now (length c.args.out.now) (length c.args.text.now) holds (length-kept utf16_len has_units (utf16_text c.args.text.now) c.args.line.now c.requires.sound holds units encode_utf16 c.args.text.now (sym long) length-encode)) (grind arith)
 
-pub returns-clause-text : goal.returns-clause-text
-returns-clause-text c =
+pub returns-clause-writes : goal.returns-clause-writes
+returns-clause-writes c =
     let even = rw (c.class_numbers.ensures, c.level_numbers.ensures) at c.is_even_utf16-even.ensures in
     let holds : is_even utf16_len (utf16_text c.args.text.now) c.args.line.now ≡ true = grind arith in
     let long = text_len-utf16 c.args.text.now in
     let units = ap (λ n. n + c.args.line.now.start) long ∙ c.requires.units in
     let text = (rw c.new.ensures at c.in_ok-write_text.ensures.text) ∙ kept-text utf16_len has_units (utf16_text c.args.text.now) c.args.line.now c.requires.sound holds units encode_utf16 c.args.text.now (sym long) in
-    rw (text, length-kept utf16_len has_units (utf16_text c.args.text.now) c.args.line.now c.requires.sound holds units encode_utf16 c.args.text.now (sym long) length-encode) refl
-
-pub returns-clause-count : goal.returns-clause-count
-returns-clause-count c =
-    let even = rw (c.class_numbers.ensures, c.level_numbers.ensures) at c.is_even_utf16-even.ensures in
-    let holds : is_even utf16_len (utf16_text c.args.text.now) c.args.line.now ≡ true = grind arith in
-    let long = text_len-utf16 c.args.text.now in
-    let units = ap (λ n. n + c.args.line.now.start) long ∙ c.requires.units in
-    sym (length-kept utf16_len has_units (utf16_text c.args.text.now) c.args.line.now c.requires.sound holds units encode_utf16 c.args.text.now (sym long) length-encode)
+    let count = length-kept utf16_len has_units (utf16_text c.args.text.now) c.args.line.now c.requires.sound holds units encode_utf16 c.args.text.now (sym long) length-encode in
+    record { kept = search rules; list = rw (text, count) refl; count = sym count }

@@ -3,7 +3,6 @@ use Rattle.std.specs.Char.Escape.{encode_utf16}
 use Rattle.bidi_text.proofs.Utf16Lemmas.{has_units, text_len-utf16}
 use Rattle.bidi_calls.proofs.KeptText.{kept-text}
 use Rattle.bidi_calls.proofs.ShownLine.{told-even}
-use Rattle.bidi_calls.specs.Everything.{buffers}
 use Rattle.bidi_calls.specs.Shown.{is_even}
 use Rattle.bidi_calls.proofs.utf16.show.Goals as goal
 
@@ -21,13 +20,13 @@ returns-clause-fault c =
     let units = ap (λ n. n + c.args.line.now.start) long ∙ c.requires.units in
     let text = kept-text utf16_len has_units (utf16_text c.args.text.now) c.args.line.now c.requires.sound holds units encode_utf16 c.args.text.now (sym long) in
     let found = rw (c.new-own.ensures, text) at c.show_text.ensures.fault in
-    rw (told-even utf16_len encode_utf16 (utf16_text c.args.text.now) c.args.text.now c.args.line.now (buffers c.args.levels.now c.args.runs.now c.args.order.now c.args.out.now) holds) found
+    rw (told-even utf16_len encode_utf16 (utf16_text c.args.text.now) c.args.text.now c.args.line.now c.args.out.now holds) found
 
-pub returns-clause-shown : goal.returns-clause-shown
-returns-clause-shown c =
+pub returns-clause-writes : goal.returns-clause-writes
+returns-clause-writes c =
     let even = rw (c.class_numbers.ensures, c.level_numbers.ensures) at c.is_even_utf16-even.ensures in
     let holds : is_even utf16_len (utf16_text c.args.text.now) c.args.line.now ≡ true = grind arith in
     let long = text_len-utf16 c.args.text.now in
     let units = ap (λ n. n + c.args.line.now.start) long ∙ c.requires.units in
     let text = kept-text utf16_len has_units (utf16_text c.args.text.now) c.args.line.now c.requires.sound holds units encode_utf16 c.args.text.now (sym long) in
-    rw (c.new-own.ensures, text) at c.show_text.ensures.shown
+    rw (c.new-own.ensures, text) at c.show_text.ensures.writes

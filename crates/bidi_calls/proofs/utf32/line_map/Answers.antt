@@ -1,4 +1,4 @@
-use Rattle.bidi_base.proofs.Common.{◌≡◌, arith, length}
+use Rattle.bidi_base.proofs.Common.{rules, ◌≡◌, arith, length}
 use Rattle.bidi_calls.proofs.OneUnit.{order_of_line-one_unit, length-order_of_line, length-own_units}
 use Rattle.bidi_calls.specs.Shown.{own_units}
 use Rattle.bidi_calls.proofs.utf32.line_map.Goals as goal
@@ -9,14 +9,12 @@ returns-clause-fault c =
     let sound = c.in_ok-check.ensures.sound in
     rw (length-order_of_line (own_units c.args.text.now c.args.line.now) c.args.line.now sound (length-own_units c.args.text.now c.args.line.now sound same)) (grind arith)
 
-pub returns-clause-order : goal.returns-clause-order
-returns-clause-order c =
+pub returns-clause-writes : goal.returns-clause-writes
+returns-clause-writes c =
     let same : length c.args.text.now ≡ length c.args.line.now.levels.now = grind arith in
     let sound = c.in_ok-check.ensures.sound in
-    rw (order_of_line-one_unit (own_units c.args.text.now c.args.line.now) c.args.line.now sound (length-own_units c.args.text.now c.args.line.now sound same)) c.order_units.ensures.order
-
-pub returns-clause-count : goal.returns-clause-count
-returns-clause-count c =
-    let same : length c.args.text.now ≡ length c.args.line.now.levels.now = grind arith in
-    let sound = c.in_ok-check.ensures.sound in
-    rw (length-order_of_line (own_units c.args.text.now c.args.line.now) c.args.line.now sound (length-own_units c.args.text.now c.args.line.now sound same)) c.order_units.ensures.count
+    record {
+      kept = search rules;
+      list = rw (order_of_line-one_unit (own_units c.args.text.now c.args.line.now) c.args.line.now sound (length-own_units c.args.text.now c.args.line.now sound same)) c.order_units.ensures.order;
+      count = rw (length-order_of_line (own_units c.args.text.now c.args.line.now) c.args.line.now sound (length-own_units c.args.text.now c.args.line.now sound same)) c.order_units.ensures.count;
+    }

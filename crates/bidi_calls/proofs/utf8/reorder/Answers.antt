@@ -1,4 +1,4 @@
-use Rattle.bidi_base.proofs.Common.{◌≡◌, ◌+◌, true, false, sym, refl, ap, ◌∙◌, arith, length, length-take-le, chars}
+use Rattle.bidi_base.proofs.Common.{rules, ◌≡◌, ◌+◌, true, false, sym, refl, ap, ◌∙◌, arith, length, length-take-le, chars}
 use Rattle.std.specs.Char.{encode_utf8, len_utf8}
 use Rattle.std.proofs.lemmas.Str.{length-encode}
 use Rattle.bidi_text.proofs.StrLemmas.{has_units, text_len-chars}
@@ -42,19 +42,12 @@ returns-clause-fault c =
     let units = ap (λ n. n + c.args.line.now.start) long ∙ c.requires.units in
     rw (told-room len_utf8 encode_utf8 (chars c.args.text.now) c.args.text.now c.args.line.now (length c.args.out.now) (length c.args.text.now) holds (length-kept len_utf8 has_units (chars c.args.text.now) c.args.line.now c.requires.sound holds units encode_utf8 c.args.text.now (sym long) length-encode)) (grind arith)
 
-pub returns-clause-text : goal.returns-clause-text
-returns-clause-text c =
+pub returns-clause-writes : goal.returns-clause-writes
+returns-clause-writes c =
     let even = rw (c.class_numbers.ensures, c.level_numbers.ensures) at c.is_even_utf8-even.ensures in
     let holds : is_even len_utf8 (chars c.args.text.now) c.args.line.now ≡ true = grind arith in
     let long = text_len-chars c.args.text.now c.utf8.text in
     let units = ap (λ n. n + c.args.line.now.start) long ∙ c.requires.units in
     let text = (rw c.new.ensures at c.in_ok-write_text.ensures.text) ∙ kept-text len_utf8 has_units (chars c.args.text.now) c.args.line.now c.requires.sound holds units encode_utf8 c.args.text.now (sym long) in
-    rw (text, length-kept len_utf8 has_units (chars c.args.text.now) c.args.line.now c.requires.sound holds units encode_utf8 c.args.text.now (sym long) length-encode) refl
-
-pub returns-clause-count : goal.returns-clause-count
-returns-clause-count c =
-    let even = rw (c.class_numbers.ensures, c.level_numbers.ensures) at c.is_even_utf8-even.ensures in
-    let holds : is_even len_utf8 (chars c.args.text.now) c.args.line.now ≡ true = grind arith in
-    let long = text_len-chars c.args.text.now c.utf8.text in
-    let units = ap (λ n. n + c.args.line.now.start) long ∙ c.requires.units in
-    sym (length-kept len_utf8 has_units (chars c.args.text.now) c.args.line.now c.requires.sound holds units encode_utf8 c.args.text.now (sym long) length-encode)
+    let count = length-kept len_utf8 has_units (chars c.args.text.now) c.args.line.now c.requires.sound holds units encode_utf8 c.args.text.now (sym long) length-encode in
+    record { kept = search rules; list = rw (text, count) refl; count = sym count }

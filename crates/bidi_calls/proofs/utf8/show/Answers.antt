@@ -4,7 +4,6 @@ use Rattle.std.proofs.lemmas.Str.{length-encode}
 use Rattle.bidi_text.proofs.StrLemmas.{has_units, text_len-chars}
 use Rattle.bidi_calls.proofs.KeptText.{kept-text}
 use Rattle.bidi_calls.proofs.ShownLine.{told-even}
-use Rattle.bidi_calls.specs.Everything.{buffers}
 use Rattle.bidi_calls.specs.Shown.{is_even}
 use Rattle.bidi_calls.proofs.utf8.show.Goals as goal
 
@@ -25,13 +24,13 @@ returns-clause-fault c =
     let units = ap (λ n. n + c.args.line.now.start) long ∙ c.requires.units in
     let text = kept-text len_utf8 has_units (chars c.args.text.now) c.args.line.now c.requires.sound holds units encode_utf8 c.args.text.now (sym long) in
     let found = rw (c.new-own.ensures, text) at c.show_text.ensures.fault in
-    rw (told-even len_utf8 encode_utf8 (chars c.args.text.now) c.args.text.now c.args.line.now (buffers c.args.levels.now c.args.runs.now c.args.order.now c.args.out.now) holds) found
+    rw (told-even len_utf8 encode_utf8 (chars c.args.text.now) c.args.text.now c.args.line.now c.args.out.now holds) found
 
-pub returns-clause-shown : goal.returns-clause-shown
-returns-clause-shown c =
+pub returns-clause-writes : goal.returns-clause-writes
+returns-clause-writes c =
     let even = rw (c.class_numbers.ensures, c.level_numbers.ensures) at c.is_even_utf8-even.ensures in
     let holds : is_even len_utf8 (chars c.args.text.now) c.args.line.now ≡ true = grind arith in
     let long = text_len-chars c.args.text.now c.utf8.text in
     let units = ap (λ n. n + c.args.line.now.start) long ∙ c.requires.units in
     let text = kept-text len_utf8 has_units (chars c.args.text.now) c.args.line.now c.requires.sound holds units encode_utf8 c.args.text.now (sym long) in
-    rw (c.new-own.ensures, text) at c.show_text.ensures.shown
+    rw (c.new-own.ensures, text) at c.show_text.ensures.writes
