@@ -1,5 +1,5 @@
--- What the passes in place establish: the explicit pass over the units of a paragraph, and the weak and neutral
--- passes over those of a sequence.
+-- What the passes in place require and establish: the explicit pass over the units of a paragraph, and the weak and
+-- neutral passes over those of a sequence.
 use Rattle.std.specs.Prelude.{◌≡◌, ℕ, ◌≤◌, false, List, [], length, map, IsTrue}
 use Rattle.std.specs.List.{list_all}
 use Rattle.bidi_base.specs.contracts.char_data.BidiClassPartialEq.TheImpl.{ghosts as class_test}
@@ -18,8 +18,8 @@ use Rattle.bidi_base.specs.Weak.{weak_classes}
 
 -- ---- one paragraph
 
--- its stored classes are alike within each character, there is a level for each unit, the classes to rewrite are a
--- copy, and no run is known yet
+-- the paragraph level is at most 125, the units of each character have one stored class, there is a level for each unit,
+-- the classes to rewrite are a copy of the stored ones, and there are no runs yet
 pub record CanFindExplicitLevels (len_of : ℕ → ℕ) (chars : List ℕ) (paragraph : ℕ) (stored_units : List BidiClass)
     (level_units : List ℕ) (class_units : List BidiClass) (found : List (ℕ × ℕ)) : Type 0 where
   pub explicit : paragraph ≤ 125
@@ -40,7 +40,7 @@ pub record AreExplicitLevels (len_of : ℕ → ℕ) (chars : List ℕ) (paragrap
 
 -- ---- one sequence
 
--- the classes of its characters
+-- the classes in `units` of the characters of a sequence; `old` says which of them X9 keeps
 abbrev pub classes_in : (ℕ → ℕ) → List ℕ → List (ℕ × ℕ) → List BidiClass → List BidiClass → List BidiClass
 classes_in len_of chars runs old units = at_places L units (map (place len_of chars) (kept_in_place len_of chars old runs))
 
@@ -57,7 +57,7 @@ pub record AreWeakTypesResolved (len_of : ℕ → ℕ) (chars : List ℕ) (runs 
   pub outside : (u : ℕ) → in_runs runs u ≡ false → class_at new u ≡ class_at old u
   pub per_char : IsTrue (is_per_char class_test.eq len_of chars new)
 
--- the same, and there are levels, stored classes, and the classes that W7 leaves
+-- what CanResolveWeakTypes says, a level and a stored class for each unit, and only classes that W7 leaves
 pub record CanResolveNeutrals (len_of : ℕ → ℕ) (chars : List ℕ) (runs : List (ℕ × ℕ)) (level_units : List ℕ)
     (stored_units old : List BidiClass) : Type 0 where
   pub per_char : IsTrue (is_per_char class_test.eq len_of chars old)

@@ -1,5 +1,5 @@
 //! Where the lines of bytes end.
-ghost use Rattle.std.specs.Prelude.{◌≡◌, ◌+◌, ◌<◌, ◌≤◌, ◌∷◌, ◌++◌, true, List, ℕ, length, take, drop, slice_index};
+ghost use Rattle.std.specs.Prelude.{◌≡◌, ◌+◌, ◌<◌, ◌≤◌, ◌∷◌, ◌++◌, true, false, List, ℕ, length, take, drop, slice_index};
 ghost use Rattle.bidi_bytes.specs.Decoded.{utf8_decoded, utf8_fault, fault_from};
 ghost use Rattle.bidi_bytes.specs.FileLines.{is_break, break_end, file_lines_of};
 
@@ -53,6 +53,7 @@ pub fn whole_lines_len(bytes: &[u8]) -> usize
         ≡ file_lines_of (utf8_decoded (take result bytes.now)) ++ file_lines_of (utf8_decoded (drop result bytes.now ++ more)) }
     ensures fault { (more : List ℕ) → utf8_fault (bytes.now ++ more)
         ≡ fault_from (utf8_fault (take result bytes.now)) result (drop result bytes.now ++ more) }
+    ensures last { (k : ℕ) → result ≤ k → k + 1 < length bytes.now → is_break (slice_index bytes.now k) ≡ false }
 {
     let Some((_, front)) = bytes.split_last() else {
         return 0;

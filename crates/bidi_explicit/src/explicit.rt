@@ -16,7 +16,7 @@ mod units;
 use bidi_base::char_data::BidiClass;
 use bidi_base::classes::is_removed;
 use bidi_base::level::Level;
-use bidi_runs::prepare::{LevelRunVec, Steps, not_removed_by_x9};
+use bidi_runs::prepare::{LevelRunVec, Steps};
 use bidi_text::text::TextSource;
 use status::StatusStack;
 use std::alloc::{AllocError, Global};

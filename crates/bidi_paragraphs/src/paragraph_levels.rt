@@ -8,7 +8,7 @@ ghost use Rattle.bidi_base.specs.Isolates.{stored_classes};
 ghost use Rattle.bidi_base.specs.Sequences.{is_kept_at, sequences};
 ghost use Rattle.bidi_base.specs.Stored.{AreResolved, levels_in};
 ghost use Rattle.bidi_base.specs.Text.{text_len, is_per_char, per_unit, per_char};
-ghost use Rattle.bidi_base.specs.Units.{bounds, AreLines};
+ghost use Rattle.bidi_base.specs.Units.{AreLines};
 ghost use Rattle.bidi_runs.specs.Links.{linked_runs, linked_sequences, sequences_of, AreLinked};
 ghost use Rattle.bidi_walk.specs.ParagraphFlags.{flags_of};
 
@@ -57,7 +57,7 @@ pub struct ClassifiedParagraph<'a, D: BidiDataSource, T: TextSource> {
 pub struct LevelResolver {
     /// The class of each code unit, as far as the passes have resolved it.
     classes: SmallVec<BidiClass, FEW_UNITS>,
-    /// The level runs. Those of the sequence at hand stand after them if there are several.
+    /// The level runs, and then a copy of the runs of the current sequence if it has several.
     runs: LevelRunVec,
     /// The isolating run sequences, as links between the level runs.
     links: RunLinks,

@@ -114,12 +114,12 @@ pub record IsMet (source : Source) (len_of : ℕ → ℕ) (minded : ClassSet) (c
   pub class : met.class ≡ source.class_of met.c
   pub written : AreWritten source len_of (read ++ met.c ∷ []) from (met.start + len_of met.c) old new
 
--- what a reader of a text asks of the index at which it begins, and of the classes that it writes to
+-- what a reader of a text requires of the index at which it begins, and of the classes that it writes to
 pub record CanReadOn (len_of : ℕ → ℕ) (chars : List ℕ) (from : ℕ) (classes : List BidiClass) : Type 0 where
   pub sized : length classes ≡ text_len len_of chars
   pub begins : IsTrue (is_boundary len_of chars from)
 
--- what it leaves: it has read up to a character whose class is minded, or else up to `to`
+-- what it leaves: it has read up to a character whose class is minded, which it returns, or else up to `to`
 abbrev pub IsReadOn : Source → (ℕ → ℕ) → List ℕ → ClassSet → ℕ → Option Met → ℕ → List BidiClass → List BidiClass → Type 0
 IsReadOn source len_of chars minded from result to old new =
     MatchOption result (IsSkimmed source len_of minded (ahead len_of chars from) from to old new)

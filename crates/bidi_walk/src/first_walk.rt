@@ -1,10 +1,10 @@
 //! A single pass over a text. It finds the class of each character, resolves each FSI (X5c), and finds the
 //! paragraphs (P1) and their levels (P2, P3).
-ghost use Rattle.std.specs.Prelude.{◌≡◌, ℕ, ◌<◌, ◌≤◌, true, false, [], length, drop, OnOk, IfOk, MatchOption, IsTrue, All};
+ghost use Rattle.std.specs.Prelude.{◌≡◌, ℕ, ◌<◌, ◌≤◌, true, false, [], length, drop, OnOk, IfOk, All};
 ghost use Rattle.bidi_base.specs.declared.char_data.BidiClass.{BidiClass};
 ghost use Rattle.bidi_base.specs.Paragraphs.{begins_with_line_feed, ranges_from};
 ghost use Rattle.bidi_base.specs.Stored.{text_classes, paragraph_levels};
-ghost use Rattle.bidi_base.specs.Text.{place as place_of, text_len, per_unit, is_boundary as is_boundary_of};
+ghost use Rattle.bidi_base.specs.Text.{place as place_of, text_len, per_unit};
 ghost use Rattle.bidi_walk.specs.ClassSet.{has};
 ghost use Rattle.bidi_walk.specs.FirstWalk.{classes_after, minds, waiting, CanReadOn, IsClosed, IsFresh, IsReadBy, IsReadOn};
 ghost use Rattle.bidi_walk.specs.declared.first_walk.reading.Reading.{Reading};

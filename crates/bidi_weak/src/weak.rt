@@ -3,7 +3,6 @@
 ghost use Rattle.std.specs.Prelude.{◌≡◌, ℕ, ◌+◌, ◌-◌, ◌*◌, ◌<◌, ◌≤◌, false, List, length, map, IsTrue};
 ghost use Rattle.bidi_base.specs.Classes.{is_l_or_r};
 ghost use Rattle.bidi_base.specs.InPlace.{AreWeakTypesResolved, CanResolveWeakTypes};
-ghost use Rattle.bidi_base.specs.Places.{class_at};
 ghost use Rattle.bidi_base.specs.Text.{IsPerChar};
 ghost use Rattle.bidi_base.specs.Units.{bounds, are_ordered, chars_in_runs, units_in_runs, AreLines};
 ghost use Rattle.bidi_base.specs.Weak.{carried};

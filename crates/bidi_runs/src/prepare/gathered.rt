@@ -1,4 +1,4 @@
-//! An isolating run sequence by the place of its level runs in a list.
+//! An isolating run sequence, as indexes into a list of level runs.
 
 ghost use Rattle.std.specs.Prelude.{◌≡◌, ◌≤◌, length, IsTrue};
 ghost use Rattle.bidi_base.specs.Units.{is_run_sequence};
@@ -8,7 +8,7 @@ ghost use Rattle.bidi_runs.specs.RunSequence.{lent_joined};
 use super::{LentSequence, LevelRun};
 use bidi_base::char_data::BidiClass;
 
-/// Where the level runs of a sequence are in a list of runs, and the classes at both ends, each L or R.
+/// Where the level runs of a sequence are in a list of runs, and the classes at both ends.
 #[derive(Clone, Copy, Debug)]
 pub struct GatheredSequence {
     /// The index of the first run.
@@ -20,7 +20,7 @@ pub struct GatheredSequence {
 }
 
 impl GatheredSequence {
-    /// Creates a sequence of the runs at these indexes.
+    /// Creates the sequence of the runs from `start` up to, not including, `end`.
     pub(super) fn new(start: usize, end: usize, sos: BidiClass, eos: BidiClass) -> GatheredSequence
         ensures { result ≡ record { start = start; end = end; sos = sos; eos = eos } }
     {
@@ -32,7 +32,8 @@ impl GatheredSequence {
         }
     }
 
-    /// Borrows the sequence's runs from the list in which it was found.
+    /// Borrows the sequence's runs. `runs` must be the list in which [`RunLinks::gather`](super::RunLinks::gather)
+    /// found it. The next call of that replaces the runs of a sequence of several.
     pub fn lend(self, runs: &[LevelRun]) -> LentSequence<'_>
         requires ordered { self.start ≤ self.end }
         requires inside { self.end ≤ length runs.now }

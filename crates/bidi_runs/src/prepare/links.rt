@@ -185,15 +185,15 @@ impl RunLinks {
         }
     }
 
-    /// How many level runs were linked.
+    /// Returns the number of level runs that were linked.
     pub fn run_count(&self) -> usize
         ensures { result ≡ length self.now.next.items }
     {
         self.next.len()
     }
 
-    /// Copies the runs of a sequence to the end of the list of runs, in text order. `first` begins it. Returns
-    /// the index of its last run.
+    /// Replaces what follows the linked runs by a copy of the runs of the sequence that `first` begins, in text
+    /// order. Returns the index, among the linked runs, of its last run.
     fn copy_chain(&self, runs: &mut LevelRunVec, first: usize) -> Result<usize, AllocError>
         requires linked { AreLinked self.now (linked_runs self.now runs.old.items) }
         requires first { first < length self.now.next.items }
@@ -217,7 +217,7 @@ impl RunLinks {
     ///
     /// `runs` begins with the level runs that were linked. A sequence of one run is found among them. The runs
     /// of any other sequence are copied to the end of `runs`, in place of those of the sequence before. Only
-    /// then can the call allocate. If an allocation fails, returns an error, and `runs` begins as before.
+    /// then can the call allocate. If it succeeds, `runs` begins as before.
     pub fn gather(
         &self,
         runs: &mut LevelRunVec,
