@@ -1,16 +1,24 @@
 -- A character that the walk does not mind changes nothing.
-use Rattle.bidi_base.proofs.Common.{◌≡◌, ℕ, false, List, [], arith, Range, is_paragraph_separator}
+use Rattle.bidi_base.proofs.Common.{◌≡◌, ℕ, false, List, [], arith, Range, is_some, is_strong, is_initiator, is_pdi, true, is_paragraph_separator}
 use Rattle.bidi_base.specs.declared.char_data.BidiClass.{BidiClass}
-use Rattle.bidi_walk.specs.FirstWalk.{waiting, classes_after, minds, IsReadBy}
+use Rattle.bidi_walk.specs.FirstWalk.{waiting, classes_after, is_settled, minds}
 use Rattle.bidi_walk.specs.declared.first_walk.reading.Reading.{Reading}
-use Rattle.bidi_walk.proofs.ClassSets.{with-same}
 
 module _ (r : Reading) (c : BidiClass) (range : Range ℕ) (idle : minds r c ≡ false) (empty : r.depth ≡ 0 → r.undecided.items ≡ []) where
   pub idle-separator : is_paragraph_separator c ≡ false
   idle-separator = grind arith
 
-  pub idle-IsReadBy : IsReadBy c range r r
-  idle-IsReadBy = grind (arith, with-same)
-
   pub idle-classes : (classes : List BidiClass) → classes ≡ classes_after c (waiting r.depth r.undecided.items) classes
   idle-classes classes = grind arith
+
+-- an initiator on which nothing depends comes where the state is settled
+pub idle-initiator : (r : Reading) (c : BidiClass) → minds r c ≡ false → is_initiator c ≡ true → is_settled r ≡ true
+idle-initiator r c idle opens = grind arith
+
+-- a PDI on which nothing depends comes where no isolate is counted
+pub idle-pdi : (r : Reading) (c : BidiClass) → minds r c ≡ false → is_pdi c ≡ true → r.depth ≡ 0
+idle-pdi r c idle closes = grind arith
+
+-- a strong character on which nothing depends decides nothing
+pub idle-strong : (r : Reading) (c : BidiClass) → minds r c ≡ false → is_strong c ≡ true → is_some (waiting r.depth r.undecided.items) ≡ false
+idle-strong r c idle strong = grind arith

@@ -1,5 +1,5 @@
 -- What the walk over a text holds once n characters were read.
-use Rattle.bidi_base.proofs.Common.{◌≡◌, ℕ, ◌+◌, ◌<◌, ◌≤◌, true, false, List, [], ◌∷◌, ◌++◌, length, get_or, take, drop, map, Option, Some, None, option_map, refl, sym, ap, ◌∙◌, arith, ◌⊎◌, inl, inr, append_assoc, length-append, length-take, common_steps, All, is_none, Range, nil_from_length, map-append, length-map, take_more, take_all, drop_all, get_or-append-add, length-take-le, take-append-drop, sum_by-append, is_paragraph_separator, deciding_class, paragraph_level, stored_classes, class_at, ranges_from, innermost, met_units, Source, text_classes, paragraph_levels, char_at, place, text_len, per_unit}
+use Rattle.bidi_base.proofs.Common.{◌≡◌, ℕ, ◌+◌, ◌<◌, ◌≤◌, true, false, List, [], ◌∷◌, ◌++◌, length, get_or, take, drop, map, Option, Some, None, is_some, option_map, refl, sym, ap, ◌∙◌, arith, ◌-◌, ◌⊎◌, inl, inr, ◌&&◌, ◌==◌, if◌then◌else◌, is_initiator, is_strong, is_pdi, subst, cases_Bool, false_from_ne_true, All-nil, append_assoc, length-append, length-take, common_steps, All, is_none, Range, nil_from_length, map-append, length-map, take_more, take_all, drop_all, get_or-append-add, length-take-le, take-append-drop, sum_by-append, is_paragraph_separator, deciding_class, paragraph_level, stored_classes, class_at, ranges_from, innermost, met_units, Source, text_classes, paragraph_levels, char_at, place, text_len, per_unit}
 use Rattle.std.specs.Prelude.{replicate}
 use Rattle.std.proofs.lemmas.List.{append-nil}
 use Rattle.std.proofs.lemmas.List.Concat.{flat_map-append}
@@ -16,14 +16,84 @@ use Rattle.bidi_walk.specs.declared.first_walk.reading.Reading.{Reading}
 use Rattle.bidi_walk.specs.declared.first_walk.TextReading.{TextReading}
 use Rattle.bidi_walk.specs.declared.first_walk.reading.Undecided.{Undecided}
 use Rattle.bidi_walk.specs.declared.paragraph_info.ParagraphInfo.{ParagraphInfo}
-use Rattle.bidi_walk.specs.FirstWalk.{waiting, classes_after, IsFresh, IsReadBy, IsClosed}
+use Rattle.bidi_walk.specs.FirstWalk.{waiting, depth_after, undecided_after, deciding_after, classes_after, is_settled, minds, IsFresh, IsReadBy, IsSettledFrom, IsClosed}
 use Rattle.bidi_walk.specs.ParagraphInfo.{ranges_of, levels_of}
-use Rattle.bidi_walk.specs.ParagraphFlags.{flags_of, paragraph_flags}
+use Rattle.bidi_walk.specs.ParagraphFlags.{flags_of, paragraph_flags, with_class}
 use Rattle.bidi_walk.specs.SplitRule.{ends_by, ends_after, pieces_by}
 use Rattle.bidi_walk.specs.declared.split_rule.SplitRule.{SplitRule}
+use Rattle.bidi_walk.proofs.ClassSets.{with-same}
 use Rattle.bidi_walk.proofs.FlagsLemmas.{with_classes-push}
+use Rattle.bidi_walk.proofs.IdleClasses.{idle-classes, idle-initiator, idle-pdi, idle-strong}
 use Rattle.bidi_walk.proofs.PutUnits.{take-filled, filled-append}
-use Rattle.bidi_walk.proofs.Undecided.{undecided_from, waits_of, fsi_at, waiting-is, undecided-more, deciding-more, length-opened_by, open_initiators-few, All-undecided}
+use Rattle.bidi_walk.proofs.Undecided.{undecided_from, waits_of, fsi_at, waiting-is, undecided-more, deciding-more, length-opened_by, open_initiators-few, All-undecided, depths, deeper, undecided_after-deeper, classes_after-deeper, deciding_after-deeper, counted_after, none_counted, All-deeper}
+
+-- one more character was read, of this class and with these units: k isolates were not counted, and then `after`
+pub record IsCountedOn (class : BidiClass) (range : Range ℕ) (k after : ℕ) (old new : Reading) : Type 0 where
+  pub start : new.start ≡ old.start
+  pub decided : 0 < after → is_some new.deciding ≡ true
+  pub depth : new.depth + after ≡ depth_after class (old.depth + k)
+  pub undecided : map (deeper after) new.undecided.items ≡ undecided_after class range (old.depth + k) (map (deeper k) old.undecided.items)
+  pub counted : All (λ (u : Undecided). 0 < u.depth) new.undecided.items
+  pub deciding : new.deciding ≡ deciding_after class (old.depth + k) old.deciding
+  pub turns : new.flags ≡ with_class old.flags class
+
+-- how many isolates are not counted, of k, after a character that is read: a PDI closes the innermost isolate
+abbrev pub uncounted_after : BidiClass → ℕ → ℕ → ℕ
+uncounted_after class depth k = if is_pdi class && (depth == 0) then k - 1 else k
+
+-- and after one on which nothing depends
+abbrev pub uncounted_idle : BidiClass → ℕ → ℕ
+uncounted_idle class k = depth_after class k
+
+module _ (class : BidiClass) (range : Range ℕ) (k : ℕ) (old : Reading) where
+  pub IsCountedOn-read : (new : Reading) → (0 < k → is_some old.deciding ≡ true) → All (λ (u : Undecided). 0 < u.depth) old.undecided.items → (old.depth ≡ 0 → old.undecided.items ≡ [])
+      → IsReadBy class range old new → IsCountedOn class range k (uncounted_after class old.depth k) old new
+  IsCountedOn-read new decided counted empty read = record {
+    start = read.start;
+    decided = grind (arith, decided);
+    depth = grind (arith, common_steps);
+    undecided = grind (arith, undecided_after-deeper class range k old.depth old.undecided.items);
+    counted = rw read.undecided (counted_after class range old.depth old.undecided.items counted);
+    deciding = read.deciding ∙ sym (deciding_after-deeper class k old.depth old.deciding decided);
+    turns = read.turns;
+  }
+
+  pub IsCountedOn-idle : minds old class ≡ false → (0 < k → is_some old.deciding ≡ true) → All (λ (u : Undecided). 0 < u.depth) old.undecided.items → (old.depth ≡ 0 → old.undecided.items ≡ [])
+      → IsCountedOn class range k (uncounted_idle class k) old old
+  IsCountedOn-idle idle decided counted empty = record {
+    start = refl;
+    decided = grind arith;
+    depth = grind arith;
+    undecided = same_undecided old.undecided.items refl;
+    counted = counted;
+    deciding = grind (arith, deciding_after-deeper class k old.depth old.deciding decided);
+    turns = grind (arith, with-same);
+  }
+    where
+      -- if some isolate is undecided, all that come are counted
+      none_opens : (u : Undecided) (us : List Undecided) → u ∷ us ≡ old.undecided.items → is_initiator class ≡ false
+      none_opens u us e = false_from_ne_true (is_initiator class) (λ opens. let settled = idle-initiator old class idle opens in grind arith)
+
+      none_closes : (u : Undecided) (us : List Undecided) → u ∷ us ≡ old.undecided.items → is_pdi class ≡ false
+      none_closes u us e = false_from_ne_true (is_pdi class) (λ closes. absurd (cc (e, empty (idle-pdi old class idle closes))))
+
+      -- and no strong character decides any
+      none_decides : (u : Undecided) (us : List Undecided) → u ∷ us ≡ old.undecided.items → undecided_after class range old.depth (u ∷ us) ≡ u ∷ us
+      none_decides u us e =
+          let opens = none_opens u us e in
+          let closes = none_closes u us e in
+          elim (cases_Bool (is_strong class)) [
+            | inl strong ↦
+                let quiet : is_some (waiting old.depth (u ∷ us)) ≡ false = subst (λ vs. is_some (waiting old.depth vs) ≡ false) (sym e) (idle-strong old class idle strong) in
+                simp (opens, closes, strong, quiet)
+            | inr other ↦ simp (opens, closes, other)
+          ]
+
+      same_undecided : (us : List Undecided) → us ≡ old.undecided.items → map (deeper (uncounted_idle class k)) us ≡ undecided_after class range (old.depth + k) (map (deeper k) us)
+      same_undecided [] e = grind arith
+      same_undecided (u ∷ us) e =
+          let same : uncounted_idle class k ≡ k = simp (none_opens u us e, none_closes u us e) in
+          ap (λ j. map (deeper j) (u ∷ us)) same ∙ sym (undecided_after-deeper class range k old.depth (u ∷ us) ∙ ap (map (deeper k)) (none_decides u us e))
 
 -- what the walk has seen: the classes of the units, and the paragraphs that ended
 pub record Seen : Type 0 where
@@ -51,8 +121,13 @@ module _ (source : Source) (len_of : ℕ → ℕ) (chars : List ℕ) where
     pub levels : levels_of found.paragraphs ≡ paragraph_levels source base done
     pub flags : found.flags ≡ paragraph_flags source done
     pub start : reading.start ≡ text_len len_of (joined done)
-    pub depth : reading.depth ≡ length (open_initiators (classes_of current))
-    pub undecided : reading.undecided.items ≡ undecided_from (units_after done) 0 (stored_classes (classes_of current)) (open_initiators (classes_of current))
+    -- so many of the isolates that are open are not counted, once the paragraph's level is decided
+    pub uncounted : ℕ
+    pub decided : 0 < uncounted → is_some reading.deciding ≡ true
+    pub depth : reading.depth + uncounted ≡ length (open_initiators (classes_of current))
+    pub undecided : map (deeper uncounted) reading.undecided.items
+        ≡ undecided_from (units_after done) 0 (stored_classes (classes_of current)) (open_initiators (classes_of current))
+    pub counted : All (λ (u : Undecided). 0 < u.depth) reading.undecided.items
     pub deciding : reading.deciding ≡ deciding_class (classes_of current)
     pub turns : reading.flags ≡ flags_of (classes_of current)
 
@@ -64,6 +139,50 @@ module _ (source : Source) (len_of : ℕ → ℕ) (chars : List ℕ) where
     pub ranges : ranges_of found.paragraphs ≡ ranges_from len_of 0 done
     pub levels : levels_of found.paragraphs ≡ paragraph_levels source base done
     pub flags : found.flags ≡ paragraph_flags source done
+
+  -- the next paragraph begins
+  pub IsTextRead-fresh : (base : Option ℕ) (n : ℕ) (done : List (List ℕ)) (found : Seen) (reading : Reading) → IsTextDone base n done found → IsFresh reading (place len_of chars n) → IsTextRead base n done [] found reading
+  IsTextRead-fresh base n done found reading h fresh = record {
+    whole = grind (arith, h.whole, append-nil);
+    sized = h.sized;
+    classes = grind (arith, h.classes, append-nil, stored_classes-nil);
+    ranges = h.ranges;
+    levels = h.levels;
+    flags = h.flags;
+    start = fresh.here ∙ ap (text_len len_of) (sym h.whole);
+    uncounted = 0;
+    decided = λ some. absurd (omega (arith, some));
+    depth = grind (arith, fresh.depth);
+    undecided = simp fresh.undecided refl;
+    counted = rw fresh.undecided (All-nil (λ (u : Undecided). 0 < u.depth));
+    deciding = fresh.deciding ∙ sym deciding_class-nil;
+    turns = fresh.turns;
+  }
+
+  -- the isolates that are open are not counted any more
+  pub IsTextRead-settle : (base : Option ℕ) (n : ℕ) (done : List (List ℕ)) (current : List ℕ) (found : Seen) (reading new : Reading) → IsTextRead base n done current found reading → IsSettledFrom reading new → IsTextRead base n done current found new
+  IsTextRead-settle base n done current found reading new h less = record {
+    whole = h.whole;
+    sized = h.sized;
+    classes = h.classes;
+    ranges = h.ranges;
+    levels = h.levels;
+    flags = h.flags;
+    start = less.start ∙ h.start;
+    uncounted = if is_settled reading then reading.depth + h.uncounted else h.uncounted;
+    decided = grind (arith, h.decided);
+    depth = grind (arith, h.depth);
+    undecided = simp less.undecided (same_undecided (reading.undecided.items) refl);
+    counted = rw less.undecided h.counted;
+    deciding = less.deciding ∙ h.deciding;
+    turns = less.turns ∙ h.turns;
+  }
+    where
+      -- there is none, if it is settled
+      same_undecided : (us : List Undecided) → us ≡ reading.undecided.items
+          → map (deeper (if is_settled reading then reading.depth + h.uncounted else h.uncounted)) us ≡ undecided_from (units_after done) 0 (stored_classes (classes_of current)) (open_initiators (classes_of current))
+      same_undecided [] e = grind (arith, h.undecided)
+      same_undecided (u ∷ us) e = grind (arith, h.undecided)
 
   -- ---- the end of a paragraph
 
@@ -99,13 +218,15 @@ module _ (source : Source) (len_of : ℕ → ℕ) (chars : List ℕ) where
     units_within q below = grind (arith, long, length-map, place-lt)
 
     pub open_within : All (λ (u : Undecided). (u.units.start ≤ u.units.end) × (u.units.end ≤ length found.units)) reading.undecided.items
-    open_within =
-        rw h.undecided (All-undecided (λ u. (u.units.start ≤ u.units.end) × (u.units.end ≤ length found.units)) (units_after done) 0 (stored_classes (classes_of current)) (open_initiators (classes_of current))
-        (λ k d inside depth. grind (arith, units_within (get_or (open_initiators (classes_of current)) k d), open_initiators-below (classes_of current) k d inside, h.sized, place-le len_of chars n)))
+    open_within = All-deeper (λ units. (units.start ≤ units.end) × (units.end ≤ length found.units)) h.uncounted reading.undecided.items
+        (rw h.undecided (All-undecided (λ u. (u.units.start ≤ u.units.end) × (u.units.end ≤ length found.units)) (units_after done) 0 (stored_classes (classes_of current)) (open_initiators (classes_of current))
+        (λ k d inside depth. grind (arith, units_within (get_or (open_initiators (classes_of current)) k d), open_initiators-below (classes_of current) k d inside, h.sized, place-le len_of chars n))))
 
-    -- where none is open, none is undecided
+    -- where none is counted, none is undecided
     pub undecided-none : reading.depth ≡ 0 → reading.undecided.items ≡ []
-    undecided-none none = grind (arith, common_steps)
+    undecided-none none =
+        let deep = depths (units_after done) 0 (stored_classes (classes_of current)) (open_initiators (classes_of current)) in
+        none_counted h.uncounted reading.undecided.items (rw h.undecided (λ i d inside. omega (arith, deep i d inside, h.depth, none))) h.counted
 
     -- and there are no more of them than units
     pub depth-le : reading.depth ≤ place len_of chars n
@@ -178,10 +299,44 @@ module _ (source : Source) (len_of : ℕ → ℕ) (chars : List ℕ) where
         after None e = grind (arith, drawn_is, met None e)
         after (Some q) e = grind (arith, index-below q e, units_within q, class-at q, take-after (fsi_at (units_after done) so_far class q), drawn_is, met (Some q) e)
 
-        pub IsTextRead-more : (range : Range ℕ) (longer : Seen) (after : Reading) → range ≡ char_units len_of chars n → longer.units ≡ classes_after class (waiting reading.depth reading.undecided.items) drawn
-            → length longer.units ≡ length found.units → longer.paragraphs ≡ found.paragraphs → longer.flags ≡ found.flags → IsReadBy class range reading after → IsTextRead base (n + 1) done (current ++ c ∷ []) longer after
+        IsTextRead-on : (range : Range ℕ) (longer : Seen) (new : Reading) (uncounted : ℕ) → range ≡ char_units len_of chars n
+            → longer.units ≡ classes_after class (waiting (reading.depth + h.uncounted) (map (deeper h.uncounted) reading.undecided.items)) drawn
+            → length longer.units ≡ length found.units → longer.paragraphs ≡ found.paragraphs → longer.flags ≡ found.flags
+            → IsCountedOn class range h.uncounted uncounted reading new → IsTextRead base (n + 1) done (current ++ c ∷ []) longer new
+        IsTextRead-on range longer new uncounted is_range is_longer same_length same_paragraphs same_flags read =
+            let pushed = map-append source.class_of current (c ∷ []) in
+            record {
+              whole = grind (arith, append_assoc, take_more chars n 0);
+              sized = same_length ∙ h.sized;
+              classes = grind (arith, append_assoc, take_more chars n 0, waiting-is (units_after done) so_far class (innermost (open_initiators so_far)) refl, after, per_unit-push, stored_classes-push, map-append, length-append, length-met_by, whole_long, long, length-map);
+              ranges = simp same_paragraphs h.ranges;
+              levels = simp same_paragraphs h.levels;
+              flags = same_flags ∙ h.flags;
+              start = read.start ∙ h.start;
+              uncounted = uncounted;
+              decided = read.decided;
+              depth = grind (arith, map-append, length-opened_by, open_initiators-push);
+              undecided = grind (arith, map-append, undecided-more, long, length-map);
+              counted = read.counted;
+              deciding = grind (arith, map-append, deciding-more, deciding_class-push);
+              turns = grind (arith, map-append, with_classes-push);
+            }
+
+        -- a character on whose class something depends
+        pub IsTextRead-more : (range : Range ℕ) (longer : Seen) (new : Reading) → range ≡ char_units len_of chars n → longer.units ≡ classes_after class (waiting reading.depth reading.undecided.items) drawn
+            → length longer.units ≡ length found.units → longer.paragraphs ≡ found.paragraphs → longer.flags ≡ found.flags → IsReadBy class range reading new → IsTextRead base (n + 1) done (current ++ c ∷ []) longer new
         IsTextRead-more range longer new is_range is_longer same_length same_paragraphs same_flags read =
-            grind (arith, append_assoc, take_more chars n 0, waiting-is (units_after done) so_far class (innermost (open_initiators so_far)) refl, after, per_unit-push, stored_classes-push, map-append, length-opened_by, open_initiators-push, undecided-more, deciding-more, deciding_class-push, with_classes-push, length-append, length-met_by, whole_long, long, length-map)
+            IsTextRead-on range longer new (uncounted_after class reading.depth h.uncounted) is_range
+            (is_longer ∙ sym (classes_after-deeper class h.uncounted reading.depth reading.undecided.items drawn))
+            same_length same_paragraphs same_flags (IsCountedOn-read class range h.uncounted reading new h.decided h.counted undecided-none read)
+
+        -- a character on whose class nothing depends
+        pub IsTextRead-idle : (longer : Seen) → minds reading class ≡ false → longer.units ≡ drawn → longer.paragraphs ≡ found.paragraphs → longer.flags ≡ found.flags → IsTextRead base (n + 1) done (current ++ c ∷ []) longer reading
+        IsTextRead-idle longer idle is_longer same_paragraphs same_flags =
+            let range : Range ℕ = char_units len_of chars n in
+            IsTextRead-on range longer reading (uncounted_idle class h.uncounted) refl
+            (is_longer ∙ idle-classes reading class range idle undecided-none drawn ∙ sym (classes_after-deeper class h.uncounted reading.depth reading.undecided.items drawn))
+            (ap length is_longer ∙ drawn_long) same_paragraphs same_flags (IsCountedOn-idle class range h.uncounted reading idle h.decided h.counted undecided-none)
 
   -- ---- the whole walk
 
@@ -195,7 +350,8 @@ module _ (source : Source) (len_of : ℕ → ℕ) (chars : List ℕ) where
   pub IsRead-start : (split : Option SplitRule) (base : Option ℕ) (found : Seen) (reading : Reading) → length found.units ≡ text_len len_of chars → found.paragraphs ≡ [] → found.flags ≡ [] → IsFresh reading 0 → IsRead split base 0 found reading
   unfolding text_classes paragraph_levels paragraph_flags
   IsRead-start split base found reading sized no_paragraphs no_flags fresh =
-      let read : IsTextRead base 0 [] [] found reading = grind (arith, deciding_class-nil) in
+      let none : IsTextDone base 0 [] found = grind arith in
+      let read = IsTextRead-fresh base 0 [] found reading none fresh in
       record { done = []; current = []; cut = IsCut-start (ends_after split source) chars; one = λ e. refl; read = read }
 
   -- the paragraph goes on
@@ -211,7 +367,7 @@ module _ (source : Source) (len_of : ℕ → ℕ) (chars : List ℕ) where
   IsRead-stop split base n c found reading closed after h next ended fresh stop =
       let done = h.done ++ (h.current ++ c ∷ []) ∷ [] in
       let cut = IsCut-stop (ends_after split source) chars h.done h.current c (drop (n + 1) chars) stop (rw next at h.cut) in
-      let read : IsTextRead base (n + 1) done [] closed after = grind (arith, append-nil, stored_classes-nil, deciding_class-nil) in
+      let read = IsTextRead-fresh base (n + 1) done closed after ended fresh in
       record { done = done; current = []; cut = cut; one = λ e. absurd (cc (e, stop)); read = read }
 
   -- at the end of the text, what is left is the last paragraph

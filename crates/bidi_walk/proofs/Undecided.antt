@@ -1,12 +1,13 @@
 -- The open isolates of an FSI that no character decided yet: what they are once some characters were read, and after one more.
-use Rattle.bidi_base.proofs.Common.{◌≡◌, ℕ, suc, ◌+◌, ◌-◌, ◌<◌, ◌≤◌, Bool, true, false, ◌&&◌, cond, List, [], ◌∷◌, ◌++◌, length, take, map, Option, Some, None, refl, ap, ◌∙◌, arith, length-append, get_or-set_same, get_or-set_other, All, option_or, option_to_list, get_or-append, add-zero, get_or-append_seam, Range, cond_both, length-take-le, length-map, All-nil, All-cons, All-head, All-tail, All-take, is_strong, is_initiator, is_pdi, stored_classes, class_at, innermost, outer, opened_by, decided_by, is_fsi}
+use Rattle.bidi_base.proofs.Common.{◌≡◌, ℕ, zero, suc, ◌+◌, ◌-◌, ◌<◌, ◌≤◌, Bool, true, false, ◌&&◌, ◌||◌, cond, List, [], ◌∷◌, ◌++◌, length, take, map, Option, Some, None, refl, ap, ◌∙◌, arith, length-append, get_or-set_same, get_or-set_other, All, option_or, option_to_list, get_or-append, add-zero, get_or-append_seam, Range, cond_both, length-take-le, length-map, map-append, get_or-map, option_map, common_steps, All-nil, All-cons, All-head, All-tail, All-take, is_strong, is_initiator, is_pdi, stored_classes, class_at, innermost, outer, opened_by, decided_by, is_fsi}
 use Rattle.std.specs.Option.{is_some}
 use Rattle.std.proofs.lemmas.List.{append-nil}
+use Rattle.std.proofs.lemmas.List.Elements.{All-push}
 use Rattle.bidi_base.specs.declared.char_data.BidiClass.{BidiClass}
 use Rattle.bidi_laws.proofs.ReadingLemmas.{outer-take, innermost-All}
-use Rattle.bidi_laws.proofs.StoredSteps.{onto_later, resolved-strong, open_initiators, open_initiators-push, open_initiators-below, met_by, length-met_by, stored_classes-push, length-stored_classes}
+use Rattle.bidi_laws.proofs.StoredSteps.{innermost-map, onto_later, resolved-strong, open_initiators, open_initiators-push, open_initiators-below, met_by, length-met_by, stored_classes-push, length-stored_classes}
 use Rattle.bidi_walk.proofs.ClassSets.{apart_eqb}
-use Rattle.bidi_walk.specs.FirstWalk.{waiting, depth_after, undecided_after, deciding_after}
+use Rattle.bidi_walk.specs.FirstWalk.{at_depth, waiting, depth_after, undecided_after, deciding_after, classes_after}
 use Rattle.bidi_walk.specs.declared.first_walk.reading.Undecided.{Undecided}
 
 -- of the open initiators those that are FSI by their stored class so far, where k isolates stand around them
@@ -79,7 +80,7 @@ module _ (units : ℕ → Range ℕ) where
   undecided-push k stored (p ∷ qs) q = grind (arith, undecided-push (k + 1) stored qs q)
 
   -- their depths are at most the number of the initiators
-  depths : (k : ℕ) (stored : List BidiClass) (qs : List ℕ) → All (λ (u : Undecided). u.depth ≤ k + length qs) (undecided_from units k stored qs)
+  pub depths : (k : ℕ) (stored : List BidiClass) (qs : List ℕ) → All (λ (u : Undecided). u.depth ≤ k + length qs) (undecided_from units k stored qs)
   depths k stored [] = All-nil (λ (u : Undecided). u.depth ≤ k + 0)
   depths k stored (q ∷ qs) =
       let rest : All (λ (u : Undecided). u.depth ≤ k + suc (length qs)) (undecided_from units (k + 1) stored qs) = λ i d within. omega (arith, depths (k + 1) stored qs i d within) in
@@ -227,3 +228,54 @@ module _ (units : ℕ → Range ℕ) (cs : List BidiClass) (c : BidiClass) where
   -- the deciding class
   pub deciding-more : (deciding : Option BidiClass) → option_or deciding (decided_by c qs) ≡ deciding_after c (length qs) deciding
   deciding-more deciding = grind arith
+
+-- ---- where some of the open isolates are not counted
+
+-- the same, with k more isolates around it
+abbrev pub deeper : ℕ → Undecided → Undecided
+deeper k u = record { units = u.units; depth = u.depth + k }
+
+outer-map : {X Y : Type 0} (f : X → Y) (xs : List X) → outer (map f xs) ≡ map f (outer xs)
+outer-map f [] = refl
+outer-map f (x ∷ []) = refl
+outer-map {X} {Y} f (x ∷ y ∷ xs) = ap (λ (ys : List Y). f x ∷ ys) (outer-map f (y ∷ xs))
+
+at_depth-deeper : (k d : ℕ) (o : Option Undecided) → at_depth (d + k) (option_map (deeper k) o) ≡ option_map (deeper k) (at_depth d o)
+at_depth-deeper k d None = refl
+at_depth-deeper k d (Some u) = grind (arith, common_steps)
+
+pub waiting-deeper : (k d : ℕ) (us : List Undecided) → waiting (d + k) (map (deeper k) us) ≡ option_map (deeper k) (waiting d us)
+waiting-deeper k d us = simp (innermost-map (deeper k) us) (at_depth-deeper k d (innermost us))
+
+pub undecided_after-deeper : (class : BidiClass) (range : Range ℕ) (k d : ℕ) (us : List Undecided)
+    → undecided_after class range (d + k) (map (deeper k) us) ≡ map (deeper k) (undecided_after class range d us)
+undecided_after-deeper class range k d us = grind (arith, map-append, waiting-deeper, outer-map)
+
+pub classes_after-deeper : (class : BidiClass) (k d : ℕ) (us : List Undecided) (classes : List BidiClass)
+    → classes_after class (waiting (d + k) (map (deeper k) us)) classes ≡ classes_after class (waiting d us) classes
+classes_after-deeper class k d us classes = simp (waiting-deeper k d us) (by_option (waiting d us))
+  where
+    by_option : (o : Option Undecided) → classes_after class (option_map (deeper k) o) classes ≡ classes_after class o classes
+    by_option None = refl
+    by_option (Some u) = refl
+
+pub deciding_after-deeper : (class : BidiClass) (k d : ℕ) (deciding : Option BidiClass) → (0 < k → is_some deciding ≡ true) → deciding_after class (d + k) deciding ≡ deciding_after class d deciding
+deciding_after-deeper class zero d deciding decided = simp add-zero
+deciding_after-deeper class (suc k) d deciding decided = grind (arith, decided (omega arith))
+
+-- if none is counted, none is undecided
+pub none_counted : (k : ℕ) (us : List Undecided) → All (λ (u : Undecided). u.depth ≤ k) (map (deeper k) us) → All (λ (u : Undecided). 0 < u.depth) us → us ≡ []
+none_counted k [] low counted = refl
+none_counted k (u ∷ us) low counted = absurd (omega (arith, low 0 u (omega arith), counted 0 u (omega arith)))
+
+-- what holds of those with more isolates around them, and does not depend on the isolates
+pub All-deeper : (P : Range ℕ → Type 0) (k : ℕ) (us : List Undecided) → All (λ (u : Undecided). P u.units) (map (deeper k) us) → All (λ (u : Undecided). P u.units) us
+All-deeper P k us h = λ i d within. rw (get_or-map (deeper k) us i d) at (h i (deeper k d) (omega (arith, length-map us (deeper k))))
+
+-- the undecided stay counted
+pub counted_after : (class : BidiClass) (range : Range ℕ) (d : ℕ) (us : List Undecided) → All (λ (u : Undecided). 0 < u.depth) us → All (λ (u : Undecided). 0 < u.depth) (undecided_after class range d us)
+counted_after class range d us h =
+    let P : Undecided → Type 0 = λ u. 0 < u.depth in
+    cond_both (is_initiator class) _ _ (All P)
+    (λ _. cond_both (is_fsi class) _ _ (All P) (λ _. All-push P us (record { units = range; depth = d + 1 }) h (omega arith)) (λ _. h))
+    (λ _. cond_both ((is_strong class || is_pdi class) && is_some (waiting d us)) _ _ (All P) (λ _. rw outer-take at (All-take P (length us - 1) us h)) (λ _. h))

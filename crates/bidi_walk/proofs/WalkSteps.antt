@@ -13,8 +13,8 @@ use Rattle.bidi_walk.specs.declared.first_walk.reading.Reading.{Reading}
 use Rattle.bidi_walk.specs.declared.split_rule.SplitRule.{SplitRule}
 use Rattle.bidi_walk.specs.ClassSet.{has}
 use Rattle.bidi_walk.specs.FirstWalk.{minds, ahead, AreIdle, AreWritten, IsSkimmed, IsMet}
-use Rattle.bidi_walk.proofs.IdleClasses.{idle-IsReadBy, idle-classes, idle-separator}
-use Rattle.bidi_walk.proofs.TextRead.{Seen, IsRead, IsRead-on, IsTextRead-more, drawn-is, ends_after-other, undecided-none}
+use Rattle.bidi_walk.proofs.IdleClasses.{idle-separator}
+use Rattle.bidi_walk.proofs.TextRead.{Seen, IsRead, IsRead-on, IsTextRead-idle, drawn-is, ends_after-other, undecided-none}
 
 -- the same, but other classes are written
 abbrev pub with_units : List BidiClass → Seen → Seen
@@ -89,9 +89,7 @@ module _ (source : Source) (len_of : ℕ → ℕ) where
         let drawn_is = drawn-is source len_of chars units base n h.done h.current found reading w.within h.read c w.is_char class refl drawn (place len_of chars n) refl written in
         let range : Range ℕ = char_units len_of chars n in
         let empty = undecided-none source len_of chars units base n h.done h.current found reading w.within h.read in
-        let read =
-        IsTextRead-more source len_of chars units base n h.done h.current found reading w.within h.read c w.is_char class refl drawn drawn_is long range (with_units drawn found) reading
-        refl (idle-classes reading class range idle empty drawn) long refl refl (idle-IsReadBy reading class range idle empty) in
+        let read = IsTextRead-idle source len_of chars units base n h.done h.current found reading w.within h.read c w.is_char class refl drawn drawn_is long (with_units drawn found) idle refl refl refl in
         IsRead-on source len_of chars split base n c found reading (with_units drawn found) reading h w.next read
         (ends_after-other split source c (drop (n + 1) chars) (idle-separator reading class range idle empty))
 

@@ -47,6 +47,11 @@ abbrev pub classes_after : BidiClass → Option Undecided → List BidiClass →
 classes_after class None classes = classes
 classes_after class (Some u) classes = if is_strong class then filled u.units (resolved_fsi (Some class)) classes else classes
 
+-- no character can decide anything before the next FSI: the level of the paragraph is decided, and so is the direction of
+-- each open FSI
+abbrev pub is_settled : Reading → Bool
+is_settled r = is_some r.deciding && (length r.undecided.items == 0)
+
 -- a strong character, if it came next, would decide something
 abbrev pub wants_strong : Reading → Bool
 wants_strong r = is_some (waiting r.depth r.undecided.items) || (r.depth == 0 && is_none r.deciding)
@@ -54,7 +59,7 @@ wants_strong r = is_some (waiting r.depth r.undecided.items) || (r.depth == 0 &&
 -- a character of this class, if it came next, would change something
 abbrev pub minds : Reading → BidiClass → Bool
 minds r c =
-    (is_paragraph_separator c || is_initiator c)
+    (is_paragraph_separator c || (is_fsi c || (is_initiator c && not (is_settled r))))
     || ((is_counted c && not (has r.flags.met c)) || ((is_strong c && wants_strong r) || (is_pdi c && nat_lt 0 r.depth)))
 
 -- a paragraph of which nothing is read
@@ -72,6 +77,14 @@ pub record IsReadBy (class : BidiClass) (range : Range ℕ) (old new : Reading) 
   pub undecided : new.undecided.items ≡ undecided_after class range old.depth old.undecided.items
   pub deciding : new.deciding ≡ deciding_after class old.depth old.deciding
   pub turns : new.flags ≡ with_class old.flags class
+
+-- if it is settled, the isolates that are open are not counted any more
+pub record IsSettledFrom (old new : Reading) : Type 0 where
+  pub start : new.start ≡ old.start
+  pub depth : new.depth ≡ (if is_settled old then 0 else old.depth)
+  pub undecided : new.undecided.items ≡ old.undecided.items
+  pub deciding : new.deciding ≡ old.deciding
+  pub turns : new.flags ≡ old.flags
 
 -- the paragraph that was read ends at a unit
 pub record IsClosed (base : Option ℕ) (r : Reading) (end : ℕ) (old : List ParagraphInfo)

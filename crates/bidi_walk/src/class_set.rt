@@ -1,5 +1,5 @@
 //! Sets of classes.
-ghost use Rattle.std.specs.Prelude.{◌≡◌, ◌<◌, ◌^◌, true, false, not, ◌&&◌, ◌||◌, if◌then◌else◌};
+ghost use Rattle.std.specs.Prelude.{◌≡◌, ◌<◌, ◌^◌, true, false, not, ◌&&◌, ◌||◌};
 ghost use Rattle.bidi_base.specs.declared.char_data.BidiClass.{BidiClass};
 ghost use Rattle.bidi_walk.specs.ClassSet.{has, with, any_of};
 
@@ -39,9 +39,9 @@ impl ClassSet {
         bits: 1 << BidiClass::L as u32 | 1 << BidiClass::R as u32 | 1 << BidiClass::AL as u32,
     };
 
-    /// The classes that end a paragraph or open an isolate.
+    /// The classes that end a paragraph, or open an isolate whose direction its characters decide.
     pub(crate) const BOUNDS: ClassSet = ClassSet {
-        bits: ClassSet::INITIATORS.bits | 1 << BidiClass::B as u32,
+        bits: 1 << BidiClass::FSI as u32 | 1 << BidiClass::B as u32,
     };
 
     /// The classes that open an embedding or an isolate.
@@ -116,7 +116,7 @@ impl ClassSet {
 
     /// The set if `holds`, otherwise no class.
     pub(crate) fn when(self, holds: bool) -> ClassSet
-        ensures { result ≡ (if holds then self else record { bits = 0 }) }
+        ensures { (c : BidiClass) → has result c ≡ (holds && has self c) }
     {
         if holds { self } else { ClassSet::NONE }
     }
