@@ -21,6 +21,7 @@ use bidi_text::text::TextSource;
 use status::StatusStack;
 use std::alloc::{AllocError, Global};
 use std::marker::Brand;
+use std::ops::Range;
 use std::sync::ledger::{Blank, Ledger};
 use stretches::{OpenRun, Paragraph, is_control};
 
@@ -100,6 +101,38 @@ fn write_class(classes: &mut [BidiClass], from: usize, to: usize, class: BidiCla
         fill_few(classes, from, to - from, class);
     } else {
         classes[from..to].fill(class);
+    }
+}
+
+// Writes the level and the class of a control to its code units, of which most controls have three, or one.
+fn write_control(
+    levels: &mut [Level],
+    classes: &mut [BidiClass],
+    units: Range<usize>,
+    level: Level,
+    class: BidiClass,
+)
+    requires ordered { units.start ≤ units.end }
+    requires levels { units.end ≤ length levels.old }
+    requires classes { units.end ≤ length classes.old }
+    ensures levels { levels.new ≡ filled units.start (units.end - units.start) level levels.old }
+    ensures classes { classes.new ≡ filled units.start (units.end - units.start) class classes.old }
+{
+    let Range { start, end } = units;
+    // One test of the length decides for both lists.
+    match end - start {
+        1 => {
+            fill_few(levels, start, 1, level);
+            fill_few(classes, start, 1, class);
+        }
+        3 => {
+            fill_few(levels, start, 3, level);
+            fill_few(classes, start, 3, class);
+        }
+        _ => {
+            write_level(levels, start, end, level);
+            write_class(classes, start, end, class);
+        }
     }
 }
 

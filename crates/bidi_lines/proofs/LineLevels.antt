@@ -1,5 +1,5 @@
 -- L1 along a line: the level that each place takes, and what a pass over the line keeps true.
-use Rattle.bidi_base.proofs.Common.{◌≡◌, ℕ, zero, suc, ◌+◌, ◌-◌, ◌<◌, ◌≤◌, if◌then◌else◌, ◌&&◌, ◌||◌, Bool, true, false, not, nat_lt, List, [], ◌∷◌, length, get_or, drop, set, refl, sym, ap, ◌∙◌, arith, inl, inr, drop-cons, get_or-set_other, get_or-set_same, ◌≢◌, add-zero, common_steps, same_number_lists, cases_lt, cases_Bool, get_or_default, list_any_at, list_any_none, is_removed, is_odd, has_rtl, is_reset, line_levels_after, line_levels, class_at}
+use Rattle.bidi_base.proofs.Common.{◌≡◌, ℕ, zero, suc, ◌+◌, ◌-◌, ◌<◌, ◌≤◌, if◌then◌else◌, ◌&&◌, ◌||◌, Bool, true, false, not, nat_lt, List, [], ◌∷◌, length, get_or, drop, set, refl, sym, ap, ◌∙◌, arith, inl, inr, drop-cons, get_or-set_other, get_or-set_same, add-zero, common_steps, same_number_lists, cases_lt, cases_Bool, get_or_default, list_any_at, list_any_none, is_removed, is_odd, has_rtl, is_reset, line_levels_after, line_levels, class_at}
 use Rattle.std.proofs.Common.{length-set}
 use Rattle.bidi_base.specs.declared.char_data.BidiClass.{BidiClass}
 use Rattle.bidi_base.specs.declared.char_data.BidiClass.TheVariants.{L}
@@ -136,23 +136,51 @@ stays level classes old xs ys k h = grind arith
 done_stays : (level : ℕ) (classes : List BidiClass) (old xs ys : List ℕ) (k : ℕ) → ((j : ℕ) → j < suc k → get_or xs j 0 ≡ get_or ys j 0) → HasLineLevel level level classes old xs k → HasLineLevel level level classes old ys k
 done_stays level classes old xs ys k h here = grind arith
 
-module _ (level : ℕ) (classes : List BidiClass) (old new : List ℕ) (blank_start before i own : ℕ) where
-  -- a removed character takes the level before it
-  pub IsResetTo-removed : i < length old → is_removed (class_at classes i) ≡ true → IsResetTo level classes old new blank_start before i → IsResetTo level classes old (set new i before) blank_start before (i + 1)
-  IsResetTo-removed fits removed h =
-      let written = get_or-set_same new i before 0 (omega (arith, h.long)) in
-      let other = λ (k : ℕ) (ne : k ≢ i). get_or-set_other new i k before 0 ne in
-      record {
-        ordered = omega (arith, h.ordered);
-        long = length-set new i before ∙ h.long;
-        done = λ k below. done_stays level classes old new (set new i before) k (λ j under. sym (other j (omega (arith, h.ordered)))) (h.done k below);
-        blank = up_to (λ n. is_blank (class_at classes n) ≡ true) blank_start i h.blank (is_blank-removed (class_at classes i) removed);
-        pending = up_to (λ n. get_or (set new i before) n 0 ≡ kept_level level classes old (set new i before) n) blank_start i
-            (λ k from below. other k (omega arith) ∙ h.pending k from below ∙ stays level classes old new (set new i before) k (λ j under. sym (other j (omega arith))))
-            (simp removed (written ∙ h.last ∙ level_before-same level new (set new i before) i (λ k below. sym (other k (omega arith)))));
-        rest = λ k from. other k (omega arith) ∙ h.rest k (omega arith);
-        last = sym (level_before-more level (set new i before) i ∙ written);
-      }
+-- the part from `from` to `to` of a list is written with one level
+pub record IsFilled (old new : List ℕ) (from to level : ℕ) : Type 0 where
+  pub long : length new ≡ length old
+  pub before : (k : ℕ) → k < from → get_or new k 0 ≡ get_or old k 0
+  pub inside : (k : ℕ) → from ≤ k → k < to → get_or new k 0 ≡ level
+  pub after : (k : ℕ) → to ≤ k → get_or new k 0 ≡ get_or old k 0
+
+-- one more entry
+pub IsFilled-more : (old new : List ℕ) (from at level : ℕ) → from ≤ at → at < length old → IsFilled old new from at level → IsFilled old (set new at level) from (at + 1) level
+IsFilled-more old new from at level order fits h = record {
+  long = length-set new at level ∙ h.long;
+  before = λ k below. get_or-set_other new at k level 0 (omega arith) ∙ h.before k below;
+  inside = λ k a b. elim (cases_lt k at) [
+    | inl under ↦ get_or-set_other new at k level 0 (omega arith) ∙ h.inside k a under
+    | inr same ↦ let e : k ≡ at = omega arith in simp e (get_or-set_same new at level 0 (omega (arith, h.long)))
+  ];
+  after = λ k above. get_or-set_other new at k level 0 (omega arith) ∙ h.after k (omega arith);
+}
+
+module _ (level : ℕ) (classes : List BidiClass) (old new next : List ℕ) (blank_start before i to : ℕ) (order : i ≤ to) (f : IsFilled new next i to before) (h : IsResetTo level classes old new blank_start before i) where
+  -- what stands before `to`, from i on
+  filled_before : (k : ℕ) → i ≤ k → k ≤ to → level_before level next k ≡ before
+  filled_before k from upto = elim (cases_lt i k) [
+    | inl past ↦ inside_before k past upto
+    | inr same ↦ let e : k ≡ i = omega arith in simp e (level_before-same level next new i (λ j below. f.before j below) ∙ sym h.last)
+  ]
+    where
+      inside_before : (k : ℕ) → i < k → k ≤ to → level_before level next k ≡ before
+      inside_before zero some upto = absurd (omega arith)
+      inside_before (suc k) some upto = f.inside k (omega arith) (omega arith)
+
+  -- removed characters take the level before them
+  pub IsResetTo-removed : ((k : ℕ) → i ≤ k → k < to → is_removed (class_at classes k) ≡ true) → IsResetTo level classes old next blank_start before to
+  IsResetTo-removed removed = record {
+    ordered = omega (arith, h.ordered);
+    long = f.long ∙ h.long;
+    done = λ k below. done_stays level classes old new next k (λ j under. sym (f.before j (omega (arith, h.ordered)))) (h.done k below);
+    blank = λ k from below. elim (cases_lt k i) [ inl under ↦ h.blank k from under | inr past ↦ is_blank-removed (class_at classes k) (removed k (omega arith) below) ];
+    pending = λ k from below. elim (cases_lt k i) [
+      | inl under ↦ f.before k under ∙ h.pending k from under ∙ stays level classes old new next k (λ j lower. sym (f.before j (omega arith)))
+      | inr past ↦ simp (removed k (omega arith) below) (f.inside k (omega arith) below ∙ sym (filled_before k (omega arith) (omega arith)))
+    ];
+    rest = λ k from. f.after k from ∙ h.rest k (omega arith);
+    last = sym (filled_before to order (omega arith));
+  }
 
 -- the units from `from` up to `to` are neither separators nor removed
 abbrev pub ArePlain : List BidiClass → ℕ → ℕ → Type 0
@@ -204,13 +232,6 @@ module _ (level : ℕ) (classes : List BidiClass) (old new : List ℕ) (blank_st
     rest = λ k from. h.rest k (omega arith);
     last = refl;
   }
-
--- the part from `from` to `to` of a list is written with one level
-pub record IsFilled (old new : List ℕ) (from to level : ℕ) : Type 0 where
-  pub long : length new ≡ length old
-  pub before : (k : ℕ) → k < from → get_or new k 0 ≡ get_or old k 0
-  pub inside : (k : ℕ) → from ≤ k → k < to → get_or new k 0 ≡ level
-  pub after : (k : ℕ) → to ≤ k → get_or new k 0 ≡ get_or old k 0
 
 module _ (level : ℕ) (classes : List BidiClass) (old new next : List ℕ) (blank_start before i : ℕ) where
   -- what is before `to` is done, where the blanks are reset

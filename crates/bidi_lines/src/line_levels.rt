@@ -44,6 +44,32 @@ fn blanks_start<C: ClassList>(classes: C, from: usize, to: usize) -> usize
     start
 }
 
+// Gives the units that X9 removes, from `from` on, the level of the unit before them. Returns the first unit after
+// them.
+fn write_removed<C: ClassList>(
+    classes: C,
+    levels: &mut [Level],
+    from: usize,
+    before: Level,
+) -> usize
+    requires same_len { length levels.old ≡ length (C.classes classes) }
+    requires inside { from < length (C.classes classes) }
+    requires removed { is_removed (class_at (C.classes classes) from) ≡ true }
+    ensures begins { from < result }
+    ensures ends { result ≤ length (C.classes classes) }
+    ensures removed { (k : ℕ) → from ≤ k → k < result → is_removed (class_at (C.classes classes) k) ≡ true }
+    ensures before { (k : ℕ) → k < from → slice_index levels.new k ≡ slice_index levels.old k }
+    ensures inside { (k : ℕ) → from ≤ k → k < result → slice_index levels.new k ≡ before }
+    ensures after { (k : ℕ) → result ≤ k → slice_index levels.new k ≡ slice_index levels.old k }
+{
+    let mut at = from;
+    while at < levels.len() && is_removed(classes.class_at(at)) {
+        levels[at] = before;
+        at += 1;
+    }
+    at
+}
+
 /// Applies L1 to the levels of a line.
 ///
 /// `level` is the paragraph level. `classes` has the stored class of each code unit, and `levels` its stored
@@ -65,8 +91,7 @@ pub fn reset_levels<C: ClassList>(level: Level, classes: C, levels: &mut [Level]
             at += 1;
             blank_start = at;
         } else if is_removed(class) {
-            levels[at] = before;
-            at += 1;
+            at = write_removed(classes, levels, at, before);
         } else {
             let next = classes.next_stop(at);
             let start = blanks_start(classes, at, next);

@@ -25,12 +25,25 @@ fn write_levels<C: ClassList, L: LevelList>(level: Level, classes: C, levels: L,
     reset_levels(level, classes, out);
 }
 
-// Resizes a list to `len` levels. New entries hold any level. If an allocation fails, the list is unchanged.
-fn resize(levels: &mut Vec<Level>, len: usize) -> Result<(), AllocError>
-    ensures len { OnOk result (vec_len levels.new ≡ len) }
+// Writes the levels of a line after L1 to the front of a list that may be longer.
+fn write_front<C: ClassList, L: LevelList>(level: Level, classes: C, levels: L, out: &mut [Level])
+    requires valid { L.are_levels levels }
+    requires classes { length (L.numbers levels) ≡ length (C.classes classes) }
+    requires room { length (L.numbers levels) ≤ length out.old }
+    ensures { take (length (L.numbers levels)) out.new ≡ line_levels level (C.classes classes) (L.numbers levels) }
+{
+    let len = levels.len();
+    write_levels(level, classes, levels, &mut out[..len]);
+}
+
+// Gives a list at least `len` levels. New entries hold any level. If an allocation fails, the list is unchanged.
+fn grow(levels: &mut Vec<Level>, len: usize) -> Result<(), AllocError>
+    ensures len { OnOk result (len ≤ vec_len levels.new) }
     ensures kept { OnErr result (levels.new.items ≡ levels.old.items) }
 {
-    levels.resize(len, LTR_LEVEL)?;
+    if levels.len() < len {
+        levels.resize(len, LTR_LEVEL)?;
+    }
     Ok(())
 }
 
@@ -92,11 +105,11 @@ impl ShownLevels {
     {
         let len = levels.len();
         if len <= FEW_UNITS {
-            write_levels(level, classes, levels, &mut self.few[..len]);
+            write_front(level, classes, levels, &mut self.few);
             self.are_many = false;
         } else {
-            resize(&mut self.many, len)?;
-            write_levels(level, classes, levels, self.many.as_mut_slice());
+            grow(&mut self.many, len)?;
+            write_front(level, classes, levels, self.many.as_mut_slice());
             self.are_many = true;
         }
         self.len = len;

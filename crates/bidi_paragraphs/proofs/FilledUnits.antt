@@ -1,11 +1,12 @@
 -- The levels of a paragraph's units: of what X9 removed, and of a paragraph that keeps to its level throughout.
-use Rattle.bidi_base.proofs.Common.{◌≡◌, ℕ, zero, suc, ◌+◌, ◌-◌, ◌<◌, ◌≤◌, Bool, true, false, List, [], ◌∷◌, length, get_or, set, Option, refl, map, ap, ◌∙◌, arith, inl, inr, get_or-set_same, get_or-set_other, All, list_any, cases_Bool, both_ways, not-true, ext_get_or, replicate-append-replicate, get_or_default, get_or-map, length-map, list_any_at, list_any_none, sum_by-cons, IsPermutation-refl, IsTrue, is_initiator, is_removed, hidden, class_at, resolved_fsi, stored_classes, explicit_levels, explicit_classes, is_kept_at, level_at, sequences, AreResolved, levels_in, text_len, place, is_per_char, per_unit, per_char}
+use Rattle.bidi_base.proofs.Common.{◌≡◌, ℕ, zero, suc, ◌+◌, ◌-◌, ◌<◌, ◌≤◌, Bool, true, false, List, [], ◌∷◌, length, get_or, Option, refl, sym, map, ap, ◌∙◌, arith, inl, inr, All, list_any, cases_Bool, cases_lt, both_ways, not-true, ext_get_or, replicate-append-replicate, get_or_default, get_or-map, length-map, list_any_at, list_any_none, sum_by-cons, IsPermutation-refl, IsTrue, is_initiator, is_removed, hidden, class_at, resolved_fsi, stored_classes, explicit_levels, explicit_classes, is_kept_at, level_at, sequences, AreResolved, levels_in, text_len, place, is_per_char, per_unit, per_char}
 use Rattle.std.proofs.Common.{add-zero}
 use Rattle.std.specs.Prelude.{replicate}
 use Rattle.bidi_base.specs.declared.char_data.BidiClass.{BidiClass}
 use Rattle.bidi_base.specs.declared.char_data.BidiClass.TheVariants.{L, FSI}
 use Rattle.bidi_base.specs.declared.data_source.BidiMatchedOpeningBracket.{BidiMatchedOpeningBracket}
 use Rattle.bidi_base.specs.Flat.{keeps_to}
+use Rattle.bidi_paragraphs.specs.Written.{IsWritten}
 use Rattle.bidi_laws.proofs.LevelLaws.{All-per_unit}
 use Rattle.bidi_text.proofs.PerCharTests.{class_eq, class_test, level_eq, level_test}
 use Rattle.bidi_base.proofs.PerUnit.{length-per_char, length-per_unit, get_or-per_char, get_or-per_unit}
@@ -31,10 +32,33 @@ pub record AreFilled (paragraph : ℕ) (classes : List BidiClass) (old : List �
   pub front : 0 < i → is_kept_at classes 0 ≡ false → get_or new 0 0 ≡ paragraph
   pub removed : (p : ℕ) → p + 1 < i → is_kept_at classes (p + 1) ≡ false → get_or new (p + 1) 0 ≡ get_or new p 0
 
-module _ (paragraph : ℕ) (classes : List BidiClass) (old : List ℕ) (i : ℕ) (new : List ℕ) (h : AreFilled paragraph classes old i new) where
-  module _ (before : ℕ) (within : i < length new) (at_front : i ≡ 0 → before ≡ paragraph) (inside : (p : ℕ) → p + 1 ≡ i → before ≡ get_or new p 0) where
-    pub AreFilled-removed : is_kept_at classes i ≡ false → AreFilled paragraph classes old (i + 1) (set new i before)
-    AreFilled-removed gone = grind (arith, get_or-set_same, get_or-set_other)
+module _ (paragraph : ℕ) (classes : List BidiClass) (old : List ℕ) (i : ℕ) (now : List ℕ) (h : AreFilled paragraph classes old i now) where
+  -- a stretch that X9 removes takes the level before it
+  module _ (before to : ℕ) (new : List ℕ) (order : i ≤ to) (gone : (u : ℕ) → i ≤ u → u < to → is_kept_at classes u ≡ false) (w : IsWritten before i to now new)
+      (at_front : i ≡ 0 → before ≡ paragraph) (inside : (p : ℕ) → p + 1 ≡ i → before ≡ get_or now p 0) where
+    pub AreFilled-removed : AreFilled paragraph classes old to new
+    AreFilled-removed = record {
+      kept = λ p below stays. elim (cases_lt p i) [
+        | inl under ↦ w.before p under ∙ h.kept p under stays
+        | inr past ↦ absurd (both_ways _ (gone p past below) stays)
+      ];
+      rest = λ p past. w.after p past ∙ h.rest p (omega arith);
+      front = λ some removed. elim (cases_lt 0 i) [
+        | inl under ↦ w.before 0 under ∙ h.front under removed
+        | inr none ↦ w.inside 0 (omega arith) some ∙ at_front (omega arith)
+      ];
+      removed = λ p below removed. elim (cases_lt (p + 1) i) [
+        | inl under ↦ w.before (p + 1) under ∙ h.removed p under removed ∙ sym (w.before p (omega arith))
+        | inr past ↦ w.inside (p + 1) past below ∙ level_of p past below
+      ];
+    }
+      where
+        -- the level that stands before the unit p + 1
+        level_of : (p : ℕ) → i ≤ p + 1 → p + 1 < to → before ≡ get_or new p 0
+        level_of p past below = elim (cases_lt p i) [
+          | inl under ↦ inside p (omega arith) ∙ sym (w.before p under)
+          | inr later ↦ sym (w.inside p later (omega arith))
+        ]
 
 module _ (len_of : ℕ → ℕ) (h : HasUnits len_of) (chars : List ℕ) (stored : List BidiClass) (paragraph : ℕ) (classes : List BidiClass) (old new : List ℕ)
     (stored_long : length stored ≡ length chars) (is : classes ≡ per_unit len_of chars stored) (old_even : is_per_char level_eq len_of chars old ≡ true) (long : length new ≡ length classes)

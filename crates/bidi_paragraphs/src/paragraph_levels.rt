@@ -10,6 +10,7 @@ ghost use Rattle.bidi_base.specs.Stored.{AreResolved, levels_in};
 ghost use Rattle.bidi_base.specs.Text.{text_len, is_per_char, per_unit, per_char};
 ghost use Rattle.bidi_base.specs.Units.{AreLines};
 ghost use Rattle.bidi_runs.specs.Links.{linked_runs, linked_sequences, sequences_of, AreLinked};
+ghost use Rattle.bidi_paragraphs.specs.Written.{IsWritten};
 ghost use Rattle.bidi_walk.specs.ParagraphFlags.{flags_of};
 
 use crate::settled::is_settled;
@@ -328,6 +329,25 @@ impl ClassTest for Removed {
     }
 }
 
+// Gives the code units that X9 removes, from `from` on, the level `before`. Returns the first code unit that X9
+// keeps, or their number if there is none.
+fn write_removed(before: Level, classes: &[BidiClass], levels: &mut [Level], from: usize) -> usize
+    requires lengths { length levels.old ≡ length classes.now }
+    requires inside { from < length classes.now }
+    requires removed { is_kept_at classes.now from ≡ false }
+    ensures begins { from < result }
+    ensures ends { result ≤ length classes.now }
+    ensures removed { (u : ℕ) → from ≤ u → u < result → is_kept_at classes.now u ≡ false }
+    ensures written { IsWritten before from result levels.old levels.new }
+{
+    let mut at = from;
+    while at < levels.len() && is_removed(classes[at]) {
+        levels[at] = before;
+        at += 1;
+    }
+    at
+}
+
 // Gives each code unit of a character that X9 removes the level of the code unit before it. At the start it
 // gets the paragraph level.
 fn fill_removed(para_level: Level, classes: &[BidiClass], levels: &mut [Level])
@@ -341,7 +361,8 @@ fn fill_removed(para_level: Level, classes: &[BidiClass], levels: &mut [Level])
     let units = classes.len();
     let mut at = first_passing(Removed, classes, 0, units);
     while at < units {
-        levels[at] = level_before(para_level, levels, at);
-        at = first_passing(Removed, classes, at + 1, units);
+        let before = level_before(para_level, levels, at);
+        let end = write_removed(before, classes, levels, at);
+        at = first_passing(Removed, classes, end, units);
     }
 }

@@ -18,7 +18,7 @@ pub fn end_of<T: TextSource>(text: T, start: usize) -> usize
 
 /// Returns the index after the character that begins at `start`, in a text of `len` code units.
 ///
-/// A character must begin at `start`. Reads the text with `next_at`, and does not read it at all if `start`
+/// A character must begin at `start`. Reads the text with `len_at`, and does not read it at all if `start`
 /// is the last code unit.
 pub fn end_within<T: TextSource>(text: T, start: usize, len: usize) -> usize
     requires begins { IsTrue (is_boundary T.units (T.characters text) start) }
@@ -30,6 +30,5 @@ pub fn end_within<T: TextSource>(text: T, start: usize, len: usize) -> usize
     if start + 1 == len {
         return len;
     }
-    let (_, units) = text.next_at(start);
-    start + units
+    start + text.len_at(start)
 }

@@ -4,7 +4,7 @@
 //! of a character is the number of code units before it. The contract of each method is stated on the
 //! text's list of characters.
 
-ghost use Rattle.std.specs.Prelude.{◌≡◌, ℕ, ◌+◌, ◌<◌, ◌≤◌, ◌↔◌, true, List, get_or, Some, IfSome, IsTrue};
+ghost use Rattle.std.specs.Prelude.{◌≡◌, ℕ, ◌+◌, ◌<◌, ◌≤◌, ◌↔◌, true, List, get_or, Some, option_map, IfSome, IsTrue};
 ghost use Rattle.std.specs.List.{list_all};
 ghost use lib.Utf8.{scalar};
 ghost use Rattle.bidi_base.specs.Text.{text_len, char_indices, indices_lengths, char_at, ascii_at, is_boundary, IsLine, subrange, all_same, is_per_char as is_per_char_of, Gives};
@@ -140,6 +140,19 @@ pub trait TextSource: Copy {
             Some(found) => found,
             None => unreachable!(),
         }
+    }
+
+    /// Returns the length in code units of the character that begins at an index.
+    ///
+    /// A character must begin at the index. It must not begin at the text's last code unit. An implementation
+    /// that finds the length without the character is faster than `next_at`.
+    fn len_at(&self, index: usize) -> usize
+        requires begins { IsTrue (is_boundary units (characters self.now) index) }
+        requires before_last { index + 1 < text_len units (characters self.now) }
+        ensures { Some result ≡ option_map (λ found. found.1) (char_at units (characters self.now) index) }
+    {
+        let (_, len) = self.next_at(index);
+        len
     }
 
     /// A character is at least one code unit long.

@@ -1,7 +1,7 @@
 -- A character that the walk does not mind changes nothing.
 use Rattle.bidi_base.proofs.Common.{◌≡◌, ℕ, false, List, [], arith, Range, is_some, is_strong, is_initiator, is_pdi, true, is_paragraph_separator}
 use Rattle.bidi_base.specs.declared.char_data.BidiClass.{BidiClass}
-use Rattle.bidi_walk.specs.FirstWalk.{waiting, classes_after, is_settled, minds}
+use Rattle.bidi_walk.specs.FirstWalk.{waiting, classes_after, is_decided, minds}
 use Rattle.bidi_walk.specs.declared.first_walk.reading.Reading.{Reading}
 
 module _ (r : Reading) (c : BidiClass) (range : Range ℕ) (idle : minds r c ≡ false) (empty : r.depth ≡ 0 → r.undecided.items ≡ []) where
@@ -11,8 +11,8 @@ module _ (r : Reading) (c : BidiClass) (range : Range ℕ) (idle : minds r c ≡
   pub idle-classes : (classes : List BidiClass) → classes ≡ classes_after c (waiting r.depth r.undecided.items) classes
   idle-classes classes = grind arith
 
--- an initiator on which nothing depends comes where the state is settled
-pub idle-initiator : (r : Reading) (c : BidiClass) → minds r c ≡ false → is_initiator c ≡ true → is_settled r ≡ true
+-- an initiator on which nothing depends comes where the state is decided
+pub idle-initiator : (r : Reading) (c : BidiClass) → minds r c ≡ false → is_initiator c ≡ true → is_decided r ≡ true
 idle-initiator r c idle opens = grind arith
 
 -- a PDI on which nothing depends comes where no isolate is counted

@@ -16,7 +16,7 @@ use Rattle.bidi_walk.specs.declared.first_walk.reading.Reading.{Reading}
 use Rattle.bidi_walk.specs.declared.first_walk.TextReading.{TextReading}
 use Rattle.bidi_walk.specs.declared.first_walk.reading.Undecided.{Undecided}
 use Rattle.bidi_walk.specs.declared.paragraph_info.ParagraphInfo.{ParagraphInfo}
-use Rattle.bidi_walk.specs.FirstWalk.{waiting, depth_after, undecided_after, deciding_after, classes_after, is_settled, minds, IsFresh, IsReadBy, IsSettledFrom, IsClosed}
+use Rattle.bidi_walk.specs.FirstWalk.{waiting, depth_after, undecided_after, deciding_after, classes_after, is_decided, minds, IsFresh, IsReadBy, StopsCounting, IsClosed}
 use Rattle.bidi_walk.specs.ParagraphInfo.{ranges_of, levels_of}
 use Rattle.bidi_walk.specs.ParagraphFlags.{flags_of, paragraph_flags, with_class}
 use Rattle.bidi_walk.specs.SplitRule.{ends_by, ends_after, pieces_by}
@@ -72,7 +72,7 @@ module _ (class : BidiClass) (range : Range ℕ) (k : ℕ) (old : Reading) where
     where
       -- if some isolate is undecided, all that come are counted
       none_opens : (u : Undecided) (us : List Undecided) → u ∷ us ≡ old.undecided.items → is_initiator class ≡ false
-      none_opens u us e = false_from_ne_true (is_initiator class) (λ opens. let settled = idle-initiator old class idle opens in grind arith)
+      none_opens u us e = false_from_ne_true (is_initiator class) (λ opens. let decided = idle-initiator old class idle opens in grind arith)
 
       none_closes : (u : Undecided) (us : List Undecided) → u ∷ us ≡ old.undecided.items → is_pdi class ≡ false
       none_closes u us e = false_from_ne_true (is_pdi class) (λ closes. absurd (cc (e, empty (idle-pdi old class idle closes))))
@@ -160,8 +160,8 @@ module _ (source : Source) (len_of : ℕ → ℕ) (chars : List ℕ) where
   }
 
   -- the isolates that are open are not counted any more
-  pub IsTextRead-settle : (base : Option ℕ) (n : ℕ) (done : List (List ℕ)) (current : List ℕ) (found : Seen) (reading new : Reading) → IsTextRead base n done current found reading → IsSettledFrom reading new → IsTextRead base n done current found new
-  IsTextRead-settle base n done current found reading new h less = record {
+  pub IsTextRead-stop_counting : (base : Option ℕ) (n : ℕ) (done : List (List ℕ)) (current : List ℕ) (found : Seen) (reading new : Reading) → IsTextRead base n done current found reading → StopsCounting reading new → IsTextRead base n done current found new
+  IsTextRead-stop_counting base n done current found reading new h less = record {
     whole = h.whole;
     sized = h.sized;
     classes = h.classes;
@@ -169,7 +169,7 @@ module _ (source : Source) (len_of : ℕ → ℕ) (chars : List ℕ) where
     levels = h.levels;
     flags = h.flags;
     start = less.start ∙ h.start;
-    uncounted = if is_settled reading then reading.depth + h.uncounted else h.uncounted;
+    uncounted = if is_decided reading then reading.depth + h.uncounted else h.uncounted;
     decided = grind (arith, h.decided);
     depth = grind (arith, h.depth);
     undecided = simp less.undecided (same_undecided (reading.undecided.items) refl);
@@ -178,9 +178,9 @@ module _ (source : Source) (len_of : ℕ → ℕ) (chars : List ℕ) where
     turns = less.turns ∙ h.turns;
   }
     where
-      -- there is none, if it is settled
+      -- there is none, if it is decided
       same_undecided : (us : List Undecided) → us ≡ reading.undecided.items
-          → map (deeper (if is_settled reading then reading.depth + h.uncounted else h.uncounted)) us ≡ undecided_from (units_after done) 0 (stored_classes (classes_of current)) (open_initiators (classes_of current))
+          → map (deeper (if is_decided reading then reading.depth + h.uncounted else h.uncounted)) us ≡ undecided_from (units_after done) 0 (stored_classes (classes_of current)) (open_initiators (classes_of current))
       same_undecided [] e = grind (arith, h.undecided)
       same_undecided (u ∷ us) e = grind (arith, h.undecided)
 

@@ -49,8 +49,8 @@ classes_after class (Some u) classes = if is_strong class then filled u.units (r
 
 -- no character can decide anything before the next FSI: the level of the paragraph is decided, and so is the direction of
 -- each open FSI
-abbrev pub is_settled : Reading → Bool
-is_settled r = is_some r.deciding && (length r.undecided.items == 0)
+abbrev pub is_decided : Reading → Bool
+is_decided r = is_some r.deciding && (length r.undecided.items == 0)
 
 -- a strong character, if it came next, would decide something
 abbrev pub wants_strong : Reading → Bool
@@ -59,7 +59,7 @@ wants_strong r = is_some (waiting r.depth r.undecided.items) || (r.depth == 0 &&
 -- a character of this class, if it came next, would change something
 abbrev pub minds : Reading → BidiClass → Bool
 minds r c =
-    (is_paragraph_separator c || (is_fsi c || (is_initiator c && not (is_settled r))))
+    (is_paragraph_separator c || (is_fsi c || (is_initiator c && not (is_decided r))))
     || ((is_counted c && not (has r.flags.met c)) || ((is_strong c && wants_strong r) || (is_pdi c && nat_lt 0 r.depth)))
 
 -- a paragraph of which nothing is read
@@ -78,10 +78,10 @@ pub record IsReadBy (class : BidiClass) (range : Range ℕ) (old new : Reading) 
   pub deciding : new.deciding ≡ deciding_after class old.depth old.deciding
   pub turns : new.flags ≡ with_class old.flags class
 
--- if it is settled, the isolates that are open are not counted any more
-pub record IsSettledFrom (old new : Reading) : Type 0 where
+-- if it is decided, the isolates that are open are not counted any more
+pub record StopsCounting (old new : Reading) : Type 0 where
   pub start : new.start ≡ old.start
-  pub depth : new.depth ≡ (if is_settled old then 0 else old.depth)
+  pub depth : new.depth ≡ (if is_decided old then 0 else old.depth)
   pub undecided : new.undecided.items ≡ old.undecided.items
   pub deciding : new.deciding ≡ old.deciding
   pub turns : new.flags ≡ old.flags

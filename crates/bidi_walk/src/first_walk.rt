@@ -6,7 +6,7 @@ ghost use Rattle.bidi_base.specs.Paragraphs.{begins_with_line_feed, ranges_from}
 ghost use Rattle.bidi_base.specs.Stored.{text_classes, paragraph_levels};
 ghost use Rattle.bidi_base.specs.Text.{place as place_of, text_len, per_unit};
 ghost use Rattle.bidi_walk.specs.ClassSet.{has};
-ghost use Rattle.bidi_walk.specs.FirstWalk.{classes_after, minds, waiting, CanReadOn, IsClosed, IsFresh, IsReadBy, IsReadOn, IsSettledFrom};
+ghost use Rattle.bidi_walk.specs.FirstWalk.{classes_after, minds, waiting, CanReadOn, IsClosed, IsFresh, IsReadBy, IsReadOn, StopsCounting};
 ghost use Rattle.bidi_walk.specs.declared.first_walk.reading.Reading.{Reading};
 ghost use Rattle.bidi_walk.specs.ParagraphInfo.{ranges_of, levels_of};
 ghost use Rattle.bidi_walk.specs.ParagraphFlags.{paragraph_flags};
@@ -121,7 +121,7 @@ impl TextReading {
         ensures classes { OnOk result (classes.new
             ≡ classes_after class (waiting self.old.reading.depth self.old.reading.undecided.items) classes.old) }
         ensures on { OnOk result (ends ≡ false
-            → ((r : Reading) × IsReadBy class units self.old.reading r × IsSettledFrom r self.new.reading)
+            → ((r : Reading) × IsReadBy class units self.old.reading r × StopsCounting r self.new.reading)
             × (self.new.paragraphs.items ≡ self.old.paragraphs.items)
             × (self.new.flags.items ≡ self.old.flags.items)) }
         ensures ended { OnOk result (ends ≡ true
@@ -138,7 +138,7 @@ impl TextReading {
             self.close(end)?;
             self.reading.restart(end);
         } else {
-            self.reading.settle();
+            self.reading.stop_counting();
         }
         Ok(self.reading.minded())
     }

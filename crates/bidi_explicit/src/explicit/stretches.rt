@@ -14,7 +14,9 @@ ghost use Rattle.bidi_explicit.specs.Status.{entry_count, seen};
 ghost use Rattle.bidi_explicit.specs.Stride.{count_to};
 
 use super::status::{StatusEntry, StatusStack};
-use super::{Stride, cut_run, own_class, own_level, units, write_class, write_level};
+use super::{
+    Stride, cut_run, own_class, own_level, units, write_class, write_control, write_level,
+};
 use bidi_base::char_data::BidiClass::{self, B, BN, FSI, LRE, LRI, LRO, PDF, PDI, RLE, RLI, RLO};
 use bidi_base::level::Level;
 use bidi_base::search::ClassTest;
@@ -356,8 +358,8 @@ impl<T: TextSource> Paragraph<'_, T> {
         let status = stack.read(class, steps);
         let level = own_level(self.level, class, status.level);
         let end = self.end_of(start);
-        write_level(levels, start, end, level);
-        write_class(classes, start, end, own_class(class, status.override_class));
+        let put = own_class(class, status.override_class);
+        write_control(levels, classes, start..end, level, put);
         Progress {
             end,
             level,

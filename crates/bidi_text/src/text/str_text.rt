@@ -181,6 +181,21 @@ impl<'t> TextSource for StrText<'t> {
         (char_of_four(first, second, third, bytes[index + 3]), 4)
     }
 
+    fn len_at(&self, index: usize) -> usize {
+        let bytes = self.as_str().as_bytes();
+        // Branches, as in `next_at`.
+        let first = bytes[index];
+        if first < 0xC0 {
+            1
+        } else if first < 0xE0 {
+            2
+        } else if first < 0xF0 {
+            3
+        } else {
+            4
+        }
+    }
+
     fn subrange(self, range: Range<usize>) -> StrText<'t> {
         let text = self.as_str();
         StrText::new(&text[range])

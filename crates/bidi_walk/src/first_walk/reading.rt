@@ -6,7 +6,7 @@ ghost use Rattle.bidi_base.specs.Classes.{is_strong as is_strong_class};
 ghost use Rattle.bidi_base.specs.Isolates.{level_by, resolved_fsi};
 ghost use Rattle.bidi_base.specs.Reading.{outer, filled};
 ghost use Rattle.bidi_walk.specs.ClassSet.{has};
-ghost use Rattle.bidi_walk.specs.FirstWalk.{waiting, deciding_after, classes_after, is_settled, wants_strong, minds, IsFresh, IsReadBy, IsSettledFrom};
+ghost use Rattle.bidi_walk.specs.FirstWalk.{waiting, deciding_after, classes_after, is_decided, wants_strong, minds, IsFresh, IsReadBy, StopsCounting};
 
 use crate::class_set::ClassSet;
 use crate::paragraph_flags::ParagraphFlags;
@@ -62,7 +62,7 @@ struct Undecided {
 pub(super) struct Reading {
     /// The code unit at which it begins.
     pub(super) start: usize,
-    // How many isolates are open. Those that were open when the state was settled are not counted.
+    // How many isolates are open. Those that were open when the state was decided are not counted.
     depth: usize,
     // Those of an FSI that no character has decided yet, outermost first.
     undecided: Vec<Undecided>,
@@ -108,17 +108,17 @@ impl Reading {
 
     // Whether no character can decide anything before the next FSI: the level of the paragraph is decided,
     // and so is the direction of each open FSI. Then it does not matter how many isolates are open.
-    fn is_settled(&self) -> bool
-        ensures { result ≡ is_settled self.now }
+    fn is_decided(&self) -> bool
+        ensures { result ≡ is_decided self.now }
     {
         self.deciding.is_some() && self.undecided.is_empty()
     }
 
-    /// Counts the isolates that are open no longer, if the state is settled.
-    pub(super) fn settle(&mut self)
-        ensures { IsSettledFrom self.old self.new }
+    /// Counts the isolates that are open no longer, if the state is decided.
+    pub(super) fn stop_counting(&mut self)
+        ensures { StopsCounting self.old self.new }
     {
-        self.depth = if self.is_settled() { 0 } else { self.depth };
+        self.depth = if self.is_decided() { 0 } else { self.depth };
     }
 
     // Whether a strong character would decide something if it came next.
@@ -134,7 +134,7 @@ impl Reading {
     {
         ClassSet::BOUNDS
             .union(ClassSet::COUNTED.without(self.flags.met))
-            .union(ClassSet::INITIATORS.when(!self.is_settled()))
+            .union(ClassSet::INITIATORS.when(!self.is_decided()))
             .union(ClassSet::STRONG.when(self.wants_strong()))
             .union(ClassSet::CLOSING.when(self.depth > 0))
     }

@@ -1,7 +1,7 @@
 -- One stretch or control after another.
 use Rattle.bidi_base.proofs.Common.{map, arith, rules, map-append, bounds}
 use Rattle.bidi_runs.proofs.CharEnds.{index-zero}
-use Rattle.bidi_explicit.proofs.CountLemmas.{count-one, count-zero, index-count}
+use Rattle.bidi_explicit.proofs.CountLemmas.{count-one, count-zero}
 use Rattle.bidi_explicit.proofs.ExplicitStretches.{read-start, read-levels, read-classes, read-runs, read-no_runs, read-all, read-begins, read-count}
 use Rattle.bidi_explicit.proofs.explicit.compute_by.Goals as goal
 use Rattle.bidi_explicit.proofs.explicit.compute_by.Goals.{then-is_control, else-is_control}

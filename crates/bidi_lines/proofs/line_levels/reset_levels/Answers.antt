@@ -1,4 +1,4 @@
-use Rattle.bidi_base.proofs.Common.{ℕ, ◌-◌, ◌<◌, ◌≡◌, true, false, get_or, sym, ◌∙◌, arith, inl, inr, cases_lt, get_or_default, is_removed, class_at}
+use Rattle.bidi_base.proofs.Common.{ℕ, ◌-◌, ◌<◌, ◌≡◌, true, false, get_or, sym, ◌∙◌, arith, inl, inr, cases_lt, get_or_default, class_at}
 use Rattle.bidi_base.specs.Classes.{is_separator}
 use Rattle.bidi_lines.specs.Stops.{is_stop}
 use Rattle.bidi_lines.proofs.LineLevels.{IsResetTo-start, IsResetTo-removed, IsResetTo-blanks, IsResetTo-others, IsResetTo-separator, IsResetTo-end, AreLastBlanks, ArePlain, level_before}
@@ -18,10 +18,10 @@ loop-at-preserved-then-is_separator g c =
 
 pub loop-at-preserved-then-is_removed : goal.loop-at-preserved-then-is_removed
 loop-at-preserved-then-is_removed g c =
-    let removed : is_removed (class_at (g.C.ClassList.classes c.args.classes) c.loop-at.at) ≡ true = grind arith in
+    let w = c.write_removed-at.ensures in
     record {
-      reset = IsResetTo-removed _ _ _ _ _ _ _ 0 (omega (arith, c.loop-at-test.true, c.requires, c.loop-at.auto.levels)) removed c.loop-at.invariant.reset;
-      ends = omega (arith, c.loop-at-test.true);
+      reset = IsResetTo-removed _ _ _ _ _ _ _ _ _ (omega (arith, w.begins)) (grind arith) c.loop-at.invariant.reset w.removed;
+      ends = w.ends;
     }
 
 -- the level before a place that is not the first

@@ -1,4 +1,4 @@
-use Rattle.bidi_base.proofs.Common.{◌+◌, ℕ, List, length, not, ap, arith, is_removed, IsFirst}
+use Rattle.bidi_base.proofs.Common.{ℕ, List, length, not, ap, arith, is_removed, IsFirst}
 use Rattle.bidi_base.specs.declared.char_data.BidiClass.{BidiClass}
 use Rattle.bidi_paragraphs.proofs.FilledUnits.{AreFilled, AreFilled-removed}
 use Rattle.bidi_paragraphs.proofs.paragraph_levels.fill_removed.Goals as goal
@@ -10,13 +10,21 @@ up_to para classes old now i next f h = grind arith
 pub loop-at-init : goal.loop-at-init
 loop-at-init c = grind arith
 
+pub write_removed-end-requires : goal.write_removed-end-requires
+write_removed-end-requires c = record {
+  lengths = grind arith;
+  inside = c.loop-at-test.true;
+  removed = ap not (c.loop-at.invariant.here c.loop-at-test.true);
+}
+
 pub loop-at-preserved : goal.loop-at-preserved
 loop-at-preserved c =
     let inv = c.loop-at.invariant in
+    let w = c.write_removed-end.ensures in
     let f = c.first_passing-at-in-loop-at.ensures in
     record {
-      filled = up_to _ _ _ _ (c.loop-at.at + 1) _ f
-          (AreFilled-removed _ _ _ _ _ inv.filled c.level_before.result (omega (arith, c.loop-at-test.true, c.requires, c.loop-at.auto.levels)) c.level_before.ensures.front c.level_before.ensures.inside (ap not (inv.here c.loop-at-test.true)));
+      filled = up_to _ _ _ _ c.write_removed-end.result _ f
+          (AreFilled-removed _ _ _ _ _ inv.filled c.level_before-before.result c.write_removed-end.result _ (omega (arith, w.begins)) w.removed w.written c.level_before-before.ensures.front c.level_before-before.ensures.inside);
       ends = f.ends;
       here = f.at;
     }

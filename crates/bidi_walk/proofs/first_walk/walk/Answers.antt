@@ -1,7 +1,7 @@
 use Rattle.bidi_base.proofs.Common.{not, ◌≡◌, ◌∙◌, ◌+◌, ℕ, ◌<◌, List, ◌⊎◌, inl, inr, length, true, refl, sym, ap, arith, common_steps, is_none, cases_Bool, place}
 use Rattle.std.proofs.lemmas.List.{with_items_is}
 use Rattle.bidi_base.proofs.PlaceLemmas.{is_boundary-place, place-end}
-use Rattle.bidi_walk.proofs.TextRead.{seen, same_range, open_within, depth-le, drawn-is, IsTextRead-more, IsTextRead-settle, IsTextDone-close, IsRead, IsRead-start, IsRead-on, IsRead-stop, IsRead-last, IsRead-none, IsTextDone-none, IsAnswer, IsTextDone-answer}
+use Rattle.bidi_walk.proofs.TextRead.{seen, same_range, open_within, depth-le, drawn-is, IsTextRead-more, IsTextRead-stop_counting, IsTextDone-close, IsRead, IsRead-start, IsRead-on, IsRead-stop, IsRead-last, IsRead-none, IsTextDone-none, IsAnswer, IsTextDone-answer}
 use Rattle.bidi_walk.proofs.WalkSteps.{IsAt, IsAt-met, IsRead-end}
 use Rattle.bidi_walk.proofs.first_walk.walk.Goals as goal
 use Rattle.bidi_walk.proofs.first_walk.walk.Goals.{In-Some, then-is_none+in_ok-close, then-is_none-via-then-is_none, then-is_none-via-else-is_none+then-walk-end, else-is_none+else-walk-end}
@@ -74,7 +74,7 @@ loop-met-preserved g c =
           let kept = c.in_ok-minded.ensures.on on in
           let counted = more new kept.0.0 range_is c.in_ok-minded.ensures.classes c.meet.auto.classes kept.1 kept.2 kept.0.1 in
           IsRead-on _ _ _ _ _ n _ _ _ new _ m.read w.next
-          (IsTextRead-settle _ _ _ _ (n + 1) _ _ new kept.0.0 _ counted kept.0.2) (sym ends_is ∙ on)
+          (IsTextRead-stop_counting _ _ _ _ (n + 1) _ _ new kept.0.0 _ counted kept.0.2) (sym ends_is ∙ on)
     ] in (
       record { index = n + 1; within = omega (arith, w.within); here = end; read = read },
       c.in_ok-minded.ensures.minded,

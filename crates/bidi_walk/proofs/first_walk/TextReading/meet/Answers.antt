@@ -13,5 +13,5 @@ pub returns-clause-on : goal.returns-clause-on
 returns-clause-on c = λ on.
     elim c.if-ends.branch [
       | then-ends+in_ok-close w ↦ absurd (both_ways c.args.ends on w.if-ends.true)
-      | else-ends w ↦ rw w.self-is ((c.read.new.self, c.in_ok-read.ensures.reading, w.settle.ensures), refl, refl)
+      | else-ends w ↦ rw w.self-is ((c.read.new.self, c.in_ok-read.ensures.reading, w.stop_counting.ensures), refl, refl)
     ]

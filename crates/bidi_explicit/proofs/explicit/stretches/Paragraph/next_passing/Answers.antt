@@ -1,5 +1,4 @@
 -- A search over code units finds the first one of a character.
-use Rattle.bidi_base.proofs.Common.{arith}
 use Rattle.bidi_explicit.specs.ExplicitStretches.{paragraph_of}
 use Rattle.bidi_explicit.proofs.ExplicitStretches.{first-is_boundary}
 use Rattle.bidi_explicit.proofs.explicit.stretches.Paragraph.next_passing.Goals as goal

@@ -10,11 +10,8 @@ read-status-requires g c =
 pub end_of-end-requires-clause-begins : goal.end_of-end-requires-clause-begins
 end_of-end-requires-clause-begins g c = read-begins _ _ _ _ _ _ _ c.requires.read.2
 
-pub write_level-requires-clause-ordered : goal.write_level-requires-clause-ordered
-write_level-requires-clause-ordered g c = omega (arith, control-some _ _ _ _ _ _ _ c.requires.read.2 c.requires.inside c.end_of-end.result c.end_of-end.ensures)
-
-pub write_class-requires-clause-ordered : goal.write_class-requires-clause-ordered
-write_class-requires-clause-ordered g c = omega (arith, control-some _ _ _ _ _ _ _ c.requires.read.2 c.requires.inside c.end_of-end.result c.end_of-end.ensures)
+pub write_control-requires-clause-ordered : goal.write_control-requires-clause-ordered
+write_control-requires-clause-ordered g c = omega (arith, control-some _ _ _ _ _ _ _ c.requires.read.2 c.requires.inside c.end_of-end.result c.end_of-end.ensures)
 
 pub returns : goal.returns
 returns g c =

@@ -2,7 +2,7 @@ use Rattle.bidi_base.proofs.Common.{◌≡◌, ℕ, ◌+◌, ◌-◌, ◌^◌, �
 use Rattle.bidi_base.specs.declared.char_data.BidiClass.{BidiClass}
 use Rattle.bidi_base.specs.declared.char_data.BidiClass.TheVariants.{L, R, AL, B, ES, ET, CS, NSM, S, WS, ON, LRI, RLI, FSI, PDI}
 use Rattle.bidi_walk.specs.ClassSet.{has}
-use Rattle.bidi_walk.specs.FirstWalk.{is_settled, wants_strong}
+use Rattle.bidi_walk.specs.FirstWalk.{is_decided, wants_strong}
 use Rattle.bidi_walk.specs.ParagraphFlags.{is_counted}
 use Rattle.bidi_walk.proofs.first_walk.reading.Reading.minded.Goals as goal
 
@@ -27,9 +27,9 @@ counted : (k : BidiClass) → has (record { bits = 2 ^ 23 - 1 - others }) k ≡ 
 counted k = grind arith
 
 -- the sets, joined in the order of the code and in that of the definition
-joined : (sep fsi first settled opens wants turns deep closes : Bool) → ((((sep || fsi) || first) || (not settled && opens)) || (wants && turns)) || (deep && closes)
-    ≡ (sep || (fsi || (opens && not settled))) || (first || ((turns && wants) || (closes && deep)))
-joined sep fsi first settled opens wants turns deep closes = grind arith
+joined : (sep fsi first decided opens wants turns deep closes : Bool) → ((((sep || fsi) || first) || (not decided && opens)) || (wants && turns)) || (deep && closes)
+    ≡ (sep || (fsi || (opens && not decided))) || (first || ((turns && wants) || (closes && deep)))
+joined sep fsi first decided opens wants turns deep closes = grind arith
 
 pub returns : goal.returns
 returns c = λ k.
@@ -42,12 +42,12 @@ returns c = λ k.
       c.when.ensures k,
       c.when-2.ensures k,
       c.when-3.ensures k,
-      c.is_settled.ensures,
+      c.is_decided.ensures,
       c.wants_strong.ensures,
       bounds k,
       counted k,
       initiators k,
       strong k,
       closing k,
-    ) (joined (is_paragraph_separator k) (is_fsi k) (is_counted k && not (has c.args.self.now.flags.met k)) (is_settled c.args.self.now) (is_initiator k)
+    ) (joined (is_paragraph_separator k) (is_fsi k) (is_counted k && not (has c.args.self.now.flags.met k)) (is_decided c.args.self.now) (is_initiator k)
     (wants_strong c.args.self.now) (is_strong k) (nat_lt 0 c.args.self.now.depth) (is_pdi k))
