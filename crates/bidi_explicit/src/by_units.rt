@@ -4,7 +4,7 @@ ghost use Rattle.std.specs.Prelude.{◌+◌, ◌*◌, ◌≤◌, length, map, On
 ghost use Rattle.bidi_base.specs.InPlace.{AreExplicitLevels, CanFindExplicitLevels};
 ghost use Rattle.bidi_base.specs.Units.{bounds};
 
-use crate::explicit::{Stride, compute_by, compute_fresh};
+use crate::explicit::{Paragraph, Stride, compute_by, compute_fresh};
 use bidi_base::char_data::BidiClass;
 use bidi_base::level::Level;
 use bidi_runs::prepare::{LevelRunVec, Steps};
@@ -18,7 +18,7 @@ use std::sync::ledger::{Blank, Ledger};
 /// The pass reads the text only at controls. It goes through the classes between two controls without the
 /// text, and looks for the next control sixteen code units at a time.
 pub fn compute<T: TextSource>(
-    alloc: Global,
+    _alloc: Global,
     text: T,
     para_level: Level,
     original_classes: &[BidiClass],
@@ -31,17 +31,9 @@ pub fn compute<T: TextSource>(
     ensures { OnOk result (AreExplicitLevels T.units (T.characters text) para_level original_classes.now levels.new
         processing_classes.new (map bounds runs.new.items)) }
 {
-    compute_fresh::<T, Brand>(
-        alloc,
-        text,
-        Stride::CodeUnit,
-        para_level,
-        original_classes,
-        levels,
-        processing_classes,
-        runs,
-        Blank::new(1),
-    )
+    let paragraph = Paragraph::new(text, para_level, Stride::CodeUnit, original_classes);
+    let blank = Blank::new(1);
+    compute_fresh::<T, Brand>(&paragraph, levels, processing_classes, runs, blank)
 }
 
 /// Like [`compute`], and counts in `steps`.
@@ -68,14 +60,6 @@ pub fn compute_counted<T: TextSource, S: Ledger>(
     ensures at_least { OnOk result (steps.old + length (T.characters text) ≤ steps.new) }
     ensures at_most { OnOk result (steps.new ≤ steps.old + 4 * length original_classes.now) }
 {
-    compute_by(
-        text,
-        Stride::CodeUnit,
-        para_level,
-        original_classes,
-        levels,
-        processing_classes,
-        runs,
-        steps,
-    )
+    let paragraph = Paragraph::new(text, para_level, Stride::CodeUnit, original_classes);
+    compute_by(&paragraph, levels, processing_classes, runs, steps)
 }

@@ -23,7 +23,8 @@ use std::alloc::{AllocError, Global};
 use std::marker::Brand;
 use std::ops::Range;
 use std::sync::ledger::{Blank, Ledger};
-use stretches::{OpenRun, Paragraph, is_control};
+pub(crate) use stretches::Paragraph;
+use stretches::{OpenRun, is_control};
 
 /// How the pass goes through a stretch without controls, and what it counts there.
 #[derive(Clone, Copy, Debug)]
@@ -173,7 +174,7 @@ fn cut_run(
 /// then hold anything. Nothing else allocates: `alloc` is a parameter of all passes, and this one does not
 /// use it.
 pub fn compute<T: TextSource>(
-    alloc: Global,
+    _alloc: Global,
     text: T,
     para_level: Level,
     original_classes: &[BidiClass],
@@ -186,50 +187,29 @@ pub fn compute<T: TextSource>(
     ensures { OnOk result (AreExplicitLevels T.units (T.characters text) para_level original_classes.now levels.new
         processing_classes.new (map bounds runs.new.items)) }
 {
-    compute_fresh::<T, Brand>(
-        alloc,
-        text,
-        Stride::Character,
-        para_level,
-        original_classes,
-        levels,
-        processing_classes,
-        runs,
-        Blank::new(1),
-    )
+    let paragraph = Paragraph::new(text, para_level, Stride::Character, original_classes);
+    let blank = Blank::new(1);
+    compute_fresh::<T, Brand>(&paragraph, levels, processing_classes, runs, blank)
 }
 
 // Calls [`compute_by`] with a new count of steps.
 pub(crate) fn compute_fresh<T: TextSource, S: Ledger>(
-    _alloc: Global,
-    text: T,
-    stride: Stride,
-    para_level: Level,
-    original_classes: &[BidiClass],
+    paragraph: &Paragraph<'_, T>,
     levels: &mut [Level],
     processing_classes: &mut [BidiClass],
     runs: &mut LevelRunVec,
     blank: Blank,
 ) -> Result<(), AllocError>
-    requires paragraph { CanFindExplicitLevels T.units (T.characters text) para_level original_classes.now levels.old
-        processing_classes.old (map bounds runs.old.items) }
+    requires paragraph { CanFindExplicitLevels T.units (T.characters paragraph.now.text) paragraph.now.level
+        paragraph.now.original_classes.now levels.old processing_classes.old (map bounds runs.old.items) }
     requires name { blank.name ≡ S.name }
     requires parts { blank.parts ≡ S.parts }
     requires one { blank.parts ≡ 1 }
-    ensures { OnOk result (AreExplicitLevels T.units (T.characters text) para_level original_classes.now levels.new
-        processing_classes.new (map bounds runs.new.items)) }
+    ensures { OnOk result (AreExplicitLevels T.units (T.characters paragraph.now.text) paragraph.now.level
+        paragraph.now.original_classes.now levels.new processing_classes.new (map bounds runs.new.items)) }
 {
     let mut steps = Steps::<S>::new(blank);
-    compute_by(
-        text,
-        stride,
-        para_level,
-        original_classes,
-        levels,
-        processing_classes,
-        runs,
-        &mut steps,
-    )
+    compute_by(paragraph, levels, processing_classes, runs, &mut steps)
 }
 
 /// Like [`compute`], and counts each loop iteration in `steps`, including those of the functions it calls.
@@ -254,46 +234,30 @@ pub fn compute_counted<T: TextSource, S: Ledger>(
     ensures at_least { OnOk result (steps.old + length (T.characters text) ≤ steps.new) }
     ensures at_most { OnOk result (steps.new ≤ steps.old + 4 * length (T.characters text)) }
 {
-    compute_by(
-        text,
-        Stride::Character,
-        para_level,
-        original_classes,
-        levels,
-        processing_classes,
-        runs,
-        steps,
-    )
+    let paragraph = Paragraph::new(text, para_level, Stride::Character, original_classes);
+    compute_by(&paragraph, levels, processing_classes, runs, steps)
 }
 
 // The pass in both forms. Counts each loop iteration, and each code unit or character that a search passes
 // over.
 pub(crate) fn compute_by<T: TextSource, S: Ledger>(
-    text: T,
-    stride: Stride,
-    para_level: Level,
-    original_classes: &[BidiClass],
+    paragraph: &Paragraph<'_, T>,
     levels: &mut [Level],
     processing_classes: &mut [BidiClass],
     runs: &mut LevelRunVec,
     steps: &mut Steps<S>,
 ) -> Result<(), AllocError>
-    requires { CanFindExplicitLevels T.units (T.characters text) para_level original_classes.now levels.old
-        processing_classes.old (map bounds runs.old.items) }
-    ensures found { OnOk result (AreExplicitLevels T.units (T.characters text) para_level original_classes.now levels.new
-        processing_classes.new (map bounds runs.new.items)) }
-    ensures at_least { OnOk result (steps.old + length (T.characters text) ≤ steps.new) }
-    ensures at_most { OnOk result (steps.new
-        ≤ steps.old + 4 * count_of stride (length original_classes.now) (length (T.characters text))) }
+    requires { CanFindExplicitLevels T.units (T.characters paragraph.now.text) paragraph.now.level
+        paragraph.now.original_classes.now levels.old processing_classes.old (map bounds runs.old.items) }
+    ensures found { OnOk result (AreExplicitLevels T.units (T.characters paragraph.now.text) paragraph.now.level
+        paragraph.now.original_classes.now levels.new processing_classes.new (map bounds runs.new.items)) }
+    ensures at_least { OnOk result (steps.old + length (T.characters paragraph.now.text) ≤ steps.new) }
+    ensures at_most { OnOk result (steps.new ≤ steps.old + 4 * count_of paragraph.now.stride
+        (length paragraph.now.original_classes.now) (length (T.characters paragraph.now.text))) }
 {
-    let paragraph = Paragraph {
-        text,
-        level: para_level,
-        stride,
-        original_classes,
-    };
+    let original_classes = paragraph.original_classes;
     let units = original_classes.len();
-    let mut stack = StatusStack::new(para_level);
+    let mut stack = StatusStack::new(paragraph.level);
     let mut run = OpenRun::new();
     let mut at = 0;
     while at < units {

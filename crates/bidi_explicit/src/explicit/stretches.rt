@@ -119,7 +119,29 @@ pub struct Paragraph<'p, T: TextSource> {
     ghost long: { length original_classes.now ≡ text_len T.units (T.characters text) },
 }
 
-impl<T: TextSource> Paragraph<'_, T> {
+impl<'p, T: TextSource> Paragraph<'p, T> {
+    /// A paragraph with its stored classes, which are equal within each character.
+    pub fn new(
+        text: T,
+        level: Level,
+        stride: Stride,
+        original_classes: &'p [BidiClass],
+    ) -> Paragraph<'p, T>
+        requires low { level ≤ 125 }
+        requires per_char { IsTrue (is_per_char ⟦<BidiClass as PartialEq>⟧.eq T.units (T.characters text) original_classes.now) }
+        ensures text { result.text ≡ text }
+        ensures level { result.level ≡ level }
+        ensures stride { result.stride ≡ stride }
+        ensures classes { result.original_classes.now ≡ original_classes.now }
+    {
+        Paragraph {
+            text,
+            level,
+            stride,
+            original_classes,
+        }
+    }
+
     // The index after the character that begins at `start`.
     fn end_of(&self, start: usize) -> usize
         requires begins { IsTrue (is_boundary T.units (T.characters self.now.text) start) }

@@ -8,10 +8,10 @@ use Rattle.bidi_explicit.proofs.explicit.compute_by.Given as goal
 abbrev pub invariant-loop-at : goal.invariant-loop-at
 invariant-loop-at g l =
     let len_of = g.T.TextSource.units in
-    let chars = g.T.TextSource.characters l.fn.text in
-    IsReadTo (paragraph_of len_of chars l.fn.para_level l.original_classes) l.at l.stack l.levels l.processing_classes (map bounds l.runs.items) l.run
+    let chars = g.T.TextSource.characters l.paragraph.text in
+    IsReadTo (paragraph_of len_of chars l.paragraph.level l.original_classes) l.at l.stack l.levels l.processing_classes (map bounds l.runs.items) l.run
     × (l.fn.steps + char_index len_of chars l.at ≤ l.steps)
-    × (l.steps + entry_count l.stack ≤ l.fn.steps + (4 * count_to l.fn.stride len_of chars l.at + 1))
+    × (l.steps + entry_count l.stack ≤ l.fn.steps + (4 * count_to l.paragraph.stride len_of chars l.at + 1))
 
 abbrev pub decreases-loop-at : goal.decreases-loop-at
 decreases-loop-at g l = l.units - l.at
