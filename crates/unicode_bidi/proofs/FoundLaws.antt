@@ -1,5 +1,5 @@
 -- What follows of the analysis of a text that is cut into its paragraphs.
-use Rattle.bidi_base.proofs.Common.{◌≡◌, ◌≤◌, ℕ, Bool, true, false, refl, text_len, List, [], ◌∷◌, map, arith, then_some, All, IfSome, slice_range, AnalysedText, IsPerCharText, paragraph_level, stored_classes, HasOwnUnits, AreLevelsFrom, pieces_of, ranges_from, Source, text_classes, text_levels, stored_levels, per_unit, IsLine}
+use Rattle.bidi_base.proofs.Common.{◌≡◌, ◌≤◌, ℕ, Bool, true, false, refl, text_len, List, [], ◌∷◌, map, arith, then_some, All, IfSome, slice_range, AnalysedText, IsPerCharText, paragraph_level, stored_classes, HasOwnUnits, AreLevelsFrom, ranges_from, Source, text_classes, text_levels, stored_levels, per_unit, IsLine}
 use Rattle.std.proofs.lemmas.List.{append-nil}
 use Rattle.std.specs.Prelude.{Option, Some, None}
 use Rattle.bidi_base.specs.declared.char_data.BidiClass.TheVariants.{L}

@@ -1,4 +1,4 @@
-//! The classes, the paragraphs and the levels of a text in any encoding.
+//! The classes, the paragraphs and the levels of a text in any encoding (P1 to I2), and the levels of a line (L1).
 
 ghost use Rattle.std.specs.Prelude.{◌≡◌, [], IsTrue, ◌≤◌, ◌++◌, length, map, take, drop, flat_map, slice_range, All, OnOk, OnErr, IfOk, IfSome};
 ghost use Rattle.bidi_base.specs.Analysed.{IsPerCharText, AreLevelsWithLine};

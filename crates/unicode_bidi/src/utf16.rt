@@ -1,4 +1,4 @@
-//! Texts of UTF-16.
+//! Texts of UTF-16, analysed (P1 to I2) and shown line by line (L1, L2).
 //!
 //! A high surrogate directly followed by a low one is one character, two code units long. Any other
 //! surrogate is the character U+FFFD, one code unit long.

@@ -1,4 +1,4 @@
-//! Texts of UTF-8. A code unit is a byte.
+//! Texts of UTF-8, analysed (P1 to I2) and shown line by line (L1, L2). A code unit is a byte.
 
 ghost use Rattle.std.specs.Prelude.{◌≡◌, ◌≤◌, ◌↔◌, IfOk, IfSome, Some, true, encode_utf8};
 ghost use Rattle.std.specs.Cow.{cow_str_bytes, IsBorrowedStr};
