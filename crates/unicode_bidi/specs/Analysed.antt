@@ -16,13 +16,13 @@ use Rattle.bidi_walk.specs.SplitRule.{pieces_by, AreParagraphRangesBy, IsAnalysi
 -- ---- a text and its paragraphs
 
 module _ (source : Source) (base : Option ℕ) where
-  -- an analysed text; split, each separator ends a paragraph, and not split, the text is one
+  -- an analysed text: with `split` each separator ends a paragraph, and without it the whole text is one
   pub record IsAnalysed (split : Bool) (a : AnalysedText) (paragraphs : List ParagraphInfo) : Type 0 where
     -- the stored classes, the stored levels, and the paragraphs with their levels
     pub analysis : IsAnalysis source base split a (ranges_of paragraphs) (levels_of paragraphs)
-    -- split, every code unit is in one paragraph, and separators are only at the ends of paragraphs
+    -- with `split`, every code unit is in one paragraph, and separators are only at the ends of paragraphs
     pub parted : split ≡ true → AreParagraphRanges source a.len_of a.chars (ranges_of paragraphs)
-    -- not split, there is one paragraph, the whole text
+    -- without `split`, there is one paragraph, the whole text
     pub whole : split ≡ false → ranges_of paragraphs ≡ (0, text_len a.len_of a.chars) ∷ []
     -- all code units of a character have the same class and the same level
     pub per_char : IsPerCharText a
@@ -36,10 +36,11 @@ module _ (source : Source) (base : Option ℕ) where
     -- each paragraph has the levels that its characters would have as the whole text
     pub each_by_itself : All (HasOwnUnits a.len_of (stored_levels source base) a.chars a.levels) (ranges_of paragraphs)
 
-  -- the same where a rule says where paragraphs end; without a rule, the text is one
+  -- the same where a rule says where paragraphs end; without a rule the whole text is one
   pub record IsAnalysedBy (rule : Option SplitRule) (a : AnalysedText) (paragraphs : List ParagraphInfo) : Type 0 where
     pub analysis : IsAnalysisBy source base rule a (ranges_of paragraphs) (levels_of paragraphs)
-    -- with `CrLfTogether`, a U+000D may also come directly before the U+000A that ends its paragraph
+    -- with `CrLfTogether`, a U+000D may also come directly before the U+000A that ends its paragraph; all other
+    -- separators are at the ends of paragraphs
     pub parted : IfSome rule (λ r. AreParagraphRangesBy r source a.len_of a.chars (ranges_of paragraphs))
     pub whole : rule ≡ None → ranges_of paragraphs ≡ (0, text_len a.len_of a.chars) ∷ []
     pub per_char : IsPerCharText a
@@ -69,7 +70,8 @@ module _ (source : Source) (base : Option ℕ) where
   -- ---- before any level is resolved
 
   -- the stored classes of a text, and its paragraphs with their levels
-  pub record HasParagraphs (len_of : ℕ → ℕ) (chars : List ℕ) (stored : List BidiClass) (paragraphs : List ParagraphInfo) : Type 0 where
+  pub record HasParagraphs (len_of : ℕ → ℕ) (chars : List ℕ) (stored : List BidiClass)
+      (paragraphs : List ParagraphInfo) : Type 0 where
     pub classes : stored ≡ per_unit len_of chars (text_classes source (pieces_of true source chars))
     pub ranges : ranges_of paragraphs ≡ ranges_from len_of 0 (pieces_of true source chars)
     pub levels : levels_of paragraphs ≡ paragraph_levels source base (pieces_of true source chars)
