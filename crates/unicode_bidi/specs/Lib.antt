@@ -1,3 +1,4 @@
+pub mod Analysed
 pub mod BidiInfo
 pub mod DirectionSteps
 pub mod Engine

@@ -1,4 +1,4 @@
-// The base direction of a text.
+// The base direction of a text (P2, P3).
 ghost use Rattle.std.specs.Prelude.{◌≡◌, ◌↔◌, if◌then◌else◌, map, None, []};
 ghost use Rattle.bidi_base.specs.Direction.{base_direction, full_base_direction};
 ghost use Rattle.bidi_base.specs.Isolates.{paragraph_level};

@@ -1,4 +1,4 @@
-//! Calls for users of older versions of the library.
+//! The visual runs of a line (L2), for users of older versions of the library.
 
 ghost use Rattle.std.specs.Prelude.{◌≡◌, ◌<◌, ◌≤◌, length, slice_range, IfOk, map};
 ghost use Rattle.bidi_base.specs.Display.{run_of, visual_runs as visual_runs_from, AreVisualRuns};

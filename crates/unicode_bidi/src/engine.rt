@@ -1,13 +1,13 @@
-//! The classes, the paragraphs and the levels of a text in any encoding.
+//! The classes, the paragraphs and the levels of a text in any encoding (P1 to I2), and the levels of a line (L1).
 
-ghost use Rattle.std.specs.Prelude.{◌≡◌, [], ◌∷◌, true, false, IsTrue, ◌≤◌, ◌++◌, length, map, take, drop, flat_map, slice_range, All, OnOk, OnErr, IfOk, IfSome};
-ghost use Rattle.bidi_base.specs.Analysed.{IsAnalysis, IsPerCharText, HasCharValues, AreLevelsWithLine, classes_of_chars, levels_of_chars};
+ghost use Rattle.std.specs.Prelude.{◌≡◌, [], IsTrue, ◌≤◌, ◌++◌, length, map, take, drop, flat_map, slice_range, All, OnOk, OnErr, IfOk, IfSome};
+ghost use Rattle.bidi_base.specs.Analysed.{IsPerCharText, AreLevelsWithLine};
 ghost use Rattle.bidi_base.specs.Laws.{AreLevelsFrom};
 ghost use Rattle.bidi_base.specs.Line.{levels_with_line as levels_with_line_of};
 ghost use Rattle.bidi_base.specs.declared.char_data.BidiClass.TheVariants.{L};
-ghost use Rattle.bidi_base.specs.Paragraphs.{AreParagraphRanges};
 ghost use Rattle.bidi_base.specs.Text.{text_len, is_per_char, per_char, char_index, IsLine};
 ghost use Rattle.bidi_text_lines.specs.Analysed.{with_lists};
+ghost use Rattle.unicode_bidi.specs.Analysed.{IsAnalysed, IsAnalysedBy};
 ghost use Rattle.unicode_bidi.specs.Engine.{with_analysis, found_paragraphs, original_classes as original_classes_of, levels as stored_levels_of, paragraphs as paragraphs_of_analysis, flags as flags_of_analysis, unit_levels, own_flags, CanWrite, Follow};
 ghost use Rattle.bidi_walk.specs.ParagraphFlags.{paragraph_flags};
 ghost use Rattle.bidi_walk.specs.ParagraphInfo.{level_of, range_of, ranges_of, levels_of};
@@ -219,12 +219,8 @@ pub(crate) fn analyse_by<D: BidiDataSource, T: TextSource>(
     split: Option<SplitRule>,
 ) -> Result<Analysis, AllocError>
     requires { IfSome base (λ level. level ≤ 125) }
-    ensures analysis { IfOk result (λ a. IsAnalysisBy (D.source data_source.now) base split
-        (with_analysis T.units (T.characters text) a) (ranges_of (paragraphs_of_analysis a))
-        (levels_of (paragraphs_of_analysis a))) }
-    ensures per_char { IfOk result (λ a. IsPerCharText (with_analysis T.units (T.characters text) a)) }
-    ensures bounded { IfOk result (λ a. All (λ p. AreLevelsFrom (level_of p)
-        (slice_range (stored_levels_of a) (range_of p).start (range_of p).end)) (paragraphs_of_analysis a)) }
+    ensures analysed { IfOk result (λ a. IsAnalysedBy (D.source data_source.now) base split
+        (with_analysis T.units (T.characters text) a) (paragraphs_of_analysis a)) }
     ensures flags { let pieces = pieces_by split (D.source data_source.now) (T.characters text) in
         IfOk result (λ a. flags_of_analysis a ≡ paragraph_flags (D.source data_source.now) pieces) }
 {
@@ -262,31 +258,8 @@ pub fn analyse<D: BidiDataSource, T: TextSource>(
     split: bool,
 ) -> Result<Analysis, AllocError>
     requires { IfSome base (λ level. level ≤ 125) }
-    ensures analysis { IfOk result (λ a. IsAnalysis (D.source data_source.now) base split
-        (with_analysis T.units (T.characters text) a) (ranges_of (paragraphs_of_analysis a))
-        (levels_of (paragraphs_of_analysis a))) }
-
-    // All code units of a character have the same class and the same level.
-    ensures per_char { IfOk result (λ a. IsPerCharText (with_analysis T.units (T.characters text) a)) }
-
-    // The classes and levels of the characters depend only on the characters, the source, the base level and the split.
-    // So two texts with the same characters have the same ones, whatever their encodings.
-    ensures by_characters { IfOk result (λ a. HasCharValues (with_analysis T.units (T.characters text) a)
-        (classes_of_chars (D.source data_source.now) split (T.characters text))
-        (levels_of_chars (D.source data_source.now) base split (T.characters text))) }
-
-    // No level is below that of its paragraph or above the maximum.
-    ensures bounded { IfOk result (λ a. All (λ p. AreLevelsFrom (level_of p)
-        (slice_range (stored_levels_of a) (range_of p).start (range_of p).end)) (paragraphs_of_analysis a)) }
-
-    // With `split`, every code unit is in one paragraph, and separators are only at the ends of paragraphs.
-    ensures parted { split ≡ true
-        → IfOk result (λ a. AreParagraphRanges (D.source data_source.now) T.units (T.characters text)
-        (ranges_of (paragraphs_of_analysis a))) }
-
-    // Without `split`, there is one paragraph, the whole text.
-    ensures whole { split ≡ false
-        → IfOk result (λ a. ranges_of (paragraphs_of_analysis a) ≡ (0, text_len T.units (T.characters text)) ∷ []) }
+    ensures { IfOk result (λ a. IsAnalysed (D.source data_source.now) base split
+        (with_analysis T.units (T.characters text) a) (paragraphs_of_analysis a)) }
 {
     let split = split.then_some(SplitRule::EachSeparator);
     analyse_by(alloc, data_source, text, base, split)
@@ -303,12 +276,8 @@ pub fn analyse_with_rule<D: BidiDataSource, T: TextSource>(
     rule: Option<SplitRule>,
 ) -> Result<Analysis, AllocError>
     requires { IfSome base (λ level. level ≤ 125) }
-    ensures analysis { IfOk result (λ a. IsAnalysisBy (D.source data_source.now) base rule
-        (with_analysis T.units (T.characters text) a) (ranges_of (paragraphs_of_analysis a))
-        (levels_of (paragraphs_of_analysis a))) }
-    ensures per_char { IfOk result (λ a. IsPerCharText (with_analysis T.units (T.characters text) a)) }
-    ensures bounded { IfOk result (λ a. All (λ p. AreLevelsFrom (level_of p)
-        (slice_range (stored_levels_of a) (range_of p).start (range_of p).end)) (paragraphs_of_analysis a)) }
+    ensures { IfOk result (λ a. IsAnalysedBy (D.source data_source.now) base rule
+        (with_analysis T.units (T.characters text) a) (paragraphs_of_analysis a)) }
 {
     analyse_by(alloc, data_source, text, base, rule)
 }

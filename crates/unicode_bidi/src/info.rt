@@ -1,15 +1,13 @@
 // The result of the algorithm for a text.
-ghost use Rattle.std.specs.Prelude.{◌≡◌, ◌<◌, ◌≤◌, IsTrue, IfOk, IfSome, OnOk, OnErr, All, Some, map, slice_range, false};
-ghost use Rattle.bidi_base.specs.Analysed.{IsLineOf, IsPerCharText, AreLevelsWithLine, AreLevelsOfLine, AreRunsOfLine, levels_with_line_per_char};
+ghost use Rattle.std.specs.Prelude.{◌≡◌, ◌<◌, ◌≤◌, IsTrue, IfOk, IfSome, OnOk, OnErr, All, Some, map, false};
+ghost use Rattle.bidi_base.specs.Analysed.{IsLineOf, AreLevelsWithLine, AreLevelsOfLine, AreRunsOfLine, levels_with_line_per_char};
 ghost use Rattle.bidi_base.specs.Display.{run_of};
-ghost use Rattle.bidi_base.specs.Laws.{HasOwnUnits, AreLevelsFrom, BoundaryNeutralsAreAlike, StaysLeftToRight};
 ghost use Rattle.bidi_base.specs.Levels.{has_rtl as has_rtl_of};
 ghost use Rattle.bidi_base.specs.Order.{visual_order, IsVisualOrder, order_by_reversals};
 ghost use Rattle.bidi_base.specs.Places.{indexes};
-ghost use Rattle.bidi_base.specs.Stored.{stored_levels};
 ghost use Rattle.bidi_base.specs.Text.{is_per_char, IsLine};
-ghost use Rattle.bidi_walk.specs.ParagraphInfo.{level_of, range_of, ranges_of, levels_of};
-ghost use Rattle.bidi_walk.specs.SplitRule.{AreParagraphRangesBy, IsAnalysisBy};
+ghost use Rattle.bidi_walk.specs.ParagraphInfo.{level_of, range_of};
+ghost use Rattle.unicode_bidi.specs.Analysed.{IsAnalysedBy, ObeysLaws};
 
 use crate::engine;
 use bidi_base::char_data::BidiClass;
@@ -52,21 +50,9 @@ impl<T: TextSource> BidiInfo<T> {
     ) -> Result<BidiInfo<T>, AllocError>
         requires { IfSome default_para_level (λ level. level ≤ 125) }
         ensures text { IfOk result (λ i. i.analysed.text ≡ text) }
-        ensures analysis { IfOk result (λ i. IsAnalysisBy (D.source data_source.now) default_para_level (Some rule)
-            (analysed_of i) (ranges_of (paragraphs i)) (levels_of (paragraphs i))) }
-        ensures parted { IfOk result (λ i. let a = analysed_of i in
-            AreParagraphRangesBy rule (D.source data_source.now) a.len_of a.chars (ranges_of (paragraphs i))) }
-        ensures per_char { IfOk result (λ i. IsPerCharText (analysed_of i)) }
-        ensures bounded { IfOk result (λ i. All
-            (λ p. AreLevelsFrom (level_of p)
-            (slice_range (analysed_of i).levels (range_of p).start (range_of p).end))
-            (paragraphs i)) }
-        ensures each_by_itself { IfOk result (λ i. let a = analysed_of i in
-            All
-            (HasOwnUnits a.len_of (stored_levels (D.source data_source.now) default_para_level) a.chars a.levels)
-            (ranges_of (paragraphs i))) }
-        ensures boundary_neutrals_alike { BoundaryNeutralsAreAlike (D.source data_source.now) default_para_level }
-        ensures stays_left_to_right { StaysLeftToRight (D.source data_source.now) default_para_level }
+        ensures analysed { IfOk result (λ i. IsAnalysedBy (D.source data_source.now) default_para_level (Some rule)
+            (analysed_of i) (paragraphs i)) }
+        ensures laws { ObeysLaws (D.source data_source.now) default_para_level }
     {
         let found = engine::analyse_by(alloc, data_source, text, default_para_level, Some(rule))?;
         Ok(BidiInfo {

@@ -1,9 +1,7 @@
 // The paragraphs and the stored classes of a text.
-ghost use Rattle.std.specs.Prelude.{◌≡◌, IsTrue, IfOk, true};
-ghost use Rattle.bidi_base.specs.Paragraphs.{pieces_of, ranges_from, AreParagraphRanges};
-ghost use Rattle.bidi_base.specs.Stored.{text_classes, paragraph_levels};
-ghost use Rattle.bidi_base.specs.Text.{is_per_char, per_unit};
-ghost use Rattle.bidi_walk.specs.ParagraphInfo.{ranges_of, levels_of};
+ghost use Rattle.std.specs.Prelude.{◌≡◌, IsTrue, IfOk};
+ghost use Rattle.bidi_base.specs.Text.{is_per_char};
+ghost use Rattle.unicode_bidi.specs.Analysed.{HasParagraphs};
 
 use bidi_base::char_data::BidiClass;
 use bidi_base::data_source::BidiDataSource;
@@ -36,16 +34,8 @@ impl<T: TextSource> InitialInfo<T> {
         default_para_level: Option<Level>,
     ) -> Result<InitialInfo<T>, AllocError>
         ensures text { IfOk result (λ i. i.text ≡ text) }
-        ensures classes { IfOk result (λ i. let pieces = pieces_of true (D.source data_source.now) (chars_of i) in
-            original_classes i ≡ per_unit (len_of i) (chars_of i) (text_classes (D.source data_source.now) pieces)) }
-        ensures ranges { IfOk result (λ i. let pieces = pieces_of true (D.source data_source.now) (chars_of i) in
-            ranges_of (paragraphs i) ≡ ranges_from (len_of i) 0 pieces) }
-        ensures levels { IfOk result (λ i. let pieces = pieces_of true (D.source data_source.now) (chars_of i) in
-            levels_of (paragraphs i) ≡ paragraph_levels (D.source data_source.now) default_para_level pieces) }
-        ensures parted { IfOk result (λ i. AreParagraphRanges (D.source data_source.now) (len_of i) (chars_of i)
-            (ranges_of (paragraphs i))) }
-        ensures per_char { IfOk result (λ i. IsTrue
-            (is_per_char ⟦<BidiClass as PartialEq>⟧.eq (len_of i) (chars_of i) (original_classes i))) }
+        ensures paragraphs { IfOk result (λ i. HasParagraphs (D.source data_source.now) default_para_level (len_of i)
+            (chars_of i) (original_classes i) (paragraphs i)) }
     {
         let split = Some(SplitRule::EachSeparator);
         let mut original_classes = vec![in alloc; BidiClass::L; text.len()]?;

@@ -1,4 +1,5 @@
-//! The text of a line, given its stored classes and levels, in time that depends only on the line.
+//! The text of a line from left to right (L1, L2), given its stored classes and levels, in time that depends only
+//! on the line.
 
 ghost use Rattle.std.specs.Prelude.{◌≡◌, ◌↔◌, IsTrue, IfOk, length, encode_utf8};
 ghost use Rattle.std.specs.Char.{len_utf8};

@@ -1,13 +1,13 @@
 // The result of the algorithm for a text that is one paragraph.
 ghost use Rattle.std.specs.Prelude.{◌≡◌, ◌<◌, ◌≤◌, IsTrue, IfOk, IfSome, OnOk, OnErr, map, false};
-ghost use Rattle.bidi_base.specs.Analysed.{IsLineOf, IsPerCharText, IsParagraphAnalysis, AreLevelsWithLine, AreLevelsOfLine, AreRunsOfLine, levels_with_line_per_char};
+ghost use Rattle.bidi_base.specs.Analysed.{IsLineOf, AreLevelsWithLine, AreLevelsOfLine, AreRunsOfLine, levels_with_line_per_char};
 ghost use Rattle.bidi_base.specs.Direction.{direction_of_levels};
 ghost use Rattle.bidi_base.specs.Display.{run_of};
-ghost use Rattle.bidi_base.specs.Laws.{AreLevelsFrom, BoundaryNeutralsAreAlike, StaysLeftToRight};
 ghost use Rattle.bidi_base.specs.Levels.{has_rtl as has_rtl_of};
 ghost use Rattle.bidi_base.specs.Order.{visual_order, IsVisualOrder, order_by_reversals};
 ghost use Rattle.bidi_base.specs.Places.{indexes};
 ghost use Rattle.bidi_base.specs.Text.{is_per_char};
+ghost use Rattle.unicode_bidi.specs.Analysed.{IsAnalysedAsOne, ObeysLaws};
 
 use crate::engine;
 use bidi_base::char_data::{BidiClass, Direction};
@@ -44,12 +44,9 @@ impl<T: TextSource> ParagraphBidiInfo<T> {
     ) -> Result<ParagraphBidiInfo<T>, AllocError>
         requires { IfSome default_para_level (λ level. level ≤ 125) }
         ensures text { IfOk result (λ i. i.paragraph.text ≡ text) }
-        ensures analysis { IfOk result (λ i. IsParagraphAnalysis (D.source data_source.now) default_para_level
+        ensures analysed { IfOk result (λ i. IsAnalysedAsOne (D.source data_source.now) default_para_level
             (analysed_of i) (paragraph_level i) (is_pure_ltr i)) }
-        ensures per_char { IfOk result (λ i. IsPerCharText (analysed_of i)) }
-        ensures bounded { IfOk result (λ i. AreLevelsFrom (paragraph_level i) (levels_of_info i)) }
-        ensures boundary_neutrals_alike { BoundaryNeutralsAreAlike (D.source data_source.now) default_para_level }
-        ensures stays_left_to_right { StaysLeftToRight (D.source data_source.now) default_para_level }
+        ensures laws { ObeysLaws (D.source data_source.now) default_para_level }
     {
         let found = engine::analyse_by(alloc, data_source, text, default_para_level, None)?;
         let paragraph_level = found.paragraphs.as_slice()[0].level();

@@ -1,21 +1,16 @@
-//! Texts of UTF-16.
+//! Texts of UTF-16, analysed (P1 to I2) and shown line by line (L1, L2).
 //!
 //! A high surrogate directly followed by a low one is one character, two code units long. Any other
 //! surrogate is the character U+FFFD, one code unit long.
 
-ghost use Rattle.std.specs.Prelude.{◌≡◌, ◌≤◌, ◌↔◌, IsTrue, IfOk, IfSome, All, Some, slice_range, true};
+ghost use Rattle.std.specs.Prelude.{◌≡◌, ◌≤◌, ◌↔◌, IfOk, IfSome, Some, true};
 ghost use Rattle.std.specs.Char.Escape.{encode_utf16};
 ghost use Rattle.std.specs.Cow.{cow_slice_items, IsBorrowedSlice};
-ghost use Rattle.bidi_base.specs.Analysed.{IsLineOf, IsPerCharText, IsAnalysis, IsParagraphAnalysis, IsTextOfLine, StaysInOrder};
-ghost use Rattle.bidi_base.specs.Laws.{HasOwnUnits, AreLevelsFrom, BoundaryNeutralsAreAlike, StaysLeftToRight};
-ghost use Rattle.bidi_base.specs.Paragraphs.{pieces_of, ranges_from, AreParagraphRanges};
-ghost use Rattle.bidi_base.specs.Stored.{text_classes, stored_levels, paragraph_levels};
-ghost use Rattle.bidi_base.specs.Text.{per_unit, is_per_char};
-ghost use Rattle.bidi_walk.specs.ParagraphInfo.{level_of, range_of, ranges_of, levels_of};
-ghost use Rattle.bidi_walk.specs.SplitRule.{AreParagraphRangesBy, IsAnalysisBy};
+ghost use Rattle.bidi_base.specs.Analysed.{IsLineOf, IsTextOfLine, StaysInOrder};
+ghost use Rattle.bidi_walk.specs.ParagraphInfo.{level_of};
+ghost use Rattle.unicode_bidi.specs.Analysed.{IsAnalysed, IsAnalysedBy, IsAnalysedAsOne, ObeysLaws, HasParagraphs};
 
 use crate::{info, initial_info, paragraph, paragraph_bidi_info};
-use bidi_base::char_data::BidiClass;
 use bidi_base::data_source::BidiDataSource;
 use bidi_base::level::Level;
 use bidi_paragraphs::paragraph_info::ParagraphInfo;
@@ -65,33 +60,9 @@ impl<'t> info::BidiInfo<Utf16Text<'t>> {
     ) -> Result<BidiInfo<'t>, AllocError>
         requires { IfSome default_para_level (λ level. level ≤ 125) }
         ensures text { IfOk result (λ i. text_of i ≡ text.now) }
-        ensures analysis { IfOk result (λ i. IsAnalysis (D.source data_source.now) default_para_level true
-            (analysed_of i) (ranges_of (paragraphs i)) (levels_of (paragraphs i))) }
-
-        // Every code unit is in one paragraph, and separators are only at the ends of paragraphs.
-        ensures parted { IfOk result (λ i. let a = analysed_of i in
-            AreParagraphRanges (D.source data_source.now) a.len_of a.chars (ranges_of (paragraphs i))) }
-
-        // All code units of a character have the same class and the same level.
-        ensures per_char { IfOk result (λ i. IsPerCharText (analysed_of i)) }
-
-        // No level is below that of its paragraph or above the maximum.
-        ensures bounded { IfOk result (λ i. All
-            (λ p. AreLevelsFrom (level_of p)
-            (slice_range (analysed_of i).levels (range_of p).start (range_of p).end))
-            (paragraphs i)) }
-
-        // Each paragraph has the levels that its characters would have as the whole text.
-        ensures each_by_itself { IfOk result (λ i. let a = analysed_of i in
-            All
-            (HasOwnUnits a.len_of (stored_levels (D.source data_source.now) default_para_level) a.chars a.levels)
-            (ranges_of (paragraphs i))) }
-
-        // Replacing a character of class BN by another of class BN changes no level of its paragraph.
-        ensures boundary_neutrals_alike { BoundaryNeutralsAreAlike (D.source data_source.now) default_para_level }
-
-        // If no class in a paragraph of level 0 can change the direction, all its levels are 0.
-        ensures stays_left_to_right { StaysLeftToRight (D.source data_source.now) default_para_level }
+        ensures analysed { IfOk result (λ i. IsAnalysed (D.source data_source.now) default_para_level true
+            (analysed_of i) (paragraphs i)) }
+        ensures laws { ObeysLaws (D.source data_source.now) default_para_level }
     {
         let rule = SplitRule::EachSeparator;
         BidiInfo::new_with_rule(alloc, data_source, text, default_para_level, rule)
@@ -110,34 +81,9 @@ impl<'t> info::BidiInfo<Utf16Text<'t>> {
     ) -> Result<BidiInfo<'t>, AllocError>
         requires { IfSome default_para_level (λ level. level ≤ 125) }
         ensures text { IfOk result (λ i. text_of i ≡ text.now) }
-        ensures analysis { IfOk result (λ i. IsAnalysisBy (D.source data_source.now) default_para_level (Some rule)
-            (analysed_of i) (ranges_of (paragraphs i)) (levels_of (paragraphs i))) }
-
-        // Every code unit is in one paragraph, and separators are only at the ends of paragraphs. With
-        // `CrLfTogether`, a U+000D may also come directly before the U+000A that ends its paragraph.
-        ensures parted { IfOk result (λ i. let a = analysed_of i in
-            AreParagraphRangesBy rule (D.source data_source.now) a.len_of a.chars (ranges_of (paragraphs i))) }
-
-        // All code units of a character have the same class and the same level.
-        ensures per_char { IfOk result (λ i. IsPerCharText (analysed_of i)) }
-
-        // No level is below that of its paragraph or above the maximum.
-        ensures bounded { IfOk result (λ i. All
-            (λ p. AreLevelsFrom (level_of p)
-            (slice_range (analysed_of i).levels (range_of p).start (range_of p).end))
-            (paragraphs i)) }
-
-        // Each paragraph has the levels that its characters would have as the whole text.
-        ensures each_by_itself { IfOk result (λ i. let a = analysed_of i in
-            All
-            (HasOwnUnits a.len_of (stored_levels (D.source data_source.now) default_para_level) a.chars a.levels)
-            (ranges_of (paragraphs i))) }
-
-        // Replacing a character of class BN by another of class BN changes no level of its paragraph.
-        ensures boundary_neutrals_alike { BoundaryNeutralsAreAlike (D.source data_source.now) default_para_level }
-
-        // If no class in a paragraph of level 0 can change the direction, all its levels are 0.
-        ensures stays_left_to_right { StaysLeftToRight (D.source data_source.now) default_para_level }
+        ensures analysed { IfOk result (λ i. IsAnalysedBy (D.source data_source.now) default_para_level (Some rule)
+            (analysed_of i) (paragraphs i)) }
+        ensures laws { ObeysLaws (D.source data_source.now) default_para_level }
     {
         let text = Utf16Text::new(text);
         info::BidiInfo::of_text(alloc, data_source, text, default_para_level, rule)
@@ -172,7 +118,7 @@ impl<'t> info::BidiInfo<Utf16Text<'t>> {
 }
 
 impl<'t> paragraph_bidi_info::ParagraphBidiInfo<Utf16Text<'t>> {
-    ghost use Rattle.unicode_bidi.specs.ParagraphBidiInfo.{units as text_of, analysed as analysed_of, levels as levels_of_info, paragraph_level, is_pure_ltr};
+    ghost use Rattle.unicode_bidi.specs.ParagraphBidiInfo.{units as text_of, analysed as analysed_of, paragraph_level, is_pure_ltr};
 
     /// Finds the level of a text that is one paragraph, and the class and the level of each character (P2 to
     /// I2).
@@ -187,20 +133,9 @@ impl<'t> paragraph_bidi_info::ParagraphBidiInfo<Utf16Text<'t>> {
     ) -> Result<ParagraphBidiInfo<'t>, AllocError>
         requires { IfSome default_para_level (λ level. level ≤ 125) }
         ensures text { IfOk result (λ i. text_of i ≡ text.now) }
-        ensures analysis { IfOk result (λ i. IsParagraphAnalysis (D.source data_source.now) default_para_level
+        ensures analysed { IfOk result (λ i. IsAnalysedAsOne (D.source data_source.now) default_para_level
             (analysed_of i) (paragraph_level i) (is_pure_ltr i)) }
-
-        // All code units of a character have the same class and the same level.
-        ensures per_char { IfOk result (λ i. IsPerCharText (analysed_of i)) }
-
-        // No level is below that of the paragraph or above the maximum.
-        ensures bounded { IfOk result (λ i. AreLevelsFrom (paragraph_level i) (levels_of_info i)) }
-
-        // Replacing a character of class BN by another of class BN changes no level.
-        ensures boundary_neutrals_alike { BoundaryNeutralsAreAlike (D.source data_source.now) default_para_level }
-
-        // If no class in a paragraph of level 0 can change the direction, all its levels are 0.
-        ensures stays_left_to_right { StaysLeftToRight (D.source data_source.now) default_para_level }
+        ensures laws { ObeysLaws (D.source data_source.now) default_para_level }
     {
         paragraph_bidi_info::ParagraphBidiInfo::of_text(
             alloc,
@@ -252,18 +187,8 @@ impl<'t> initial_info::InitialInfo<Utf16Text<'t>> {
         default_para_level: Option<Level>,
     ) -> Result<InitialInfo<'t>, AllocError>
         ensures text { IfOk result (λ i. text_of i ≡ text.now) }
-        ensures classes { IfOk result (λ i. let pieces = pieces_of true (D.source data_source.now) (chars_of i) in
-            original_classes i ≡ per_unit (len_of i) (chars_of i) (text_classes (D.source data_source.now) pieces)) }
-        ensures ranges { IfOk result (λ i. let pieces = pieces_of true (D.source data_source.now) (chars_of i) in
-            ranges_of (paragraphs i) ≡ ranges_from (len_of i) 0 pieces) }
-        ensures levels { IfOk result (λ i. let pieces = pieces_of true (D.source data_source.now) (chars_of i) in
-            levels_of (paragraphs i) ≡ paragraph_levels (D.source data_source.now) default_para_level pieces) }
-
-        // Every code unit is in one paragraph, and separators are only at the ends of paragraphs.
-        ensures parted { IfOk result (λ i. AreParagraphRanges (D.source data_source.now) (len_of i) (chars_of i)
-            (ranges_of (paragraphs i))) }
-        ensures per_char { IfOk result (λ i. IsTrue
-            (is_per_char ⟦<BidiClass as PartialEq>⟧.eq (len_of i) (chars_of i) (original_classes i))) }
+        ensures paragraphs { IfOk result (λ i. HasParagraphs (D.source data_source.now) default_para_level (len_of i)
+            (chars_of i) (original_classes i) (paragraphs i)) }
     {
         initial_info::InitialInfo::of_text(
             alloc,

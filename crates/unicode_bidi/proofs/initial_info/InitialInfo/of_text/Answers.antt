@@ -8,7 +8,13 @@ use Rattle.unicode_bidi.proofs.initial_info.InitialInfo.of_text.Goals as goal
 pub invariant_of-result : goal.invariant_of-result
 invariant_of-result g c = grind (arith, with_items_is, is_per_char-per_unit, class_test, length-paragraph_classes)
 
-pub returns-clause-parted : goal.returns-clause-parted
-returns-clause-parted g c =
-    rw c.in_ok-found.ensures.ranges
-    (paragraphs-AreParagraphRanges (g.D.BidiDataSource.source c.args.data_source.now) g.T.TextSource.units g.met.T.TextSource.has_units (g.T.TextSource.characters c.args.text))
+pub returns-clause-paragraphs : goal.returns-clause-paragraphs
+returns-clause-paragraphs g c = record {
+  classes = grind (arith, with_items_is);
+  ranges = c.in_ok-found.ensures.ranges;
+  levels = c.in_ok-found.ensures.levels;
+  parted =
+      rw c.in_ok-found.ensures.ranges
+      (paragraphs-AreParagraphRanges (g.D.BidiDataSource.source c.args.data_source.now) g.T.TextSource.units g.met.T.TextSource.has_units (g.T.TextSource.characters c.args.text));
+  per_char = grind (arith, with_items_is, is_per_char-per_unit, class_test, length-paragraph_classes);
+}

@@ -1,15 +1,14 @@
 use Rattle.bidi_base.proofs.Common.{◌≡◌, ◌∙◌, ℕ, List, [], ◌∷◌, map, arith, refl, rules, paragraph_level}
-use Rattle.bidi_laws.proofs.LevelLaws.{BoundaryNeutralsAreAlike-all, StaysLeftToRight-all}
 use Rattle.unicode_bidi.specs.Engine.{with_analysis}
 use Rattle.bidi_walk.specs.ParagraphFlags.{flags_of}
 use Rattle.bidi_walk.specs.ParagraphInfo.{level_of}
 use Rattle.bidi_walk.proofs.FlagsLemmas.{is_pure_ltr-flags}
-use Rattle.unicode_bidi.proofs.FoundLaws.{classes-one, levels-one, paragraph_level-one, bounded-one}
+use Rattle.unicode_bidi.proofs.FoundLaws.{laws-obeyed, classes-one, levels-one, paragraph_level-one, bounded-one}
 use Rattle.unicode_bidi.proofs.ParagraphUnits.{only, flags-one}
 use Rattle.unicode_bidi.proofs.paragraph_bidi_info.ParagraphBidiInfo.of_text.Goals as goal
 
-pub returns-in_err-found : goal.returns-in_err-found
-returns-in_err-found g c = search (rules, BoundaryNeutralsAreAlike-all, StaysLeftToRight-all)
+pub returns-in_err-found-clause-laws : goal.returns-in_err-found-clause-laws
+returns-in_err-found-clause-laws g c = laws-obeyed _ _
 
 pub bounds-as_slice-0-2 : goal.bounds-as_slice-0-2
 bounds-as_slice-0-2 g c = grind (arith, flags-one)
@@ -20,23 +19,25 @@ returns g c =
     let base = c.args.default_para_level in
     let cs : List ℕ = g.T.TextSource.characters c.args.text in
     let found = with_analysis g.T.TextSource.units cs c.in_ok-found.found in
+    let analysis = c.in_ok-found.ensures.analysed.analysis in
     let one : c.in_ok-found.found.flags.items ≡ flags_of (map source.class_of cs) ∷ [] = rw (← flags-one) c.in_ok-found.ensures.flags in
     let level : c.level-paragraph_level.result ≡ paragraph_level base (map source.class_of cs) =
     c.level-paragraph_level.ensures
-    ∙ only level_of _ c.index-as_slice-0.result _ (paragraph_level-one source base found _ _ c.in_ok-found.ensures.analysis) (rw c.as_slice.ensures at c.index-as_slice-0.is) in
+    ∙ only level_of _ c.index-as_slice-0.result _ (paragraph_level-one source base found _ _ analysis) (rw c.as_slice.ensures at c.index-as_slice-0.is) in
     record {
       text = first_of (search rules, grind arith);
-      analysis = record {
-        classes = c.new.ensures.classes ∙ rw c.new.ensures.text (classes-one source base found _ _ c.in_ok-found.ensures.analysis);
-        levels = c.new.ensures.levels ∙ rw c.new.ensures.text (levels-one source base found _ _ c.in_ok-found.ensures.analysis);
-        paragraph_level = level ∙ rw c.new.ensures.text refl;
-        pure_ltr =
-            c.is_pure_ltr-is_pure_ltr.ensures
-            ∙ is_pure_ltr-flags _ (map source.class_of cs) (rw (c.as_slice-2.ensures, one) refl)
-            ∙ rw c.new.ensures.text refl;
+      analysed = record {
+        analysis = record {
+          classes = c.new.ensures.classes ∙ rw c.new.ensures.text (classes-one source base found _ _ analysis);
+          levels = c.new.ensures.levels ∙ rw c.new.ensures.text (levels-one source base found _ _ analysis);
+          paragraph_level = level ∙ rw c.new.ensures.text refl;
+          pure_ltr =
+              c.is_pure_ltr-is_pure_ltr.ensures
+              ∙ is_pure_ltr-flags _ (map source.class_of cs) (rw (c.as_slice-2.ensures, one) refl)
+              ∙ rw c.new.ensures.text refl;
+        };
+        per_char = rw (c.new.ensures.text, c.new.ensures.classes, c.new.ensures.levels) c.in_ok-found.ensures.analysed.per_char;
+        bounded = rw (c.new.ensures.levels, level) (bounded-one source base found _ _ analysis c.requires);
       };
-      per_char = first_of (search rules, grind arith);
-      bounded = rw (c.new.ensures.levels, level) (bounded-one source base found _ _ c.in_ok-found.ensures.analysis c.requires);
-      boundary_neutrals_alike = BoundaryNeutralsAreAlike-all _ _;
-      stays_left_to_right = StaysLeftToRight-all _ _;
+      laws = laws-obeyed _ _;
     }

@@ -1,0 +1,7 @@
+//! Characters that X9 removes, level runs, and isolating run sequences (BD7, BD13, X9, X10). Also the count
+//! of loop iterations of the passes.
+
+pub use bidi_rules::prepare::{
+    BackwardsFrom, ForwardsFrom, IsolatingRunSequence, IsolatingRunSequenceVec, LevelRun,
+    LevelRunVec, Steps, isolating_run_sequences, not_removed_by_x9, removed_by_x9,
+};
