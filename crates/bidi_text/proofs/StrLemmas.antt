@@ -6,7 +6,7 @@ use lib.Utf8.{encode, scalar, scalar_cases}
 use Rattle.std.specs.Iterator.{AlwaysYields}
 use Rattle.std.proofs.lemmas.Str.{chars-append, scalars-chars, len_utf8_bounds, chars_past_char, IsUtf8-take, IsUtf8-drop, IsCharBoundary-at_seam, IsCharBoundary-before_ascii, IsCharBoundary-from_take, byte_from_char, char_from_byte}
 use Rattle.std.proofs.lemmas.Iterator.Splits.{YieldsList-from_shown_while}
-use Rattle.bidi_base.proofs.TextLemmas.{HasUnits, cut_at, char_at-append, subrange-middle, char_at-None, char_at-end, char_at-zero}
+use Rattle.bidi_base.proofs.TextLemmas.{HasUnits, cut_at, char_at-append, is_boundary-append, subrange-middle, char_at-None, char_at-end, char_at-zero}
 
 pub has_units : HasUnits len_utf8
 has_units c = (len_utf8_bounds c).0
@@ -47,6 +47,10 @@ IsCharBoundary-from_is_boundary bs i u e =
 -- what stands at a boundary begins what follows it
 pub char_at-from_str : (bs : List ℕ) (i : ℕ) → IsUtf8 bs → IsCharBoundary bs i → char_at len_utf8 (chars bs) i ≡ char_at len_utf8 (chars (drop i bs)) 0
 char_at-from_str bs i u b = cc (chars_cut bs i u b, text_len-front bs i u b, char_at-append len_utf8 has_units (chars (take i bs)) (chars (drop i bs)))
+
+-- a character begins at a boundary of the bytes, or the text ends there
+pub is_boundary-from_str : (bs : List ℕ) (i : ℕ) → IsUtf8 bs → IsCharBoundary bs i → is_boundary len_utf8 (chars bs) i ≡ true
+is_boundary-from_str bs i u b = cc (chars_cut bs i u b, text_len-front bs i u b, is_boundary-append len_utf8 (chars (take i bs)) (chars (drop i bs)))
 
 -- three parts of a text, cut at the ends of a line
 three : (bs : List ℕ) (start end : ℕ) → start ≤ end → bs ≡ take start bs ++ (slice_range bs start end ++ drop (end - start) (drop start bs))

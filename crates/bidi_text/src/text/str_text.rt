@@ -136,6 +136,10 @@ impl<'t> TextSource for StrText<'t> {
         if !text.is_char_boundary(index) {
             return None;
         }
+        // Of all characters, only the last one may not have a byte after its first.
+        if index + 1 < text.len() {
+            return Some(self.next_at(index));
+        }
         let rest = &text[index..];
         let mut chars = rest.chars();
         match chars.next() {

@@ -1,6 +1,6 @@
 use Rattle.bidi_base.proofs.Common.{◌≡◌, ◌∙◌, ◌-◌, ◌++◌, ℕ, List, length, length-append, refl, arith, len_utf8, IsCharBoundary, chars_rest, length-encode}
 use Rattle.std.specs.Char.{encode_utf8}
-use Rattle.bidi_text.proofs.StrLemmas.{char_at-inside, char_at-read}
+use Rattle.bidi_text.proofs.StrLemmas.{char_at-inside, char_at-read, is_boundary-from_str, text_len-chars}
 use Rattle.bidi_text.proofs.text.str_text.StrTextTextSource.char_at.Goals as goal
 
 pub returns-then-not-is_char_boundary : goal.returns-then-not-is_char_boundary
@@ -22,3 +22,11 @@ returns-in-None c =
     let b : IsCharBoundary c.as_str-text.result.now c.args.index = c.if-not-is_char_boundary.ensures.test.0 refl in
     rw (← c.as_str-text.ensures)
     (char_at-read c.as_str-text.result.now _ c.args.index _ c.as_str-text.utf8 b (c.chars-chars.ensures.rest ∙ c.range_from-rest.ensures.value) c.in-None.ensures.steps.2)
+
+pub next_at-requires-clause-begins : goal.next_at-requires-clause-begins
+next_at-requires-clause-begins c =
+    let b : IsCharBoundary c.as_str-text.result.now c.args.index = c.if-not-is_char_boundary.ensures.test.0 refl in
+    rw (← c.as_str-text.ensures) (is_boundary-from_str c.as_str-text.result.now c.args.index c.as_str-text.utf8 b)
+
+pub next_at-requires-clause-before_last : goal.next_at-requires-clause-before_last
+next_at-requires-clause-before_last c = grind (arith, text_len-chars)
