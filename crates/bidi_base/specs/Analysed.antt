@@ -1,5 +1,5 @@
 -- A text whose classes and levels are known: what they are, and what a line of the text shows.
-use Rattle.std.specs.Prelude.{◌≡◌, ℕ, ◌+◌, Bool, false, List, [], length, map, Option, IsTrue}
+use Rattle.std.specs.Prelude.{◌≡◌, ℕ, ◌+◌, ◌<◌, ◌≤◌, All, Bool, false, List, [], length, map, Option, IsTrue}
 use Rattle.std.specs.declared.ops.Range.{Range}
 use Rattle.bidi_base.specs.contracts.char_data.BidiClassPartialEq.TheImpl.{ghosts as class_test}
 use Rattle.bidi_base.specs.contracts.level.LevelPartialEq.TheImpl.{ghosts as level_test}
@@ -83,11 +83,19 @@ pub record AreLevelsOfLine (a : AnalysedText) (level : ℕ) (line : Range ℕ) (
 abbrev pub line_levels_per_char : AnalysedText → ℕ → Range ℕ → List ℕ
 line_levels_per_char a level line = char_levels_of_line a.len_of a.chars level a.classes a.levels line.start line.end
 
+-- a run is a line inside a line, so it cuts no character: it can slice the text
+pub record IsPartOfLine (a : AnalysedText) (line : Range ℕ) (run : Run) : Type 0 where
+  pub begins : line.start ≤ run.0
+  pub not_empty : run.0 < run.1
+  pub ends : run.1 ≤ line.end
+  pub is_line : IsLine a.len_of a.chars run.0 run.1
+
 -- the level runs (BD7) of the line after L1, from left to right (L2): as a function, and as the runs that,
 -- written out, are the visual order of the line's units
 pub record AreRunsOfLine (a : AnalysedText) (level : ℕ) (line : Range ℕ) (shown : List Run) : Type 0 where
   pub runs : shown ≡ visual_runs line.start (levels_of_line level a.classes a.levels line.start line.end)
   pub visual : AreVisualRuns line.start (levels_of_line level a.classes a.levels line.start line.end) shown
+  pub parts : All (IsPartOfLine a line) shown
 
 -- the line's characters in the visual order of their levels after L1, from the text's units and how a character
 -- is encoded

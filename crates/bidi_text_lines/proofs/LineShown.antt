@@ -1,5 +1,5 @@
 -- A line that is shown, by its levels: its runs, its text, and the order of its characters.
-use Rattle.bidi_base.proofs.Common.{◌≡◌, ℕ, ◌-◌, ◌≤◌, List, [], length, take, refl, sym, ap, subst, ◌∙◌, arith, Range, is_odd, has_rtl, reordered_text, line_text, line_levels_after, line_levels, levels_of_line, text_len, place, char_index, subrange, per_unit, is_per_char, IsLine, Run, visual_runs, visual_order, AnalysedText, line_levels_per_char}
+use Rattle.bidi_base.proofs.Common.{◌≡◌, ℕ, ◌-◌, ◌≤◌, List, [], length, take, refl, sym, ap, subst, ◌∙◌, arith, Range, is_odd, has_rtl, reordered_text, line_text, line_levels_after, line_levels, levels_of_line, text_len, place, char_index, subrange, per_unit, is_per_char, IsLine, All, Run, visual_runs, visual_order, AnalysedText, line_levels_per_char}
 use Rattle.std.proofs.Common.{take_all, slice_range, IsTrue, ◌↔◌, not}
 use Rattle.bidi_base.specs.Analysed.{AreLevelsOfLine, AreRunsOfLine, IsTextOfLine, StaysInOrder}
 use Rattle.bidi_base.specs.declared.char_data.BidiClass.{BidiClass}
@@ -79,10 +79,24 @@ module _ (a : AnalysedText) (some : HasUnits a.len_of) (level : ℕ) (line : Ran
   long : length (line_levels_per_char a level line) ≡ char_index a.len_of a.chars line.end - char_index a.len_of a.chars line.start
   long = grind (arith, length-line, length-per_char, ends)
 
-  pub shown-runs : (runs : List Run) → runs ≡ visual_runs line.start shown → AreRunsOfLine a level line runs
-  shown-runs runs e =
+  pub shown-runs : (runs : List Run) → runs ≡ visual_runs line.start shown → AreRunsOfChars a.len_of a.chars line.start shown → AreRunsOfLine a level line runs
+  shown-runs runs e cut =
       let is = e ∙ ap (visual_runs line.start) levels.units in
-      record { runs = is; visual = AreVisualRuns-from_same line.start _ runs is }
+      let visual = AreVisualRuns-from_same line.start _ runs is in
+      let lines : All (λ (r : Run). IsLine a.len_of a.chars r.0 r.1) runs = subst (All (λ (r : Run). IsLine a.len_of a.chars r.0 r.1)) (sym e) cut in
+      let long = ap length levels.units in
+      record {
+        runs = is;
+        visual = visual;
+        parts = λ k d fits.
+            let run = visual.are_runs k d fits in
+            record {
+              begins = run.starts_within;
+              not_empty = run.not_empty;
+              ends = omega (arith, run.ends_within, long, levels.one_a_unit, is_line.ordered);
+              is_line = lines k d fits;
+            };
+      }
 
   pub shown-has_rtl : has_rtl shown ≡ has_rtl (line_levels_per_char a level line)
   shown-has_rtl =
@@ -100,3 +114,14 @@ module _ (a : AnalysedText) (some : HasUnits a.len_of) (level : ℕ) (line : Ran
   shown-text encode units same =
       let is = text-at a.len_of some encode a.chars units (line_levels_per_char a level line) shown _ _ line.start line.end ends.ordered ends.within same long ends.begins ends.ends levels.characters in
       record { text = is; empty = λ e. is ∙ line_text-empty a.len_of encode a.chars units level _ _ line.start line.end e }
+
+-- the runs of a line of a text with stored classes and levels
+module _ (len_of : ℕ → ℕ) (some : HasUnits len_of) (chars : List ℕ) (level : ℕ) (classes : List BidiClass) (levels : List ℕ) (line : Range ℕ)
+    (of_classes : IsTrue (is_per_char class_eq len_of chars classes)) (of_levels : IsTrue (is_per_char level_eq len_of chars levels)) (is_line : IsLine len_of chars line.start line.end) where
+  pub stored-runs : (runs : List Run) → runs ≡ visual_runs line.start (levels_of_line level classes levels line.start line.end)
+      → AreRunsOfLine (record { len_of = len_of; chars = chars; classes = classes; levels = levels }) level line runs
+  stored-runs runs e =
+      let shown : List ℕ = levels_of_line level classes levels line.start line.end in
+      shown-runs (record { len_of = len_of; chars = chars; classes = classes; levels = levels }) some level line is_line shown
+      (stored-levels len_of some chars level classes levels line of_classes of_levels is_line shown refl) runs e
+      (stored-runs_of_chars len_of some chars level classes levels line of_classes of_levels is_line shown refl)

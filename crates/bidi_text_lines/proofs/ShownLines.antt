@@ -54,6 +54,7 @@ module _ {T C I L : Type 0} {t : _} {c : _} {i : _} {l : _} (s : ShownLine T C I
   pub runs_of_shown : AreRunsOfLine a level line (runs s)
   runs_of_shown =
       shown-runs a some_of level line is_line_of (levels s) shows.levels (runs s) (s.runs_of_levels ∙ ap (λ start. visual_runs start (levels s)) shows.start)
+      (rw (shows.len_of, shows.chars, ← shows.start) s.runs_of_chars)
 
   pub stays_of_shown : IsTrue (not s.has_rtl) ↔ StaysInOrder a level line
   stays_of_shown = shown-stays a some_of level line is_line_of (levels s) shows.levels s.has_rtl s.of_levels
