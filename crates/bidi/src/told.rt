@@ -1,13 +1,13 @@
 //! What is told of the lines of a file.
-ghost use Rattle.std.specs.Prelude.{◌≡◌, ◌++◌, ◌==◌, ◌||◌, map, not, length, IfOk, OnOk, string_bytes};
+ghost use Rattle.std.specs.Prelude.{◌≡◌, ◌++◌, ◌||◌, map, IfOk, OnOk, string_bytes};
 ghost use Rattle.bidi_unicode.specs.Unicode.{unicode_source};
 ghost use Rattle.bidi_reports.specs.Reports.{line_report};
 ghost use Rattle.bidi_scan.specs.FileSearch.{line_of};
-ghost use Rattle.bidi.specs.Told.{is_any_told, told_findings, told_report};
+ghost use Rattle.bidi.specs.Told.{is_any_told, is_told, told_findings, told_report};
 
 use bidi_allowed::allowed::AllowList;
 use bidi_controls::finding::Finding;
-use bidi_reports::report::Report;
+use bidi_reports::report::{LineFindings, Report};
 use bidi_scan::file_search::FoundLine;
 use bidi_unicode::UnicodeData;
 use std::alloc::{AllocError, Global};
@@ -35,20 +35,24 @@ fn push_told(
     allowed: &AllowList<'_>,
     out: &mut String,
     name: &str,
-    number: usize,
-    line: &[char],
-    findings: &[Finding],
+    line: &FoundLine,
 ) -> Result<bool, AllocError>
-    ensures report { let told = told_findings allowed.now name.now number findings.now in
+    ensures report { let told = told_findings allowed.now name.now line.now.number line.now.findings.items in
         OnOk result (string_bytes out.new ≡ string_bytes out.old
-        ++ line_report unicode_source report.old.form report.old.later name.now line.now told) }
-    ensures found { IfOk result (λ found. found ≡ not (length (told_findings allowed.now name.now number findings.now) == 0)) }
+        ++ line_report unicode_source report.old.form report.old.later name.now line.now.chars.items told) }
+    ensures found { IfOk result (λ found. found ≡ is_told allowed.now name.now (line_of line.now)) }
     ensures form { report.new.form ≡ report.old.form }
-    ensures later { let told = told_findings allowed.now name.now number findings.now in
-        OnOk result (report.new.later ≡ (report.old.later || not (length told == 0))) }
+    ensures later { OnOk result
+        (report.new.later ≡ (report.old.later || is_told allowed.now name.now (line_of line.now))) }
 {
-    let told = told_findings(allowed, name, number, findings);
-    report.push_line(alloc, &UnicodeData, out, name, line, told)?;
+    let findings = line.findings.as_slice();
+    let told = told_findings(allowed, name, line.number, findings);
+    let found = LineFindings {
+        name,
+        line: line.chars.as_slice(),
+        findings: told,
+    };
+    report.push_line(alloc, &UnicodeData, out, &found)?;
     Ok(!told.is_empty())
 }
 
@@ -71,18 +75,7 @@ pub fn push_lines_told(
 {
     let mut found = false;
     for line in lines {
-        let chars = line.chars.as_slice();
-        let findings = line.findings.as_slice();
-        let is_told = push_told(
-            alloc,
-            report,
-            allowed,
-            out,
-            name,
-            line.number,
-            chars,
-            findings,
-        )?;
+        let is_told = push_told(alloc, report, allowed, out, name, line)?;
         found = found || is_told;
     }
     Ok(found)

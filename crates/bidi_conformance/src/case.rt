@@ -97,3 +97,13 @@ impl Wanted {
         }
     }
 }
+
+/// A case of a file.
+#[derive(Clone, Copy)]
+pub struct Case<'c> {
+    /// The number of its line, counted from 1.
+    pub line: usize,
+    pub text: &'c Text,
+    pub base: Base,
+    pub wanted: &'c Wanted,
+}

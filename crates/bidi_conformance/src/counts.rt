@@ -1,6 +1,6 @@
 //! The number of cases, and of failures in each form.
 
-use crate::case::{Base, Text, Wanted};
+use crate::case::Case;
 use crate::compare::{Difference, compare};
 use crate::fault::Fault;
 use crate::forms::{FORMS, Form, ask};
@@ -52,13 +52,12 @@ impl Counts {
     fn tell(
         &mut self,
         alloc: Global,
-        line: usize,
         form: Form,
-        base: Base,
+        case: &Case<'_>,
         found: &Difference,
     ) -> Result<(), Fault> {
         if self.told.len() < TOLD {
-            let (form, base, part) = (form.name(), base.name(), found.part);
+            let (line, form, base, part) = (case.line, form.name(), case.base.name(), found.part);
             let (wanted, came) = (found.wanted.as_str(), found.came.as_str());
             self.told.push(format!(in alloc;
                 "{line}: {form}, base {base}: {part}: wanted '{wanted}', came '{came}'"
@@ -68,19 +67,11 @@ impl Counts {
     }
 
     // Runs a case in one form, and returns whether it passed.
-    fn passes(
-        &mut self,
-        alloc: Global,
-        line: usize,
-        form: Form,
-        text: &Text,
-        base: Base,
-        wanted: &Wanted,
-    ) -> Result<bool, Fault> {
-        let found = ask(alloc, form, text, base)?;
-        match compare(alloc, form, text, &found, wanted)? {
+    fn passes(&mut self, alloc: Global, form: Form, case: &Case<'_>) -> Result<bool, Fault> {
+        let found = ask(alloc, form, case.text, case.base)?;
+        match compare(alloc, form, case.text, &found, case.wanted)? {
             Some(found) => {
-                self.tell(alloc, line, form, base, &found)?;
+                self.tell(alloc, form, case, &found)?;
                 Ok(false)
             }
             None => Ok(true),
@@ -88,17 +79,10 @@ impl Counts {
     }
 
     /// Runs a case in each form.
-    pub fn run(
-        &mut self,
-        alloc: Global,
-        line: usize,
-        text: &Text,
-        base: Base,
-        wanted: &Wanted,
-    ) -> Result<(), Fault> {
+    pub fn run(&mut self, alloc: Global, case: &Case<'_>) -> Result<(), Fault> {
         self.cases = self.cases.saturating_add(1);
         for (index, form) in FORMS.iter().enumerate() {
-            let passes = self.passes(alloc, line, *form, text, base, wanted)?;
+            let passes = self.passes(alloc, *form, case)?;
             if let Some(outcome) = self.outcomes.get_mut(index) {
                 if passes {
                     outcome.passed = outcome.passed.saturating_add(1);

@@ -1,7 +1,7 @@
 //! Reads the lines of BidiTest.txt, which has texts of classes, or of BidiCharacterTest.txt, which has texts of
 //! characters. The contents of a line tell which file it is from.
 
-use crate::case::{BASES, Base, Text, Wanted};
+use crate::case::{BASES, Base, Case, Text, Wanted};
 use crate::counts::Counts;
 use crate::fault::{Fault, Why};
 use bidi_base::level::Level;
@@ -124,8 +124,13 @@ impl Reader {
     }
 
     fn run(&mut self, line: usize, base: Base) -> Result<(), Fault> {
-        self.counts
-            .run(self.alloc, line, &self.text, base, &self.wanted)
+        let case = Case {
+            line,
+            text: &self.text,
+            base,
+            wanted: &self.wanted,
+        };
+        self.counts.run(self.alloc, &case)
     }
 
     // Runs a line of classes, such as `L RLE R; 7`.

@@ -29,9 +29,6 @@ module _ (source : Source) (base : Option ℕ) (chars : List ℕ) (classes : Lis
   unfolding displayed_levels
   displayed_levels-alone = simp (alone-classes, alone-levels, alone-level)
 
-  pub length-alone : (length classes ≡ length chars) × (length levels ≡ length chars)
-  length-alone = (ap length alone-classes ∙ length-stored_classes (map source.class_of chars) ∙ length-map chars source.class_of, ap length alone-levels ∙ length-stored_levels source base chars)
-
 -- each character has a level
 pub length-displayed_levels : (source : Source) (base : Option ℕ) (chars : List ℕ) → length (displayed_levels source base chars) ≡ length chars
 unfolding displayed_levels

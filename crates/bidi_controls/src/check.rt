@@ -6,11 +6,10 @@ ghost use Rattle.bidi_controls.specs.Findings.{finding_of, line_finding_of, find
 ghost use Rattle.bidi_controls.specs.Matches.{is_control, is_unmatched};
 
 use crate::displayed::DisplayComparison;
-use crate::finding::{Finding, Trouble, Wanted};
+use crate::finding::{Finding, LineChar, Trouble, Wanted};
 use crate::lines::{first_file_line, first_line_len, has_quiet_ascii, own_chars};
 use crate::openers::Openers;
 use crate::unmatched::{find_unmatched, is_control};
-use bidi_base::char_data::BidiClass;
 use bidi_base::data_source::BidiDataSource;
 use std::alloc::{AllocError, Global};
 
@@ -64,39 +63,34 @@ fn is_at(place: Option<usize>, index: usize) -> bool
     }
 }
 
-/// Appends what is found at a place of a line, whose number this is.
+/// Appends what is found at a character of a line.
 fn push_findings_at(
     findings: &mut Vec<Finding>,
     any: bool,
-    number: usize,
     is_differing: bool,
     is_unmatched: bool,
-    place: usize,
-    class: BidiClass,
-    c: char,
+    at: LineChar,
 ) -> Result<(), AllocError>
-    requires { place + 1 < 2 ^ 64 }
+    requires { at.place + 1 < 2 ^ 64 }
     ensures { OnOk result (findings.new.items ≡ findings.old.items
-        ++ (option_to_list (line_finding_of is_differing number place class c)
-        ++ option_to_list (finding_of any number place is_unmatched class c))) }
+        ++ (option_to_list (line_finding_of is_differing at.line at.place at.class at.c)
+        ++ option_to_list (finding_of any at.line at.place is_unmatched at.class at.c))) }
 {
     if is_differing {
-        let finding = Finding::with(Trouble::DisplayedDifferently, number, place, class, c);
-        push_found(findings, finding)?;
+        push_found(findings, Finding::with(Trouble::DisplayedDifferently, at))?;
     }
-    push_found(
-        findings,
-        Finding::of(any, number, place, is_unmatched, class, c),
-    )
+    push_found(findings, Finding::of(any, is_unmatched, at))
 }
 
-/// Where a paragraph begins.
+/// A paragraph in a line of a file.
 #[derive(Clone, Copy)]
-struct Start {
-    /// The number of its line in the file, from 1.
+struct LineParagraph<'l> {
+    /// The number of its line, counted from 1.
     line: usize,
     /// How many characters of its line precede it.
     place: usize,
+    /// Its characters.
+    chars: &'l [char],
 }
 
 /// Appends the findings in a paragraph: at an index that is handed in, that it is displayed differently from how it
@@ -105,34 +99,37 @@ fn push_findings<D: BidiDataSource>(
     findings: &mut Vec<Finding>,
     data_source: &D,
     any: bool,
-    start: Start,
+    paragraph: &LineParagraph<'_>,
     differing: Option<usize>,
-    paragraph: &[char],
     unmatched: &[bool],
 ) -> Result<(), AllocError>
-    requires room { start.place + length paragraph.now < 2 ^ 64 }
-    requires flags { unmatched.now
-        ≡ map (is_unmatched (map (D.source data_source.now).class_of paragraph.now)) (indexes paragraph.now) }
-    ensures { OnOk result (findings.new.items ≡ findings.old.items
-        ++ flat_map
-        (findings_at any differing start.line start.place (map (D.source data_source.now).class_of paragraph.now)
-        paragraph.now)
-        (indexes paragraph.now)) }
+    requires room { paragraph.now.place + length paragraph.now.chars.now < 2 ^ 64 }
+    requires flags { let chars = paragraph.now.chars.now in
+        unmatched.now ≡ map (is_unmatched (map (D.source data_source.now).class_of chars)) (indexes chars) }
+    ensures { let chars = paragraph.now.chars.now in
+        let classes = map (D.source data_source.now).class_of chars in
+        OnOk result (findings.new.items ≡ findings.old.items
+        ++ flat_map (findings_at any differing paragraph.now.line paragraph.now.place classes chars) (indexes chars)) }
 {
-    for (index, c) in paragraph.iter().enumerate() {
-        let class = data_source.bidi_class(*c);
-        push_findings_at(
-            findings,
-            any,
-            start.line,
-            is_at(differing, index),
-            unmatched[index],
-            start.place + index,
-            class,
-            *c,
-        )?;
+    for (index, c) in paragraph.chars.iter().enumerate() {
+        let at = LineChar {
+            line: paragraph.line,
+            place: paragraph.place + index,
+            class: data_source.bidi_class(*c),
+            c: *c,
+        };
+        push_findings_at(findings, any, is_at(differing, index), unmatched[index], at)?;
     }
     Ok(())
+}
+
+/// A line of a file.
+#[derive(Clone, Copy)]
+pub struct FileLine<'l> {
+    /// Its number, counted from 1.
+    pub number: usize,
+    /// Its characters, with those that end it.
+    pub chars: &'l [char],
 }
 
 /// A search for findings, one line of a file after another. Reuses its memory.
@@ -155,42 +152,30 @@ impl LineSearch {
         }
     }
 
-    /// Appends the findings in a paragraph, which begins here.
+    /// Appends the findings in a paragraph.
     fn push_found_in_paragraph<D: BidiDataSource>(
         &mut self,
         alloc: Global,
         data_source: &D,
         wanted: Wanted,
-        start: Start,
-        paragraph: &[char],
+        paragraph: &LineParagraph<'_>,
         findings: &mut Vec<Finding>,
     ) -> Result<(), AllocError>
-        requires { start.place + length paragraph.now < 2 ^ 64 }
-        ensures { OnOk result (findings.new.items ≡ findings.old.items
-            ++ findings_in_paragraph (D.source data_source.now) wanted start.line start.place paragraph.now) }
+        requires { paragraph.now.place + length paragraph.now.chars.now < 2 ^ 64 }
+        ensures { let source = D.source data_source.now in
+            OnOk result (findings.new.items ≡ findings.old.items
+            ++ findings_in_paragraph source wanted paragraph.now.line paragraph.now.place paragraph.now.chars.now) }
     {
-        find_unmatched(
-            data_source,
-            paragraph,
-            &mut self.openers,
-            &mut self.unmatched,
-        )?;
+        let chars = paragraph.chars;
+        find_unmatched(data_source, chars, &mut self.openers, &mut self.unmatched)?;
         let comparison = &mut self.comparison;
-        let differing = differing_place(comparison, alloc, data_source, wanted, paragraph)?;
+        let differing = differing_place(comparison, alloc, data_source, wanted, chars)?;
         let any = wanted.wants_every_control();
         let unmatched = self.unmatched.as_slice();
-        push_findings(
-            findings,
-            data_source,
-            any,
-            start,
-            differing,
-            paragraph,
-            unmatched,
-        )
+        push_findings(findings, data_source, any, paragraph, differing, unmatched)
     }
 
-    /// Appends the findings in a line of a file, whose number this is.
+    /// Appends the findings in a line of a file.
     ///
     /// If an allocation fails, some of them may be appended.
     // Few lines have controls. Inlined, this takes the registers of the loop that passes over the others.
@@ -200,21 +185,22 @@ impl LineSearch {
         alloc: Global,
         data_source: &D,
         wanted: Wanted,
-        number: usize,
-        line: &[char],
+        line: &FileLine<'_>,
         findings: &mut Vec<Finding>,
     ) -> Result<(), AllocError>
-        ensures { OnOk result (findings.new.items
-            ≡ findings.old.items ++ findings_in_line (D.source data_source.now) wanted number line.now) }
+        ensures { let source = D.source data_source.now in
+            OnOk result (findings.new.items
+            ≡ findings.old.items ++ findings_in_line source wanted line.now.number line.now.chars.now) }
     {
-        let mut rest = line;
+        let mut rest = line.chars;
         while !rest.is_empty() {
-            let (paragraph, after) = rest.split_at(first_line_len(data_source, rest));
-            let start = Start {
-                line: number,
-                place: line.len() - rest.len(),
+            let (chars, after) = rest.split_at(first_line_len(data_source, rest));
+            let paragraph = LineParagraph {
+                line: line.number,
+                place: line.chars.len() - rest.len(),
+                chars,
             };
-            self.push_found_in_paragraph(alloc, data_source, wanted, start, paragraph, findings)?;
+            self.push_found_in_paragraph(alloc, data_source, wanted, &paragraph, findings)?;
             rest = after;
         }
         Ok(())
@@ -252,7 +238,11 @@ pub fn findings_wanted<D: BidiDataSource>(
         // In a line without controls and marks nothing is found.
         if !first.is_quiet {
             let number = lines_before + 1;
-            search.push_found_in(alloc, data_source, wanted, number, line, &mut findings)?;
+            let line = FileLine {
+                number,
+                chars: line,
+            };
+            search.push_found_in(alloc, data_source, wanted, &line, &mut findings)?;
         }
         lines_before += 1;
         rest = after;

@@ -30,59 +30,52 @@ fn first_level(paragraphs: &[ParagraphInfo]) -> Level
     }
 }
 
-// Writes the levels of a line's characters after L1. `classes` is overwritten.
-fn write_levels<D: BidiDataSource>(
-    analyser: &mut Analyser,
-    alloc: Global,
-    data_source: &D,
-    base: Base,
-    line: &[char],
-    classes: &mut [BidiClass],
-    levels: &mut [Level],
-) -> Result<(), AllocError>
-    requires class_room { length classes.old ≡ length line.now }
-    requires level_room { length levels.old ≡ length line.now }
-    ensures { OnOk result (levels.new ≡ displayed_levels (D.source data_source.now) (level_of_base base) line.now) }
-{
-    let text = CharsText::new(line);
-    analyser.analyse(
-        alloc,
-        data_source,
-        text,
-        base.level(),
-        None,
-        classes,
-        levels,
-    )?;
-    let level = first_level(analyser.paragraphs());
-    reset_levels(level, &*classes, levels);
-    Ok(())
+// The levels of a line's characters. Takes one line after another, and reuses its memory.
+#[derive(Drop)]
+struct CharLevels {
+    analyser: Analyser,
+    // One a character of the line.
+    classes: Vec<BidiClass>,
+    levels: Vec<Level>,
 }
 
-// Replaces a list by the levels of a line's characters after L1. `classes` is overwritten.
-fn replace_levels<D: BidiDataSource>(
-    analyser: &mut Analyser,
-    alloc: Global,
-    data_source: &D,
-    base: Base,
-    line: &[char],
-    classes: &mut Vec<BidiClass>,
-    levels: &mut Vec<Level>,
-) -> Result<(), AllocError>
-    ensures { OnOk result (levels.new.items
-        ≡ displayed_levels (D.source data_source.now) (level_of_base base) line.now) }
-{
-    classes.resize(line.len(), BidiClass::L)?;
-    levels.resize(line.len(), LTR_LEVEL)?;
-    write_levels(
-        analyser,
-        alloc,
-        data_source,
-        base,
-        line,
-        classes.as_mut_slice(),
-        levels.as_mut_slice(),
-    )
+impl CharLevels {
+    // Returns the levels of an empty line. Allocates nothing.
+    fn new(alloc: Global) -> CharLevels {
+        CharLevels {
+            analyser: Analyser::new(alloc),
+            classes: Vec::new(alloc),
+            levels: Vec::new(alloc),
+        }
+    }
+
+    // Finds the levels of a line's characters after L1.
+    fn find<D: BidiDataSource>(
+        &mut self,
+        alloc: Global,
+        data_source: &D,
+        base: Base,
+        line: &[char],
+    ) -> Result<(), AllocError>
+        ensures { OnOk result (self.new.levels.items
+            ≡ displayed_levels (D.source data_source.now) (level_of_base base) line.now) }
+    {
+        self.classes.resize(line.len(), BidiClass::L)?;
+        self.levels.resize(line.len(), LTR_LEVEL)?;
+        let text = CharsText::new(line);
+        self.analyser.analyse(
+            alloc,
+            data_source,
+            text,
+            base.level(),
+            None,
+            self.classes.as_mut_slice(),
+            self.levels.as_mut_slice(),
+        )?;
+        let level = first_level(self.analyser.paragraphs());
+        reset_levels(level, self.classes.as_slice(), self.levels.as_mut_slice());
+        Ok(())
+    }
 }
 
 // Replaces a list by the visual order of some levels (L2).
@@ -98,10 +91,8 @@ fn replace_order(levels: &[Level], order: &mut Vec<usize>) -> Result<(), AllocEr
 // The order in which a line is displayed. Takes one line after another, and reuses its memory.
 #[derive(Drop)]
 struct DisplayedOrder {
-    analyser: Analyser,
-    // One a character of the line.
-    classes: Vec<BidiClass>,
-    levels: Vec<Level>,
+    levels: CharLevels,
+    // The indexes of the line's characters, from left to right.
     order: Vec<usize>,
 }
 
@@ -109,9 +100,7 @@ impl DisplayedOrder {
     // Returns the order of an empty line. Allocates nothing.
     fn new(alloc: Global) -> DisplayedOrder {
         DisplayedOrder {
-            analyser: Analyser::new(alloc),
-            classes: Vec::new(alloc),
-            levels: Vec::new(alloc),
+            levels: CharLevels::new(alloc),
             order: Vec::new(alloc),
         }
     }
@@ -128,16 +117,8 @@ impl DisplayedOrder {
             ≡ displayed_order (D.source data_source.now) (level_of_base base) line.now) }
         ensures indexes { OnOk result (All (λ index. index < length line.now) self.new.order.items) }
     {
-        replace_levels(
-            &mut self.analyser,
-            alloc,
-            data_source,
-            base,
-            line,
-            &mut self.classes,
-            &mut self.levels,
-        )?;
-        replace_order(self.levels.as_slice(), &mut self.order)?;
+        self.levels.find(alloc, data_source, base, line)?;
+        replace_order(self.levels.levels.as_slice(), &mut self.order)?;
         Ok(())
     }
 }
@@ -259,25 +240,6 @@ impl DisplayedLine {
         self.find(alloc, data_source, base, line)?;
         write_visible_ascii(self.chars.as_slice(), out)
     }
-
-    // Deletes the direction controls from a line, and writes its visible ASCII from left to right. The line without
-    // them and the visible ASCII replace the contents of the two lists.
-    fn write_visible_without_controls<D: BidiDataSource>(
-        &mut self,
-        alloc: Global,
-        data_source: &D,
-        base: Base,
-        line: &[char],
-        without_controls: &mut Vec<char>,
-        out: &mut Vec<char>,
-    ) -> Result<(), AllocError>
-        ensures { let kept = without_controls_of (D.source data_source.now) line.now in
-            OnOk result (out.new.items
-            ≡ visible_ascii (displayed (D.source data_source.now) (level_of_base base) kept)) }
-    {
-        write_without_controls(data_source, line, without_controls)?;
-        self.write_visible(alloc, data_source, base, without_controls.as_slice(), out)
-    }
 }
 
 /// Compares how a line is displayed with how it reads.
@@ -338,14 +300,11 @@ impl DisplayComparison {
             IfOk result (λ same. same ≡ are_same self.old.shown.items
             (visible_ascii (displayed (D.source data_source.now) (level_of_base base) kept))) }
     {
-        self.displayed.write_visible_without_controls(
-            alloc,
-            data_source,
-            base,
-            line,
-            &mut self.without_controls,
-            &mut self.shown_without_controls,
-        )?;
+        write_without_controls(data_source, line, &mut self.without_controls)?;
+        let kept = self.without_controls.as_slice();
+        let out = &mut self.shown_without_controls;
+        self.displayed
+            .write_visible(alloc, data_source, base, kept, out)?;
         Ok(self.shown.as_slice() == self.shown_without_controls.as_slice())
     }
 

@@ -78,6 +78,19 @@ impl Trouble {
     }
 }
 
+/// A character in a line of a file.
+#[derive(Clone, Copy, Debug)]
+pub struct LineChar {
+    /// The number of its line, counted from 1.
+    pub line: usize,
+    /// Its place in the line, in characters, counted from 0.
+    pub place: usize,
+    /// Its class.
+    pub class: BidiClass,
+    /// The character itself.
+    pub c: char,
+}
+
 /// A control, where it stands, and what is the matter with it.
 #[derive(Clone, Copy, Debug)]
 pub struct Finding {
@@ -93,42 +106,28 @@ impl Finding {
     ghost use Rattle.std.specs.Prelude.{◌≡◌, ◌+◌, ◌<◌, ◌^◌};
     ghost use Rattle.bidi_controls.specs.Findings.{finding_with, finding_of};
 
-    /// Returns the finding that something is the matter with the control or the mark at an index of a line, if the
-    /// character there is one.
-    pub fn with(
-        trouble: Trouble,
-        line: usize,
-        place: usize,
-        class: BidiClass,
-        c: char,
-    ) -> Option<Finding>
-        requires { place + 1 < 2 ^ 64 }
-        ensures { result ≡ finding_with trouble line place class c }
+    /// Returns the finding that something is the matter with a character, if it is a control or a mark.
+    pub fn with(trouble: Trouble, at: LineChar) -> Option<Finding>
+        requires { at.place + 1 < 2 ^ 64 }
+        ensures { result ≡ finding_with trouble at.line at.place at.class at.c }
     {
         Some(Finding {
-            line,
-            column: place + 1,
-            control: Control::of(class, c)?,
+            line: at.line,
+            column: at.place + 1,
+            control: Control::of(at.class, at.c)?,
             trouble,
         })
     }
 
-    /// What is found at a place of a line, counted from 0, if something is: a control without its
-    /// match on that line, or with `any` every control and mark.
-    pub fn of(
-        any: bool,
-        line: usize,
-        place: usize,
-        unmatched: bool,
-        class: BidiClass,
-        c: char,
-    ) -> Option<Finding>
-        requires { place + 1 < 2 ^ 64 }
-        ensures { result ≡ finding_of any line place unmatched class c }
+    /// Returns what is found at a character, if something is: a control without its match on its line, or with `any`
+    /// every control and mark.
+    pub fn of(any: bool, unmatched: bool, at: LineChar) -> Option<Finding>
+        requires { at.place + 1 < 2 ^ 64 }
+        ensures { result ≡ finding_of any at.line at.place unmatched at.class at.c }
     {
         if !any && !unmatched {
             return None;
         }
-        Finding::with(Trouble::of(unmatched, class), line, place, class, c)
+        Finding::with(Trouble::of(unmatched, at.class), at)
     }
 }

@@ -13,10 +13,10 @@ module _ (source : Source) (form : Form) (name line : List ℕ) (findings : List
   line_report-next later i d within = rw (add-one, drop-cons findings i d) refl
 
   -- a finding more
-  pub report-more : (later : Bool) (i : ℕ) (d : Finding) (shown old new all : List ℕ) → i < length findings → old ++ line_report source form later name line (drop i findings) ≡ all
-      → shown ≡ displayed_for source line (get_or findings i d) → new ≡ old ++ finding_report form later name line shown (get_or findings i d)
+  pub report-more : (later : Bool) (i : ℕ) (d : Finding) (old new all : List ℕ) → i < length findings → old ++ line_report source form later name line (drop i findings) ≡ all
+      → new ≡ old ++ finding_report form later name line (displayed_for source line (get_or findings i d)) (get_or findings i d)
       → new ++ line_report source form true name line (drop (i + 1) findings) ≡ all
-  report-more later i d shown old new all within before is_shown here = grind (arith, append_assoc, line_report-next later i d within)
+  report-more later i d old new all within before here = grind (arith, append_assoc, line_report-next later i d within)
 
   -- after the last one
   pub report-end : (later : Bool) (i : ℕ) (old all : List ℕ) → length findings ≤ i → old ++ line_report source form later name line (drop i findings) ≡ all → old ≡ all

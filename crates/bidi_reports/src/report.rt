@@ -1,12 +1,13 @@
 //! What is told of the findings of a run.
-ghost use Rattle.std.specs.Prelude.{◌≡◌, ◌++◌, ◌==◌, ◌||◌, false, not, length, OnOk, string_bytes};
+ghost use Rattle.std.specs.Prelude.{◌≡◌, ◌++◌, ◌==◌, ◌||◌, false, true, not, length, OnOk, string_bytes};
 ghost use Rattle.std.specs.Str.{chars};
 ghost use Rattle.bidi_reports.specs.Reports.{finding_report, line_report, report_head, report_foot};
+ghost use Rattle.bidi_reports.specs.Shown.{displayed_for};
 
 use crate::displayed::Displayed;
 use crate::form::Form;
 use crate::json_text::{SARIF_FOOT, push_json, push_result, push_sarif_head};
-use crate::text::push_text;
+use crate::text::{ToldFinding, push_text};
 use bidi_base::data_source::BidiDataSource;
 use bidi_controls::finding::Finding;
 use bidi_names::names::shown_name;
@@ -18,56 +19,36 @@ fn push_finding(
     out: &mut String,
     form: Form,
     later: bool,
-    name: &str,
-    line: &[char],
-    displayed: &[char],
-    finding: &Finding,
+    told: &ToldFinding<'_>,
 ) -> Result<(), AllocError>
     ensures { OnOk result (string_bytes out.new ≡ string_bytes out.old
-        ++ finding_report form later name.now line.now displayed.now finding.now) }
+        ++ finding_report form later told.now.name.now told.now.line.now told.now.displayed.now told.now.finding.now) }
 {
+    let (name, displayed, finding) = (told.name, told.displayed, told.finding);
     match form {
         Form::Quiet => Ok(()),
         Form::Text { excerpts, colors } => {
             let shown = shown_name(alloc, name)?;
-            push_text(
-                out,
-                excerpts,
-                colors,
-                shown.as_str(),
-                line,
-                displayed,
-                finding,
-            )
+            let told = ToldFinding {
+                name: shown.as_str(),
+                ..*told
+            };
+            push_text(out, excerpts, colors, &told)
         }
         Form::Json => push_json(alloc, out, name, displayed, finding),
         Form::Sarif => push_result(alloc, out, later, name, displayed, finding),
     }
 }
 
-// Appends what is told of the findings in a line of a file.
-fn push_findings<D: BidiDataSource>(
-    alloc: Global,
-    data_source: &D,
-    displayed: &mut Displayed,
-    out: &mut String,
-    form: Form,
-    later: bool,
-    name: &str,
-    line: &[char],
-    findings: &[Finding],
-) -> Result<(), AllocError>
-    ensures { OnOk result (string_bytes out.new ≡ string_bytes out.old
-        ++ line_report (D.source data_source.now) form later name.now line.now findings.now) }
-{
-    let mut is_later = later;
-    for finding in findings {
-        displayed.display_for(alloc, data_source, line, finding)?;
-        let chars = displayed.chars.as_slice();
-        push_finding(alloc, out, form, is_later, name, line, chars, finding)?;
-        is_later = true;
-    }
-    Ok(())
+/// The findings in a line of a file.
+#[derive(Clone, Copy)]
+pub struct LineFindings<'l> {
+    /// The name of the file, which the report escapes as its form needs it.
+    pub name: &'l str,
+    /// The line with the characters that end it.
+    pub line: &'l [char],
+    /// What is found in it, in order.
+    pub findings: &'l [Finding],
 }
 
 /// The report of a run, which is written line by line of the files.
@@ -113,36 +94,51 @@ impl Report {
         }
     }
 
+    // Appends what is told of a finding in a line of a file.
+    fn push_finding<D: BidiDataSource>(
+        &mut self,
+        alloc: Global,
+        data_source: &D,
+        out: &mut String,
+        found: &LineFindings<'_>,
+        finding: &Finding,
+    ) -> Result<(), AllocError>
+        ensures report { let shown = displayed_for (D.source data_source.now) found.now.line.now finding.now in
+            OnOk result (string_bytes out.new ≡ string_bytes out.old
+            ++ finding_report self.old.form self.old.later found.now.name.now found.now.line.now shown finding.now) }
+        ensures form { self.new.form ≡ self.old.form }
+        ensures later { OnOk result (self.new.later ≡ true) }
+    {
+        self.displayed
+            .display_for(alloc, data_source, found.line, finding)?;
+        let told = ToldFinding {
+            name: found.name,
+            line: found.line,
+            displayed: self.displayed.chars.as_slice(),
+            finding,
+        };
+        push_finding(alloc, out, self.form, self.later, &told)?;
+        self.later = true;
+        Ok(())
+    }
+
     /// Appends what is told of the findings in a line of a file.
-    ///
-    /// `line` is the line with the characters that end it. `name` is the name of the file, which the report escapes as
-    /// its form needs it.
     pub fn push_line<D: BidiDataSource>(
         &mut self,
         alloc: Global,
         data_source: &D,
         out: &mut String,
-        name: &str,
-        line: &[char],
-        findings: &[Finding],
+        found: &LineFindings<'_>,
     ) -> Result<(), AllocError>
         ensures report { OnOk result (string_bytes out.new ≡ string_bytes out.old
-            ++ line_report (D.source data_source.now) self.old.form self.old.later name.now line.now findings.now) }
+            ++ line_report (D.source data_source.now) self.old.form self.old.later
+            found.now.name.now found.now.line.now found.now.findings.now) }
         ensures form { self.new.form ≡ self.old.form }
-        ensures later { OnOk result (self.new.later ≡ (self.old.later || not (length findings.now == 0))) }
+        ensures later { OnOk result (self.new.later ≡ (self.old.later || not (length found.now.findings.now == 0))) }
     {
-        push_findings(
-            alloc,
-            data_source,
-            &mut self.displayed,
-            out,
-            self.form,
-            self.later,
-            name,
-            line,
-            findings,
-        )?;
-        self.later = self.later || !findings.is_empty();
+        for finding in found.findings {
+            self.push_finding(alloc, data_source, out, found, finding)?;
+        }
         Ok(())
     }
 }

@@ -144,6 +144,19 @@ fn push_note_if(
     push_note(out, colors, name, displayed, finding)
 }
 
+/// A finding, and what is told with it.
+#[derive(Clone, Copy)]
+pub struct ToldFinding<'f> {
+    /// The name of its file.
+    pub name: &'f str,
+    /// The line of the file, with the characters that end it.
+    pub line: &'f [char],
+    /// What is displayed, if the finding is about that.
+    pub displayed: &'f [char],
+    /// The finding.
+    pub finding: &'f Finding,
+}
+
 /// Appends what is told of a finding: its line, an excerpt if these are wanted, and a note if it is about how its line is
 /// displayed.
 #[tactic(auto, unfolding(crate::specs::Text::text_report))]
@@ -151,21 +164,19 @@ pub fn push_text(
     out: &mut String,
     excerpts: bool,
     colors: bool,
-    name: &str,
-    line: &[char],
-    displayed: &[char],
-    finding: &Finding,
+    told: &ToldFinding<'_>,
 ) -> Result<(), AllocError>
     ensures { OnOk result (string_bytes out.new ≡ string_bytes out.old
-        ++ text_report excerpts colors name.now line.now displayed.now finding.now) }
+        ++ text_report excerpts colors told.now.name.now told.now.line.now told.now.displayed.now told.now.finding.now) }
 {
+    let (name, finding) = (told.name, told.finding);
     push_finding(out, colors, name, finding)?;
     push_excerpt_if(
         out,
         excerpts,
         colors,
-        line,
+        told.line,
         finding.column.saturating_sub(1),
     )?;
-    push_note_if(out, colors, name, displayed, finding)
+    push_note_if(out, colors, name, told.displayed, finding)
 }

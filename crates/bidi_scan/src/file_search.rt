@@ -9,7 +9,7 @@ use bidi_bytes::controls::holds_control;
 use bidi_bytes::decode::{utf8_decoded, utf8_fault, utf16_text};
 use bidi_bytes::lines::{count_lines, first_line_len, whole_lines_len};
 use bidi_bytes::pieces::drop_front;
-use bidi_controls::check::LineSearch;
+use bidi_controls::check::{FileLine, LineSearch};
 use bidi_controls::finding::{Finding, Wanted};
 use bidi_unicode::UnicodeData;
 use std::alloc::{AllocError, Global};
@@ -82,14 +82,12 @@ impl FileSearch {
     {
         let chars = utf8_decoded(alloc, line)?;
         let mut findings = Vec::new(alloc);
-        self.line_search.push_found_in(
-            alloc,
-            &UnicodeData,
-            self.wanted,
+        let decoded = FileLine {
             number,
-            chars.as_slice(),
-            &mut findings,
-        )?;
+            chars: chars.as_slice(),
+        };
+        self.line_search
+            .push_found_in(alloc, &UnicodeData, self.wanted, &decoded, &mut findings)?;
         if !findings.is_empty() {
             found.push(FoundLine {
                 number,

@@ -164,18 +164,25 @@ pub struct Finished<R, W> {
     pub writer: W,
 }
 
+// The blanks of a run's counts, which hold no bytes at run time.
+#[derive(Drop)]
+struct Blanks {
+    failed_reads: Blank,
+    ended_reads: Blank,
+    failed_writes: Blank,
+}
+
+// Runs the program, and counts in the ledgers of these blanks.
 fn run_counted<F: Ledger, E: Ledger, O: Ledger, R: Read + Drop, W: Write + Drop>(
     alloc: Global,
     words: &[String],
     reader: R,
     writer: W,
-    failed_reads: Blank,
-    ended_reads: Blank,
-    failed_writes: Blank,
+    blanks: Blanks,
 ) -> Finished<R, W>
-    requires failed_reads { Opens failed_reads F.name F.parts }
-    requires ended_reads { Opens ended_reads E.name E.parts }
-    requires failed_writes { Opens failed_writes O.name O.parts }
+    requires failed_reads { Opens blanks.failed_reads F.name F.parts }
+    requires ended_reads { Opens blanks.ended_reads E.name E.parts }
+    requires failed_writes { Opens blanks.failed_writes O.name O.parts }
     ensures usage { IsErrOf result.outcome Usage ↔ IsNone (command_of (map string_bytes words.now)) }
     ensures utf8 { IsErrOf result.outcome NotUtf8 → (reads_input (command_of (map string_bytes words.now)) ≡ true)
         × IfSome (R.remaining reader) (λ bytes. ¬ (IsUtf8 bytes)) × IsAtEnd (R.remaining result.reader) }
@@ -185,10 +192,10 @@ fn run_counted<F: Ledger, E: Ledger, O: Ledger, R: Read + Drop, W: Write + Drop>
     ensures unwritten { IfErr result.outcome (λ fault. fault ≢ Device → result.writer ≡ writer) }
     ensures unread { reads_input (command_of (map string_bytes words.now)) ≡ false → result.reader ≡ reader }
 {
-    let failed_reads = Tally::<F>::new(failed_reads);
-    let ended_reads = Tally::<E>::new(ended_reads);
+    let failed_reads = Tally::<F>::new(blanks.failed_reads);
+    let ended_reads = Tally::<E>::new(blanks.ended_reads);
     let mut input = StreamIn::new(reader, failed_reads, ended_reads);
-    let mut output = StreamOut::new(writer, Tally::<O>::new(failed_writes));
+    let mut output = StreamOut::new(writer, Tally::<O>::new(blanks.failed_writes));
     let outcome = run(alloc, words, &mut input, &mut output);
     Finished {
         outcome,
@@ -213,13 +220,10 @@ pub fn run_over_streams<R: Read + Drop, W: Write + Drop>(
     ensures unwritten { IfErr result.outcome (λ fault. fault ≢ Device → result.writer ≡ writer) }
     ensures unread { reads_input (command_of (map string_bytes words.now)) ≡ false → result.reader ≡ reader }
 {
-    run_counted::<Brand, Brand, Brand, R, W>(
-        alloc,
-        words,
-        reader,
-        writer,
-        Blank::new(1),
-        Blank::new(1),
-        Blank::new(1),
-    )
+    let blanks = Blanks {
+        failed_reads: Blank::new(1),
+        ended_reads: Blank::new(1),
+        failed_writes: Blank::new(1),
+    };
+    run_counted::<Brand, Brand, Brand, R, W>(alloc, words, reader, writer, blanks)
 }

@@ -1,6 +1,6 @@
 //! The lines of a paragraph from left to right.
 ghost use Rattle.std.specs.Prelude.{◌≡◌, ◌<◌, ◌++◌, length, get_or, flat_map, map, All, IfOk, OnOk, string_bytes};
-ghost use Rattle.std.specs.Str.{chars};
+ghost use Rattle.std.specs.Str.{chars, IsUtf8};
 ghost use Rattle.bidi_base.specs.Analysed.{IsPerCharText};
 ghost use Rattle.bidi_base.specs.Display.{run_of};
 ghost use Rattle.bidi_columns.specs.Bounds.{IsRangeOf};
@@ -81,23 +81,33 @@ impl Memory {
     }
 }
 
+// A paragraph with its analysis.
+#[derive(Clone, Copy)]
+struct AnalysedParagraph<'p> {
+    text: &'p str,
+    // The memory that analysed this paragraph last.
+    memory: &'p Memory,
+}
+
 // Appends a line of an analysed paragraph from left to right, ended by a line feed.
 fn push_line<D: BidiDataSource>(
     alloc: Global,
     out: &mut String,
-    memory: &Memory,
     data_source: &D,
     plain: bool,
-    text: &str,
+    paragraph: &AnalysedParagraph<'_>,
     line: &Range<usize>,
 ) -> Result<(), AllocError>
-    requires per_char { IsPerCharText (analysed_in memory.now (chars text.now)) }
-    requires range { IsRangeOf text.now line.now }
-    ensures { OnOk result (string_bytes out.new ≡ string_bytes out.old
-        ++ shown_in (D.source data_source.now) plain (analysed_in memory.now (chars text.now)) memory.now.level (run_of line.now)) }
+    requires utf8 { IsUtf8 paragraph.now.text.now }
+    requires per_char { IsPerCharText (analysed_in paragraph.now.memory.now (chars paragraph.now.text.now)) }
+    requires range { IsRangeOf paragraph.now.text.now line.now }
+    ensures { let analysed = analysed_in paragraph.now.memory.now (chars paragraph.now.text.now) in
+        OnOk result (string_bytes out.new ≡ string_bytes out.old
+        ++ shown_in (D.source data_source.now) plain analysed paragraph.now.memory.now.level (run_of line.now)) }
 {
+    let memory = paragraph.memory;
     let (start, end) = (line.start, line.end);
-    let part = &text[start..end];
+    let part = &paragraph.text[start..end];
     let classes = &memory.classes.as_slice()[start..end];
     let levels = &memory.levels.as_slice()[start..end];
     let mut shown = ShownLevels::new(alloc);
@@ -112,20 +122,21 @@ fn push_line<D: BidiDataSource>(
 fn push_lines<D: BidiDataSource>(
     alloc: Global,
     out: &mut String,
-    memory: &Memory,
     data_source: &D,
     plain: bool,
-    text: &str,
+    paragraph: &AnalysedParagraph<'_>,
     lines: &[Range<usize>],
 ) -> Result<(), AllocError>
-    requires per_char { IsPerCharText (analysed_in memory.now (chars text.now)) }
-    requires ranges { All (IsRangeOf text.now) lines.now }
-    ensures { OnOk result (string_bytes out.new ≡ string_bytes out.old
-        ++ flat_map (λ r. shown_in (D.source data_source.now) plain (analysed_in memory.now (chars text.now)) memory.now.level (run_of r))
+    requires utf8 { IsUtf8 paragraph.now.text.now }
+    requires per_char { IsPerCharText (analysed_in paragraph.now.memory.now (chars paragraph.now.text.now)) }
+    requires ranges { All (IsRangeOf paragraph.now.text.now) lines.now }
+    ensures { let analysed = analysed_in paragraph.now.memory.now (chars paragraph.now.text.now) in
+        OnOk result (string_bytes out.new ≡ string_bytes out.old
+        ++ flat_map (λ r. shown_in (D.source data_source.now) plain analysed paragraph.now.memory.now.level (run_of r))
         lines.now) }
 {
     for line in lines {
-        push_line(alloc, out, memory, data_source, plain, text, line)?;
+        push_line(alloc, out, data_source, plain, paragraph, line)?;
     }
     Ok(())
 }
@@ -160,13 +171,16 @@ pub fn push_paragraph<D: BidiDataSource>(
 {
     memory.analyse(alloc, data_source, view.base, text)?;
     let lines = lines_of(alloc, data_source, view.width, text)?;
+    let paragraph = AnalysedParagraph {
+        text,
+        memory: &*memory,
+    };
     push_lines(
         alloc,
         out,
-        memory,
         data_source,
         view.plain,
-        text,
+        &paragraph,
         lines.as_slice(),
     )
 }

@@ -6,4 +6,4 @@ abbrev pub invariant-loop-index : goal.invariant-loop-index
 invariant-loop-index g l =
     l.findings.items
     ≡ l.initial.findings.items
-    ++ flat_map (findings_at l.any l.differing l.start.line l.start.place (map (g.D.BidiDataSource.source l.fn.data_source).class_of l.paragraph) l.paragraph) (range_with_len 0 l.index)
+    ++ flat_map (findings_at l.any l.differing l.paragraph.line l.paragraph.place (map (g.D.BidiDataSource.source l.fn.data_source).class_of l.paragraph.chars.now) l.paragraph.chars.now) (range_with_len 0 l.index)

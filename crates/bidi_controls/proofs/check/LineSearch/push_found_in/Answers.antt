@@ -25,7 +25,7 @@ loop-rest-preserved g c =
     let rest : List ℕ = c.loop-rest.rest.now in
     let paragraph : List ℕ = c.split_at.result.0.now in
     let after : List ℕ = c.split_at.result.1.now in
-    let fits : length rest ≤ length c.args.line.now = c.loop-rest.invariant.fits in
+    let fits : length rest ≤ length c.args.line.now.chars.now = c.loop-rest.invariant.fits in
     let within : c.first_line_len.result ≤ length rest = c.first_line_len.ensures.within in
     let front_len : length paragraph ≡ c.first_line_len.result = ap length c.split_at.ensures.front ∙ length-take-le c.first_line_len.result rest within in
     let back_len : length after ≡ length rest - c.first_line_len.result = ap length c.split_at.ensures.back ∙ length-drop c.first_line_len.result rest in
@@ -33,11 +33,11 @@ loop-rest-preserved g c =
     c.first_line_len.ensures.first ∙ ap₂ (λ p a. p ∷ lines_of source a) (sym c.split_at.ensures.front) (sym c.split_at.ensures.back) in
     record {
       fits = omega (arith, fits, back_len, within);
-      found = with_paragraph source c.args.wanted c.args.number (length c.args.line.now - length rest) (length c.args.line.now - length after) rest paragraph after _ _ _ first
+      found = with_paragraph source c.args.wanted c.args.line.now.number (length c.args.line.now.chars.now - length rest) (length c.args.line.now.chars.now - length after) rest paragraph after _ _ _ first
           (omega (arith, fits, front_len, back_len, within)) c.loop-rest.invariant.found c.in_ok-push_found_in_paragraph.ensures;
     }
 
 pub returns : goal.returns
 unfolding findings_in_line
 returns g c =
-    at_end (g.D.BidiDataSource.source c.args.data_source.now) c.args.wanted c.args.number _ c.loop-rest.rest.now _ _ (grind arith) c.loop-rest.invariant.found
+    at_end (g.D.BidiDataSource.source c.args.data_source.now) c.args.wanted c.args.line.now.number _ c.loop-rest.rest.now _ _ (grind arith) c.loop-rest.invariant.found

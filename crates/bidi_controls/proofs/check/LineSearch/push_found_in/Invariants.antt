@@ -5,13 +5,13 @@ use Rattle.bidi_controls.proofs.check.LineSearch.push_found_in.Given as goal
 
 abbrev pub invariant-loop-rest : goal.invariant-loop-rest
 invariant-loop-rest g l = record {
-  fits : length l.rest ≤ length l.line;
+  fits : length l.rest ≤ length l.line.chars.now;
   found : l.findings.items
-      ++ findings_in_paragraphs (g.D.BidiDataSource.source l.fn.data_source) l.wanted l.number (length l.line - length l.rest)
+      ++ findings_in_paragraphs (g.D.BidiDataSource.source l.fn.data_source) l.wanted l.line.number (length l.line.chars.now - length l.rest)
       (lines_of (g.D.BidiDataSource.source l.fn.data_source) l.rest)
       ≡ l.fn.findings.items
-      ++ findings_in_paragraphs (g.D.BidiDataSource.source l.fn.data_source) l.wanted l.number 0
-      (lines_of (g.D.BidiDataSource.source l.fn.data_source) l.line);
+      ++ findings_in_paragraphs (g.D.BidiDataSource.source l.fn.data_source) l.wanted l.line.number 0
+      (lines_of (g.D.BidiDataSource.source l.fn.data_source) l.line.chars.now);
 }
 
 abbrev pub decreases-loop-rest : goal.decreases-loop-rest

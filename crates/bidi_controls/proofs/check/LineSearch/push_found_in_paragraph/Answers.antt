@@ -22,8 +22,8 @@ on_ok (Err e) step given = tt
 
 pub returns : goal.returns
 returns g c =
-    let paragraph = c.args.paragraph.now in
+    let paragraph = c.args.paragraph.now.chars.now in
     on_ok c.push_findings.result
-    (λ same. line_found (g.D.BidiDataSource.source c.args.data_source.now) c.args.wanted c.args.start.line c.args.start.place paragraph paragraph c.wants_every_control-any.result c.in_ok-differing.differing c.args.findings.now.items _ refl
+    (λ same. line_found (g.D.BidiDataSource.source c.args.data_source.now) c.args.wanted c.args.paragraph.now.line c.args.paragraph.now.place paragraph paragraph c.wants_every_control-any.result c.in_ok-differing.differing c.args.findings.now.items _ refl
     c.wants_every_control-any.ensures c.in_ok-differing.ensures same)
     c.push_findings.ensures
