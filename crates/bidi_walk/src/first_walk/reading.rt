@@ -62,7 +62,7 @@ struct Undecided {
 pub(super) struct Reading {
     /// The code unit at which it begins.
     pub(super) start: usize,
-    // How many isolates are open. Those that were open when the state was decided are not counted.
+    // How many isolates are open. Those that were open when the state became decided are not counted.
     depth: usize,
     // Those of an FSI that no character has decided yet, outermost first.
     undecided: Vec<Undecided>,
@@ -114,7 +114,7 @@ impl Reading {
         self.deciding.is_some() && self.undecided.is_empty()
     }
 
-    /// Counts the isolates that are open no longer, if the state is decided.
+    /// Stops counting the isolates that are open, if the state is decided.
     pub(super) fn stop_counting(&mut self)
         ensures { StopsCounting self.old self.new }
     {
