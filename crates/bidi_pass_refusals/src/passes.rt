@@ -36,31 +36,29 @@ struct Classified<'a> {
     has_isolate_controls: bool,
 }
 
-// Returns the sequences of a paragraph, and writes its explicit levels and its classes to the slices.
+// Returns the sequences of a paragraph at this level, and writes its explicit levels and its classes to the slices.
 fn prepare(
     alloc: Global,
-    text: StrText,
+    of: Classified<'_>,
     para_level: Level,
-    original_classes: &[BidiClass],
     levels: &mut [Level],
     processing_classes: &mut [BidiClass],
-    has_isolate_controls: bool,
 ) -> Result<Vec<IsolatingRunSequence>, NoAnswer>
     requires explicit { para_level ≤ 125 }
-    requires levels { length levels.old ≡ length original_classes.now }
-    requires processing { processing_classes.old ≡ original_classes.now }
+    requires levels { length levels.old ≡ length of.classes.now }
+    requires processing { processing_classes.old ≡ of.classes.now }
 {
-    if !is_per_char(text, original_classes)
-        || (has_initiator(original_classes) && !has_isolate_controls)
+    if !is_per_char(of.text, of.classes)
+        || (has_initiator(of.classes) && !of.has_isolate_controls)
     {
         return Err(NoAnswer::Wrong);
     }
     let mut runs = Vec::new(alloc);
     compute(
         alloc,
-        text,
+        of.text,
         para_level,
-        original_classes,
+        of.classes,
         levels,
         processing_classes,
         &mut runs,
@@ -68,12 +66,12 @@ fn prepare(
     let mut sequences = Vec::new(alloc);
     isolating_run_sequences(
         alloc,
-        text,
+        of.text,
         para_level,
-        original_classes,
+        of.classes,
         levels,
         runs,
-        has_isolate_controls,
+        of.has_isolate_controls,
         &mut sequences,
     )?;
     Ok(sequences)
@@ -94,15 +92,7 @@ fn prepared(
     };
     let classes = &mut units.classes[..count];
     classes.copy_from_slice(of.classes);
-    let sequences = prepare(
-        alloc,
-        of.text,
-        RTL_LEVEL,
-        of.classes,
-        &mut units.levels[..count],
-        classes,
-        of.has_isolate_controls,
-    )?;
+    let sequences = prepare(alloc, of, RTL_LEVEL, &mut units.levels[..count], classes)?;
     Ok((units, sequences))
 }
 
@@ -186,18 +176,29 @@ fn with_weak(
     Ok(units)
 }
 
-// Resolves the neutrals of a sequence in place, by `resolver` or, without one, by the plain call.
+// A sequence of a text, and the data source that has the brackets of its characters.
+#[derive(Clone, Copy)]
+struct Neutrals<'t, 'd, 's> {
+    of: Classified<'t>,
+    source: &'s TableBidiData<'d>,
+    sequence: &'s IsolatingRunSequence,
+}
+
+// Resolves the neutrals of a sequence in place, by `resolver` or by the plain call.
 fn resolve(
     alloc: Global,
-    text: StrText,
-    source: &TableBidiData<'_>,
-    sequence: &IsolatingRunSequence,
+    neutrals: Neutrals<'_, '_, '_>,
     levels: &[Level],
-    original: &[BidiClass],
     classes: &mut [BidiClass],
     resolver: &mut NeutralResolver,
     is_by_resolver: bool,
 ) -> Result<(), NoAnswer> {
+    let Neutrals {
+        of,
+        source,
+        sequence,
+    } = neutrals;
+    let (text, original) = (of.text, of.classes);
     let fits = sequence.fits(text) && is_per_char(text, classes);
     if !fits || levels.len() != classes.len() || original.len() != classes.len() {
         return Err(NoAnswer::Wrong);
@@ -217,25 +218,20 @@ fn resolve(
 // unchanged.
 fn with_neutrals(
     alloc: Global,
-    of: Classified<'_>,
-    source: &TableBidiData<'_>,
-    sequence: &IsolatingRunSequence,
+    neutrals: Neutrals<'_, '_, '_>,
     before: &Units,
     resolver: &mut NeutralResolver,
     is_by_resolver: bool,
 ) -> Result<Units, NoAnswer> {
-    let count = of.classes.len();
+    let count = neutrals.of.classes.len();
     if count > ROOM {
         return Err(NoAnswer::Wrong);
     }
     let mut units = *before;
     let outcome = resolve(
         alloc,
-        of.text,
-        source,
-        sequence,
+        neutrals,
         &before.levels[..count],
-        of.classes,
         &mut units.classes[..count],
         resolver,
         is_by_resolver,
@@ -276,21 +272,20 @@ fn try_weak(
 // Tries the neutrals of a sequence, by a resolver and by the plain call.
 fn try_neutrals(
     rt: &(impl Print + AllocGlobal),
-    of: Classified<'_>,
-    source: &TableBidiData<'_>,
-    sequence: &IsolatingRunSequence,
+    neutrals: Neutrals<'_, '_, '_>,
     units: &mut Units,
     resolver: &mut NeutralResolver,
 ) -> Result<(), Fault> {
+    let alloc = rt.alloc();
     tried!(
         rt,
         "NeutralResolver::resolve",
-        with_neutrals(rt.alloc(), of, source, sequence, units, resolver, true)
+        with_neutrals(alloc, neutrals, units, resolver, true)
     );
     *units = tried!(
         rt,
         "implicit::resolve_neutral",
-        with_neutrals(rt.alloc(), of, source, sequence, units, resolver, false)
+        with_neutrals(alloc, neutrals, units, resolver, false)
     );
     Ok(())
 }
@@ -317,7 +312,12 @@ fn try_passes(
     }
     let mut resolver = NeutralResolver::new(rt.alloc());
     for sequence in &sequences {
-        try_neutrals(rt, of, source, sequence, &mut units, &mut resolver)?;
+        let neutrals = Neutrals {
+            of,
+            source: &*source,
+            sequence,
+        };
+        try_neutrals(rt, neutrals, &mut units, &mut resolver)?;
     }
     tried!(rt, "implicit::resolve_levels", with_implicit(of, &units));
     Ok(())
