@@ -114,7 +114,7 @@ impl OfUnits {
     }
 }
 
-// What a call that resolves the neutrals of a sequence reads: the text, its data source and the sequence, and for each
+// The input of a call that resolves the neutrals of a sequence: the text, its data source and the sequence, and for each
 // code unit the level and the class before the weak types.
 #[derive(Clone, Copy)]
 struct Neutrals<'a> {
