@@ -14,6 +14,8 @@ mod run;
 mod shown;
 mod streams;
 mod tally;
+#[cfg(test)]
+mod tests;
 
 use fault::ShowFault;
 use run::run_over_streams;
