@@ -14,8 +14,6 @@ mod run;
 mod shown;
 mod streams;
 mod tally;
-#[cfg(test)]
-mod tests;
 
 use fault::ShowFault;
 use run::run_over_streams;
