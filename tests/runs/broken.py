@@ -1,9 +1,10 @@
 #!/usr/bin/env python3
 """Runs of programs that were proved and built, of which a read or a write fails: tests/runs/broken.py PROGRAM..
 
-Each run of tests/runs/PROGRAM.runs that writes to standard output is made three times more. Once nothing can be written,
-once all but the last byte, and once the reader of the output is gone. Then come runs whose input fails behind its last
-byte, and one whose reader goes when it has read a line. The exit status is 0 if all runs passed.
+Each run of tests/runs/PROGRAM.runs that writes to standard output, unless its input is long, is made three times more.
+Once nothing can be written, once all but the last byte, and once the reader of the output is gone. Then come runs whose
+input fails behind its last byte, and of bidi one whose reader goes when it has read a line, and one with little memory.
+The exit status is 0 if all runs passed.
 """
 import contextlib
 import os
@@ -45,19 +46,27 @@ UNREAD = {
 }
 
 
+def is_taken(run):
+    """Whether a run is made here too: it writes to standard output, and it takes no long input and no refusal."""
+    return bool(run.output) and len(run.input) < 100000 and run.refused is None
+
+
 def command_of(program, words):
     return [TOP / "crates" / program / "out" / program] + words
 
 
+def limit(kind, size):
+    """What sets a limit in the process that becomes the program."""
+    return lambda: resource.setrlimit(kind, (size, size))
+
+
 def with_limit(program, run, folder, size):
     """A run that can write so many bytes to standard output: its status, and its two outputs."""
-    def limit():
-        resource.setrlimit(resource.RLIMIT_FSIZE, (size, size))
-
     with tempfile.TemporaryFile() as output:
         # Python ignores the signal that such a write sends, and so does the program below it.
         ended = subprocess.run(command_of(program, run.words), input=run.input, stdout=output, stderr=subprocess.PIPE,
-                               cwd=folder, env={}, preexec_fn=limit, restore_signals=False, timeout=60)
+                               cwd=folder, env={}, preexec_fn=limit(resource.RLIMIT_FSIZE, size),
+                               restore_signals=False, timeout=60)
         output.seek(0)
         return ended.returncode, output.read(), ended.stderr
 
@@ -137,6 +146,21 @@ def head_run(folder):
         yield f"failed bidi check first many: its reader went, and it ended with {found}"[:400]
 
 
+def memory_run():
+    """The same of an argument that is not UTF-8: with more and more memory, some run can read the arguments, but cannot
+    tell which of them it is."""
+    found = None
+    for size in range(1 << 20, 1 << 24, 1 << 15):
+        with contextlib.suppress(OSError, subprocess.SubprocessError):
+            ended = subprocess.run(command_of("bidi", [b"check", b"a\xFF"]), capture_output=True, env={},
+                                   preexec_fn=limit(resource.RLIMIT_AS, size), timeout=60)
+            found = (ended.returncode, ended.stdout, ended.stderr)
+        if found and found[0] in (2, 3):
+            break
+    if found != (3, b"", b"bidi: out of memory\n"):
+        yield f"failed bidi check: an argument is not UTF-8, there is little memory, and it ended with {found}"[:400]
+
+
 def main(words):
     if words in ([], ["-h"], ["--help"]):
         print(__doc__.strip())
@@ -144,7 +168,7 @@ def main(words):
     failures = 0
     for program in words:
         book = Book(TOP / "tests" / "runs" / f"{program}.runs")
-        runs = [run for run in book.runs + own_run(program, book.files) if run.output and run.refused is None]
+        runs = [run for run in book.runs + own_run(program, book.files) if is_taken(run)]
         failed = 0
         with tempfile.TemporaryDirectory() as name:
             folder = pathlib.Path(name)
@@ -154,7 +178,8 @@ def main(words):
                 for line in broken_runs(program, run, folder):
                     failed += 1
                     print(f"failed {run.place}: {run.name}: {line}")
-            for line in [*unread_runs(program), *(head_run(folder) if program == "bidi" else [])]:
+            own = [*head_run(folder), *memory_run()] if program == "bidi" else []
+            for line in [*unread_runs(program), *own]:
                 failed += 1
                 print(line)
         print(f"{'failed' if failed else 'ok'} broken runs of the built {program}: {3 * len(runs)}", flush=True)
