@@ -32,8 +32,9 @@ impl GatheredSequence {
         }
     }
 
-    /// Borrows the sequence's runs. `runs` must be the list in which [`RunLinks::gather`](super::RunLinks::gather)
-    /// found it. The next call of that replaces the runs of a sequence of several.
+    /// Borrows the sequence's runs. `runs` must be the list that was passed to
+    /// [`RunLinks::gather`](super::RunLinks::gather). If the sequence has several runs, the next call of `gather`
+    /// overwrites them.
     pub fn lend(self, runs: &[LevelRun]) -> LentSequence<'_>
         requires ordered { self.start ≤ self.end }
         requires inside { self.end ≤ length runs.now }

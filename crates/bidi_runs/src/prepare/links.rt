@@ -192,8 +192,8 @@ impl RunLinks {
         self.next.len()
     }
 
-    /// Replaces what follows the linked runs by a copy of the runs of the sequence that `first` begins, in text
-    /// order. Returns the index, among the linked runs, of its last run.
+    /// Replaces whatever follows the linked runs with a copy of the sequence's runs, in text order. `first` is the
+    /// index of its first run. Returns the index of its last run among the linked runs.
     fn copy_chain(&self, runs: &mut LevelRunVec, first: usize) -> Result<usize, AllocError>
         requires linked { AreLinked self.now (linked_runs self.now runs.old.items) }
         requires first { first < length self.now.next.items }
@@ -217,7 +217,8 @@ impl RunLinks {
     ///
     /// `runs` begins with the level runs that were linked. A sequence of one run is found among them. The runs
     /// of any other sequence are copied to the end of `runs`, in place of those of the sequence before. Only
-    /// then can the call allocate. If it succeeds, `runs` begins as before.
+    /// then can the call allocate. After success, `runs` still begins with the linked runs. After an error, nothing
+    /// is promised about it.
     pub fn gather(
         &self,
         runs: &mut LevelRunVec,

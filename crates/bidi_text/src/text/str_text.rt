@@ -136,7 +136,7 @@ impl<'t> TextSource for StrText<'t> {
         if !text.is_char_boundary(index) {
             return None;
         }
-        // Of all characters, only the last one may not have a byte after its first.
+        // Only the last character can have no byte after its first.
         if index + 1 < text.len() {
             return Some(self.next_at(index));
         }
@@ -146,6 +146,11 @@ impl<'t> TextSource for StrText<'t> {
             Some(c) => Some((c, rest.len() - chars.as_str().len())),
             None => None,
         }
+    }
+
+    // Lines call this for each code unit. It looks at one byte.
+    fn is_boundary(&self, index: usize) -> bool {
+        self.as_str().is_char_boundary(index)
     }
 
     fn ascii_at(&self, index: usize) -> Option<u8> {
