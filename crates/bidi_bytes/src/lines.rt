@@ -45,8 +45,8 @@ pub fn count_lines(bytes: &[u8]) -> usize
     count
 }
 
-/// Returns how many bytes the lines have that end in some bytes, whatever follows these. A carriage return at the end
-/// does not end a line here, since a line feed may follow.
+/// Returns the length in bytes of the lines that are complete, whatever follows. A carriage return at the end does not
+/// end a line here, since a line feed may follow. After the result, only the last byte can be a line break.
 pub fn whole_lines_len(bytes: &[u8]) -> usize
     ensures within { result ≤ length bytes.now }
     ensures cut { (more : List ℕ) → file_lines_of (utf8_decoded (bytes.now ++ more))

@@ -93,8 +93,8 @@ struct LineParagraph<'l> {
     chars: &'l [char],
 }
 
-/// Appends the findings in a paragraph: at an index that is handed in, that it is displayed differently from how it
-/// reads; of the characters, those that are controls without a match, or with `any` all controls and marks.
+/// Appends the findings in a paragraph. At the index `differing`, if there is one, it is displayed differently from how
+/// it reads. The others are controls without a match, or with `any` all controls and marks.
 fn push_findings<D: BidiDataSource>(
     findings: &mut Vec<Finding>,
     data_source: &D,

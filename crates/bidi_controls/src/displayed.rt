@@ -34,7 +34,7 @@ fn first_level(paragraphs: &[ParagraphInfo]) -> Level
 #[derive(Drop)]
 struct CharLevels {
     analyser: Analyser,
-    // One a character of the line.
+    // One entry for each character of the line.
     classes: Vec<BidiClass>,
     levels: Vec<Level>,
 }

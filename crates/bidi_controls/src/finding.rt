@@ -91,7 +91,7 @@ pub struct LineChar {
     pub c: char,
 }
 
-/// A control, where it stands, and what is the matter with it.
+/// A control, its position, and what is wrong with it.
 #[derive(Clone, Copy, Debug)]
 pub struct Finding {
     /// The number of its line, counted from 1.
@@ -106,7 +106,7 @@ impl Finding {
     ghost use Rattle.std.specs.Prelude.{◌≡◌, ◌+◌, ◌<◌, ◌^◌};
     ghost use Rattle.bidi_controls.specs.Findings.{finding_with, finding_of};
 
-    /// Returns the finding that something is the matter with a character, if it is a control or a mark.
+    /// Returns a finding of this trouble, or `None` if the character is neither a control nor a mark.
     pub fn with(trouble: Trouble, at: LineChar) -> Option<Finding>
         requires { at.place + 1 < 2 ^ 64 }
         ensures { result ≡ finding_with trouble at.line at.place at.class at.c }
@@ -119,8 +119,8 @@ impl Finding {
         })
     }
 
-    /// Returns what is found at a character, if something is: a control without its match on its line, or with `any`
-    /// every control and mark.
+    /// Returns the finding at a character, if there is one: a control without its match on its line, or with `any` every
+    /// control and mark.
     pub fn of(any: bool, unmatched: bool, at: LineChar) -> Option<Finding>
         requires { at.place + 1 < 2 ^ 64 }
         ensures { result ≡ finding_of any at.line at.place unmatched at.class at.c }

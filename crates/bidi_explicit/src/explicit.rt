@@ -105,7 +105,8 @@ fn write_class(classes: &mut [BidiClass], from: usize, to: usize, class: BidiCla
     }
 }
 
-// Writes the level and the class of a control to its code units, of which most controls have three, or one.
+// Writes the level and the class of a control to its code units. Most controls have three code units in UTF-8, and
+// one in UTF-16.
 fn write_control(
     levels: &mut [Level],
     classes: &mut [BidiClass],
@@ -171,8 +172,7 @@ fn cut_run(
 /// that of the kept character before it. The runs cover the text.
 ///
 /// Returns an error only if `runs`, which has its own allocator, cannot grow. The slices and the runs may
-/// then hold anything. Nothing else allocates: `alloc` is a parameter of all passes, and this one does not
-/// use it.
+/// then hold anything. Nothing else allocates. The allocator that is passed is not used.
 pub fn compute<T: TextSource>(
     _alloc: Global,
     text: T,

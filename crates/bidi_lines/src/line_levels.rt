@@ -44,8 +44,7 @@ fn blanks_start<C: ClassList>(classes: C, from: usize, to: usize) -> usize
     start
 }
 
-// Gives the units that X9 removes, from `from` on, the level of the unit before them. Returns the first unit after
-// them.
+// Gives the level `before` to the stretch of removed units (X9) that begins at `from`. Returns its end.
 fn write_removed<C: ClassList>(
     classes: C,
     levels: &mut [Level],
@@ -82,7 +81,7 @@ pub fn reset_levels<C: ClassList>(level: Level, classes: C, levels: &mut [Level]
     let mut before = level;
     let mut blank_start = 0;
     let mut at = 0;
-    // Each iteration skips a whole stretch of units that are neither separators nor removed.
+    // Each iteration reads one separator, a stretch of removed units, or a stretch of other units.
     while at < classes.len() {
         let class = classes.class_at(at);
         if is_separator(class) {

@@ -1,4 +1,4 @@
--- A part of a list of levels that is written with one level.
+-- One level, written to a range of a list of levels.
 use Rattle.std.specs.Prelude.{◌≡◌, ℕ, ◌<◌, ◌≤◌, List, length, get_or}
 
 -- the entries from `from` up to `to` have this level, and no others changed

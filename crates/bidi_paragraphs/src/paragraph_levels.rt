@@ -329,9 +329,8 @@ impl ClassTest for Removed {
     }
 }
 
-// Gives the code units that X9 removes, from `from` on, the level `before`. Returns the first code unit that X9
-// keeps, or their number if there is none.
-fn write_removed(before: Level, classes: &[BidiClass], levels: &mut [Level], from: usize) -> usize
+// Gives the level `before` to the stretch of removed code units (X9) that begins at `from`. Returns its end.
+fn write_removed(classes: &[BidiClass], levels: &mut [Level], from: usize, before: Level) -> usize
     requires lengths { length levels.old ≡ length classes.now }
     requires inside { from < length classes.now }
     requires removed { is_kept_at classes.now from ≡ false }
@@ -362,7 +361,7 @@ fn fill_removed(para_level: Level, classes: &[BidiClass], levels: &mut [Level])
     let mut at = first_passing(Removed, classes, 0, units);
     while at < units {
         let before = level_before(para_level, levels, at);
-        let end = write_removed(before, classes, levels, at);
+        let end = write_removed(classes, levels, at, before);
         at = first_passing(Removed, classes, end, units);
     }
 }

@@ -36,31 +36,30 @@ struct Classified<'a> {
     has_isolate_controls: bool,
 }
 
-// Returns the sequences of a paragraph, and writes its explicit levels and its classes to the slices.
+// Returns the sequences of a paragraph at the level `para_level`, and writes its explicit levels and its classes to the
+// slices.
 fn prepare(
     alloc: Global,
-    text: StrText,
+    paragraph: Classified<'_>,
     para_level: Level,
-    original_classes: &[BidiClass],
     levels: &mut [Level],
     processing_classes: &mut [BidiClass],
-    has_isolate_controls: bool,
 ) -> Result<Vec<IsolatingRunSequence>, NoAnswer>
     requires explicit { para_level ≤ 125 }
-    requires levels { length levels.old ≡ length original_classes.now }
-    requires processing { processing_classes.old ≡ original_classes.now }
+    requires levels { length levels.old ≡ length paragraph.classes.now }
+    requires processing { processing_classes.old ≡ paragraph.classes.now }
 {
-    if !is_per_char(text, original_classes)
-        || (has_initiator(original_classes) && !has_isolate_controls)
+    if !is_per_char(paragraph.text, paragraph.classes)
+        || (has_initiator(paragraph.classes) && !paragraph.has_isolate_controls)
     {
         return Err(NoAnswer::Wrong);
     }
     let mut runs = Vec::new(alloc);
     compute(
         alloc,
-        text,
+        paragraph.text,
         para_level,
-        original_classes,
+        paragraph.classes,
         levels,
         processing_classes,
         &mut runs,
@@ -68,12 +67,12 @@ fn prepare(
     let mut sequences = Vec::new(alloc);
     isolating_run_sequences(
         alloc,
-        text,
+        paragraph.text,
         para_level,
-        original_classes,
+        paragraph.classes,
         levels,
         runs,
-        has_isolate_controls,
+        paragraph.has_isolate_controls,
         &mut sequences,
     )?;
     Ok(sequences)
@@ -82,9 +81,9 @@ fn prepare(
 // Runs the first two passes on a text.
 fn prepared(
     alloc: Global,
-    of: Classified<'_>,
+    paragraph: Classified<'_>,
 ) -> Result<(Units, Vec<IsolatingRunSequence>), NoAnswer> {
-    let count = of.classes.len();
+    let count = paragraph.classes.len();
     if count > ROOM {
         return Err(NoAnswer::Wrong);
     }
@@ -93,23 +92,21 @@ fn prepared(
         classes: [L; ROOM],
     };
     let classes = &mut units.classes[..count];
-    classes.copy_from_slice(of.classes);
+    classes.copy_from_slice(paragraph.classes);
     let sequences = prepare(
         alloc,
-        of.text,
+        paragraph,
         RTL_LEVEL,
-        of.classes,
         &mut units.levels[..count],
         classes,
-        of.has_isolate_controls,
     )?;
     Ok((units, sequences))
 }
 
 // Runs only the first pass on a text.
-fn computed(alloc: Global, of: Classified<'_>) -> Result<(Units, LevelRunVec), NoAnswer> {
-    let count = of.classes.len();
-    if count > ROOM || !is_per_char(of.text, of.classes) {
+fn computed(alloc: Global, paragraph: Classified<'_>) -> Result<(Units, LevelRunVec), NoAnswer> {
+    let count = paragraph.classes.len();
+    if count > ROOM || !is_per_char(paragraph.text, paragraph.classes) {
         return Err(NoAnswer::Wrong);
     }
     let mut units = Units {
@@ -117,13 +114,13 @@ fn computed(alloc: Global, of: Classified<'_>) -> Result<(Units, LevelRunVec), N
         classes: [L; ROOM],
     };
     let classes = &mut units.classes[..count];
-    classes.copy_from_slice(of.classes);
+    classes.copy_from_slice(paragraph.classes);
     let mut runs = Vec::new(alloc);
     compute(
         alloc,
-        of.text,
+        paragraph.text,
         RTL_LEVEL,
-        of.classes,
+        paragraph.classes,
         &mut units.levels[..count],
         classes,
         &mut runs,
@@ -134,15 +131,15 @@ fn computed(alloc: Global, of: Classified<'_>) -> Result<(Units, LevelRunVec), N
 // Runs the first pass on a text, and counts its steps in the ledger that this blank opens.
 fn computed_by<S: Ledger>(
     alloc: Global,
-    of: Classified<'_>,
+    paragraph: Classified<'_>,
     blank: Blank,
 ) -> Result<(Units, LevelRunVec), NoAnswer>
     requires name { blank.name ≡ S.name }
     requires parts { blank.parts ≡ S.parts }
     requires one { blank.parts ≡ 1 }
 {
-    let count = of.classes.len();
-    if count > ROOM || !is_per_char(of.text, of.classes) {
+    let count = paragraph.classes.len();
+    if count > ROOM || !is_per_char(paragraph.text, paragraph.classes) {
         return Err(NoAnswer::Wrong);
     }
     let mut units = Units {
@@ -150,14 +147,14 @@ fn computed_by<S: Ledger>(
         classes: [L; ROOM],
     };
     let classes = &mut units.classes[..count];
-    classes.copy_from_slice(of.classes);
+    classes.copy_from_slice(paragraph.classes);
     let mut runs = Vec::new(alloc);
     let mut steps = Steps::<S>::new(blank);
     compute_counted(
         alloc,
-        of.text,
+        paragraph.text,
         RTL_LEVEL,
-        of.classes,
+        paragraph.classes,
         &mut units.levels[..count],
         classes,
         &mut runs,
@@ -167,37 +164,54 @@ fn computed_by<S: Ledger>(
 }
 
 // Runs the first pass on a text, and counts its steps.
-fn computed_counted(alloc: Global, of: Classified<'_>) -> Result<(Units, LevelRunVec), NoAnswer> {
-    computed_by::<Brand>(alloc, of, Blank::new(1))
+fn computed_counted(
+    alloc: Global,
+    paragraph: Classified<'_>,
+) -> Result<(Units, LevelRunVec), NoAnswer> {
+    computed_by::<Brand>(alloc, paragraph, Blank::new(1))
 }
 
 // Resolves the weak types of a sequence, which does not allocate, and returns the code units.
 fn with_weak(
-    of: Classified<'_>,
+    paragraph: Classified<'_>,
     sequence: &IsolatingRunSequence,
     before: &Units,
 ) -> Result<Units, NoAnswer> {
     let mut units = *before;
-    let count = of.classes.len();
-    if count > ROOM || !sequence.fits(of.text) || !is_per_char(of.text, &units.classes[..count]) {
+    let count = paragraph.classes.len();
+    if count > ROOM
+        || !sequence.fits(paragraph.text)
+        || !is_per_char(paragraph.text, &units.classes[..count])
+    {
         return Err(NoAnswer::Wrong);
     }
-    resolve_weak(of.text, sequence, &mut units.classes[..count]);
+    resolve_weak(paragraph.text, sequence, &mut units.classes[..count]);
     Ok(units)
 }
 
-// Resolves the neutrals of a sequence in place, by `resolver` or, without one, by the plain call.
+// A sequence of a text, and the data source that has the brackets of its characters.
+#[derive(Clone, Copy)]
+struct Neutrals<'t, 'd, 's> {
+    paragraph: Classified<'t>,
+    source: &'s TableBidiData<'d>,
+    sequence: &'s IsolatingRunSequence,
+}
+
+// Resolves the neutrals of a sequence in place, by `resolver` or by the plain call.
 fn resolve(
     alloc: Global,
-    text: StrText,
-    source: &TableBidiData<'_>,
-    sequence: &IsolatingRunSequence,
+    neutrals: Neutrals<'_, '_, '_>,
     levels: &[Level],
-    original: &[BidiClass],
     classes: &mut [BidiClass],
     resolver: &mut NeutralResolver,
     is_by_resolver: bool,
 ) -> Result<(), NoAnswer> {
+    let Neutrals {
+        paragraph,
+        source,
+        sequence,
+    } = neutrals;
+    let (text, original) = (paragraph.text, paragraph.classes);
     let fits = sequence.fits(text) && is_per_char(text, classes);
     if !fits || levels.len() != classes.len() || original.len() != classes.len() {
         return Err(NoAnswer::Wrong);
@@ -217,25 +231,20 @@ fn resolve(
 // unchanged.
 fn with_neutrals(
     alloc: Global,
-    of: Classified<'_>,
-    source: &TableBidiData<'_>,
-    sequence: &IsolatingRunSequence,
+    neutrals: Neutrals<'_, '_, '_>,
     before: &Units,
     resolver: &mut NeutralResolver,
     is_by_resolver: bool,
 ) -> Result<Units, NoAnswer> {
-    let count = of.classes.len();
+    let count = neutrals.paragraph.classes.len();
     if count > ROOM {
         return Err(NoAnswer::Wrong);
     }
     let mut units = *before;
     let outcome = resolve(
         alloc,
-        of.text,
-        source,
-        sequence,
+        neutrals,
         &before.levels[..count],
-        of.classes,
         &mut units.classes[..count],
         resolver,
         is_by_resolver,
@@ -248,9 +257,9 @@ fn with_neutrals(
 }
 
 // Resolves the implicit levels, which does not allocate. Returns the code units and the maximum level.
-fn with_implicit(of: Classified<'_>, before: &Units) -> Result<(Units, Level), NoAnswer> {
+fn with_implicit(paragraph: Classified<'_>, before: &Units) -> Result<(Units, Level), NoAnswer> {
     let mut units = *before;
-    let count = of.classes.len();
+    let count = paragraph.classes.len();
     if count > ROOM
         || units.levels[..count]
             .iter()
@@ -265,32 +274,35 @@ fn with_implicit(of: Classified<'_>, before: &Units) -> Result<(Units, Level), N
 // Tries the weak types of a sequence.
 fn try_weak(
     rt: &impl Print,
-    of: Classified<'_>,
+    paragraph: Classified<'_>,
     sequence: &IsolatingRunSequence,
     units: &mut Units,
 ) -> Result<(), Fault> {
-    *units = tried!(rt, "implicit::resolve_weak", with_weak(of, sequence, units));
+    *units = tried!(
+        rt,
+        "implicit::resolve_weak",
+        with_weak(paragraph, sequence, units)
+    );
     Ok(())
 }
 
 // Tries the neutrals of a sequence, by a resolver and by the plain call.
 fn try_neutrals(
     rt: &(impl Print + AllocGlobal),
-    of: Classified<'_>,
-    source: &TableBidiData<'_>,
-    sequence: &IsolatingRunSequence,
+    neutrals: Neutrals<'_, '_, '_>,
     units: &mut Units,
     resolver: &mut NeutralResolver,
 ) -> Result<(), Fault> {
+    let alloc = rt.alloc();
     tried!(
         rt,
         "NeutralResolver::resolve",
-        with_neutrals(rt.alloc(), of, source, sequence, units, resolver, true)
+        with_neutrals(alloc, neutrals, units, resolver, true)
     );
     *units = tried!(
         rt,
         "implicit::resolve_neutral",
-        with_neutrals(rt.alloc(), of, source, sequence, units, resolver, false)
+        with_neutrals(alloc, neutrals, units, resolver, false)
     );
     Ok(())
 }
@@ -299,27 +311,36 @@ fn try_neutrals(
 fn try_passes(
     rt: &(impl Print + AllocGlobal),
     source: &TableBidiData<'_>,
-    of: Classified<'_>,
+    paragraph: Classified<'_>,
 ) -> Result<(), Fault> {
-    tried!(rt, "explicit::compute", computed(rt.alloc(), of));
+    tried!(rt, "explicit::compute", computed(rt.alloc(), paragraph));
     tried!(
         rt,
         "explicit::compute_counted",
-        computed_counted(rt.alloc(), of)
+        computed_counted(rt.alloc(), paragraph)
     );
     let (mut units, sequences) = tried!(
         rt,
         "explicit::compute and prepare::isolating_run_sequences",
-        prepared(rt.alloc(), of)
+        prepared(rt.alloc(), paragraph)
     );
     for sequence in &sequences {
-        try_weak(rt, of, sequence, &mut units)?;
+        try_weak(rt, paragraph, sequence, &mut units)?;
     }
     let mut resolver = NeutralResolver::new(rt.alloc());
     for sequence in &sequences {
-        try_neutrals(rt, of, source, sequence, &mut units, &mut resolver)?;
+        let neutrals = Neutrals {
+            paragraph,
+            source: &*source,
+            sequence,
+        };
+        try_neutrals(rt, neutrals, &mut units, &mut resolver)?;
     }
-    tried!(rt, "implicit::resolve_levels", with_implicit(of, &units));
+    tried!(
+        rt,
+        "implicit::resolve_levels",
+        with_implicit(paragraph, &units)
+    );
     Ok(())
 }
 
@@ -331,12 +352,12 @@ pub fn run(rt: &(impl Print + AllocGlobal), source: &TableBidiData<'_>) -> Resul
             "InitialInfo::new_with_data_source",
             InitialInfo::new_with_data_source(rt.alloc(), source, text, None)
         );
-        let of = Classified {
+        let paragraph = Classified {
             text: StrText::new(text),
             classes: info.original_classes(),
             has_isolate_controls,
         };
-        try_passes(rt, source, of)?;
+        try_passes(rt, source, paragraph)?;
     }
     Ok(())
 }

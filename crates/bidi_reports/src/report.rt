@@ -13,7 +13,7 @@ use bidi_controls::finding::Finding;
 use bidi_names::names::shown_name;
 use std::alloc::{AllocError, Global};
 
-// Appends what is told of a finding in this form.
+// Appends the report of a finding in this form.
 fn push_finding(
     alloc: Global,
     out: &mut String,
@@ -43,7 +43,7 @@ fn push_finding(
 /// The findings in a line of a file.
 #[derive(Clone, Copy)]
 pub struct LineFindings<'l> {
-    /// The name of the file, which the report escapes as its form needs it.
+    /// The name of the file. The report escapes it as its form requires.
     pub name: &'l str,
     /// The line with the characters that end it.
     pub line: &'l [char],
@@ -94,7 +94,7 @@ impl Report {
         }
     }
 
-    // Appends what is told of a finding in a line of a file.
+    // Appends the report of a finding in a line of a file.
     fn push_finding<D: BidiDataSource>(
         &mut self,
         alloc: Global,
@@ -122,7 +122,7 @@ impl Report {
         Ok(())
     }
 
-    /// Appends what is told of the findings in a line of a file.
+    /// Appends the report of the findings in a line of a file.
     pub fn push_line<D: BidiDataSource>(
         &mut self,
         alloc: Global,

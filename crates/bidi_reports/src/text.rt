@@ -151,13 +151,13 @@ pub struct ToldFinding<'f> {
     pub name: &'f str,
     /// The line of the file, with the characters that end it.
     pub line: &'f [char],
-    /// What is displayed, if the finding is about that.
+    /// The paragraph as it is displayed, if the finding is about that. Otherwise empty.
     pub displayed: &'f [char],
     /// The finding.
     pub finding: &'f Finding,
 }
 
-/// Appends what is told of a finding: its line, an excerpt if these are wanted, and a note if it is about how its line is
+/// Appends the report of a finding: its line, an excerpt if these are wanted, and a note if it is about how its line is
 /// displayed.
 #[tactic(auto, unfolding(crate::specs::Text::text_report))]
 pub fn push_text(

@@ -164,7 +164,7 @@ pub struct Finished<R, W> {
     pub writer: W,
 }
 
-// The blanks of a run's counts, which hold no bytes at run time.
+// The blanks that open the ledgers of a run. They have no bytes at run time.
 #[derive(Drop)]
 struct Blanks {
     failed_reads: Blank,

@@ -85,7 +85,7 @@ impl Memory {
 #[derive(Clone, Copy)]
 struct AnalysedParagraph<'p> {
     text: &'p str,
-    // The memory that analysed this paragraph last.
+    // The memory of its analysis, which has analysed nothing since.
     memory: &'p Memory,
 }
 

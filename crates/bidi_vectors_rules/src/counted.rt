@@ -1,78 +1,57 @@
 //! The passes that count their steps. They must find what the passes without a count find.
 
-ghost use Rattle.std.specs.Prelude.{◌≡◌, ◌≤◌, length};
+ghost use Rattle.std.specs.Prelude.{◌≡◌, ◌≤◌};
 
+use crate::units::{ExplicitUnits, ParagraphUnits};
 use bidi_base::char_data::BidiClass;
-use bidi_base::level::Level;
 use bidi_rules::explicit::compute_counted;
 use bidi_rules::implicit::resolve_weak_counted;
-use bidi_rules::prepare::{IsolatingRunSequence, LevelRunVec, Steps};
+use bidi_rules::prepare::{IsolatingRunSequence, Steps};
 use bidi_text::text::{StrText, is_per_char};
 use bidi_vectors_format::fault::{RowFault, Why};
 use std::alloc::Global;
 use std::marker::Brand;
 use std::sync::ledger::{Blank, Ledger};
 
-// Returns the level runs of a paragraph, and writes the levels and classes to the slices. Counts steps in the ledger
-// that this blank opens.
+// Computes the explicit levels of a paragraph. Counts steps in the ledger that this blank opens.
 fn compute_by<S: Ledger>(
     alloc: Global,
-    para_level: Level,
-    text: StrText,
-    original_classes: &[BidiClass],
-    levels: &mut [Level],
-    processing_classes: &mut [BidiClass],
+    paragraph: &ParagraphUnits<'_>,
     blank: Blank,
-) -> Result<LevelRunVec, RowFault>
-    requires explicit { para_level ≤ 125 }
-    requires levels { length levels.old ≡ length original_classes.now }
-    requires processing { processing_classes.old ≡ original_classes.now }
+) -> Result<ExplicitUnits, RowFault>
+    requires explicit { paragraph.now.level ≤ 125 }
     requires name { blank.name ≡ S.name }
     requires parts { blank.parts ≡ S.parts }
     requires one { blank.parts ≡ 1 }
 {
     let mut steps = Steps::<S>::new(blank);
-    if !is_per_char(text, original_classes) {
+    let ParagraphUnits {
+        level,
+        text,
+        classes,
+    } = *paragraph;
+    if !is_per_char(text, classes) {
         return Err(RowFault::Line(0, Why::OtherText));
     }
-    let mut runs = Vec::new(alloc);
+    let mut units = ExplicitUnits::new(alloc, classes)?;
     compute_counted(
         alloc,
         text,
-        para_level,
-        original_classes,
-        levels,
-        processing_classes,
-        &mut runs,
+        level,
+        classes,
+        units.levels.as_mut_slice(),
+        units.classes.as_mut_slice(),
+        &mut units.runs,
         &mut steps,
     )?;
-    Ok(runs)
+    Ok(units)
 }
 
-/// Returns the level runs that the counted pass finds, and writes the levels and classes to the slices.
-pub fn level_runs(
-    alloc: Global,
-    para_level: Level,
-    text: StrText,
-    original_classes: &[BidiClass],
-    levels: &mut [Level],
-    processing_classes: &mut [BidiClass],
-) -> Result<LevelRunVec, RowFault>
-    requires explicit { para_level ≤ 125 }
-    requires levels { length levels.old ≡ length original_classes.now }
-    requires processing { processing_classes.old ≡ original_classes.now }
+/// Computes the explicit levels of a paragraph by the counted pass.
+pub fn compute(alloc: Global, paragraph: &ParagraphUnits<'_>) -> Result<ExplicitUnits, RowFault>
+    requires { paragraph.now.level ≤ 125 }
 {
-    let blank = Blank::new(1);
-    let runs = compute_by::<Brand>(
-        alloc,
-        para_level,
-        text,
-        original_classes,
-        levels,
-        processing_classes,
-        blank,
-    )?;
-    Ok(runs)
+    compute_by::<Brand>(alloc, paragraph, Blank::new(1))
 }
 
 // Resolves the weak types of a sequence in place. One step is counted before.

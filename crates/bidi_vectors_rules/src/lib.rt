@@ -5,6 +5,7 @@ mod by_rules;
 pub mod conditions;
 mod counted;
 mod explicit_levels;
+mod explicit_pass;
 mod implicit_levels;
 mod neutrals;
 mod run_sequences;

@@ -1,5 +1,11 @@
 //! Rows of bracket pairs (BD16), of neutrals (N0 to N2) and of the levels that follow, over lists and in place.
 
+ghost use Rattle.std.specs.Prelude.{map, OnOk};
+ghost use Rattle.std.specs.Char.{len_utf8};
+ghost use Rattle.std.specs.Str.{chars};
+ghost use Rattle.bidi_base.specs.InPlace.{CanResolveNeutrals};
+ghost use Rattle.bidi_base.specs.Units.{bounds};
+
 use crate::conditions::{are_directed, are_kept, are_left, are_left_or_removed, is_side};
 use crate::explicit_levels::explicit_level;
 use crate::units::{Sequence, per_unit, sequences_of_field, whole_sequence_of};
@@ -108,6 +114,46 @@ impl OfUnits {
     }
 }
 
+// The input of a call that resolves the neutrals of a sequence: the text, its data source and the sequence, and for each
+// code unit the level and the class before the weak types.
+#[derive(Clone, Copy)]
+struct Neutrals<'a> {
+    text: StrText<'a>,
+    source: &'a TableBidiData<'a>,
+    sequence: &'a IsolatingRunSequence,
+    levels: &'a [Level],
+    original: &'a [BidiClass],
+}
+
+const OTHER_TEXT: RowFault = RowFault::Line(0, Why::OtherText);
+
+const OTHER_CLASSES: RowFault = RowFault::Line(0, Why::Classes);
+
+impl Neutrals<'_> {
+    // Returns an error unless the calls may resolve these classes.
+    fn check(&self, classes: &[BidiClass]) -> Result<(), RowFault>
+        ensures { OnOk result (CanResolveNeutrals len_utf8 (chars self.now.text.text.now)
+            (map bounds self.now.sequence.now.runs.items) self.now.levels.now self.now.original.now classes.now) }
+    {
+        if !self.sequence.fits(self.text) {
+            return Err(OTHER_TEXT);
+        }
+        if !is_per_char(self.text, classes) {
+            return Err(OTHER_TEXT);
+        }
+        if self.levels.len() != classes.len() {
+            return Err(OTHER_TEXT);
+        }
+        if self.original.len() != classes.len() {
+            return Err(OTHER_TEXT);
+        }
+        if !are_left_or_removed(classes) {
+            return Err(OTHER_CLASSES);
+        }
+        Ok(())
+    }
+}
+
 // The call that resolves neutrals in place.
 #[derive(Clone, Copy)]
 enum Call {
@@ -134,134 +180,51 @@ impl Call {
             _ => "after",
         }
     }
+
+    // Resolves the neutrals of a sequence in place. Only `ByOneResolver` uses the resolver.
+    fn resolve(
+        self,
+        alloc: Global,
+        neutrals: Neutrals<'_>,
+        classes: &mut [BidiClass],
+        resolver: &mut NeutralResolver,
+    ) -> Result<(), RowFault> {
+        neutrals.check(classes)?;
+        let Neutrals {
+            text,
+            source,
+            sequence,
+            levels,
+            original,
+        } = neutrals;
+        match self {
+            Call::Alone => resolve_neutral(
+                alloc, text, source, sequence, levels, original, classes,
+            )?,
+            Call::ByOneResolver => resolver.resolve(
+                text, source, sequence, levels, original, classes,
+            )?,
+            Call::Lent => {
+                let mut resolver = NeutralResolver::new(alloc);
+                resolver.resolve_lent(text, source, sequence.lend(), levels, original, classes)?;
+            }
+            Call::UpToN1 => {
+                let mut resolver = NeutralResolver::new(alloc);
+                resolver.resolve_up_to_n1(
+                    text,
+                    source,
+                    sequence.lend(),
+                    levels,
+                    original,
+                    classes,
+                )?;
+            }
+        }
+        Ok(())
+    }
 }
 
 const CALLS: [Call; 4] = [Call::Alone, Call::ByOneResolver, Call::Lent, Call::UpToN1];
-
-const OTHER_TEXT: RowFault = RowFault::Line(0, Why::OtherText);
-
-const OTHER_CLASSES: RowFault = RowFault::Line(0, Why::Classes);
-
-// Resolves the neutrals of a sequence in place, by `resolver` or, without one, by `resolve_neutral`.
-fn resolve(
-    alloc: Global,
-    text: StrText,
-    source: &TableBidiData,
-    sequence: &IsolatingRunSequence,
-    levels: &[Level],
-    original: &[BidiClass],
-    classes: &mut [BidiClass],
-    resolver: Option<&mut NeutralResolver>,
-) -> Result<(), RowFault> {
-    if !sequence.fits(text) {
-        return Err(OTHER_TEXT);
-    }
-    if !is_per_char(text, classes) {
-        return Err(OTHER_TEXT);
-    }
-    if levels.len() != classes.len() {
-        return Err(OTHER_TEXT);
-    }
-    if original.len() != classes.len() {
-        return Err(OTHER_TEXT);
-    }
-    if !are_left_or_removed(classes) {
-        return Err(OTHER_CLASSES);
-    }
-    match resolver {
-        Some(resolver) => resolver.resolve(text, source, sequence, levels, original, classes)?,
-        None => resolve_neutral(alloc, text, source, sequence, levels, original, classes)?,
-    }
-    Ok(())
-}
-
-// Resolves the neutrals of a sequence with borrowed runs, with N2 or without it.
-fn resolve_lent(
-    alloc: Global,
-    text: StrText,
-    source: &TableBidiData,
-    sequence: &IsolatingRunSequence,
-    levels: &[Level],
-    original: &[BidiClass],
-    classes: &mut [BidiClass],
-    has_n2: bool,
-) -> Result<(), RowFault> {
-    if !sequence.fits(text) {
-        return Err(OTHER_TEXT);
-    }
-    if !is_per_char(text, classes) {
-        return Err(OTHER_TEXT);
-    }
-    if levels.len() != classes.len() {
-        return Err(OTHER_TEXT);
-    }
-    if original.len() != classes.len() {
-        return Err(OTHER_TEXT);
-    }
-    if !are_left_or_removed(classes) {
-        return Err(OTHER_CLASSES);
-    }
-    let mut resolver = NeutralResolver::new(alloc);
-    let lent = sequence.lend();
-    if has_n2 {
-        resolver.resolve_lent(text, source, lent, levels, original, classes)?;
-    } else {
-        resolver.resolve_up_to_n1(text, source, lent, levels, original, classes)?;
-    }
-    Ok(())
-}
-
-// Resolves the neutrals of a sequence in place, by this call.
-fn resolve_by(
-    alloc: Global,
-    text: StrText,
-    source: &TableBidiData,
-    sequence: &IsolatingRunSequence,
-    units: &mut OfUnits,
-    resolver: &mut NeutralResolver,
-    call: Call,
-) -> Result<(), RowFault> {
-    let levels = units.levels.as_slice();
-    let original = units.original.as_slice();
-    let classes = units.classes.as_mut_slice();
-    match call {
-        Call::Alone => resolve(
-            alloc, text, source, sequence, levels, original, classes, None,
-        ),
-        Call::ByOneResolver => {
-            let resolver = Some(resolver);
-            resolve(
-                alloc, text, source, sequence, levels, original, classes, resolver,
-            )
-        }
-        Call::Lent => resolve_lent(
-            alloc, text, source, sequence, levels, original, classes, true,
-        ),
-        Call::UpToN1 => {
-            resolve_lent(
-                alloc, text, source, sequence, levels, original, classes, false,
-            )
-        }
-    }
-}
-
-// Resolves the neutrals of all sequences of a text in place.
-fn resolve_sequences(
-    alloc: Global,
-    text: StrText,
-    source: &TableBidiData,
-    sequences: &[Sequence],
-    units: &mut OfUnits,
-    call: Call,
-) -> Result<(), RowFault> {
-    let mut resolver = NeutralResolver::new(alloc);
-    for sequence in sequences {
-        let (sos, eos) = (sequence.sos, sequence.eos);
-        let sequence = whole_sequence_of(alloc, sequence.runs.as_slice(), sos, eos, 0)?;
-        resolve_by(alloc, text, source, &sequence, units, &mut resolver, call)?;
-    }
-    Ok(())
-}
 
 // The classes and levels that a row gives the characters of a sequence.
 #[derive(Drop)]
@@ -292,34 +255,47 @@ impl Before {
     }
 }
 
-// Returns the classes that a call leaves on the sequences of a text in place, as text.
-fn words_in_place(
-    alloc: Global,
-    source: &TableBidiData,
-    text: &str,
-    sequences: &[Sequence],
-    before: &Before,
-    call: Call,
-) -> Result<String, RowFault> {
-    let mut units = OfUnits::new(alloc, text, before)?;
-    let text = StrText::new(text);
-    resolve_sequences(alloc, text, source, sequences, &mut units, call)?;
-    classes_in(alloc, text, units.classes.as_slice())
+// What a row gives the calls in place: a text with its data source, its sequences, and the levels and classes of its
+// characters.
+#[derive(Clone, Copy)]
+struct Given<'a> {
+    text: &'a str,
+    source: &'a TableBidiData<'a>,
+    sequences: &'a [Sequence],
+    before: &'a Before,
+}
+
+impl Given<'_> {
+    // Resolves the neutrals of all sequences in place by this call, and returns the class of each code unit.
+    fn resolved(&self, alloc: Global, call: Call) -> Result<Vec<BidiClass>, RowFault> {
+        let mut units = OfUnits::new(alloc, self.text, self.before)?;
+        let mut resolver = NeutralResolver::new(alloc);
+        for sequence in self.sequences {
+            let (sos, eos) = (sequence.sos, sequence.eos);
+            let sequence = whole_sequence_of(alloc, sequence.runs.as_slice(), sos, eos, 0)?;
+            let neutrals = Neutrals {
+                text: StrText::new(self.text),
+                source: self.source,
+                sequence: &sequence,
+                levels: units.levels.as_slice(),
+                original: units.original.as_slice(),
+            };
+            call.resolve(alloc, neutrals, units.classes.as_mut_slice(), &mut resolver)?;
+        }
+        Ok(units.classes)
+    }
+
+    // Returns the classes that a call leaves, as text.
+    fn words(&self, alloc: Global, call: Call) -> Result<String, RowFault> {
+        let classes = self.resolved(alloc, call)?;
+        classes_in(alloc, StrText::new(self.text), classes.as_slice())
+    }
 }
 
 // Compares the result of each call in place with a row.
-fn check_in_place(
-    alloc: Global,
-    row: &Row<'_>,
-    tally: &mut Tally,
-    source: &TableBidiData,
-    text: &str,
-    sequences: &[Sequence],
-    before: &Before,
-) {
+fn check_in_place(alloc: Global, row: &Row<'_>, tally: &mut Tally, given: &Given<'_>) {
     for call in CALLS.iter() {
-        let words = words_in_place(alloc, source, text, sequences, before, *call);
-        tally.agree(row, call.key(), call.name(), words);
+        tally.agree(row, call.key(), call.name(), given.words(alloc, *call));
     }
 }
 
@@ -365,8 +341,13 @@ pub fn run_list(
     let runs = vec![in alloc; (0, text.len())]?;
     let mut whole = Vec::new(alloc);
     whole.push(Sequence { runs, sos, eos })?;
-    let whole = whole.as_slice();
-    check_in_place(alloc, row, tally, &source, text, whole, &before);
+    let given = Given {
+        text,
+        source: &source,
+        sequences: whole.as_slice(),
+        before: &before,
+    };
+    check_in_place(alloc, row, tally, &given);
     Ok(())
 }
 
@@ -394,15 +375,13 @@ pub fn run_units(
     let text = text.utf8.as_str();
     let sequences = sequences_of_field(alloc, StrText::new(text), row.field("sequences")?)?;
     let before = Before::of_row(alloc, row)?;
-    check_in_place(
-        alloc,
-        row,
-        tally,
-        &source,
+    let given = Given {
         text,
-        sequences.as_slice(),
-        &before,
-    );
+        source: &source,
+        sequences: sequences.as_slice(),
+        before: &before,
+    };
+    check_in_place(alloc, row, tally, &given);
     Ok(())
 }
 

@@ -1,6 +1,9 @@
 //! Lists over the code units of a text, and sequences of runs.
 
+ghost use Rattle.std.specs.Prelude.{◌≡◌, [], length, IfOk};
+
 use bidi_base::char_data::BidiClass;
+use bidi_base::level::Level;
 use bidi_rules::implicit::resolve_weak;
 use bidi_rules::prepare::{IsolatingRunSequence, LevelRun, LevelRunVec};
 use bidi_text::text::{StrText, TextSource, is_per_char};
@@ -17,6 +20,37 @@ pub struct Sequence {
     pub runs: Vec<(usize, usize)>,
     pub sos: BidiClass,
     pub eos: BidiClass,
+}
+
+/// A paragraph for the explicit pass to read: its level, its text and the stored class of each code unit.
+#[derive(Clone, Copy)]
+pub struct ParagraphUnits<'a> {
+    pub level: Level,
+    pub text: StrText<'a>,
+    pub classes: &'a [BidiClass],
+}
+
+/// What the explicit pass writes: the level and the class of each code unit, and the level runs.
+#[derive(Drop)]
+pub struct ExplicitUnits {
+    pub levels: Vec<Level>,
+    pub classes: Vec<BidiClass>,
+    pub runs: LevelRunVec,
+}
+
+impl ExplicitUnits {
+    /// Returns what a pass starts from: any levels, a copy of the stored classes, and no runs.
+    pub fn new(alloc: Global, stored: &[BidiClass]) -> Result<ExplicitUnits, RowFault>
+        ensures levels { IfOk result (λ units. length units.levels.items ≡ length stored.now) }
+        ensures classes { IfOk result (λ units. units.classes.items ≡ stored.now) }
+        ensures runs { IfOk result (λ units. units.runs.items ≡ []) }
+    {
+        Ok(ExplicitUnits {
+            levels: vec![in alloc; Level::rtl(); stored.len()]?,
+            classes: Vec::from_slice(alloc, stored)?,
+            runs: Vec::new(alloc),
+        })
+    }
 }
 
 /// Returns one entry for each code unit of a text, given one for each character.

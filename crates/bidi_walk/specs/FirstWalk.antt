@@ -78,7 +78,7 @@ pub record IsReadBy (class : BidiClass) (range : Range ℕ) (old new : Reading) 
   pub deciding : new.deciding ≡ deciding_after class old.depth old.deciding
   pub turns : new.flags ≡ with_class old.flags class
 
--- if it is decided, the isolates that are open are not counted any more
+-- if the state is decided, the number of open isolates becomes 0
 pub record StopsCounting (old new : Reading) : Type 0 where
   pub start : new.start ≡ old.start
   pub depth : new.depth ≡ (if is_decided old then 0 else old.depth)

@@ -39,8 +39,8 @@ impl ClassSet {
         bits: 1 << BidiClass::L as u32 | 1 << BidiClass::R as u32 | 1 << BidiClass::AL as u32,
     };
 
-    /// The classes that end a paragraph, or open an isolate whose direction its characters decide.
-    pub(crate) const BOUNDS: ClassSet = ClassSet {
+    /// The classes that always change the state of a paragraph: B, and FSI, whose isolate decides its direction.
+    pub(crate) const ALWAYS_MINDED: ClassSet = ClassSet {
         bits: 1 << BidiClass::FSI as u32 | 1 << BidiClass::B as u32,
     };
 

@@ -1,4 +1,4 @@
--- What the algorithm finds of a text in any encoding: its paragraphs, and the class and the level of each character.
+-- What the algorithm finds in a text in any encoding: its paragraphs, and the class and the level of each character.
 use Rattle.std.specs.Prelude.{◌≡◌, ℕ, Bool, true, false, List, [], ◌∷◌, Option, None, All, IfSome, IsTrue, slice_range}
 use Rattle.bidi_base.specs.contracts.char_data.BidiClassPartialEq.TheImpl.{ghosts as class_test}
 use Rattle.bidi_base.specs.declared.char_data.BidiClass.{BidiClass}
@@ -36,11 +36,11 @@ module _ (source : Source) (base : Option ℕ) where
     -- each paragraph has the levels that its characters would have as the whole text
     pub each_by_itself : All (HasOwnUnits a.len_of (stored_levels source base) a.chars a.levels) (ranges_of paragraphs)
 
-  -- the same where a rule says where paragraphs end; without a rule the whole text is one
+  -- an analysed text whose paragraphs end where a rule says; without a rule, the whole text is one paragraph
   pub record IsAnalysedBy (rule : Option SplitRule) (a : AnalysedText) (paragraphs : List ParagraphInfo) : Type 0 where
     pub analysis : IsAnalysisBy source base rule a (ranges_of paragraphs) (levels_of paragraphs)
-    -- with `CrLfTogether`, a U+000D may also come directly before the U+000A that ends its paragraph; all other
-    -- separators are at the ends of paragraphs
+    -- every code unit is in one paragraph, and separators are only at the ends of paragraphs; with `CrLfTogether`, a
+    -- U+000D may also come directly before the U+000A that ends its paragraph
     pub parted : IfSome rule (λ r. AreParagraphRangesBy r source a.len_of a.chars (ranges_of paragraphs))
     pub whole : rule ≡ None → ranges_of paragraphs ≡ (0, text_len a.len_of a.chars) ∷ []
     pub per_char : IsPerCharText a
@@ -60,7 +60,7 @@ module _ (source : Source) (base : Option ℕ) where
     -- no level is below that of the paragraph or above the maximum
     pub bounded : AreLevelsFrom level a.levels
 
-  -- what holds of the levels of every paragraph
+  -- laws of the levels of every paragraph
   pub record ObeysLaws : Type 0 where
     -- replacing a character of class BN by another of class BN changes no level of its paragraph
     pub boundary_neutrals_alike : BoundaryNeutralsAreAlike source base

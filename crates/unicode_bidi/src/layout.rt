@@ -1,4 +1,4 @@
-//! Lines of a given width, and the places of their characters on the screen (L1, L2), over UTF-8.
+//! Lines of a given width, and the visual indexes of their characters (L1, L2), over UTF-8.
 
 ghost use Rattle.std.specs.Prelude.{◌≡◌, ◌≢◌, ℕ, ◌<◌, true, false, map, length, slice_get, IfOk, IfSome, All, Some};
 ghost use Rattle.std.specs.List.{range_with_len};

@@ -120,7 +120,7 @@ pub struct Paragraph<'p, T: TextSource> {
 }
 
 impl<'p, T: TextSource> Paragraph<'p, T> {
-    /// A paragraph with its stored classes, which are equal within each character.
+    /// Creates a paragraph. Its stored classes must be equal within each character.
     pub fn new(
         text: T,
         level: Level,

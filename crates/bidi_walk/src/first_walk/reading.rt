@@ -53,7 +53,7 @@ fn resolve(classes: &mut [BidiClass], initiator: &Range<usize>, class: BidiClass
 struct Undecided {
     // The code units of the FSI.
     units: Range<usize>,
-    // How many isolates are open up to this one, with this one.
+    // The depth of the paragraph directly after the FSI.
     depth: usize,
 }
 
@@ -62,9 +62,9 @@ struct Undecided {
 pub(super) struct Reading {
     /// The code unit at which it begins.
     pub(super) start: usize,
-    // How many isolates are open. Those that were open when the state was decided are not counted.
+    // The number of open isolates. Isolates that were open at any time in a decided state are not counted.
     depth: usize,
-    // Those of an FSI that no character has decided yet, outermost first.
+    // The open isolates of each FSI that no character has decided yet, outermost first.
     undecided: Vec<Undecided>,
     /// The class of the character that decides its level, once there is one.
     pub(super) deciding: Option<BidiClass>,
@@ -114,7 +114,7 @@ impl Reading {
         self.deciding.is_some() && self.undecided.is_empty()
     }
 
-    /// Counts the isolates that are open no longer, if the state is decided.
+    /// Stops counting the isolates that are open, if the state is decided.
     pub(super) fn stop_counting(&mut self)
         ensures { StopsCounting self.old self.new }
     {
@@ -132,7 +132,7 @@ impl Reading {
     pub(super) fn minded(&self) -> ClassSet
         ensures { (c : BidiClass) → has result c ≡ minds self.now c }
     {
-        ClassSet::BOUNDS
+        ClassSet::ALWAYS_MINDED
             .union(ClassSet::COUNTED.without(self.flags.met))
             .union(ClassSet::INITIATORS.when(!self.is_decided()))
             .union(ClassSet::STRONG.when(self.wants_strong()))

@@ -9,13 +9,13 @@ use Rattle.bidi_pass_refusals.proofs.passes.prepare.Goals as goal
 
 pub isolating_run_sequences-requires-clause-levels : goal.isolating_run_sequences-requires-clause-levels
 isolating_run_sequences-requires-clause-levels c =
-    let text : List ℕ = chars c.args.text.text.now in
-    let stored : List BidiClass = per_char L len_utf8 text c.args.original_classes.now in
-    is_per_char-explicit_levels len_utf8 text c.args.para_level stored c.compute.new.levels (length-per_char L len_utf8 text c.args.original_classes.now) c.in_ok-compute.ensures.levels
+    let text : List ℕ = chars c.args.paragraph.text.text.now in
+    let stored : List BidiClass = per_char L len_utf8 text c.args.paragraph.classes.now in
+    is_per_char-explicit_levels len_utf8 text c.args.para_level stored c.compute.new.levels (length-per_char L len_utf8 text c.args.paragraph.classes.now) c.in_ok-compute.ensures.levels
 
 pub isolating_run_sequences-requires-clause-runs : goal.isolating_run_sequences-requires-clause-runs
 isolating_run_sequences-requires-clause-runs c =
-    let text : List ℕ = chars c.args.text.text.now in
-    let stored : List BidiClass = per_char L len_utf8 text c.args.original_classes.now in
+    let text : List ℕ = chars c.args.paragraph.text.text.now in
+    let stored : List BidiClass = per_char L len_utf8 text c.args.paragraph.classes.now in
     c.in_ok-compute.ensures.runs
-    ∙ ap (level_run_ranges len_utf8 text stored) (sym (per_char-explicit_levels len_utf8 has_units text c.args.para_level stored c.compute.new.levels (length-per_char L len_utf8 text c.args.original_classes.now) c.in_ok-compute.ensures.levels))
+    ∙ ap (level_run_ranges len_utf8 text stored) (sym (per_char-explicit_levels len_utf8 has_units text c.args.para_level stored c.compute.new.levels (length-per_char L len_utf8 text c.args.paragraph.classes.now) c.in_ok-compute.ensures.levels))

@@ -1,6 +1,11 @@
-use Rattle.bidi_base.proofs.Common.{sym, ◌∙◌, arith}
+use Rattle.bidi_base.proofs.Common.{◌≡◌, ℕ, Option, Some, None, option_map, sym, ◌∙◌, arith}
 use Rattle.bidi_runs.proofs.CharEnds.{end-at, end-last, end-within}
 use Rattle.bidi_runs.proofs.characters.end_within.Goals as goal
+
+-- what is found, by its length
+found-by : (found : Option (ℕ × ℕ)) (len : ℕ) → Some len ≡ option_map (λ read. read.1) found → (c : ℕ) × (found ≡ Some (c, len))
+found-by None len e = absurd (cc e)
+found-by (Some (c, n)) len e = (c, cc e)
 
 pub returns-then-start-len : goal.returns-then-start-len
 returns-then-start-len g c = λ k within there.
@@ -8,9 +13,9 @@ returns-then-start-len g c = λ k within there.
 
 pub overflow_add-result : goal.overflow_add-result
 overflow_add-result g c =
-    let within = end-within g.T.TextSource.units g.met.T.TextSource.has_units (g.T.TextSource.characters c.args.text) c.args.start _ _ (sym c.next_at-units.ensures) c.requires.begins (omega (arith, c.requires.inside, c.requires.long)) in
+    let within = end-within g.T.TextSource.units g.met.T.TextSource.has_units (g.T.TextSource.characters c.args.text) c.args.start _ _ (found-by _ _ c.len_at.ensures).1 c.requires.begins (omega (arith, c.requires.inside, c.requires.long)) in
     omega (arith, within, c.requires.long, c.ranges.len.fits)
 
 pub returns : goal.returns
 returns g c = λ k within there.
-    end-at g.T.TextSource.units g.met.T.TextSource.has_units (g.T.TextSource.characters c.args.text) c.args.start _ _ k (sym c.next_at-units.ensures) within there
+    end-at g.T.TextSource.units g.met.T.TextSource.has_units (g.T.TextSource.characters c.args.text) c.args.start _ _ k (found-by _ _ c.len_at.ensures).1 within there
