@@ -94,7 +94,7 @@ pub fn mirrored_line(
 }
 
 /// Returns a line from left to right. The line is a paragraph by itself.
-pub fn shown_line<'t>(alloc: Global, line: &'t str) -> Result<CowStr<'t>, AllocError>
+pub fn shown_line(alloc: Global, line: &str) -> Result<CowStr<'_>, AllocError>
     ensures { IfOk result (λ shown. cow_str_bytes shown ≡ shown_paragraph unicode_source line.now) }
 {
     let info = ParagraphBidiInfo::new_with_data_source(alloc, &UnicodeData, line, None)?;
