@@ -6,6 +6,8 @@ mod real;
 mod runs;
 mod wrapped;
 
+use bidi_unicode::UnicodeData;
+use callers::{mirrored_line, visual_runs};
 use std::io;
 use std::ops::Range;
 use unicode_bidi::BidiInfo;
@@ -45,6 +47,19 @@ fn print_lines(
     Ok(())
 }
 
+// Prints the runs of each paragraph of a text, and its line with mirrored characters.
+fn print_mirrored(rt: &(impl Print + AllocGlobal), text: &str) -> io::Result<()> {
+    let info = BidiInfo::new_with_data_source(rt.alloc(), &UnicodeData, text, None)?;
+    for paragraph in info.paragraphs() {
+        for (run, level) in visual_runs(rt.alloc(), &info, paragraph, paragraph.range())? {
+            println!(rt; "{level}: [{run}]")?;
+        }
+        let shown = mirrored_line(rt.alloc(), &info, paragraph, paragraph.range())?;
+        println!(rt; "{shown}")?;
+    }
+    Ok(())
+}
+
 fn main(rt: HostRuntime) -> io::Result<()> {
     let Ok(source) = TableBidiData::new(&RANGES, &BRACKETS) else {
         return Ok(());
@@ -56,5 +71,7 @@ fn main(rt: HostRuntime) -> io::Result<()> {
     runs::print_runs(&rt, "car (מכונית) 12")?;
     let text = "car (מכונית) 12 אבג";
     let info = BidiInfo::new_with_data_source(rt.alloc(), &source, text, None)?;
-    wrapped::write_wrapped(rt.alloc(), &mut io::writer(&rt), &info, 8)
+    wrapped::write_wrapped(rt.alloc(), &mut io::writer(&rt), &info, 8)?;
+    print_mirrored(&rt, "אבג (car) 12")?;
+    callers::show_input(&rt)
 }

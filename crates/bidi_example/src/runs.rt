@@ -9,14 +9,12 @@ pub fn print_runs(rt: &(impl Print + AllocGlobal), text: &str) -> io::Result<()>
     let info = BidiInfo::new_with_data_source(rt.alloc(), &UnicodeData, text, None)?;
     for paragraph in info.paragraphs() {
         let line = paragraph.range();
-        let levels = info.line_levels(rt.alloc(), paragraph, paragraph.range())?;
-        for run in info.line_runs(rt.alloc(), paragraph, paragraph.range())? {
+        let levels = info.line_levels(rt.alloc(), paragraph, line.start..line.end)?;
+        for run in &info.line_runs(rt.alloc(), paragraph, line.start..line.end)? {
             // `levels` begins at the line's start, and `run` counts from the text's start.
-            let level = levels.get(run.start.saturating_sub(line.start));
-            let (Some(level), Some(run_text)) = (level, text.get(run.start..run.end)) else {
-                continue;
-            };
+            let level = levels[run.start - line.start];
             let (start, end, number) = (run.start, run.end, level.number());
+            let run_text = &text[start..end];
             print!(rt; "{start}..{end}, level {number}: [{run_text}] is shown as [")?;
             if level.is_rtl() {
                 for c in run_text.chars().rev() {
