@@ -147,12 +147,12 @@ def head_run(folder):
 
 
 def memory_run():
-    """The same of an argument that is not UTF-8: with more and more memory, some run can read the arguments, but cannot
-    tell which of them it is."""
-    found = None
+    """The same of a long argument that is not UTF-8: with more and more memory, some run can read the arguments, but
+    has no room to tell which of them it is."""
+    argument, found = b"a" * 120_000 + b"\xFF", None
     for size in range(1 << 20, 1 << 24, 1 << 15):
         with contextlib.suppress(OSError, subprocess.SubprocessError):
-            ended = subprocess.run(command_of("bidi", [b"check", b"a\xFF"]), capture_output=True, env={},
+            ended = subprocess.run(command_of("bidi", [b"check", argument]), capture_output=True, env={},
                                    preexec_fn=limit(resource.RLIMIT_AS, size), timeout=60)
             found = (ended.returncode, ended.stdout, ended.stderr)
         if found and found[0] in (2, 3):
