@@ -1,5 +1,5 @@
 -- Characters on which nothing depends, read one after another.
-use Rattle.bidi_base.proofs.Common.{None, Option, inl, inr, cases_lt, class_at, take_more, get_or, subst, zero, suc, ◌≡◌, ℕ, ◌+◌, ◌-◌, ◌<◌, ◌≤◌, true, false, List, [], ◌∷◌, ◌++◌, length, take, drop, Some, set, refl, sym, ap, ◌∙◌, arith, add-one, append_assoc, length-take, length-drop, drop-append_seam, take-append-add, map-append, length-map, take-append-le, take-append-drop, nat_tests, All-nil, All-append, All-push, sum_by-append, sum_by-cons, Source, text_len, char_at, ascii_of, ascii_at, char_index, is_boundary, subrange, IsLine}
+use Rattle.bidi_base.proofs.Common.{Bool, None, Option, inl, inr, cases_lt, class_at, take_more, get_or, subst, zero, suc, ◌≡◌, ℕ, ◌+◌, ◌-◌, ◌<◌, ◌≤◌, true, false, List, [], ◌∷◌, ◌++◌, length, take, drop, Some, set, refl, sym, ap, ◌∙◌, arith, add-one, append_assoc, length-take, length-drop, drop-append_seam, take-append-add, map-append, length-map, take-append-le, take-append-drop, nat_tests, All-nil, All-append, All-push, sum_by-append, sum_by-cons, Source, text_len, char_at, ascii_of, ascii_at, char_index, is_boundary, subrange, IsLine}
 use Rattle.std.specs.Prelude.{replicate, MatchOption}
 use Rattle.std.proofs.Math.Nat.{add_assoc}
 use Rattle.std.proofs.Math.Seq.{take-suc-set}
@@ -9,9 +9,7 @@ use Rattle.bidi_base.specs.declared.char_data.BidiClass.TheVariants.{L}
 use Rattle.bidi_base.proofs.PlaceLemmas.{text_len-subrange}
 use Rattle.bidi_base.proofs.PerUnit.{per_unit-push, per_unit-append}
 use Rattle.bidi_base.proofs.TextLemmas.{cut_at, HasUnits, char_at-append, char_at-end, char_index-append, is_boundary-append, is_boundary-le}
-use Rattle.bidi_walk.specs.declared.class_set.ClassSet.{ClassSet}
 use Rattle.bidi_walk.specs.declared.first_walk.met.Met.{Met}
-use Rattle.bidi_walk.specs.ClassSet.{has}
 use Rattle.bidi_walk.specs.FirstWalk.{ahead, AreWritten, IsSkimmed, IsMet}
 
 -- ---- what is ahead of a boundary
@@ -75,7 +73,7 @@ ascii_next : (len_of : ℕ → ℕ) (coming : List ℕ) (c : ℕ) → ascii_of (
 ascii_next len_of [] c e = absurd (cc e)
 ascii_next len_of (d ∷ ds) c e = record { tail = ds; next = grind (arith, nat_tests); one = grind (arith, nat_tests) }
 
-module _ (source : Source) (len_of : ℕ → ℕ) (minded : ClassSet) where
+module _ (source : Source) (len_of : ℕ → ℕ) (minded : BidiClass → Bool) where
   -- ---- one character, and some characters, more
 
   pub AreWritten-push : (read : List ℕ) (from at c : ℕ) (old new after : List BidiClass) → AreWritten source len_of read from at old new
@@ -97,14 +95,14 @@ module _ (source : Source) (len_of : ℕ → ℕ) (minded : ClassSet) where
   unfoldable pub IsSkimmed-start : (coming : List ℕ) (at : ℕ) (classes : List BidiClass) → IsSkimmed source len_of minded coming at at classes classes
   IsSkimmed-start coming at classes =
       let written : AreWritten source len_of [] at at classes classes = record { long = omega arith; classes = sym (append-nil (take at classes)) } in
-      record { read = []; rest = coming; joined = refl; idle = All-nil (λ c. has minded (source.class_of c) ≡ false); written = written }
+      record { read = []; rest = coming; joined = refl; idle = All-nil (λ c. minded (source.class_of c) ≡ false); written = written }
 
   module _ (coming : List ℕ) (from at : ℕ) (old new : List BidiClass) (h : IsSkimmed source len_of minded coming from at old new) where
-    unfoldable pub IsSkimmed-more : (c : ℕ) (rest : List ℕ) (to : ℕ) (after : List BidiClass) → h.rest ≡ c ∷ rest → has minded (source.class_of c) ≡ false → to ≡ at + len_of c
+    unfoldable pub IsSkimmed-more : (c : ℕ) (rest : List ℕ) (to : ℕ) (after : List BidiClass) → h.rest ≡ c ∷ rest → minded (source.class_of c) ≡ false → to ≡ at + len_of c
         → take to after ≡ take at new ++ replicate (len_of c) (source.class_of c) → IsSkimmed source len_of minded coming from to old after
     IsSkimmed-more c rest to after next idle end is =
         let joined = h.joined ∙ ap (λ cs. h.read ++ cs) next ∙ sym (append_assoc h.read (c ∷ []) rest) in
-        let idle = All-push (λ c. has minded (source.class_of c) ≡ false) h.read c h.idle idle in
+        let idle = All-push (λ c. minded (source.class_of c) ≡ false) h.read c h.idle idle in
         let written = AreWritten-push h.read from at c old new after h.written (rw end at is) in
         record { read = h.read ++ c ∷ []; rest = rest; joined = joined; idle = idle; written = rw end written }
 
@@ -124,14 +122,14 @@ module _ (source : Source) (len_of : ℕ → ℕ) (minded : ClassSet) where
     pub IsSkimmed-join : (to : ℕ) (after : List BidiClass) → IsSkimmed source len_of minded h.rest at to new after → IsSkimmed source len_of minded coming from to old after
     IsSkimmed-join to after k =
         let joined = h.joined ∙ ap (λ cs. h.read ++ cs) k.joined ∙ sym (append_assoc h.read k.read k.rest) in
-        let idle = All-append (λ c. has minded (source.class_of c) ≡ false) h.read k.read h.idle k.idle in
+        let idle = All-append (λ c. minded (source.class_of c) ≡ false) h.read k.read h.idle k.idle in
         let written = AreWritten-join h.read k.read from at to old new after h.written k.written in
         record { read = h.read ++ k.read; rest = k.rest; joined = joined; idle = idle; written = written }
 
     pub IsMet-join : (met : Met) (after : List BidiClass) → IsMet source len_of minded h.rest at met new after → IsMet source len_of minded coming from met old after
     IsMet-join met after k =
         let joined = h.joined ∙ ap (λ cs. h.read ++ cs) k.joined ∙ sym (append_assoc h.read k.read (met.c ∷ k.rest)) in
-        let idle = All-append (λ c. has minded (source.class_of c) ≡ false) h.read k.read h.idle k.idle in
+        let idle = All-append (λ c. minded (source.class_of c) ≡ false) h.read k.read h.idle k.idle in
         let begins : met.start ≡ from + text_len len_of (h.read ++ k.read) = omega (
           arith,
           k.begins,
@@ -186,7 +184,7 @@ module _ (source : Source) (len_of : ℕ → ℕ) (minded : ClassSet) where
         one_more : take (at + 1) (set new at class) ≡ take at new ++ class ∷ []
         one_more = rw add-one (take-suc-set new at class (omega (arith, ascii-inside len_of units chars at c is, long)))
 
-        pub IsSkimmed-ascii : has minded class ≡ false → IsSkimmed source len_of minded coming from (at + 1) old (set new at class)
+        pub IsSkimmed-ascii : minded class ≡ false → IsSkimmed source len_of minded coming from (at + 1) old (set new at class)
         IsSkimmed-ascii idle =
             let w = ascii-skimmed c is in
             IsSkimmed-more c w.tail (at + 1) (set new at class) w.next (cc (is_class, idle)) (cc w.one) (simp (w.one, ← is_class) one_more)
@@ -209,7 +207,7 @@ module _ (source : Source) (len_of : ℕ → ℕ) (minded : ClassSet) where
         }
 
         module _ (class : BidiClass) (is_class : class ≡ source.class_of c) (after : List BidiClass) (written : take (at + len_of c) after ≡ take at new ++ replicate (len_of c) class) where
-          pub IsSkimmed-char : has minded class ≡ false → IsSkimmed source len_of minded coming from (at + n) old after
+          pub IsSkimmed-char : minded class ≡ false → IsSkimmed source len_of minded coming from (at + n) old after
           IsSkimmed-char idle =
               let w = char-skimmed in
               IsSkimmed-more c w.tail (at + n) after w.next (cc (is_class, idle)) (omega (arith, w.long)) (simp (w.long, ← is_class) written)
@@ -218,7 +216,7 @@ module _ (source : Source) (len_of : ℕ → ℕ) (minded : ClassSet) where
           IsMet-char = IsMet-next (record { start = at; c = c; class = class }) char-skimmed.tail after char-skimmed.next refl is_class written
 
         -- one unit long, and its class is there already
-        pub IsSkimmed-char_there : n ≡ 1 → at < length new → class_at new at ≡ source.class_of c → has minded (class_at new at) ≡ false
+        pub IsSkimmed-char_there : n ≡ 1 → at < length new → class_at new at ≡ source.class_of c → minded (class_at new at) ≡ false
             → IsSkimmed source len_of minded coming from (at + 1) old new
         IsSkimmed-char_there one within is_class idle =
             let w = char-skimmed in
@@ -236,10 +234,10 @@ module _ (source : Source) (len_of : ℕ → ℕ) (minded : ClassSet) where
 
 -- ---- a block of characters one unit long whose classes are there already
 
-module _ (source : Source) (len_of : ℕ → ℕ) (minded : ClassSet) (units : HasUnits len_of) (chars : List ℕ) (from at : ℕ) (begins : is_boundary len_of chars from ≡ true) (old new : List BidiClass)
+module _ (source : Source) (len_of : ℕ → ℕ) (minded : BidiClass → Bool) (units : HasUnits len_of) (chars : List ℕ) (from at : ℕ) (begins : is_boundary len_of chars from ≡ true) (old new : List BidiClass)
     (h : IsSkimmed source len_of minded (ahead len_of chars from) from at old new) (block : List ℕ) (fits : at + 16 ≤ length new)
     (there : (k : ℕ) → k < 16 → Some (get_or block k 0, 1) ≡ char_at len_of chars (at + k)) where
-  pub IsSkimmed-part : (n : ℕ) → n ≤ 16 → ((k : ℕ) → k < 16 → k ≤ n → class_at new (at + k) ≡ source.class_of (get_or block k 0)) → ((k : ℕ) → k < n → has minded (class_at new (at + k)) ≡ false) → IsSkimmed source len_of minded (ahead len_of chars from) from (at + n) old new
+  pub IsSkimmed-part : (n : ℕ) → n ≤ 16 → ((k : ℕ) → k < 16 → k ≤ n → class_at new (at + k) ≡ source.class_of (get_or block k 0)) → ((k : ℕ) → k < n → minded (class_at new (at + k)) ≡ false) → IsSkimmed source len_of minded (ahead len_of chars from) from (at + n) old new
   IsSkimmed-part zero le classes idle = subst (λ to. IsSkimmed source len_of minded (ahead len_of chars from) from to old new) (omega arith) h
   IsSkimmed-part (suc n) le classes idle =
       let before = IsSkimmed-part n (omega (arith, le)) (λ k within below. classes k within (omega (arith, below))) (λ k below. idle k (omega (arith, below))) in
@@ -247,7 +245,7 @@ module _ (source : Source) (len_of : ℕ → ℕ) (minded : ClassSet) (units : H
       let one = IsSkimmed-char_there source len_of minded _ from (at + n) old new before units chars begins refl (get_or block n 0) 1 (there n here) refl (omega (arith, fits, here)) (classes n here (omega arith)) (idle n (omega arith)) in
       subst (λ to. IsSkimmed source len_of minded (ahead len_of chars from) from to old new) (omega arith) one
 
-  pub IsMet-part : (n : ℕ) → n < 16 → ((k : ℕ) → k < 16 → k ≤ n → class_at new (at + k) ≡ source.class_of (get_or block k 0)) → ((k : ℕ) → k < n → has minded (class_at new (at + k)) ≡ false)
+  pub IsMet-part : (n : ℕ) → n < 16 → ((k : ℕ) → k < 16 → k ≤ n → class_at new (at + k) ≡ source.class_of (get_or block k 0)) → ((k : ℕ) → k < n → minded (class_at new (at + k)) ≡ false)
       → IsMet source len_of minded (ahead len_of chars from) from (record { start = at + n; c = get_or block n 0; class = class_at new (at + n) }) old new
   IsMet-part n here classes idle =
       let before = IsSkimmed-part n (omega (arith, here)) classes idle in
@@ -255,10 +253,10 @@ module _ (source : Source) (len_of : ℕ → ℕ) (minded : ClassSet) (units : H
 
 -- ---- the same of ASCII characters, all of them idle
 
-module _ (source : Source) (len_of : ℕ → ℕ) (minded : ClassSet) (units : HasUnits len_of) (chars : List ℕ) (from at : ℕ) (begins : is_boundary len_of chars from ≡ true) (old new : List BidiClass)
+module _ (source : Source) (len_of : ℕ → ℕ) (minded : BidiClass → Bool) (units : HasUnits len_of) (chars : List ℕ) (from at : ℕ) (begins : is_boundary len_of chars from ≡ true) (old new : List BidiClass)
     (h : IsSkimmed source len_of minded (ahead len_of chars from) from at old new) (block : List ℕ) (fits : at + 16 ≤ length new)
     (ascii : (k : ℕ) → k < 16 → Some (get_or block k 0) ≡ ascii_at len_of chars (at + k)) (classes : (k : ℕ) → k < 16 → class_at new (at + k) ≡ source.class_of (get_or block k 0))
-    (idle : (k : ℕ) → k < 16 → has minded (class_at new (at + k)) ≡ false) where
+    (idle : (k : ℕ) → k < 16 → minded (class_at new (at + k)) ≡ false) where
   pub IsSkimmed-ascii_block : IsSkimmed source len_of minded (ahead len_of chars from) from (at + 16) old new
   IsSkimmed-ascii_block =
       IsSkimmed-part source len_of minded units chars from at begins old new h block fits (λ k below. char-from_ascii (char_at len_of chars (at + k)) (get_or block k 0) (ascii k below)) 16 (omega arith) (λ k below le. classes k below) idle
@@ -288,7 +286,7 @@ module _ (len_of : ℕ → ℕ) (units : HasUnits len_of) (chars : List ℕ) (st
       unfolding behind
       block_first = cc (is_block, take-append-drop (char_index len_of chars end - char_index len_of chars start) (ahead len_of chars start))
 
-      module _ (source : Source) (minded : ClassSet) (part written tail : List BidiClass) (room : text_len len_of block ≤ length written) where
+      module _ (source : Source) (minded : BidiClass → Bool) (part written tail : List BidiClass) (room : text_len len_of block ≤ length written) where
         pub IsSkimmed-block : IsSkimmed source len_of minded block 0 (text_len len_of block) part written → IsSkimmed source len_of minded (ahead len_of chars start) start end classes (take start classes ++ (written ++ tail))
         IsSkimmed-block k = record {
           read = k.read;

@@ -1,5 +1,5 @@
 -- The walk over a text from one character to the next on which something depends.
-use Rattle.bidi_base.proofs.Common.{◌≡◌, ℕ, ◌+◌, ◌≤◌, false, List, [], ◌∷◌, ◌++◌, length, take, drop, map, refl, sym, ap, ◌∙◌, arith, append_assoc, length-append, length-drop, length-take, Option, All, Range, add-zero, take-append_seam, drop-append_seam, map-append, length-map, take-take, drop-drop, All-tail, All-weaker, sum_by-append, sum_by-cons, Source, text_len, place, per_unit}
+use Rattle.bidi_base.proofs.Common.{◌≡◌, ℕ, ◌+◌, ◌≤◌, false, List, [], ◌∷◌, ◌++◌, length, take, drop, map, refl, sym, ap, ◌∙◌, arith, append_assoc, length-append, length-drop, length-take, Option, All, Range, add-zero, take-append_seam, drop-append_seam, map-append, length-map, take-take, drop-drop, All-tail, sum_by-append, sum_by-cons, Source, text_len, place, per_unit}
 use Rattle.std.specs.Prelude.{replicate}
 use Rattle.std.proofs.lemmas.List.{append-nil}
 use Rattle.bidi_base.specs.declared.char_data.BidiClass.{BidiClass}
@@ -7,11 +7,9 @@ use Rattle.bidi_laws.proofs.ReadingLemmas.{char_units}
 use Rattle.bidi_base.proofs.TextLemmas.{HasUnits}
 use Rattle.bidi_base.proofs.PerUnit.{per_unit-append, length-per_unit}
 use Rattle.bidi_base.proofs.PlaceLemmas.{char_turn_of, CharTurn, char_index-place, place-le, place-le-back, place-end}
-use Rattle.bidi_walk.specs.declared.class_set.ClassSet.{ClassSet}
 use Rattle.bidi_walk.specs.declared.first_walk.met.Met.{Met}
 use Rattle.bidi_walk.specs.declared.first_walk.reading.Reading.{Reading}
 use Rattle.bidi_walk.specs.declared.split_rule.SplitRule.{SplitRule}
-use Rattle.bidi_walk.specs.ClassSet.{has}
 use Rattle.bidi_walk.specs.FirstWalk.{minds, ahead, AreIdle, AreWritten, IsSkimmed, IsMet}
 use Rattle.bidi_walk.proofs.IdleClasses.{idle-separator}
 use Rattle.bidi_walk.proofs.TextRead.{Seen, IsRead, IsRead-on, IsTextRead-idle, drawn-is, ends_after-other, undecided-none}
@@ -111,23 +109,20 @@ module _ (source : Source) (len_of : ℕ → ℕ) where
 
     -- ---- up to the next character on which something may depend, or up to the end
 
-    module _ (at : ℕ) (found : Seen) (reading : Reading) (minded : ClassSet) (drawn : List BidiClass) (h : IsWalked chars split base at found reading) (minds_is : (c : BidiClass) → has minded c ≡ minds reading c)
+    module _ (at : ℕ) (found : Seen) (reading : Reading) (drawn : List BidiClass) (h : IsWalked chars split base at found reading)
         (long : length drawn ≡ length found.units) where
       ahead_is : ahead len_of chars at ≡ drop h.index chars
       ahead_is = simp (h.here, char_index-place len_of chars units h.index h.within)
 
-      are_idle : (read : List ℕ) → AreIdle source minded read → All (λ c. minds reading (source.class_of c) ≡ false) read
-      are_idle read idle = All-weaker (λ c. has minded (source.class_of c) ≡ false) (λ c. minds reading (source.class_of c) ≡ false) (λ c none. sym (minds_is (source.class_of c)) ∙ none) read idle
-
       inside : at ≤ length found.units
       inside = omega (arith, h.here, h.read.read.sized, place-le len_of chars h.index)
 
-      on : (read rest : List ℕ) (to : ℕ) → ahead len_of chars at ≡ read ++ rest → AreIdle source minded read → AreWritten source len_of read at to found.units drawn
+      on : (read rest : List ℕ) (to : ℕ) → ahead len_of chars at ≡ read ++ rest → AreIdle source (minds reading) read → AreWritten source len_of read at to found.units drawn
           → IsRead source len_of chars split base (h.index + length read) (with_units drawn found) reading × (place len_of chars (h.index + length read) ≡ to)
       on read rest to joined idle written =
-          IsRead-idles read rest h.index to found reading drawn h.read (sym ahead_is ∙ joined) (are_idle read idle) long (rw h.here at written)
+          IsRead-idles read rest h.index to found reading drawn h.read (sym ahead_is ∙ joined) idle long (rw h.here at written)
 
-      pub IsAt-met : (met : Met) → IsMet source len_of minded (ahead len_of chars at) at met found.units drawn → IsAt chars split base met (with_units drawn found) reading
+      pub IsAt-met : (met : Met) → IsMet source len_of (minds reading) (ahead len_of chars at) at met found.units drawn → IsAt chars split base met (with_units drawn found) reading
       IsAt-met met k =
           let to : ℕ = at + text_len len_of k.read in
           let w = on k.read (met.c ∷ k.rest) to k.joined k.idle (AreWritten-front k.read (met.c ∷ []) at (met.start + len_of met.c) found.units drawn inside k.written) in
@@ -139,7 +134,7 @@ module _ (source : Source) (len_of : ℕ → ℕ) where
             written = simp (k.begins, k.class) (AreWritten-one met.c to (met.start + len_of met.c) drawn drawn (AreWritten-back k.read (met.c ∷ []) at _ found.units drawn inside k.written));
           }
 
-      pub IsRead-end : IsSkimmed source len_of minded (ahead len_of chars at) at (text_len len_of chars) found.units drawn → IsRead source len_of chars split base (length chars) (with_units drawn found) reading
+      pub IsRead-end : IsSkimmed source len_of (minds reading) (ahead len_of chars at) at (text_len len_of chars) found.units drawn → IsRead source len_of chars split base (length chars) (with_units drawn found) reading
       IsRead-end k =
           let w = on k.read k.rest (text_len len_of chars) k.joined k.idle k.written in
           let all = place-le-back len_of chars units (length chars) (h.index + length k.read) (omega arith) (omega (arith, w.1, place-end len_of chars (length chars) (omega arith))) in

@@ -11,7 +11,6 @@ use Rattle.bidi_base.specs.Text.{text_len, char_index, is_boundary, per_unit}
 use Rattle.bidi_walk.specs.ClassSet.{has}
 use Rattle.bidi_walk.specs.ParagraphFlags.{is_counted, with_class, flags_of}
 use Rattle.bidi_walk.specs.ParagraphInfo.{ranges_of, levels_of}
-use Rattle.bidi_walk.specs.declared.class_set.ClassSet.{ClassSet}
 use Rattle.bidi_walk.specs.declared.first_walk.met.Met.{Met}
 use Rattle.bidi_walk.specs.declared.first_walk.reading.Reading.{Reading}
 use Rattle.bidi_walk.specs.declared.first_walk.reading.Undecided.{Undecided}
@@ -98,8 +97,8 @@ abbrev pub ahead : (ℕ → ℕ) → List ℕ → ℕ → List ℕ
 ahead len_of chars u = drop (char_index len_of chars u) chars
 
 -- on the class of none of these characters anything depends
-abbrev pub AreIdle : Source → ClassSet → List ℕ → Type 0
-AreIdle source minded cs = All (λ c. has minded (source.class_of c) ≡ false) cs
+abbrev pub AreIdle : Source → (BidiClass → Bool) → List ℕ → Type 0
+AreIdle source minded cs = All (λ c. minded (source.class_of c) ≡ false) cs
 
 -- from one unit up to another these characters were read: their classes were written, and what stands before is
 -- as it was
@@ -108,7 +107,7 @@ pub record AreWritten (source : Source) (len_of : ℕ → ℕ) (read : List ℕ)
   pub classes : take to new ≡ take from old ++ per_unit len_of read (map source.class_of read)
 
 -- the first of the characters that come were read, and nothing depends on them
-pub record IsSkimmed (source : Source) (len_of : ℕ → ℕ) (minded : ClassSet) (coming : List ℕ) (from to : ℕ)
+pub record IsSkimmed (source : Source) (len_of : ℕ → ℕ) (minded : BidiClass → Bool) (coming : List ℕ) (from to : ℕ)
     (old new : List BidiClass) : Type 0 where
   pub read : List ℕ
   pub rest : List ℕ
@@ -117,7 +116,7 @@ pub record IsSkimmed (source : Source) (len_of : ℕ → ℕ) (minded : ClassSet
   pub written : AreWritten source len_of read from to old new
 
 -- they were read up to one on whose class something may depend
-pub record IsMet (source : Source) (len_of : ℕ → ℕ) (minded : ClassSet) (coming : List ℕ) (from : ℕ) (met : Met)
+pub record IsMet (source : Source) (len_of : ℕ → ℕ) (minded : BidiClass → Bool) (coming : List ℕ) (from : ℕ) (met : Met)
     (old new : List BidiClass) : Type 0 where
   pub read : List ℕ
   pub rest : List ℕ
@@ -133,7 +132,7 @@ pub record CanReadOn (len_of : ℕ → ℕ) (chars : List ℕ) (from : ℕ) (cla
   pub begins : IsTrue (is_boundary len_of chars from)
 
 -- what it leaves: it has read up to a character whose class is minded, which it returns, or else up to `to`
-abbrev pub IsReadOn : Source → (ℕ → ℕ) → List ℕ → ClassSet → ℕ → Option Met → ℕ → List BidiClass → List BidiClass → Type 0
+abbrev pub IsReadOn : Source → (ℕ → ℕ) → List ℕ → (BidiClass → Bool) → ℕ → Option Met → ℕ → List BidiClass → List BidiClass → Type 0
 IsReadOn source len_of chars minded from result to old new =
     MatchOption result (IsSkimmed source len_of minded (ahead len_of chars from) from to old new)
     (λ met. IsMet source len_of minded (ahead len_of chars from) from met old new)

@@ -33,7 +33,7 @@ mod unit_classes;
 
 use ascii_characters::skim;
 use met::Met;
-use other_characters::{read_in_place, read_on};
+use other_characters::{read_next, read_on};
 use reading::{Reading, level_of_class};
 use unit_classes::AT_ONCE;
 
@@ -103,17 +103,15 @@ impl TextReading {
         Ok(())
     }
 
-    // Reads a character whose class matters to the paragraph. Its class must be written to its code units
-    // already. `ends` tells whether the paragraph ends with it. Returns the set of the classes that matter
-    // next.
-    #[inline(never)]
+    // Reads a character. Its class must be written to its code units already. `ends` tells whether the
+    // paragraph ends with it.
     fn meet(
         &mut self,
         classes: &mut [BidiClass],
         class: BidiClass,
         units: Range<usize>,
         ends: bool,
-    ) -> Result<ClassSet, AllocError>
+    ) -> Result<(), AllocError>
         requires within { All (λ u. (u.units.start ≤ u.units.end) × (u.units.end ≤ length classes.old))
             self.old.reading.undecided.items }
         requires few { self.old.reading.depth < usize.MAX }
@@ -129,7 +127,6 @@ impl TextReading {
             × ((r : Reading) × IsReadBy class units self.old.reading r
             × IsClosed self.old.base r units.end self.old.paragraphs.items self.old.flags.items
             self.new.paragraphs.items self.new.flags.items)) }
-        ensures minded { IfOk result (λ set. (c : BidiClass) → has set c ≡ minds self.new.reading c) }
         ensures base { self.new.base ≡ self.old.base }
     {
         let end = units.end;
@@ -140,7 +137,7 @@ impl TextReading {
         } else {
             self.reading.stop_counting();
         }
-        Ok(self.reading.minded())
+        Ok(())
     }
 }
 
@@ -154,8 +151,8 @@ fn seek_minded<D: BidiDataSource, T: TextSource>(
     minded: ClassSet,
 ) -> Option<Met>
     requires { CanReadOn T.units (T.characters text) from classes.old }
-    ensures { IsReadOn (D.source data_source.now) T.units (T.characters text) minded from result (text_len T.units (T.characters text))
-        classes.old classes.new }
+    ensures { IsReadOn (D.source data_source.now) T.units (T.characters text) (has minded) from result
+        (text_len T.units (T.characters text)) classes.old classes.new }
 {
     let mut at = from;
     while at < classes.len() {
@@ -169,32 +166,29 @@ fn seek_minded<D: BidiDataSource, T: TextSource>(
     None
 }
 
-// After an isolate control, this many code units are read one by one. Often the next control is among them,
-// and a search by blocks costs more.
+// After an isolate control, the characters that begin among so many code units are read one by one. Often the
+// next control is among them, and a search for it costs more.
 const NEAR: usize = 4;
 
-// Writes the classes of the characters from an index on, up to the first one whose class is in `minded`.
-// Returns that one, or `None` at the text's end.
-fn next_minded<D: BidiDataSource, T: TextSource>(
+// Writes the classes of the characters from an index on, up to the first one that would change the state of
+// the paragraph. Returns that one, or `None` at the text's end. If `near`, returns the next character,
+// whatever it changes.
+fn next_met<D: BidiDataSource, T: TextSource>(
     data_source: &D,
     text: T,
     classes: &mut [BidiClass],
     from: usize,
-    minded: ClassSet,
-    after_control: bool,
+    reading: &Reading,
+    near: bool,
 ) -> Option<Met>
     requires { CanReadOn T.units (T.characters text) from classes.old }
-    ensures { IsReadOn (D.source data_source.now) T.units (T.characters text) minded from result (text_len T.units (T.characters text))
-        classes.old classes.new }
+    ensures { IsReadOn (D.source data_source.now) T.units (T.characters text) (minds reading.now) from result
+        (text_len T.units (T.characters text)) classes.old classes.new }
 {
-    let mut at = from;
-    if after_control && T::READS_IN_PLACE && classes.len() - from >= NEAR + AT_ONCE {
-        let near = from + NEAR;
-        if let Some(met) = read_in_place(data_source, text, classes, &mut at, near, minded) {
-            return Some(met);
-        }
+    if near && T::READS_IN_PLACE && classes.len() - from >= AT_ONCE {
+        return Some(read_next(data_source, text, classes, from));
     }
-    seek_minded(data_source, text, classes, at, minded)
+    seek_minded(data_source, text, classes, from, reading.minded())
 }
 
 // Whether a line feed that separates paragraphs begins at an index. The index must be a boundary.
@@ -264,14 +258,15 @@ pub fn walk<D: BidiDataSource, T: TextSource>(
         IfOk result (λ i. i.flags.items ≡ paragraph_flags (D.source data_source.now) pieces) }
 {
     let mut walk = TextReading::new(alloc, base, memory);
-    let mut minded = walk.reading.minded();
     let mut at = 0;
-    let mut after_control = false;
-    while let Some(met) = next_minded(data_source, text, classes, at, minded, after_control) {
+    let mut near_end = 0;
+    while let Some(met) = next_met(data_source, text, classes, at, &walk.reading, at < near_end) {
         at = met.start + T::char_len(met.c);
-        after_control = is_initiator(met.class) || is_pdi(met.class);
+        if is_initiator(met.class) || is_pdi(met.class) {
+            near_end = at.saturating_add(NEAR);
+        }
         let ends = ends_paragraph(data_source, text, split, met.c, met.class, at);
-        minded = walk.meet(classes, met.class, met.start..at, ends)?;
+        walk.meet(classes, met.class, met.start..at, ends)?;
     }
     let end = text.len();
     if split.is_none() || walk.reading.start < end {

@@ -24,7 +24,7 @@ fn skim_each<D: BidiDataSource, T: TextSource>(
     minded: ClassSet,
 ) -> Option<Met>
     requires { CanReadOn T.units (T.characters text) at.old classes.old }
-    ensures { IsReadOn (D.source data_source.now) T.units (T.characters text) minded at.old result at.new classes.old
+    ensures { IsReadOn (D.source data_source.now) T.units (T.characters text) (has minded) at.old result at.new classes.old
         classes.new }
 {
     let mut start = *at;
@@ -87,7 +87,7 @@ fn skim_blocks<D: BidiDataSource, T: TextSource>(
     minded: ClassSet,
 )
     requires { CanReadOn T.units (T.characters text) at.old classes.old }
-    ensures read { IsSkimmed (D.source data_source.now) T.units minded (ahead T.units (T.characters text) at.old)
+    ensures read { IsSkimmed (D.source data_source.now) T.units (has minded) (ahead T.units (T.characters text) at.old)
         at.old at.new classes.old classes.new }
     ensures order { at.old ≤ at.new }
 {
@@ -118,7 +118,7 @@ pub(super) fn skim<D: BidiDataSource, T: TextSource>(
     minded: ClassSet,
 ) -> Option<Met>
     requires { CanReadOn T.units (T.characters text) at.old classes.old }
-    ensures { IsReadOn (D.source data_source.now) T.units (T.characters text) minded at.old result at.new classes.old
+    ensures { IsReadOn (D.source data_source.now) T.units (T.characters text) (has minded) at.old result at.new classes.old
         classes.new }
 {
     while *at < classes.len() {

@@ -1,6 +1,7 @@
 //! Characters from the first one that is not ASCII on, read sixteen at a time, by index, or by the
 //! iterator.
-ghost use Rattle.std.specs.Prelude.{◌≡◌, ℕ, ◌+◌, ◌-◌, ◌<◌, ◌≤◌, true, false, length, get_or, take, MatchOption, IsTrue, None};
+ghost use Rattle.std.specs.Prelude.{◌≡◌, ℕ, ◌+◌, ◌-◌, ◌<◌, ◌≤◌, Bool, true, false, length, get_or, take, MatchOption, IsTrue, None};
+ghost use Rattle.bidi_base.specs.declared.char_data.BidiClass.{BidiClass};
 ghost use Rattle.bidi_base.specs.Places.{class_at};
 ghost use Rattle.bidi_base.specs.Text.{text_len, is_boundary as is_boundary_of};
 ghost use Rattle.bidi_walk.specs.ClassSet.{has};
@@ -93,9 +94,9 @@ fn read_to_minded<D: BidiDataSource, T: TextSource>(
 ) -> Option<Met>
     requires { text_len T.units (T.characters block) ≤ length classes.old }
     ensures { MatchOption result
-        (IsSkimmed (D.source data_source.now) T.units minded (T.characters block) 0
+        (IsSkimmed (D.source data_source.now) T.units (has minded) (T.characters block) 0
         (text_len T.units (T.characters block)) classes.old classes.new)
-        (λ met. IsMet (D.source data_source.now) T.units minded (T.characters block) 0 met classes.old classes.new) }
+        (λ met. IsMet (D.source data_source.now) T.units (has minded) (T.characters block) 0 met classes.old classes.new) }
 {
     for (start, c) in block.char_indices() {
         let class = data_source.bidi_class(c);
@@ -117,7 +118,7 @@ fn read_block<D: BidiDataSource, T: TextSource>(
     minded: ClassSet,
 ) -> Option<Met>
     requires { CanReadOn T.units (T.characters text) at.old classes.old }
-    ensures met { IsReadOn (D.source data_source.now) T.units (T.characters text) minded at.old result at.new classes.old
+    ensures met { IsReadOn (D.source data_source.now) T.units (T.characters text) (has minded) at.old result at.new classes.old
         classes.new }
     ensures passed { result ≡ None → at.old < length classes.new → at.old < at.new }
 {
@@ -135,14 +136,33 @@ fn read_block<D: BidiDataSource, T: TextSource>(
     None
 }
 
-/// Writes the classes of the characters that begin before a limit, up to the first one whose class is in
-/// `minded`. Reads the text by index.
-///
-/// From each index before the limit on there must be at least `AT_ONCE` code units. Returns the character
-/// whose class is in `minded`. If there is none, the index moves to the first character that begins at or
-/// after the limit.
+/// Writes the class of the character that begins at an index, and returns the character. Reads the text by
+/// index. From that index on there must be at least `AT_ONCE` code units.
+pub(super) fn read_next<D: BidiDataSource, T: TextSource>(
+    data_source: &D,
+    text: T,
+    classes: &mut [BidiClass],
+    start: usize,
+) -> Met
+    requires place { CanReadOn T.units (T.characters text) start classes.old }
+    requires room { start + AT_ONCE ≤ length classes.old }
+    ensures { (minded : BidiClass → Bool) → IsMet (D.source data_source.now) T.units minded
+        (ahead T.units (T.characters text) start) start result classes.old classes.new }
+{
+    let (c, _) = text.next_at(start);
+    let class = data_source.bidi_class(c);
+    write_at_once::<T>(classes, start, c, class);
+    Met { start, c, class }
+}
+
+// Writes the classes of the characters that begin before a limit, up to the first one whose class is in
+// `minded`. Reads the text by index.
+//
+// From each index before the limit on there must be at least `AT_ONCE` code units. Returns the character
+// whose class is in `minded`. If there is none, the index moves to the first character that begins at or
+// after the limit.
 #[inline(never)]
-pub(super) fn read_in_place<D: BidiDataSource, T: TextSource>(
+fn read_in_place<D: BidiDataSource, T: TextSource>(
     data_source: &D,
     text: T,
     classes: &mut [BidiClass],
@@ -152,7 +172,7 @@ pub(super) fn read_in_place<D: BidiDataSource, T: TextSource>(
 ) -> Option<Met>
     requires place { CanReadOn T.units (T.characters text) at.old classes.old }
     requires room { limit + (AT_ONCE - 1) ≤ length classes.old }
-    ensures met { IsReadOn (D.source data_source.now) T.units (T.characters text) minded at.old result at.new classes.old
+    ensures met { IsReadOn (D.source data_source.now) T.units (T.characters text) (has minded) at.old result at.new classes.old
         classes.new }
     ensures passed { result ≡ None → limit ≤ at.new }
 {
@@ -181,7 +201,7 @@ fn read_low_blocks<D: BidiDataSource, T: TextSource>(
     minded: ClassSet,
 ) -> Option<Met>
     requires { CanReadOn T.units (T.characters text) at.old classes.old }
-    ensures met { IsReadOn (D.source data_source.now) T.units (T.characters text) minded at.old result at.new classes.old
+    ensures met { IsReadOn (D.source data_source.now) T.units (T.characters text) (has minded) at.old result at.new classes.old
         classes.new }
 {
     let mut start = *at;
@@ -215,7 +235,7 @@ pub(super) fn read_on<D: BidiDataSource, T: TextSource>(
     minded: ClassSet,
 ) -> Option<Met>
     requires { CanReadOn T.units (T.characters text) at.old classes.old }
-    ensures met { IsReadOn (D.source data_source.now) T.units (T.characters text) minded at.old result at.new classes.old
+    ensures met { IsReadOn (D.source data_source.now) T.units (T.characters text) (has minded) at.old result at.new classes.old
         classes.new }
     ensures passed { result ≡ None → at.old < length classes.new → at.old < at.new }
 {

@@ -15,21 +15,20 @@ loop-met-init g c = (
     here = refl;
     read = IsRead-start _ _ _ c.args.split c.args.base _ c.new-walk.result.reading c.requires c.new-walk.ensures.paragraphs c.new-walk.ensures.flags c.new-walk.ensures.reading;
   },
-  c.minded-minded.ensures,
   c.new-walk.ensures.base,
 )
 
-pub next_minded-requires : goal.next_minded-requires
-next_minded-requires g c = record {
+pub next_met-requires : goal.next_met-requires
+next_met-requires g c = record {
   sized = grind arith;
   begins = grind (arith, is_boundary-place);
 }
 
 -- the character that was met
 met_at : (g : Over) (c : In-Some g)
-    → IsAt (g.D.BidiDataSource.source c.args.data_source.now) g.T.TextSource.units (g.T.TextSource.characters c.args.text) c.args.split c.args.base c.in-Some.met (seen c.next_minded.new.classes c.loop-met.walk) c.loop-met.walk.reading
+    → IsAt (g.D.BidiDataSource.source c.args.data_source.now) g.T.TextSource.units (g.T.TextSource.characters c.args.text) c.args.split c.args.base c.in-Some.met (seen c.next_met.new.classes c.loop-met.walk) c.loop-met.walk.reading
 met_at g c =
-    IsAt-met _ _ _ g.met.T.TextSource.has_units _ _ _ _ _ _ _ c.loop-met.invariant.0 c.loop-met.invariant.1 c.next_minded.auto.classes c.in-Some.met c.in-Some.ensures
+    IsAt-met _ _ _ g.met.T.TextSource.has_units _ _ _ _ _ _ c.loop-met.invariant.0 c.next_met.auto.classes c.in-Some.met c.in-Some.ensures
 
 pub overflow_add-at : goal.overflow_add-at
 overflow_add-at g c = omega (arith, (met_at g (goal.at.overflow_add-at g c).In-Some).turn.fits, c.well_formed, c.requires, c.char_len.ensures)
@@ -65,32 +64,31 @@ loop-met-preserved g c =
     let new = seen c.meet.new.classes c.meet.new.self in
     let read : IsRead _ _ _ c.args.split c.args.base (n + 1) new c.meet.new.self.reading = elim (cases_Bool c.ends_paragraph-ends.result) [
       | inl stop ↦
-          let ended = c.in_ok-minded.ensures.ended stop in
+          let ended = c.in_ok-meet.ensures.ended stop in
           let r = ended.1.0 in
-          let done = more longer r range_is c.in_ok-minded.ensures.classes c.meet.auto.classes refl refl ended.1.1 in
+          let done = more longer r range_is c.in_ok-meet.ensures.classes c.meet.auto.classes refl refl ended.1.1 in
           IsRead-stop _ _ _ _ _ n _ _ _ new _ m.read w.next
-          (IsTextDone-close _ _ _ _ (n + 1) _ _ longer r done new to end refl (rw c.loop-met.invariant.2 at ended.1.2)) (rw end at ended.0) (sym ends_is ∙ stop)
+          (IsTextDone-close _ _ _ _ (n + 1) _ _ longer r done new to end refl (rw c.loop-met.invariant.1 at ended.1.2)) (rw end at ended.0) (sym ends_is ∙ stop)
       | inr on ↦
-          let kept = c.in_ok-minded.ensures.on on in
-          let counted = more new kept.0.0 range_is c.in_ok-minded.ensures.classes c.meet.auto.classes kept.1 kept.2 kept.0.1 in
+          let kept = c.in_ok-meet.ensures.on on in
+          let counted = more new kept.0.0 range_is c.in_ok-meet.ensures.classes c.meet.auto.classes kept.1 kept.2 kept.0.1 in
           IsRead-on _ _ _ _ _ n _ _ _ new _ m.read w.next
           (IsTextRead-stop_counting _ _ _ _ (n + 1) _ _ new kept.0.0 _ counted kept.0.2) (sym ends_is ∙ on)
     ] in (
       record { index = n + 1; within = omega (arith, w.within); here = end; read = read },
-      c.in_ok-minded.ensures.minded,
-      c.meet.ensures.base ∙ c.loop-met.invariant.2,
+      c.meet.ensures.base ∙ c.loop-met.invariant.1,
     )
 
 pub close-requires : goal.close-requires
 close-requires g c = grind arith
 
-answered : (g : Over) (c : goal.After-drop-walk-2 g) → IsAnswer (g.D.BidiDataSource.source c.args.data_source.now) g.T.TextSource.units (g.T.TextSource.characters c.args.text) c.args.split c.args.base (seen c.next_minded.new.classes c.if-is_none.walk)
+answered : (g : Over) (c : goal.After-drop-walk-2 g) → IsAnswer (g.D.BidiDataSource.source c.args.data_source.now) g.T.TextSource.units (g.T.TextSource.characters c.args.text) c.args.split c.args.base (seen c.next_met.new.classes c.if-is_none.walk)
 answered g c =
     let split = c.args.split in
-    let old = seen c.next_minded.new.classes c.loop-met.walk in
+    let old = seen c.next_met.new.classes c.loop-met.walk in
     let cs : List ℕ = g.T.TextSource.characters c.args.text in
     let n : ℕ = length cs in
-    let h = IsRead-end _ _ _ g.met.T.TextSource.has_units _ _ _ _ _ _ _ c.loop-met.invariant.0 c.loop-met.invariant.1 c.next_minded.auto.classes c.in_default.ensures in
+    let h = IsRead-end _ _ _ g.met.T.TextSource.has_units _ _ _ _ _ _ c.loop-met.invariant.0 c.next_met.auto.classes c.in_default.ensures in
     let end : c.len-end.result ≡ place g.T.TextSource.units cs n = c.len-end.ensures ∙ sym (place-end _ cs n (omega arith)) in
     elim c.if-is_none.branch [
       | then-is_none+in_ok-close w ↦
@@ -98,9 +96,9 @@ answered g c =
             | then-is_none-via-then-is_none v ↦ inl (ap not (c.is_none.ensures ∙ ap not v.if-is_none.true))
             | then-is_none-via-else-is_none+then-walk-end v ↦ inr (omega (arith, v.if-walk-end.true, end))
           ] in
-          let new = seen c.next_minded.new.classes w.close.new.self in
+          let new = seen c.next_met.new.classes w.close.new.self in
           rw w.walk-is (IsTextDone-answer _ _ _ split _ n _ new refl (IsRead-last _ _ _ g.met.T.TextSource.has_units _ n old _ refl split h rest)
-          (IsTextDone-close _ _ _ _ n _ _ old _ h.read new c.len-end.result end refl (rw c.loop-met.invariant.2 at w.in_ok-close.ensures.closed)))
+          (IsTextDone-close _ _ _ _ n _ _ old _ h.read new c.len-end.result end refl (rw c.loop-met.invariant.1 at w.in_ok-close.ensures.closed)))
       | else-is_none+else-walk-end w ↦
           let none = IsRead-none _ _ _ g.met.T.TextSource.has_units _ n old _ refl split h (ap not (c.is_none.ensures ∙ ap not w.if-is_none.false)) (omega (arith, w.if-walk-end.false, end)) in
           rw w.walk-is (IsTextDone-answer _ _ _ split _ n _ old refl none.1 (IsTextDone-none _ _ _ _ n _ _ old _ none.0 h.read))

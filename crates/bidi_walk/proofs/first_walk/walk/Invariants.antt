@@ -1,7 +1,4 @@
 use Rattle.bidi_base.proofs.Common.{◌≡◌, ◌-◌, length}
-use Rattle.bidi_base.specs.declared.char_data.BidiClass.{BidiClass}
-use Rattle.bidi_walk.specs.ClassSet.{has}
-use Rattle.bidi_walk.specs.FirstWalk.{minds}
 use Rattle.bidi_walk.proofs.TextRead.{seen}
 use Rattle.bidi_walk.proofs.WalkSteps.{IsWalked}
 use Rattle.bidi_walk.proofs.first_walk.walk.Given as goal
@@ -9,7 +6,6 @@ use Rattle.bidi_walk.proofs.first_walk.walk.Given as goal
 abbrev pub invariant-loop-met : goal.invariant-loop-met
 invariant-loop-met g l =
     IsWalked (g.D.BidiDataSource.source l.data_source) g.T.TextSource.units (g.T.TextSource.characters l.fn.text) l.split l.fn.base l.at (seen l.classes l.walk) l.walk.reading
-    × ((c : BidiClass) → has l.minded c ≡ minds l.walk.reading c)
     × (l.walk.base ≡ l.fn.base)
 
 abbrev pub decreases-loop-met : goal.decreases-loop-met

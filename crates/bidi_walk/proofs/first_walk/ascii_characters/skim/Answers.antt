@@ -1,4 +1,5 @@
 use Rattle.bidi_base.proofs.Common.{arith, refl}
+use Rattle.bidi_walk.specs.ClassSet.{has}
 use Rattle.bidi_walk.specs.FirstWalk.{ahead, IsSkimmed}
 use Rattle.bidi_walk.proofs.Skimmed.{IsSkimmed-start, is_boundary-skimmed, IsSkimmed-on, IsMet-on}
 use Rattle.bidi_walk.proofs.first_walk.ascii_characters.skim.Given.{Over}
@@ -20,7 +21,7 @@ returns-in-Some g c =
 
 -- what came before the blocks was read
 each : (g : Over) (c : In_default g)
-    → IsSkimmed (g.D.BidiDataSource.source c.args.data_source.now) g.T.TextSource.units c.args.minded (ahead g.T.TextSource.units (g.T.TextSource.characters c.args.text) c.args.at.now) c.args.at.now c.skim_each.new.at c.args.classes.now c.skim_each.new.classes
+    → IsSkimmed (g.D.BidiDataSource.source c.args.data_source.now) g.T.TextSource.units (has c.args.minded) (ahead g.T.TextSource.units (g.T.TextSource.characters c.args.text) c.args.at.now) c.args.at.now c.skim_each.new.at c.args.classes.now c.skim_each.new.classes
 each g c = IsSkimmed-on _ _ _ _ _ _ _ _ c.loop-at.invariant g.met.T.TextSource.has_units (g.T.TextSource.characters c.args.text) c.requires.begins refl _ _ c.in_default.ensures
 
 pub returns-then-at-limit : goal.returns-then-at-limit

@@ -45,7 +45,7 @@ loop-next-preserved g c =
     let kept = IsSkimmed-kept _ _ _ _ _ _ _ _ c.loop-next.invariant.2 c.write_block.new.classes c.write_block.ensures.kept in (
       omega (arith, c.loop-next.invariant.0),
       c.ascii_block_at-next-in-Some.ensures,
-      IsSkimmed-ascii_block (g.D.BidiDataSource.source c.args.data_source.now) g.T.TextSource.units c.args.minded g.met.T.TextSource.has_units (g.T.TextSource.characters c.args.text) c.args.at.now c.loop-next.start c.requires.begins
+      IsSkimmed-ascii_block (g.D.BidiDataSource.source c.args.data_source.now) g.T.TextSource.units (has c.args.minded) g.met.T.TextSource.has_units (g.T.TextSource.characters c.args.text) c.args.at.now c.loop-next.start c.requires.begins
           c.args.classes.now c.write_block.new.classes kept c.in-Some.block (omega (arith, fits, c.write_block.auto.classes)) (bytes g (goal.at.loop-next-preserved g c).In-Some) (λ k below. (classes g c k below).0) (λ k below. (classes g c k below).1),
     )
 

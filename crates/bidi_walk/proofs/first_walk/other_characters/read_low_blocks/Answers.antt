@@ -1,4 +1,5 @@
 use Rattle.bidi_base.proofs.Common.{◌+◌, ◌≤◌, length, get_or, arith}
+use Rattle.bidi_walk.specs.ClassSet.{has}
 use Rattle.bidi_walk.proofs.Skimmed.{char-inside, IsSkimmed-start, IsSkimmed-kept, IsSkimmed-part, IsMet-part}
 use Rattle.bidi_walk.proofs.first_walk.other_characters.read_low_blocks.Given.{Over}
 use Rattle.bidi_walk.proofs.first_walk.other_characters.read_low_blocks.Goals as goal
@@ -26,7 +27,7 @@ pub returns-then-idle-lt-LOW_BLOCK : goal.returns-then-idle-lt-LOW_BLOCK
 returns-then-idle-lt-LOW_BLOCK g c =
     let fits = room g (goal.at.returns-then-idle-lt-LOW_BLOCK g c).In-Some in
     let kept = IsSkimmed-kept _ _ _ _ _ _ _ _ c.loop-start.invariant c.write_low_block-idle.new.classes c.write_low_block-idle.ensures.kept in
-    let met = IsMet-part (g.D.BidiDataSource.source c.args.data_source.now) g.T.TextSource.units c.args.minded g.met.T.TextSource.has_units (g.T.TextSource.characters c.args.text) c.args.at.now c.loop-start.start c.requires.begins
+    let met = IsMet-part (g.D.BidiDataSource.source c.args.data_source.now) g.T.TextSource.units (has c.args.minded) g.met.T.TextSource.has_units (g.T.TextSource.characters c.args.text) c.args.at.now c.loop-start.start c.requires.begins
     c.args.classes.now c.write_low_block-idle.new.classes kept c.in-Some.block (omega (arith, fits, c.write_low_block-idle.auto.classes)) c.in-Some.ensures.characters c.write_low_block-idle.result c.if-idle-lt-LOW_BLOCK.true c.write_low_block-idle.ensures.written c.write_low_block-idle.ensures.idle in
     record { met = rw c.char_of_low-c.ensures met }
 
@@ -37,5 +38,5 @@ pub loop-start-preserved : goal.loop-start-preserved
 loop-start-preserved g c =
     let fits = room g (goal.at.loop-start-preserved g c).In-Some in
     let kept = IsSkimmed-kept _ _ _ _ _ _ _ _ c.loop-start.invariant c.write_low_block-idle.new.classes c.write_low_block-idle.ensures.kept in
-    IsSkimmed-part (g.D.BidiDataSource.source c.args.data_source.now) g.T.TextSource.units c.args.minded g.met.T.TextSource.has_units (g.T.TextSource.characters c.args.text) c.args.at.now c.loop-start.start c.requires.begins
+    IsSkimmed-part (g.D.BidiDataSource.source c.args.data_source.now) g.T.TextSource.units (has c.args.minded) g.met.T.TextSource.has_units (g.T.TextSource.characters c.args.text) c.args.at.now c.loop-start.start c.requires.begins
     c.args.classes.now c.write_low_block-idle.new.classes kept c.in-Some.block (omega (arith, fits, c.write_low_block-idle.auto.classes)) c.in-Some.ensures.characters c.write_low_block-idle.result c.write_low_block-idle.ensures.few c.write_low_block-idle.ensures.written c.write_low_block-idle.ensures.idle
