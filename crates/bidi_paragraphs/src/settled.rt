@@ -1,21 +1,19 @@
 //! Sequences that W1 to N1 leave as they are.
 
-ghost use Rattle.std.specs.Prelude.{◌≡◌, ◌⊎◌, ℕ, ◌<◌, ◌≤◌, true, length, map, All, IsTrue};
+ghost use Rattle.std.specs.Prelude.{◌≡◌, ◌⊎◌, ℕ, ◌<◌, ◌≤◌, true, false, length, map, All, IsTrue};
 ghost use Rattle.bidi_base.specs.Places.{class_at};
 ghost use Rattle.bidi_base.specs.Units.{bounds, in_runs};
 ghost use Rattle.bidi_paragraphs.specs.Settled.{HasOneDirection, HasNoNeutral};
 ghost use Rattle.bidi_runs.specs.RunSequence.{lent_runs};
 
-use bidi_base::char_data::BidiClass::{self, BN, L, R};
-use bidi_base::classes::is_neutral;
+use bidi_base::char_data::BidiClass::{
+    self, AL, AN, BN, CS, EN, ES, ET, L, LRE, LRO, NSM, PDF, R, RLE, RLO,
+};
 use bidi_base::level::Level;
-use bidi_base::search::ClassTest;
+use bidi_base::search::{ClassTest, first_passing};
 use bidi_rules::prepare::{LentSequence, LevelRun};
 
-/// Runs of more code units than this are left to the passes, which read them by blocks.
-const SHORT: usize = 32;
-
-/// Returns whether a look at a sequence of short runs shows that W1 to N1 change no class in it, and that N2
+/// Returns whether a look at the classes of a sequence shows that W1 to N1 change none of them, and that N2
 /// gives its neutrals the direction of its level.
 ///
 /// Most isolates and embeddings are such sequences: a name, or a few words of one language. The look takes
@@ -40,7 +38,7 @@ fn has_one_direction(sequence: LentSequence<'_>, levels: &[Level], classes: &[Bi
     sequence.eos() == direction
         && classes[first] != BN
         && levels[first].bidi_class() == direction
-        && all_pass(GoesWith(direction), runs, classes)
+        && none_passes(GoesAgainst(direction), runs, classes)
 }
 
 /// Whether all classes of a sequence are L or R.
@@ -48,64 +46,64 @@ fn has_no_neutral(sequence: LentSequence<'_>, classes: &[BidiClass]) -> bool
     requires { All (λ r. r.1 ≤ length classes.now) (map bounds (lent_runs sequence)) }
     ensures { IsTrue result → HasNoNeutral sequence.entry classes.now }
 {
-    all_pass(Directed, sequence.runs(), classes)
+    none_passes(Undirected, sequence.runs(), classes)
 }
 
-/// Whether some runs are short, and all their classes pass a test.
-fn all_pass<C: ClassTest>(test: C, runs: &[LevelRun], classes: &[BidiClass]) -> bool
+/// Whether no class in some runs passes a test.
+fn none_passes<C: ClassTest>(test: C, runs: &[LevelRun], classes: &[BidiClass]) -> bool
     requires { All (λ r. r.1 ≤ length classes.now) (map bounds runs.now) }
-    ensures { IsTrue result → (u : ℕ) → in_runs (map bounds runs.now) u ≡ true → C.test test (class_at classes.now u) ≡ true }
+    ensures { IsTrue result → (u : ℕ) → in_runs (map bounds runs.now) u ≡ true → C.test test (class_at classes.now u) ≡ false }
 {
     for run in runs {
-        if !run_passes(test, run, classes) {
+        if passes_in(test, run, classes) {
             return false;
         }
     }
     true
 }
 
-/// Whether a run is short, and all its classes pass a test.
-fn run_passes<C: ClassTest>(test: C, run: &LevelRun, classes: &[BidiClass]) -> bool
+/// Whether a class in a run passes a test.
+fn passes_in<C: ClassTest>(test: C, run: &LevelRun, classes: &[BidiClass]) -> bool
     requires { run.now.end ≤ length classes.now }
-    ensures { IsTrue result → (u : ℕ) → run.now.start ≤ u → u < run.now.end → C.test test (class_at classes.now u) ≡ true }
+    ensures { result ≡ false → (u : ℕ) → run.now.start ≤ u → u < run.now.end → C.test test (class_at classes.now u) ≡ false }
 {
-    if run.end.saturating_sub(run.start) > SHORT {
-        return false;
-    }
-    for unit in run.start..run.end {
-        if !test.passes(classes[unit]) {
-            return false;
-        }
-    }
-    true
+    let end = run.end;
+    let start = run.start.min(end);
+    first_passing(test, classes, start, end) < end
 }
 
-/// This direction, the neutrals, and BN.
+/// All classes but this direction, the neutrals, and BN. The test has no branch, so that many code units are
+/// tested at once.
 #[derive(Clone, Copy, Debug)]
-struct GoesWith(BidiClass);
+struct GoesAgainst(BidiClass);
 
-impl ClassTest for GoesWith {
+impl ClassTest for GoesAgainst {
+    ghost use Rattle.std.specs.Prelude.{not};
     ghost use Rattle.bidi_paragraphs.specs.Settled.{goes_along};
 
-    ghost test = { λ d. goes_along d.0 };
+    ghost test = { λ d c. not (goes_along d.0 c) };
 
     #[tactic(auto, unfolding(crate::specs::Settled::goes_along))]
     fn passes(self, class: BidiClass) -> bool {
-        (class == self.0) | (class == BN) | is_neutral(class)
+        let strong = (class == L) | (class == R) | (class == AL);
+        let number = (class == EN) | (class == ES) | (class == ET) | (class == AN) | (class == CS);
+        let embedding = (class == LRE) | (class == LRO) | (class == RLE) | (class == RLO);
+        (strong | number | (class == NSM) | embedding | (class == PDF)) & (class != self.0)
     }
 }
 
-/// L, R and BN.
+/// All classes but L, R and BN.
 #[derive(Clone, Copy, Debug)]
-struct Directed;
+struct Undirected;
 
-impl ClassTest for Directed {
+impl ClassTest for Undirected {
+    ghost use Rattle.std.specs.Prelude.{not};
     ghost use Rattle.bidi_paragraphs.specs.Settled.{is_directed};
 
-    ghost test = { λ _. is_directed };
+    ghost test = { λ _ c. not (is_directed c) };
 
     #[tactic(auto, unfolding(crate::specs::Settled::is_directed))]
     fn passes(self, class: BidiClass) -> bool {
-        (class == L) | (class == R) | (class == BN)
+        (class != L) & (class != R) & (class != BN)
     }
 }
