@@ -3,4 +3,5 @@ pub mod FlatPasses
 pub mod LevelPasses
 pub mod SequenceUnits
 pub mod SequencesInPlace
+pub mod DirectedSequences
 pub mod SettledSequences
