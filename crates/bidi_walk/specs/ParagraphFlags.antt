@@ -1,7 +1,7 @@
 -- What the later steps ask of a paragraph's classes.
 use Rattle.std.specs.Prelude.{ℕ, Bool, true, false, if◌then◌else◌, List, [], ◌∷◌, map}
 use Rattle.bidi_base.specs.declared.char_data.BidiClass.{BidiClass}
-use Rattle.bidi_base.specs.declared.char_data.BidiClass.TheVariants.{ES, ET, CS, NSM, S, WS, ON}
+use Rattle.bidi_base.specs.declared.char_data.BidiClass.TheVariants.{ES, ET, CS, NSM, B, S, WS, ON, PDI}
 use Rattle.bidi_base.specs.Source.{Source}
 use Rattle.bidi_walk.specs.ClassSet.{with}
 use Rattle.bidi_walk.specs.declared.paragraph_flags.ParagraphFlags.{ParagraphFlags}
@@ -15,6 +15,8 @@ is_counted NSM = false
 is_counted S = false
 is_counted WS = false
 is_counted ON = false
+is_counted B = false
+is_counted PDI = false
 is_counted _ = true
 
 -- the flags with those of one more character

@@ -70,14 +70,12 @@ impl ClassSet {
             | 1 << BidiClass::AN as u32,
     };
 
-    /// The classes that the later steps tell apart: all but the neutrals and those weak types that are
+    /// The classes that the later steps tell apart: all but PDI, the neutrals, and those weak types that are
     /// neither numbers nor removed by X9.
     pub(crate) const COUNTED: ClassSet = ClassSet {
         bits: ClassSet::TURNING_EVEN.bits
             | ClassSet::TURNING_ODD.bits
-            | ClassSet::REMOVED.bits
-            | 1 << BidiClass::B as u32
-            | 1 << BidiClass::PDI as u32,
+            | ClassSet::REMOVED.bits,
     };
 
     /// Whether the class is in the set.

@@ -19,9 +19,9 @@ strong k = grind arith
 closing : (k : BidiClass) → has (record { bits = 2 ^ class_number PDI }) k ≡ is_pdi k
 closing k = grind arith
 
--- all but the neutrals and the weak types that are neither numbers nor removed
+-- all but PDI, the neutrals, and the weak types that are neither numbers nor removed
 abbrev others : ℕ
-others = 2 ^ class_number ES + 2 ^ class_number ET + 2 ^ class_number CS + 2 ^ class_number NSM + 2 ^ class_number S + 2 ^ class_number WS + 2 ^ class_number ON
+others = 2 ^ class_number ES + 2 ^ class_number ET + 2 ^ class_number CS + 2 ^ class_number NSM + 2 ^ class_number S + 2 ^ class_number WS + 2 ^ class_number ON + 2 ^ class_number B + 2 ^ class_number PDI
 
 counted : (k : BidiClass) → has (record { bits = 2 ^ 23 - 1 - others }) k ≡ is_counted k
 counted k = grind arith
