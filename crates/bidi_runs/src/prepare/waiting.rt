@@ -62,17 +62,9 @@ impl Waiting {
     fn push(&mut self, wait: Option<usize>) -> Result<(), AllocError>
         ensures { OnOk result (self.new ≡ self.old ++ wait ∷ []) }
     {
-        if let Some(last) = self.rows.last() {
-            let Alike {
-                wait: before,
-                times,
-            } = *last;
-            if wait.is_none() && before.is_none() && times < usize::MAX {
-                self.rows.pop();
-                self.rows.push(Alike {
-                    wait,
-                    times: times + 1,
-                })?;
+        if let Some(last) = self.rows.last_mut() {
+            if wait.is_none() && last.wait.is_none() && last.times < usize::MAX {
+                last.times += 1;
                 return Ok(());
             }
         }
@@ -81,19 +73,15 @@ impl Waiting {
     }
 
     /// Closes the innermost isolate, if one is open.
-    fn pop(&mut self) -> Result<(), AllocError>
-        ensures { OnOk result (self.new ≡ take (length self.old - 1) self.old) }
+    fn pop(&mut self)
+        ensures { self.new ≡ take (length self.old - 1) self.old }
     {
-        if let Some(last) = self.rows.pop() {
-            let Alike { wait, times } = last;
-            if times > 1 {
-                self.rows.push(Alike {
-                    wait,
-                    times: times - 1,
-                })?;
+        match self.rows.last_mut() {
+            Some(last) if last.times > 1 => last.times -= 1,
+            _ => {
+                self.rows.pop();
             }
         }
-        Ok(())
     }
 
     /// What waits for the PDI of the innermost isolate.
@@ -113,7 +101,10 @@ impl Waiting {
     {
         match class {
             BidiClass::LRI | BidiClass::RLI | BidiClass::FSI => self.push(wait),
-            BidiClass::PDI => self.pop(),
+            BidiClass::PDI => {
+                self.pop();
+                Ok(())
+            }
             _ => Ok(()),
         }
     }
