@@ -137,13 +137,13 @@ fn next_control(classes: &[BidiClass], from: usize, to: usize) -> usize
     requires within { to ≤ length classes.now }
     ensures { IsFirst is_isolate_control classes.now from to result }
 {
-    let near = from + NEAR.min(to - from);
-    for at in from..near {
-        if IsolateControl.passes(classes[at]) {
+    for near in 0..NEAR {
+        let at = from + near;
+        if at == to || IsolateControl.passes(classes[at]) {
             return at;
         }
     }
-    first_passing(IsolateControl, classes, near, to)
+    first_passing(IsolateControl, classes, from + NEAR, to)
 }
 
 /// Writes the isolating run sequences of a paragraph to `out`, in the order of their first characters
