@@ -58,11 +58,10 @@ pub record IsReadTo (len_of : ℕ → ℕ) (chars : List ℕ) (units : List Bidi
   pub high : index ≤ char_index len_of chars end
   pub is : waits ≡ read_range (per_char L len_of chars units) (char_index len_of chars last) s (char_index len_of chars start) index old
 
--- the same, where so many of the open isolates are counted, for which nothing waits, and a control stands there
+-- the same, where so many of the open isolates are counted, for which nothing waits
 pub record IsCountedTo (len_of : ℕ → ℕ) (chars : List ℕ) (units : List BidiClass) (start end last s : ℕ) (old waits : List (Option ℕ)) (n at : ℕ) : Type 0 where
   pub read : IsReadTo len_of chars units start end last s old (waits ++ replicate n None) at
   pub few : n ≤ at
-  pub control : at < end → is_isolate_control (class_at units at) ≡ true
 
 module _ (len_of : ℕ → ℕ) (h : HasUnits len_of) (chars : List ℕ) (units : List BidiClass) (whole : is_per_char ghosts.eq len_of chars units ≡ true) (start end last s : ℕ) (line : IsLine len_of chars start end) (boundary : is_boundary len_of chars last ≡ true) where
   abbrev first : ℕ
@@ -157,10 +156,6 @@ module _ (len_of : ℕ → ℕ) (h : HasUnits len_of) (chars : List ℕ) (units 
   pub IsReadTo-within : (old waits : List (Option ℕ)) (at : ℕ) → ReadTo old waits at → at ≤ end
   IsReadTo-within old waits at r = grind (arith, line_places, place-mono) steps 400000
 
-  pub IsReadTo-behind : (old waits : List (Option ℕ)) (at behind : ℕ) → at < end → ((k : ℕ) → k < length chars → at ≡ place len_of chars k → behind ≡ place len_of chars (k + 1)) → ReadTo old waits at → behind ≤ end
-  IsReadTo-behind old waits at behind below ends r =
-      IsReadTo-within old _ behind (IsReadTo-more old waits _ at behind _ below ends refl refl r)
-
   -- all characters of the run
   pub IsReadTo-end : (old waits : List (Option ℕ)) → ReadTo old waits end → waits ≡ read_units len_of chars units last s start end old
   IsReadTo-end old waits r =
@@ -172,33 +167,65 @@ module _ (len_of : ℕ → ℕ) (h : HasUnits len_of) (chars : List ℕ) (units 
   abbrev CountedTo : List (Option ℕ) → List (Option ℕ) → ℕ → ℕ → Type 0
   CountedTo old waits n at = IsCountedTo len_of chars units start end last s old waits n at
 
-  pub IsCountedTo-start : (old : List (Option ℕ)) (at : ℕ) → IsFirst is_isolate_control units start end at → CountedTo old old 0 at
-  IsCountedTo-start old at f =
-      record { read = rw append-nil (IsReadTo-jump start at old old (IsReadTo-start old) f); few = omega arith; control = f.at }
+  pub IsCountedTo-start : (old : List (Option ℕ)) → CountedTo old old 0 start
+  IsCountedTo-start old = record { read = rw append-nil (IsReadTo-start old); few = omega arith }
 
-  pub IsCountedTo-next : (old waits : List (Option ℕ)) (n behind next : ℕ) → ReadTo old (waits ++ replicate n None) behind → n ≤ behind → IsFirst is_isolate_control units behind end next
-      → CountedTo old waits n next
-  IsCountedTo-next old waits n behind next r few f =
-      record { read = IsReadTo-jump behind next old (waits ++ replicate n None) r f; few = omega (arith, f.begins); control = f.at }
+  -- one control more, the next from the unit at hand on
+  module _ (old waits : List (Option ℕ)) (n at control behind : ℕ) (f : IsFirst is_isolate_control units at end control) (other : control ≡ end → ⊥)
+      (ends : (k : ℕ) → k < length chars → control ≡ place len_of chars k → behind ≡ place len_of chars (k + 1)) (r : CountedTo old waits n at) where
+    abbrev waits_there : List (Option ℕ)
+    waits_there = waits ++ replicate n None
 
-  module _ (old waits : List (Option ℕ)) (n at behind : ℕ) (below : at < end) (ends : (k : ℕ) → k < length chars → at ≡ place len_of chars k → behind ≡ place len_of chars (k + 1))
-    (r : CountedTo old waits n at) where
-    -- a PDI closes the innermost of them
-    pub counted-closed : is_pdi (class_at units at) ≡ true → 0 < n → ReadTo old (waits ++ replicate (n - 1) None) behind
+    below : control < end
+    below = omega (arith, f.ends)
+
+    jumped : ReadTo old waits_there control
+    jumped = IsReadTo-jump at control old waits_there r.read f
+
+    past : control < behind
+    past = IsReadTo-past old waits_there control behind below ends jumped
+
+    pub counted-smaller : end - behind < end - at
+    counted-smaller = omega (arith, f.begins, below, past)
+
+    -- a PDI closes the innermost of those that are counted
+    pub counted-closed : is_pdi (class_at units control) ≡ true → 0 < n → CountedTo old waits (n - 1) behind
     counted-closed pdi some =
-        IsReadTo-more old (waits ++ replicate n None) _ at behind _ below ends refl (read-closed_own (class_at units at) _ waits n pdi some) r.read
+        record {
+          read = IsReadTo-more old waits_there _ control behind _ below ends refl (read-closed_own (class_at units control) _ waits n pdi some) jumped;
+          few = omega (arith, r.few, f.begins, past);
+        }
 
     -- or one of those before, if there is none
-    pub counted-closed_before : (now : List (Option ℕ)) → is_pdi (class_at units at) ≡ true → n ≡ 0 → now ≡ take (length waits - 1) waits → ReadTo old (now ++ replicate n None) behind
+    pub counted-closed_before : (now : List (Option ℕ)) → is_pdi (class_at units control) ≡ true → n ≡ 0 → now ≡ take (length waits - 1) waits → CountedTo old now n behind
     counted-closed_before now pdi none is =
-        IsReadTo-more old (waits ++ replicate n None) _ at behind _ below ends refl (read-closed (class_at units at) _ waits now n pdi none is) r.read
+        record {
+          read = IsReadTo-more old waits_there _ control behind _ below ends refl (read-closed (class_at units control) _ waits now n pdi none is) jumped;
+          few = omega (arith, r.few, f.begins, past);
+        }
 
     -- an initiator opens one more
-    pub counted-opened : is_pdi (class_at units at) ≡ false → (behind ≡ last → ⊥) → ReadTo old (waits ++ replicate (n + 1) None) behind
-    counted-opened pdi other =
-        IsReadTo-more old (waits ++ replicate n None) _ at behind _ below ends (rw (ne_eqb behind last other) refl) (read-opened (class_at units at) waits n (r.control below) pdi) r.read
+    pub counted-opened : is_pdi (class_at units control) ≡ false → (behind ≡ last → ⊥) → CountedTo old waits (n + 1) behind
+    counted-opened pdi before =
+        record {
+          read = IsReadTo-more old waits_there _ control behind _ below ends (rw (ne_eqb behind last before) refl) (read-opened (class_at units control) waits n (f.at below) pdi) jumped;
+          few = omega (arith, r.few, f.begins, past);
+        }
 
     -- and the last kept one opens an isolate for which the sequence waits
-    pub counted-waits : (more now : List (Option ℕ)) → is_pdi (class_at units at) ≡ false → behind ≡ last → more ≡ waits ++ replicate n None → now ≡ more ++ Some s ∷ [] → ReadTo old (now ++ replicate 0 None) behind
+    pub counted-waits : (more now : List (Option ℕ)) → is_pdi (class_at units control) ≡ false → behind ≡ last → more ≡ waits_there → now ≡ more ++ Some s ∷ [] → CountedTo old now 0 behind
     counted-waits more now pdi same all is =
-        IsReadTo-more old (waits ++ replicate n None) _ at behind (Some s) below ends (rw (eq-eqb behind last same) refl) (read-waits (class_at units at) s waits more now n (r.control below) pdi all is) r.read
+        record {
+          read = IsReadTo-more old waits_there _ control behind (Some s) below ends (rw (eq-eqb behind last same) refl) (read-waits (class_at units control) s waits more now n (f.at below) pdi all is) jumped;
+          few = omega arith;
+        }
+
+  -- no control is left
+  pub counted-end : (old waits : List (Option ℕ)) (n at control : ℕ) → IsFirst is_isolate_control units at end control → control ≡ end → CountedTo old waits n at → waits ++ replicate n None ≡ read_units len_of chars units last s start end old
+  counted-end old waits n at control f same r =
+      IsReadTo-end old (waits ++ replicate n None) (simp same at (IsReadTo-jump at control old (waits ++ replicate n None) r.read f))
+
+  pub counted-all : (old waits : List (Option ℕ)) (n at : ℕ) → end ≤ at → CountedTo old waits n at → waits ++ replicate n None ≡ read_units len_of chars units last s start end old
+  counted-all old waits n at over r =
+      let all : at ≡ end = omega (arith, IsReadTo-within old (waits ++ replicate n None) at r.read) in
+      IsReadTo-end old (waits ++ replicate n None) (simp all at r.read)

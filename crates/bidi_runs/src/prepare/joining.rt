@@ -88,23 +88,26 @@ pub(super) fn read_run<T: TextSource>(
 {
     let end = run.end;
     let mut unwaited: usize = 0;
-    let mut at = next_control(classes, run.start, end);
+    let mut at = run.start;
     while at < end {
-        let behind = end_within(text, at, classes.len());
-        if is_pdi(classes[at]) {
+        let control = next_control(classes, at, end);
+        if control == end {
+            break;
+        }
+        at = end_within(text, control, classes.len());
+        if is_pdi(classes[control]) {
             if unwaited > 0 {
                 unwaited -= 1;
             } else {
                 waiting.pop();
             }
-        } else if behind == kept_end {
+        } else if at == kept_end {
             waiting.push_unwaited(unwaited)?;
             waiting.push(s)?;
             unwaited = 0;
         } else {
             unwaited += 1;
         }
-        at = next_control(classes, behind, end);
     }
     waiting.push_unwaited(unwaited)
 }
