@@ -1,6 +1,6 @@
 -- The open isolates, of which those alike are counted.
-use Rattle.bidi_base.proofs.Common.{◌≡◌, ℕ, suc, ◌-◌, ◌<◌, List, [], ◌∷◌, ◌++◌, length, take, Option, Some, None, ap, ◌∙◌, arith, append-nil, append_assoc, flat_map-append, length-append, take-append_seam}
-use Rattle.std.specs.Prelude.{slice_get}
+use Rattle.bidi_base.proofs.Common.{◌≡◌, ℕ, suc, ◌+◌, ◌-◌, ◌<◌, List, [], ◌∷◌, ◌++◌, length, get_or, take, Option, Some, None, sym, ap, ◌∙◌, arith, append-nil, append_assoc, flat_map-append, length-append, take-append_seam}
+use Rattle.std.specs.Prelude.{slice_get, slice_set, replicate}
 use Rattle.std.proofs.lemmas.List.{replicate-append-replicate}
 use Rattle.bidi_base.proofs.Lists.{last_or-append}
 use Rattle.bidi_base.specs.Places.{last_or}
@@ -34,3 +34,30 @@ open-last rows r some e = by_times (r.times - 1) (omega arith)
     by_times n is =
         let same : open_isolates rows ≡ open_isolates (before ++ record { wait = r.wait; times = n } ∷ []) ++ r.wait ∷ [] = ap open_isolates (ends_with rows r e) ∙ rw (← is) (open-more before r.wait n) in
         ap (last_or None) same ∙ last_or-append None (open_isolates (before ++ record { wait = r.wait; times = n } ∷ [])) r.wait
+
+-- the last of a list, by its index
+ends_at : (rows : List Alike) (r : Alike) → 0 < length rows → r ≡ get_or rows (length rows - 1) r → rows ≡ take (length rows - 1) rows ++ r ∷ []
+ends_at [] r some e = absurd (omega arith)
+ends_at (q ∷ []) r some e = cc e
+ends_at (q ∷ p ∷ rows) r some e = grind (arith, ends_at (p ∷ rows) r)
+
+-- another in its place
+last-set : (rows : List Alike) (r : Alike) → 0 < length rows → slice_set rows (length rows - 1) r ≡ take (length rows - 1) rows ++ r ∷ []
+last-set [] r some = absurd (omega arith)
+last-set (q ∷ []) r some = cc
+last-set (q ∷ p ∷ rows) r some = grind (arith, last-set (p ∷ rows) r)
+
+-- more of the last
+pub last-grown : (rows : List Alike) (r : Alike) (n : ℕ) → 0 < length rows → r ≡ get_or rows (length rows - 1) r
+    → open_isolates (slice_set rows (length rows - 1) record { wait = r.wait; times = r.times + n }) ≡ open_isolates rows ++ replicate n r.wait
+last-grown rows r n some e =
+    grind (arith, ends_at rows r, last-set rows record { wait = r.wait; times = r.times + n }, flat_map-append, append_assoc, append-nil, replicate-append-replicate r.times n r.wait)
+
+-- one of the last less
+pub last-shrunk : (rows : List Alike) (r : Alike) (n : ℕ) → suc n ≡ r.times → 0 < length rows → r ≡ get_or rows (length rows - 1) r
+    → open_isolates (slice_set rows (length rows - 1) record { wait = r.wait; times = n }) ≡ take (length (open_isolates rows) - 1) (open_isolates rows)
+last-shrunk rows r n one some e =
+    let fewer : Alike = record { wait = r.wait; times = n } in
+    let before : List Alike = take (length rows - 1) rows in
+    let was : open_isolates rows ≡ open_isolates (before ++ fewer ∷ []) ++ r.wait ∷ [] = ap open_isolates (ends_at rows r some e) ∙ rw (← one) (open-more before r.wait n) in
+    rw (was, last-set rows fewer some) (sym (take-pushed (open_isolates (before ++ fewer ∷ [])) r.wait))

@@ -6,10 +6,11 @@ ghost use Rattle.bidi_base.specs.declared.char_data.BidiClass.TheVariants.{L};
 ghost use Rattle.bidi_base.specs.Classes.{is_initiator};
 ghost use Rattle.bidi_base.specs.Explicit.{explicit_levels};
 ghost use Rattle.bidi_base.specs.Levels.{direction_of};
+ghost use Rattle.bidi_base.specs.Search.{IsFirst};
 ghost use Rattle.bidi_base.specs.Sequences.{sequences, HasExplicitLevels};
 ghost use Rattle.bidi_base.specs.Text.{IsLine, is_boundary, is_per_char, per_char};
 ghost use Rattle.bidi_base.specs.Units.{bounds, level_run_ranges, AreLines};
-ghost use Rattle.bidi_runs.specs.Joining.{level_after_run, IsKeptEnd, read_units};
+ghost use Rattle.bidi_runs.specs.Joining.{level_after_run, is_isolate_control, IsKeptEnd, read_units};
 ghost use Rattle.bidi_runs.specs.RunSequence.{run_bounds, sequences_in};
 
 use super::waiting::Waiting;
@@ -17,9 +18,9 @@ use super::{
     IsolatingRunSequence, IsolatingRunSequenceVec, LevelRun, LevelRunVec, RunLinks,
     not_removed_by_x9,
 };
-use crate::characters::end_of;
+use crate::characters::end_within;
 use bidi_base::char_data::BidiClass;
-use bidi_base::classes::is_initiator;
+use bidi_base::classes::{is_initiator, is_pdi};
 use bidi_base::level::Level;
 use bidi_base::search::{ClassTest, first_passing};
 use bidi_text::text::TextSource;
@@ -67,6 +68,9 @@ pub(super) fn level_after(
 // Reads those characters of a run that open or close an isolate, and tracks what is open. The character
 // that ends at `kept_end` is the last that X9 keeps. If it opens an isolate, the sequence at `s` waits for
 // the PDI.
+//
+// Nothing waits for the other isolates that the run opens. `unwaited` counts them. Only those that the run
+// leaves open come to `waiting`.
 pub(super) fn read_run<T: TextSource>(
     waiting: &mut Waiting,
     text: T,
@@ -83,14 +87,29 @@ pub(super) fn read_run<T: TextSource>(
         waiting.old) }
 {
     let end = run.end;
-    let mut at = first_passing(IsolateControl, classes, run.start, end);
+    let mut unwaited: usize = 0;
+    let mut at = run.start;
     while at < end {
-        let behind = end_of(text, at);
-        let wait = (behind == kept_end).then_some(s);
-        waiting.read_class(classes[at], wait)?;
-        at = first_passing(IsolateControl, classes, behind, end);
+        let control = next_control(classes, at, end);
+        if control == end {
+            break;
+        }
+        at = end_within(text, control, classes.len());
+        if is_pdi(classes[control]) {
+            if unwaited > 0 {
+                unwaited -= 1;
+            } else {
+                waiting.pop();
+            }
+        } else if at == kept_end {
+            waiting.push_unwaited(unwaited)?;
+            waiting.push(s)?;
+            unwaited = 0;
+        } else {
+            unwaited += 1;
+        }
     }
-    Ok(())
+    waiting.push_unwaited(unwaited)
 }
 
 // The classes that open or close an isolate. The test has no branch, so that many units are tested at
@@ -109,6 +128,25 @@ impl ClassTest for IsolateControl {
             | (class == BidiClass::FSI)
             | (class == BidiClass::PDI)
     }
+}
+
+// In a text with many isolates, the next control is mostly among this many code units. They are tested one
+// by one before the search by blocks begins.
+const NEAR: usize = 4;
+
+// The first index in `from..to` with a class that opens or closes an isolate, or else `to`.
+fn next_control(classes: &[BidiClass], from: usize, to: usize) -> usize
+    requires ordered { from ≤ to }
+    requires within { to ≤ length classes.now }
+    ensures { IsFirst is_isolate_control classes.now from to result }
+{
+    for near in 0..NEAR {
+        let at = from + near;
+        if at == to || IsolateControl.passes(classes[at]) {
+            return at;
+        }
+    }
+    first_passing(IsolateControl, classes, from + NEAR, to)
 }
 
 /// Writes the isolating run sequences of a paragraph to `out`, in the order of their first characters

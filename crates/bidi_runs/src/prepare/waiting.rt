@@ -1,7 +1,7 @@
 //! The open isolates while level runs are linked (BD13).
 
 ghost use Rattle.std.specs.Prelude.{◌≡◌, [], OnOk};
-ghost use Rattle.bidi_base.specs.SequencePass.{read_class, waiting_for};
+ghost use Rattle.bidi_base.specs.SequencePass.{waiting_for};
 ghost use Rattle.bidi_runs.specs.Waiting.{open_isolates};
 
 use bidi_base::char_data::BidiClass;
@@ -40,7 +40,7 @@ impl Model for Waiting {
 impl Waiting {
     ghost use Rattle.std.specs.Prelude.{◌-◌, ◌∷◌, ◌++◌, length, take};
     ghost use Rattle.bidi_base.specs.Places.{last_or};
-    ghost use Rattle.std.specs.Prelude.{None};
+    ghost use Rattle.std.specs.Prelude.{Some, None, replicate};
 
     /// No isolate is open. Does not allocate.
     pub fn new(alloc: Global) -> Waiting
@@ -58,42 +58,44 @@ impl Waiting {
         self.rows.clear();
     }
 
-    /// Opens an isolate.
-    fn push(&mut self, wait: Option<usize>) -> Result<(), AllocError>
-        ensures { OnOk result (self.new ≡ self.old ++ wait ∷ []) }
+    /// Opens an isolate whose PDI continues a run. If an allocation fails, returns an error.
+    pub fn push(&mut self, run: usize) -> Result<(), AllocError>
+        ensures { OnOk result (self.new ≡ self.old ++ Some run ∷ []) }
     {
-        if let Some(last) = self.rows.last() {
-            let Alike {
-                wait: before,
-                times,
-            } = *last;
-            if wait.is_none() && before.is_none() && times < usize::MAX {
-                self.rows.pop();
-                self.rows.push(Alike {
-                    wait,
-                    times: times + 1,
-                })?;
+        self.rows.push(Alike {
+            wait: Some(run),
+            times: 1,
+        })?;
+        Ok(())
+    }
+
+    /// Opens as many isolates for whose PDIs nothing waits. If an allocation fails, returns an error.
+    pub fn push_unwaited(&mut self, times: usize) -> Result<(), AllocError>
+        ensures { OnOk result (self.new ≡ self.old ++ replicate times None) }
+    {
+        if times == 0 {
+            return Ok(());
+        }
+        if let Some(last) = self.rows.last_mut() {
+            if last.wait.is_none() && times <= usize::MAX - last.times {
+                last.times += times;
                 return Ok(());
             }
         }
-        self.rows.push(Alike { wait, times: 1 })?;
+        self.rows.push(Alike { wait: None, times })?;
         Ok(())
     }
 
     /// Closes the innermost isolate, if one is open.
-    fn pop(&mut self) -> Result<(), AllocError>
-        ensures { OnOk result (self.new ≡ take (length self.old - 1) self.old) }
+    pub fn pop(&mut self)
+        ensures { self.new ≡ take (length self.old - 1) self.old }
     {
-        if let Some(last) = self.rows.pop() {
-            let Alike { wait, times } = last;
-            if times > 1 {
-                self.rows.push(Alike {
-                    wait,
-                    times: times - 1,
-                })?;
+        match self.rows.last_mut() {
+            Some(last) if last.times > 1 => last.times -= 1,
+            _ => {
+                self.rows.pop();
             }
         }
-        Ok(())
     }
 
     /// What waits for the PDI of the innermost isolate.
@@ -103,18 +105,6 @@ impl Waiting {
         match self.rows.last() {
             Some(last) => last.wait,
             None => None,
-        }
-    }
-
-    /// Updates the open isolates for a character of this class. `wait` is what waits for its PDI if it is an
-    /// initiator. If an allocation fails, returns an error.
-    pub fn read_class(&mut self, class: BidiClass, wait: Option<usize>) -> Result<(), AllocError>
-        ensures { OnOk result (self.new ≡ read_class class wait self.old) }
-    {
-        match class {
-            BidiClass::LRI | BidiClass::RLI | BidiClass::FSI => self.push(wait),
-            BidiClass::PDI => self.pop(),
-            _ => Ok(()),
         }
     }
 

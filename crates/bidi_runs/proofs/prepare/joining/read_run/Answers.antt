@@ -1,62 +1,77 @@
-use Rattle.bidi_base.proofs.Common.{◌≡◌, ◌≤◌, ℕ, List, length, true, arith, is_per_char, IsLine}
+use Rattle.bidi_base.proofs.Common.{◌≡◌, ◌<◌, ◌≤◌, ◌∙◌, sym, ℕ, List, length, true, arith, is_per_char, text_len, IsLine}
 use Rattle.bidi_base.specs.contracts.char_data.BidiClassPartialEq.TheImpl.{ghosts}
 use Rattle.bidi_base.specs.declared.char_data.BidiClass.{BidiClass}
 use Rattle.bidi_base.proofs.TextLemmas.{HasUnits, is_boundary-le}
 use Rattle.bidi_text.proofs.PerCharTests.{class_test}
 use Rattle.bidi_base.proofs.UnitsLemmas.{length-from_is_per_char}
-use Rattle.bidi_runs.proofs.RunReading.{IsReadTo-start, IsReadTo-jump, IsReadTo-asked, IsReadTo-more, IsReadTo-end, IsReadTo-past, IsReadTo-within}
+use Rattle.bidi_runs.proofs.RunReading.{IsReadTo-jump, IsReadTo-asked, IsCountedTo-start, counted-all, counted-closed, counted-closed_before, counted-end, counted-opened, counted-smaller, counted-waits}
 use Rattle.bidi_runs.proofs.prepare.joining.read_run.Goals as goal
+use Rattle.bidi_runs.proofs.prepare.joining.read_run.Goals.{else-loop-at-test, then-loop-at-test+then-control-end}
 
 -- the run lies within
 within : (len_of : ℕ → ℕ) → HasUnits len_of → (chars : List ℕ) (units : List BidiClass) (start end : ℕ) → is_per_char ghosts.eq len_of chars units ≡ true → IsLine len_of chars start end → end ≤ length units
 within len_of h chars units start end whole line = grind (arith, length-from_is_per_char, class_test, is_boundary-le) steps 400000
 
-pub first_passing-at-requires-clause-inside : goal.first_passing-at-requires-clause-inside
-first_passing-at-requires-clause-inside g c = search (arith, within)
+-- a unit has a class
+long : (len_of : ℕ → ℕ) → HasUnits len_of → (chars : List ℕ) (units : List BidiClass) → is_per_char ghosts.eq len_of chars units ≡ true → length units ≡ text_len len_of chars
+long len_of h chars units whole = length-from_is_per_char ghosts.eq class_test len_of h chars units whole
 
-pub first_passing-at-requires-in-loop-at-clause-inside : goal.first_passing-at-requires-in-loop-at-clause-inside
-first_passing-at-requires-in-loop-at-clause-inside g c = search (arith, within)
+pub next_control-control-requires-clause-within : goal.next_control-control-requires-clause-within
+next_control-control-requires-clause-within g c = search (arith, within)
 
-pub bounds-classes-at : goal.bounds-classes-at
-bounds-classes-at g c = search (arith, within)
+pub bounds-classes-control : goal.bounds-classes-control
+bounds-classes-control g c = search (arith, within)
 
 pub loop-at-init : goal.loop-at-init
 loop-at-init g c =
-    IsReadTo-jump _ g.met.T.TextSource.has_units _ _ c.requires.per_char _ _ _ _ c.requires.line c.requires.kept_end _ _ _ _
-    (IsReadTo-start _ g.met.T.TextSource.has_units _ _ c.requires.per_char _ _ _ _ c.requires.line c.requires.kept_end c.args.waiting.now) c.first_passing-at.ensures
+    IsCountedTo-start _ g.met.T.TextSource.has_units _ _ c.requires.per_char _ _ _ _ c.requires.line c.requires.kept_end c.args.waiting.now
 
-pub end_of-behind-requires-clause-begins : goal.end_of-behind-requires-clause-begins
-end_of-behind-requires-clause-begins g c =
-    (IsReadTo-asked _ g.met.T.TextSource.has_units _ _ c.requires.per_char _ _ _ _ c.requires.line c.requires.kept_end _ _ _ c.loop-at-test.true c.loop-at.invariant).begins
+pub end_within-at-requires-clause-begins : goal.end_within-at-requires-clause-begins
+end_within-at-requires-clause-begins g c =
+    let below : c.next_control-control.result < c.args.run.now.end = omega (arith, c.next_control-control.ensures.ends, c.if-control-end.false) in
+    let jumped = IsReadTo-jump _ g.met.T.TextSource.has_units _ _ c.requires.per_char _ _ _ _ c.requires.line c.requires.kept_end _ _ _ _ c.loop-at.invariant.read c.next_control-control.ensures in
+    (IsReadTo-asked _ g.met.T.TextSource.has_units _ _ c.requires.per_char _ _ _ _ c.requires.line c.requires.kept_end _ _ _ below jumped).begins
 
-pub end_of-behind-requires-clause-inside : goal.end_of-behind-requires-clause-inside
-end_of-behind-requires-clause-inside g c =
-    (IsReadTo-asked _ g.met.T.TextSource.has_units _ _ c.requires.per_char _ _ _ _ c.requires.line c.requires.kept_end _ _ _ c.loop-at-test.true c.loop-at.invariant).inside
+pub end_within-at-requires-clause-long : goal.end_within-at-requires-clause-long
+end_within-at-requires-clause-long g c = long _ g.met.T.TextSource.has_units _ _ c.requires.per_char
 
-pub end_of-behind-requires-clause-fits : goal.end_of-behind-requires-clause-fits
-end_of-behind-requires-clause-fits g c = grind (arith, length-from_is_per_char)
+pub loop-at-smaller-then-unwaited-gt0 : goal.loop-at-smaller-then-unwaited-gt0
+loop-at-smaller-then-unwaited-gt0 g c = counted-smaller _ g.met.T.TextSource.has_units _ _ c.requires.per_char _ _ _ _ c.requires.line c.requires.kept_end _ _ _ _ _ _ c.next_control-control.ensures c.if-control-end.false c.end_within-at.ensures c.loop-at.invariant
 
-pub returns : goal.returns
-returns g c =
-    let end : c.loop-at.at ≡ c.args.run.now.end =
-    omega (arith, c.loop-at-test.false, IsReadTo-within _ g.met.T.TextSource.has_units _ _ c.requires.per_char _ _ _ _ c.requires.line c.requires.kept_end _ _ _ c.loop-at.invariant) in
-    IsReadTo-end _ g.met.T.TextSource.has_units _ _ c.requires.per_char _ _ _ _ c.requires.line c.requires.kept_end _ _ (simp end at c.loop-at.invariant)
+pub loop-at-smaller-else-unwaited-gt0 : goal.loop-at-smaller-else-unwaited-gt0
+loop-at-smaller-else-unwaited-gt0 g c = counted-smaller _ g.met.T.TextSource.has_units _ _ c.requires.per_char _ _ _ _ c.requires.line c.requires.kept_end _ _ _ _ _ _ c.next_control-control.ensures c.if-control-end.false c.end_within-at.ensures c.loop-at.invariant
 
-pub first_passing-at-requires-in-loop-at-clause-ordered : goal.first_passing-at-requires-in-loop-at-clause-ordered
-first_passing-at-requires-in-loop-at-clause-ordered g c =
-    IsReadTo-within _ g.met.T.TextSource.has_units _ _ c.requires.per_char _ _ _ _ c.requires.line c.requires.kept_end _ _ _
-    (IsReadTo-more _ g.met.T.TextSource.has_units _ _ c.requires.per_char _ _ _ _ c.requires.line c.requires.kept_end _ _ _ _ _ _ c.loop-at-test.true c.end_of-behind.ensures c.then_some-wait.ensures c.in_ok-read_class.ensures c.loop-at.invariant)
+pub loop-at-smaller-then-at-kept_end : goal.loop-at-smaller-then-at-kept_end
+loop-at-smaller-then-at-kept_end g c = counted-smaller _ g.met.T.TextSource.has_units _ _ c.requires.per_char _ _ _ _ c.requires.line c.requires.kept_end _ _ _ _ _ _ c.next_control-control.ensures c.if-control-end.false c.end_within-at.ensures c.loop-at.invariant
 
 pub loop-at-smaller : goal.loop-at-smaller
-loop-at-smaller g c =
-    omega (
-      arith,
-      c.first_passing-at-in-loop-at.ensures.begins,
-      IsReadTo-past _ g.met.T.TextSource.has_units _ _ c.requires.per_char _ _ _ _ c.requires.line c.requires.kept_end _ _ _ _ c.loop-at-test.true c.end_of-behind.ensures c.loop-at.invariant,
-    )
+loop-at-smaller g c = counted-smaller _ g.met.T.TextSource.has_units _ _ c.requires.per_char _ _ _ _ c.requires.line c.requires.kept_end _ _ _ _ _ _ c.next_control-control.ensures c.if-control-end.false c.end_within-at.ensures c.loop-at.invariant
+
+pub loop-at-preserved-then-unwaited-gt0 : goal.loop-at-preserved-then-unwaited-gt0
+loop-at-preserved-then-unwaited-gt0 g c =
+    counted-closed _ g.met.T.TextSource.has_units _ _ c.requires.per_char _ _ _ _ c.requires.line c.requires.kept_end _ _ _ _ _ _ c.next_control-control.ensures c.if-control-end.false c.end_within-at.ensures c.loop-at.invariant
+    (sym c.is_pdi.ensures ∙ c.if-is_pdi.true) c.if-unwaited-gt0.true
+
+pub loop-at-preserved-else-unwaited-gt0 : goal.loop-at-preserved-else-unwaited-gt0
+loop-at-preserved-else-unwaited-gt0 g c =
+    counted-closed_before _ g.met.T.TextSource.has_units _ _ c.requires.per_char _ _ _ _ c.requires.line c.requires.kept_end _ _ _ _ _ _ c.next_control-control.ensures c.if-control-end.false c.end_within-at.ensures c.loop-at.invariant
+    _ (sym c.is_pdi.ensures ∙ c.if-is_pdi.true) (omega arith) c.pop.ensures
+
+pub loop-at-preserved-then-at-kept_end : goal.loop-at-preserved-then-at-kept_end
+loop-at-preserved-then-at-kept_end g c =
+    counted-waits _ g.met.T.TextSource.has_units _ _ c.requires.per_char _ _ _ _ c.requires.line c.requires.kept_end _ _ _ _ _ _ c.next_control-control.ensures c.if-control-end.false c.end_within-at.ensures c.loop-at.invariant
+    _ _ (sym c.is_pdi.ensures ∙ c.if-is_pdi.false) c.if-at-kept_end.true c.in_ok-push_unwaited.ensures c.in_ok-push.ensures
 
 pub loop-at-preserved : goal.loop-at-preserved
 loop-at-preserved g c =
-    IsReadTo-jump _ g.met.T.TextSource.has_units _ _ c.requires.per_char _ _ _ _ c.requires.line c.requires.kept_end _ _ _ _
-    (IsReadTo-more _ g.met.T.TextSource.has_units _ _ c.requires.per_char _ _ _ _ c.requires.line c.requires.kept_end _ _ _ _ _ _ c.loop-at-test.true c.end_of-behind.ensures c.then_some-wait.ensures c.in_ok-read_class.ensures c.loop-at.invariant)
-    c.first_passing-at-in-loop-at.ensures
+    counted-opened _ g.met.T.TextSource.has_units _ _ c.requires.per_char _ _ _ _ c.requires.line c.requires.kept_end _ _ _ _ _ _ c.next_control-control.ensures c.if-control-end.false c.end_within-at.ensures c.loop-at.invariant
+    (sym c.is_pdi.ensures ∙ c.if-is_pdi.false) c.if-at-kept_end.false
+
+pub returns : goal.returns
+returns g c =
+    elim c.loop-at-test.branch [
+      | else-loop-at-test w ↦
+          rw (counted-all _ g.met.T.TextSource.has_units _ _ c.requires.per_char _ _ _ _ c.requires.line c.requires.kept_end _ _ _ _ w.loop-at-test.false c.loop-at.invariant) at c.push_unwaited-2.ensures
+      | then-loop-at-test+then-control-end w ↦
+          rw (counted-end _ g.met.T.TextSource.has_units _ _ c.requires.per_char _ _ _ _ c.requires.line c.requires.kept_end _ _ _ _ _ w.next_control-control.ensures w.if-control-end.true c.loop-at.invariant) at c.push_unwaited-2.ensures
+    ]
