@@ -10,7 +10,7 @@ ghost use Rattle.bidi_base.specs.StatusMachine.{State};
 ghost use Rattle.bidi_base.specs.Text.{char_index, is_boundary, is_per_char, place, text_len};
 ghost use Rattle.bidi_base.specs.Units.{bounds};
 ghost use Rattle.bidi_explicit.specs.ExplicitStretches.{is_control, paragraph_of, run_met, runs_met, IsOverridden, IsReadTo, ReadsOn};
-ghost use Rattle.bidi_explicit.specs.Status.{entry_count, seen};
+ghost use Rattle.bidi_explicit.specs.Status.{entry_count, keeps_top, seen};
 ghost use Rattle.bidi_explicit.specs.Stride.{count_to};
 
 use super::status::{StatusEntry, StatusStack};
@@ -386,6 +386,85 @@ impl<'p, T: TextSource> Paragraph<'p, T> {
             end,
             level,
             first_kept: not_removed_by_x9(&class).then_some(start),
+        }
+    }
+
+    // Reads a character that leaves the top of the stack as it is.
+    fn read_at_top(
+        &self,
+        start: usize,
+        top: &StatusEntry,
+        stack: &mut StatusStack,
+        levels: &mut [Level],
+        classes: &mut [BidiClass],
+    ) -> Progress
+        requires inside { start < length self.now.original_classes.now }
+        requires read { (runs : List (ℕ × ℕ)) × (run : OpenRun)
+            × IsReadTo
+            (paragraph_of T.units (T.characters self.now.text) self.now.level self.now.original_classes.now) start
+            stack.old levels.old classes.old runs run }
+        requires keeps { IsTrue (keeps_top (class_at self.now.original_classes.now start) stack.old) }
+        requires top { seen top.now ≡ stack.old.top }
+        ensures read { ReadsOn
+            (paragraph_of T.units (T.characters self.now.text) self.now.level self.now.original_classes.now) start
+            stack.old levels.old classes.old result stack.new levels.new classes.new }
+        ensures level { result.level ≡ top.now.level }
+        ensures top { seen top.now ≡ stack.new.top }
+        ensures entries { entry_count stack.new ≡ entry_count stack.old }
+        ensures some { start < result.end }
+        ensures one { char_index T.units (T.characters self.now.text) result.end
+            ≡ char_index T.units (T.characters self.now.text) start + 1 }
+    {
+        let class = self.original_classes[start];
+        stack.count_overflow(class);
+        let end = self.end_of(start);
+        let put = own_class(class, top.override_class);
+        write_control(levels, classes, start..end, top.level, put);
+        Progress {
+            end,
+            level: top.level,
+            first_kept: not_removed_by_x9(&class).then_some(start),
+        }
+    }
+
+    /// Reads the characters from an index on that leave the top of the stack as it is, while an initiator
+    /// that overflowed is open. They all have the level on top. Counts one step for each character.
+    pub fn read_overflowed<S: Ledger>(
+        &self,
+        from: usize,
+        stack: &mut StatusStack,
+        levels: &mut [Level],
+        classes: &mut [BidiClass],
+        steps: &mut Steps<S>,
+    ) -> Progress
+        requires inside { from < length self.now.original_classes.now }
+        requires read { (runs : List (ℕ × ℕ)) × (run : OpenRun)
+            × IsReadTo
+            (paragraph_of T.units (T.characters self.now.text) self.now.level self.now.original_classes.now) from
+            stack.old levels.old classes.old runs run }
+        requires keeps { IsTrue (keeps_top (class_at self.now.original_classes.now from) stack.old) }
+        ensures read { ReadsOn
+            (paragraph_of T.units (T.characters self.now.text) self.now.level self.now.original_classes.now) from
+            stack.old levels.old classes.old result stack.new levels.new classes.new }
+        ensures entries { entry_count stack.new ≡ entry_count stack.old }
+        ensures some { from < result.end }
+        ensures steps { steps.new + char_index T.units (T.characters self.now.text) from
+            ≡ steps.old + char_index T.units (T.characters self.now.text) result.end }
+    {
+        let units = self.original_classes.len();
+        let top = stack.top();
+        let mut at = from;
+        let mut first_kept = None;
+        while at < units && stack.keeps_top(self.original_classes[at]) {
+            steps.tick();
+            let read = self.read_at_top(at, &top, stack, levels, classes);
+            first_kept = first_kept.or(read.first_kept);
+            at = read.end;
+        }
+        Progress {
+            end: at,
+            level: top.level,
+            first_kept,
         }
     }
 }

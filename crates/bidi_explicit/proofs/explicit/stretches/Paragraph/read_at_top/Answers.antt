@@ -1,0 +1,29 @@
+use Rattle.bidi_base.proofs.Common.{◌≡◌, refl, sym, ap, ◌∙◌, arith, then_some, class_at, closed, is_paragraph_separator}
+use Rattle.std.specs.Prelude.{if◌then◌else◌}
+use Rattle.bidi_explicit.proofs.ExplicitStretches.{control-can, control-index, control-met, control-some, read-begins}
+use Rattle.bidi_explicit.proofs.StackLemmas.{keeps_top-closed, keeps_top-separator}
+use Rattle.bidi_explicit.specs.Status.{seen}
+use Rattle.bidi_explicit.proofs.explicit.stretches.Paragraph.read_at_top.Goals as goal
+
+pub end_of-end-requires-clause-begins : goal.end_of-end-requires-clause-begins
+end_of-end-requires-clause-begins g c = read-begins _ _ _ _ _ _ _ c.requires.read.2
+
+pub write_control-requires-clause-ordered : goal.write_control-requires-clause-ordered
+write_control-requires-clause-ordered g c = omega (arith, control-some _ _ _ _ _ _ _ c.requires.read.2 c.requires.inside c.end_of-end.result c.end_of-end.ensures)
+
+pub count_overflow-requires-clause-counts : goal.count_overflow-requires-clause-counts
+count_overflow-requires-clause-counts g c = (control-can _ _ _ _ _ _ _ c.requires.read.2 c.requires.inside c.args.self.now.low (omega arith)).counts
+
+pub returns-clause-read : goal.returns-clause-read
+returns-clause-read g c =
+    let class = class_at c.args.self.now.original_classes.now c.args.start in
+    let status : seen c.args.top.now ≡ (closed class c.args.stack.now).top = c.requires.top ∙ sym (keeps_top-closed class c.args.stack.now c.requires.keeps).0 in
+    let level : c.args.top.now.level ≡ (if is_paragraph_separator class then c.args.self.now.level else c.args.top.now.level) = simp (keeps_top-separator class c.args.stack.now c.requires.keeps) refl in
+    λ runs run h. control-met _ _ _ _ _ runs run h c.requires.inside c.end_of-end.result c.end_of-end.ensures _ (seen c.args.top.now) c.args.top.now.level c.own_class-put.result c.count_overflow.ensures.state status level
+    c.own_class-put.ensures _ _ c.write_control.ensures.levels c.write_control.ensures.classes _ (c.then_some.ensures ∙ ap (λ kept. then_some kept c.args.start) c.not_removed_by_x9.ensures)
+
+pub returns-clause-some : goal.returns-clause-some
+returns-clause-some g c = control-some _ _ _ _ _ _ _ c.requires.read.2 c.requires.inside c.end_of-end.result c.end_of-end.ensures
+
+pub returns-clause-one : goal.returns-clause-one
+returns-clause-one g c = control-index _ _ _ _ _ _ _ c.requires.read.2 c.requires.inside c.end_of-end.result c.end_of-end.ensures
