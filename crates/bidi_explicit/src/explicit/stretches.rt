@@ -389,14 +389,15 @@ impl<'p, T: TextSource> Paragraph<'p, T> {
         }
     }
 
-    // Reads a character that leaves the top of the stack as it is.
-    fn read_at_top(
+    // Reads a character that leaves the top of the stack as it is. Counts one step.
+    fn read_at_top<S: Ledger>(
         &self,
         start: usize,
         top: &StatusEntry,
         stack: &mut StatusStack,
         levels: &mut [Level],
         classes: &mut [BidiClass],
+        steps: &mut Steps<S>,
     ) -> Progress
         requires inside { start < length self.now.original_classes.now }
         requires read { (runs : List (ℕ × ℕ)) × (run : OpenRun)
@@ -414,10 +415,11 @@ impl<'p, T: TextSource> Paragraph<'p, T> {
         ensures some { start < result.end }
         ensures one { char_index T.units (T.characters self.now.text) result.end
             ≡ char_index T.units (T.characters self.now.text) start + 1 }
+        ensures steps { steps.new ≡ steps.old + 1 }
     {
         let class = self.original_classes[start];
         stack.count_overflow(class);
-        let end = self.end_of(start);
+        let end = self.step_over(start, steps);
         let put = own_class(class, top.override_class);
         write_control(levels, classes, start..end, top.level, put);
         Progress {
@@ -456,8 +458,7 @@ impl<'p, T: TextSource> Paragraph<'p, T> {
         let mut at = from;
         let mut first_kept = None;
         while at < units && stack.keeps_top(self.original_classes[at]) {
-            steps.tick();
-            let read = self.read_at_top(at, &top, stack, levels, classes);
+            let read = self.read_at_top(at, &top, stack, levels, classes, steps);
             first_kept = first_kept.or(read.first_kept);
             at = read.end;
         }

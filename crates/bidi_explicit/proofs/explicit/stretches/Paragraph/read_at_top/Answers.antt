@@ -5,11 +5,11 @@ use Rattle.bidi_explicit.proofs.StackLemmas.{keeps_top-closed, keeps_top-separat
 use Rattle.bidi_explicit.specs.Status.{seen}
 use Rattle.bidi_explicit.proofs.explicit.stretches.Paragraph.read_at_top.Goals as goal
 
-pub end_of-end-requires-clause-begins : goal.end_of-end-requires-clause-begins
-end_of-end-requires-clause-begins g c = read-begins _ _ _ _ _ _ _ c.requires.read.2
+pub step_over-end-requires-clause-begins : goal.step_over-end-requires-clause-begins
+step_over-end-requires-clause-begins g c = read-begins _ _ _ _ _ _ _ c.requires.read.2
 
 pub write_control-requires-clause-ordered : goal.write_control-requires-clause-ordered
-write_control-requires-clause-ordered g c = omega (arith, control-some _ _ _ _ _ _ _ c.requires.read.2 c.requires.inside c.end_of-end.result c.end_of-end.ensures)
+write_control-requires-clause-ordered g c = omega (arith, control-some _ _ _ _ _ _ _ c.requires.read.2 c.requires.inside c.step_over-end.result c.step_over-end.ensures.end)
 
 pub count_overflow-requires-clause-counts : goal.count_overflow-requires-clause-counts
 count_overflow-requires-clause-counts g c = (control-can _ _ _ _ _ _ _ c.requires.read.2 c.requires.inside c.args.self.now.low (omega arith)).counts
@@ -19,11 +19,11 @@ returns-clause-read g c =
     let class = class_at c.args.self.now.original_classes.now c.args.start in
     let status : seen c.args.top.now ≡ (closed class c.args.stack.now).top = c.requires.top ∙ sym (keeps_top-closed class c.args.stack.now c.requires.keeps).0 in
     let level : c.args.top.now.level ≡ (if is_paragraph_separator class then c.args.self.now.level else c.args.top.now.level) = simp (keeps_top-separator class c.args.stack.now c.requires.keeps) refl in
-    λ runs run h. control-met _ _ _ _ _ runs run h c.requires.inside c.end_of-end.result c.end_of-end.ensures _ (seen c.args.top.now) c.args.top.now.level c.own_class-put.result c.count_overflow.ensures.state status level
+    λ runs run h. control-met _ _ _ _ _ runs run h c.requires.inside c.step_over-end.result c.step_over-end.ensures.end _ (seen c.args.top.now) c.args.top.now.level c.own_class-put.result c.count_overflow.ensures.state status level
     c.own_class-put.ensures _ _ c.write_control.ensures.levels c.write_control.ensures.classes _ (c.then_some.ensures ∙ ap (λ kept. then_some kept c.args.start) c.not_removed_by_x9.ensures)
 
 pub returns-clause-some : goal.returns-clause-some
-returns-clause-some g c = control-some _ _ _ _ _ _ _ c.requires.read.2 c.requires.inside c.end_of-end.result c.end_of-end.ensures
+returns-clause-some g c = control-some _ _ _ _ _ _ _ c.requires.read.2 c.requires.inside c.step_over-end.result c.step_over-end.ensures.end
 
 pub returns-clause-one : goal.returns-clause-one
-returns-clause-one g c = control-index _ _ _ _ _ _ _ c.requires.read.2 c.requires.inside c.end_of-end.result c.end_of-end.ensures
+returns-clause-one g c = control-index _ _ _ _ _ _ _ c.requires.read.2 c.requires.inside c.step_over-end.result c.step_over-end.ensures.end
