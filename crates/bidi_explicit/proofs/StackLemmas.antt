@@ -1,6 +1,7 @@
 -- What the operations of the machine do to a stack of entries.
-use Rattle.bidi_base.proofs.Common.{◌≡◌, ℕ, ◌+◌, ◌-◌, ◌<◌, ◌≤◌, true, false, ◌&&◌, ◌||◌, ◌==◌, Bool, not, nat_le, nat_lt, nat_tests, refl, sym, ap, inl, inr, cases_Bool, cond, List, [], ◌∷◌, ◌++◌, length, map, reverse, ◌∙◌, arith, Option, common_steps, option_to_list, cond-true, cond-false, reverse-append, length-reverse, length-map, is_initiator, is_opener, is_paragraph_separator, is_pdi, is_pdf, State, entry_of, taken, refused, entered, fits_in, drop_isolate, close_isolate, close_embedding, closed, opened, step, IsPoppable, IsWithinDepth}
+use Rattle.bidi_base.proofs.Common.{◌≡◌, ◌≢◌, ℕ, ◌+◌, ◌-◌, ◌<◌, ◌≤◌, true, false, ◌&&◌, ◌||◌, ◌==◌, Bool, not, nat_le, nat_lt, nat_tests, refl, sym, ap, inl, inr, cases_Bool, cases_eq, ne_eqb, cond, List, [], ◌∷◌, ◌++◌, length, map, reverse, ◌∙◌, arith, Option, common_steps, option_to_list, cond-true, cond-false, reverse-append, length-reverse, length-map, is_initiator, is_opener, is_paragraph_separator, is_pdi, is_pdf, State, entry_of, taken, refused, entered, fits_in, drop_isolate, close_isolate, close_embedding, closed, opened, step, IsPoppable, IsWithinDepth}
 use Rattle.std.specs.Prelude.{IsSome}
+use Rattle.std.specs.Int.{from_bool}
 use Rattle.bidi_base.specs.declared.char_data.BidiClass.{BidiClass}
 use Rattle.bidi_laws.proofs.StatusBounds.{IsTaken-room}
 use Rattle.bidi_base.specs.Explicit.{asked_level}
@@ -176,20 +177,28 @@ module _ (c : BidiClass) (s : State) (xs : List StatusEntry) (i e v : ℕ) (is :
   counted-pdi pdi other =
       close_isolate-inside xs i e v (omega (arith, isolates_are, keeps_top-pdi c s keeps pdi)) ∙ ap close_isolate is ∙ sym (opened-other c (closed c s) other ∙ closed-pdi c s pdi)
 
-  pub counted-embedding : i ≡ 0 → is_opener c ≡ true → is_initiator c ≡ false → is_pdi c ≡ false → is_pdf c ≡ false → state_by xs i (e + 1) v ≡ step c s
-  counted-embedding none embedding initiator pdi pdf =
-      simp (closed-other c s pdi pdf, opened-opener c s embedding) (entered_overflow_embedding c s xs i e v is (keeps_top-refuses c s (keeps_top-overflowed c s keeps)) initiator none)
+  module _ (n : ℕ) (counts : n ≡ from_bool (i == 0)) where
+    counts-one : i ≡ 0 → n ≡ 1
+    counts-one none = simp (counts, none) refl
 
-  pub counted-not : 0 < i → is_opener c ≡ true → is_initiator c ≡ false → is_pdi c ≡ false → is_pdf c ≡ false → s ≡ step c s
-  counted-not some embedding initiator pdi pdf =
-      simp (closed-other c s pdi pdf, opened-opener c s embedding) (entered_inside c s xs i e v is (keeps_top-refuses c s (keeps_top-overflowed c s keeps)) initiator some)
+    counts-none : (i ≢ 0) → n ≡ 0
+    counts-none some = counts ∙ ap from_bool (ne_eqb i 0 some)
 
-  module _ (pdf : is_pdf c ≡ true) (pdi : is_pdi c ≡ false) (other : is_opener c ≡ false) where
-    closes : close_embedding (state_by xs i e v) ≡ step c s
-    closes = ap close_embedding is ∙ sym (opened-other c (closed c s) other ∙ closed-pdf c s pdi pdf)
+    with_embeddings : (k m : ℕ) → k ≡ m → state_by xs i k v ≡ state_by xs i m v
+    with_embeddings k m same = ap (λ u. state_by xs i u v) same
 
-    pub counted-pdf : i ≡ 0 → state_by xs i (e - 1) v ≡ step c s
-    counted-pdf none = close_embedding-overflowed xs i e v none (omega (arith, isolates_are, embeddings_are, keeps_top-overflowed c s keeps)) ∙ closes
+    pub counted-embedding : is_opener c ≡ true → is_initiator c ≡ false → is_pdi c ≡ false → is_pdf c ≡ false → state_by xs i (e + n) v ≡ step c s
+    counted-embedding embedding initiator pdi pdf =
+        let refused = keeps_top-refuses c s (keeps_top-overflowed c s keeps) in
+        simp (closed-other c s pdi pdf, opened-opener c s embedding) (elim (cases_eq i 0) [
+          | inl none ↦ with_embeddings (e + n) (e + 1) (omega (arith, counts-one none)) ∙ entered_overflow_embedding c s xs i e v is refused initiator none
+          | inr some ↦ with_embeddings (e + n) e (omega (arith, counts-none some)) ∙ is ∙ entered_inside c s xs i e v is refused initiator (omega arith)
+        ])
 
-    pub counted-not_pdf : 0 < i → s ≡ step c s
-    counted-not_pdf some = sym is ∙ close_embedding-inside xs i e v some ∙ closes
+    pub counted-pdf : is_pdf c ≡ true → is_pdi c ≡ false → is_opener c ≡ false → state_by xs i (e - n) v ≡ step c s
+    counted-pdf pdf pdi other =
+        let closes : close_embedding (state_by xs i e v) ≡ step c s = ap close_embedding is ∙ sym (opened-other c (closed c s) other ∙ closed-pdf c s pdi pdf) in
+        elim (cases_eq i 0) [
+          | inl none ↦ with_embeddings (e - n) (e - 1) (omega (arith, counts-one none)) ∙ close_embedding-overflowed xs i e v none (omega (arith, isolates_are, embeddings_are, keeps_top-overflowed c s keeps)) ∙ closes
+          | inr some ↦ with_embeddings (e - n) e (omega (arith, counts-none some)) ∙ close_embedding-inside xs i e v (omega arith) ∙ closes
+        ]

@@ -152,19 +152,15 @@ impl StatusStack {
         ensures top { self.new.top ≡ self.old.top }
         ensures entries { entry_count self.new ≡ entry_count self.old }
     {
+        // Inside an isolate that overflowed, embeddings are not counted.
+        let embedding = usize::from(self.overflow_isolates == 0);
         match class {
             BidiClass::LRI | BidiClass::RLI | BidiClass::FSI => self.overflow_isolates += 1,
             BidiClass::PDI => self.overflow_isolates -= 1,
             BidiClass::LRE | BidiClass::LRO | BidiClass::RLE | BidiClass::RLO => {
-                if self.overflow_isolates == 0 {
-                    self.overflow_embeddings += 1;
-                }
+                self.overflow_embeddings += embedding
             }
-            BidiClass::PDF => {
-                if self.overflow_isolates == 0 {
-                    self.overflow_embeddings -= 1;
-                }
-            }
+            BidiClass::PDF => self.overflow_embeddings -= embedding,
             _ => {}
         }
     }

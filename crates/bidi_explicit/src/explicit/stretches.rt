@@ -4,6 +4,8 @@
 //! The pass goes through a stretch from character to character, or from code unit to code unit.
 
 ghost use Rattle.std.specs.Prelude.{◌≡◌, ℕ, ◌+◌, ◌*◌, ◌-◌, ◌<◌, ◌≤◌, false, List, None, Some, length, map, IsTrue, OnOk};
+ghost use Rattle.std.specs.Bool.{then_some};
+ghost use Rattle.bidi_base.specs.Classes.{is_kept};
 ghost use Rattle.bidi_base.specs.Places.{class_at};
 ghost use Rattle.bidi_base.specs.Search.{IsFirst};
 ghost use Rattle.bidi_base.specs.StatusMachine.{State};
@@ -69,6 +71,13 @@ pub struct Progress {
     level: Level,
     /// The first code unit of the part that X9 keeps.
     first_kept: Option<usize>,
+}
+
+// The index of a character, if X9 keeps it.
+fn if_kept(class: BidiClass, start: usize) -> Option<usize>
+    ensures { result ≡ then_some (is_kept class) start }
+{
+    not_removed_by_x9(&class).then_some(start)
 }
 
 /// The current level run, which no later run has ended yet.
@@ -385,7 +394,7 @@ impl<'p, T: TextSource> Paragraph<'p, T> {
         Progress {
             end,
             level,
-            first_kept: not_removed_by_x9(&class).then_some(start),
+            first_kept: if_kept(class, start),
         }
     }
 
@@ -425,7 +434,7 @@ impl<'p, T: TextSource> Paragraph<'p, T> {
         Progress {
             end,
             level: top.level,
-            first_kept: not_removed_by_x9(&class).then_some(start),
+            first_kept: if_kept(class, start),
         }
     }
 

@@ -1,4 +1,4 @@
-use Rattle.bidi_base.proofs.Common.{◌≡◌, refl, sym, ap, ◌∙◌, arith, then_some, class_at, closed, is_paragraph_separator}
+use Rattle.bidi_base.proofs.Common.{◌≡◌, refl, sym, ◌∙◌, arith, class_at, closed, is_paragraph_separator}
 use Rattle.std.specs.Prelude.{if◌then◌else◌}
 use Rattle.bidi_explicit.proofs.ExplicitStretches.{control-can, control-index, control-met, control-some, read-begins}
 use Rattle.bidi_explicit.proofs.StackLemmas.{keeps_top-closed, keeps_top-separator}
@@ -20,7 +20,7 @@ returns-clause-read g c =
     let status : seen c.args.top.now ≡ (closed class c.args.stack.now).top = c.requires.top ∙ sym (keeps_top-closed class c.args.stack.now c.requires.keeps).0 in
     let level : c.args.top.now.level ≡ (if is_paragraph_separator class then c.args.self.now.level else c.args.top.now.level) = simp (keeps_top-separator class c.args.stack.now c.requires.keeps) refl in
     λ runs run h. control-met _ _ _ _ _ runs run h c.requires.inside c.step_over-end.result c.step_over-end.ensures.end _ (seen c.args.top.now) c.args.top.now.level c.own_class-put.result c.count_overflow.ensures.state status level
-    c.own_class-put.ensures _ _ c.write_control.ensures.levels c.write_control.ensures.classes _ (c.then_some.ensures ∙ ap (λ kept. then_some kept c.args.start) c.not_removed_by_x9.ensures)
+    c.own_class-put.ensures _ _ c.write_control.ensures.levels c.write_control.ensures.classes _ c.if_kept.ensures
 
 pub returns-clause-some : goal.returns-clause-some
 returns-clause-some g c = control-some _ _ _ _ _ _ _ c.requires.read.2 c.requires.inside c.step_over-end.result c.step_over-end.ensures.end
