@@ -56,6 +56,8 @@ module _ (len_of : ℕ → ℕ) (h : HasUnits len_of) (chars : List ℕ) where
   count-one Character u v some one = omega arith
 
   -- a step for each character, and one more, are at most four for each that is counted
-  pub count-some : (stride : Stride) (u v : ℕ) → is_boundary len_of chars u ≡ true → is_boundary len_of chars v ≡ true → u < v → (before after entries : ℕ) → after + char_index len_of chars u ≡ before + 1 + char_index len_of chars v
-      → (first : ℕ) → before + entries ≤ first + (4 * count_to stride len_of chars u + 1) → after + entries ≤ first + (4 * count_to stride len_of chars v + 1)
-  count-some stride u v begins ends some before after entries steps first upto = omega (arith, count-lt stride u v begins ends some, index-count stride u v begins ends (omega arith), steps, upto)
+  pub count-some : (stride : Stride) (u v : ℕ) → is_boundary len_of chars u ≡ true → is_boundary len_of chars v ≡ true → u < v
+      → (before after entries first : ℕ) → after + char_index len_of chars u ≡ before + 1 + char_index len_of chars v
+      → before + entries ≤ first + (4 * count_to stride len_of chars u + 1) → after + entries ≤ first + (4 * count_to stride len_of chars v + 1)
+  count-some stride u v begins ends some before after entries first steps upto =
+      omega (arith, count-lt stride u v begins ends some, index-count stride u v begins ends (omega arith), steps, upto)

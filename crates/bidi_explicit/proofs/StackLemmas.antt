@@ -169,9 +169,15 @@ module _ (c : BidiClass) (s : State) (xs : List StatusEntry) (i e v : ℕ) (is :
   embeddings_are : s.overflow_embeddings ≡ e
   embeddings_are = grind arith
 
+  some-embedding : i ≡ 0 → 0 < e
+  some-embedding none = omega (arith, isolates_are, embeddings_are, keeps_top-overflowed c s keeps)
+
+  refuses-opener : fits_in c s ≡ false
+  refuses-opener = keeps_top-refuses c s (keeps_top-overflowed c s keeps)
+
   pub counted-isolate : is_initiator c ≡ true → is_pdi c ≡ false → is_pdf c ≡ false → state_by xs (i + 1) e v ≡ step c s
   counted-isolate initiator pdi pdf =
-      simp (closed-other c s pdi pdf, opened-opener c s (opener c initiator)) (entered_overflow_isolate c s xs i e v is (keeps_top-refuses c s (keeps_top-overflowed c s keeps)) initiator)
+      simp (closed-other c s pdi pdf, opened-opener c s (opener c initiator)) (entered_overflow_isolate c s xs i e v is refuses-opener initiator)
 
   pub counted-pdi : is_pdi c ≡ true → is_opener c ≡ false → state_by xs (i - 1) e v ≡ step c s
   counted-pdi pdi other =
@@ -189,16 +195,15 @@ module _ (c : BidiClass) (s : State) (xs : List StatusEntry) (i e v : ℕ) (is :
 
     pub counted-embedding : is_opener c ≡ true → is_initiator c ≡ false → is_pdi c ≡ false → is_pdf c ≡ false → state_by xs i (e + n) v ≡ step c s
     counted-embedding embedding initiator pdi pdf =
-        let refused = keeps_top-refuses c s (keeps_top-overflowed c s keeps) in
         simp (closed-other c s pdi pdf, opened-opener c s embedding) (elim (cases_eq i 0) [
-          | inl none ↦ with_embeddings (e + n) (e + 1) (omega (arith, counts-one none)) ∙ entered_overflow_embedding c s xs i e v is refused initiator none
-          | inr some ↦ with_embeddings (e + n) e (omega (arith, counts-none some)) ∙ is ∙ entered_inside c s xs i e v is refused initiator (omega arith)
+          | inl none ↦ with_embeddings (e + n) (e + 1) (omega (arith, counts-one none)) ∙ entered_overflow_embedding c s xs i e v is refuses-opener initiator none
+          | inr some ↦ with_embeddings (e + n) e (omega (arith, counts-none some)) ∙ is ∙ entered_inside c s xs i e v is refuses-opener initiator (omega arith)
         ])
 
     pub counted-pdf : is_pdf c ≡ true → is_pdi c ≡ false → is_opener c ≡ false → state_by xs i (e - n) v ≡ step c s
     counted-pdf pdf pdi other =
         let closes : close_embedding (state_by xs i e v) ≡ step c s = ap close_embedding is ∙ sym (opened-other c (closed c s) other ∙ closed-pdf c s pdi pdf) in
         elim (cases_eq i 0) [
-          | inl none ↦ with_embeddings (e - n) (e - 1) (omega (arith, counts-one none)) ∙ close_embedding-overflowed xs i e v none (omega (arith, isolates_are, embeddings_are, keeps_top-overflowed c s keeps)) ∙ closes
+          | inl none ↦ with_embeddings (e - n) (e - 1) (omega (arith, counts-one none)) ∙ close_embedding-overflowed xs i e v none (some-embedding none) ∙ closes
           | inr some ↦ with_embeddings (e - n) e (omega (arith, counts-none some)) ∙ close_embedding-inside xs i e v (omega arith) ∙ closes
         ]

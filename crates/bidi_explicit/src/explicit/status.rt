@@ -135,7 +135,7 @@ impl StatusStack {
     }
 
     /// Returns whether an open initiator has overflowed, and a character of this class changes at most the
-    /// overflow counts. Of a paragraph separator it says no, since it has a level of its own.
+    /// overflow counts. For a paragraph separator this is false, since it has a level of its own.
     pub fn keeps_top(&self, class: BidiClass) -> bool
         ensures { result ≡ keeps_top class self.now }
     {
@@ -144,7 +144,7 @@ impl StatusStack {
         class != BidiClass::B && (in_isolate || (in_embedding && class != BidiClass::PDI))
     }
 
-    /// Reads a character that changes at most the overflow counts (X5a to X7).
+    /// Reads a character that changes at most the overflow counts (X2 to X7).
     pub fn count_overflow(&mut self, class: BidiClass)
         requires keeps { IsTrue (keeps_top class self.old) }
         requires counts { counted (closed class self.old) + 1 < 2 ^ 64 }

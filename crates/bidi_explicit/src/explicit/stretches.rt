@@ -1,7 +1,9 @@
 //! The explicit pass by stretches. Between two controls the status does not change, so all code units there
 //! get the same level and the same override.
 //!
-//! The pass goes through a stretch from character to character, or from code unit to code unit.
+//! The pass goes through a stretch from character to character, or from code unit to code unit. While an
+//! initiator that overflowed is open, most controls change nothing but a count. The pass then reads them in
+//! one part with the text between them, from character to character.
 
 ghost use Rattle.std.specs.Prelude.{◌≡◌, ℕ, ◌+◌, ◌*◌, ◌-◌, ◌<◌, ◌≤◌, false, List, None, Some, length, map, IsTrue, OnOk};
 ghost use Rattle.std.specs.Bool.{then_some};
@@ -63,7 +65,7 @@ impl ClassTest for Kept {
     }
 }
 
-/// The part of the paragraph just read: a stretch or a control, with one level.
+/// The part of the paragraph just read, with one level: a stretch, a control, or what an overflow encloses.
 #[derive(Clone, Copy, Debug)]
 pub struct Progress {
     /// The index after that part.
@@ -439,7 +441,7 @@ impl<'p, T: TextSource> Paragraph<'p, T> {
     }
 
     /// Reads the characters from an index on that leave the top of the stack as it is, while an initiator
-    /// that overflowed is open. They all have the level on top. Counts one step for each character.
+    /// that overflowed is open. They all get the level of the top. Counts one step for each character.
     pub fn read_overflowed<S: Ledger>(
         &self,
         from: usize,

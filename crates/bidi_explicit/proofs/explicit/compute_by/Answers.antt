@@ -24,8 +24,11 @@ loop-at-preserved g c = elim c.if-keeps_top.branch [
     simp (w.levels-is, w.processing_classes-is, w.stack-is, w.progress-is, c.in_ok-meet.ensures.runs, c.in_ok-meet.ensures.run) (w.read_overflowed-progress.ensures.read _ _ c.loop-at.invariant.0),
     grind arith,
     let read = w.read_overflowed-progress.ensures in
-        simp (w.progress-is, w.stack-is, w.steps-is) (count-some _ g.met.T.TextSource.has_units _ _ c.loop-at.at w.read_overflowed-progress.result.end (read-begins _ _ _ _ _ _ _ c.loop-at.invariant.0)
-        (read-begins _ _ _ _ _ _ _ (read.read _ _ c.loop-at.invariant.0)) read.some c.loop-at.steps w.read_overflowed-progress.new.steps _ (omega (arith, read.steps, c.tick.ensures)) c.args.steps.now (omega (arith, read.entries, c.loop-at.invariant.2))),
+        let begins = read-begins _ _ _ _ _ _ _ c.loop-at.invariant.0 in
+        let ends = read-begins _ _ _ _ _ _ _ (read.read _ _ c.loop-at.invariant.0) in
+        simp (w.progress-is, w.stack-is, w.steps-is)
+        (count-some _ g.met.T.TextSource.has_units _ c.args.paragraph.now.stride _ _ begins ends read.some c.loop-at.steps _ _ c.args.steps.now (omega (arith, read.steps, c.tick.ensures))
+        (omega (arith, read.entries, c.loop-at.invariant.2))),
   )
   | else-keeps_top+then-is_control w ↦ (
     simp (w.levels-is, w.processing_classes-is, w.stack-is, w.progress-is, c.in_ok-meet.ensures.runs, c.in_ok-meet.ensures.run) (w.read_control.ensures.read _ _ c.loop-at.invariant.0),

@@ -17,10 +17,11 @@ count_overflow-requires-clause-counts g c = (control-can _ _ _ _ _ _ _ c.require
 pub returns-clause-read : goal.returns-clause-read
 returns-clause-read g c =
     let class = class_at c.args.self.now.original_classes.now c.args.start in
-    let status : seen c.args.top.now ≡ (closed class c.args.stack.now).top = c.requires.top ∙ sym (keeps_top-closed class c.args.stack.now c.requires.keeps).0 in
-    let level : c.args.top.now.level ≡ (if is_paragraph_separator class then c.args.self.now.level else c.args.top.now.level) = simp (keeps_top-separator class c.args.stack.now c.requires.keeps) refl in
-    λ runs run h. control-met _ _ _ _ _ runs run h c.requires.inside c.step_over-end.result c.step_over-end.ensures.end _ (seen c.args.top.now) c.args.top.now.level c.own_class-put.result c.count_overflow.ensures.state status level
-    c.own_class-put.ensures _ _ c.write_control.ensures.levels c.write_control.ensures.classes _ c.if_kept.ensures
+    let top = c.args.top.now in
+    let status : seen top ≡ (closed class c.args.stack.now).top = c.requires.top ∙ sym (keeps_top-closed class c.args.stack.now c.requires.keeps).0 in
+    let level : top.level ≡ (if is_paragraph_separator class then c.args.self.now.level else top.level) = simp (keeps_top-separator class c.args.stack.now c.requires.keeps) refl in
+    λ runs run h. control-met _ _ _ _ _ runs run h c.requires.inside c.step_over-end.result c.step_over-end.ensures.end _ (seen top) top.level c.own_class-put.result
+    c.count_overflow.ensures.state status level c.own_class-put.ensures _ _ c.write_control.ensures.levels c.write_control.ensures.classes _ c.if_kept.ensures
 
 pub returns-clause-some : goal.returns-clause-some
 returns-clause-some g c = control-some _ _ _ _ _ _ _ c.requires.read.2 c.requires.inside c.step_over-end.result c.step_over-end.ensures.end
