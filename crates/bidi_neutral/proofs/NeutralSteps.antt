@@ -2,7 +2,7 @@
 use Rattle.bidi_base.proofs.Common.{◌≡◌, ℕ, ◌+◌, ◌<◌, ◌≤◌, Bool, true, false, ◌&&◌, if◌then◌else◌, List, [], ◌∷◌, length, map, find, slice_get, Option, Some, None, refl, sym, ap, ◌∙◌, arith, ◌⊎◌, rules, All, list_all, Range, cases_Bool, cases_lt, and_parts, and_left, and_right, nil_from_length, length-map, get_or_past, length-range_with_len, get_or-map-range_with_len, bracket_pairs, is_l_or_r, is_kept_in_place, is_weak_resolved, direction_of, n0, n1_rule, n1_n2, n2_rule, neutral_classes, at_places, class_at, first_or, indexes, level_at, Source, place, text_len, is_per_char, per_unit, IsPerChar, bounds, in_runs, kept_in_place, units_in_runs, AreLines}
 use Rattle.bidi_base.specs.InPlace.{AreNeutralsResolvedUpToN1}
 use Rattle.bidi_base.specs.declared.char_data.BidiClass.{BidiClass}
-use Rattle.bidi_base.specs.declared.char_data.BidiClass.TheVariants.{L, BN}
+use Rattle.bidi_base.specs.declared.char_data.BidiClass.TheVariants.{L}
 use Rattle.bidi_base.specs.declared.data_source.BidiMatchedOpeningBracket.{BidiMatchedOpeningBracket}
 use Rattle.bidi_laws.proofs.NeutralLemmas.{n0-resolved}
 use Rattle.bidi_laws.proofs.PermutationLemmas.{Ascends}

@@ -1,13 +1,14 @@
 -- N0 over the units of a sequence: what is found around a bracket, what is asked of a pair, and what it writes.
-use Rattle.std.specs.Prelude.{◌≡◌, ◌⊎◌, ◌<◌, ◌≤◌, true, false, ℕ, ◌+◌, nat_lt, Bool, if◌then◌else◌, List, length, map, get_or, Option, Some, None}
+use Rattle.std.specs.Prelude.{◌≡◌, ◌⊎◌, ◌<◌, ◌≤◌, true, false, ℕ, ◌+◌, nat_lt, Bool, if◌then◌else◌, List, length, map, get_or, drop, take, Option, Some, None}
 use Rattle.bidi_base.specs.declared.char_data.BidiClass.{BidiClass}
 use Rattle.bidi_base.specs.declared.char_data.BidiClass.TheVariants.{L, R}
-use Rattle.bidi_base.specs.Classes.{as_direction, is_nsm, stands_for}
+use Rattle.bidi_base.specs.Classes.{as_direction, is_kept_in_place, is_nsm, stands_for}
 use Rattle.bidi_base.specs.Text.{place, text_len}
 use Rattle.bidi_runs.specs.Written.{is_seen, IsWrittenOver}
 use Rattle.bidi_base.specs.Places.{class_at}
 use Rattle.bidi_base.specs.Units.{in_runs}
 use Rattle.bidi_neutral.specs.declared.neutral.pairs.Pair.{Pair}
+use Rattle.bidi_neutral.specs.declared.neutral.pairs.Place.{Place}
 use Rattle.bidi_neutral.specs.declared.neutral.pairs.PairWalk.{PairWalk}
 use Rattle.bidi_neutral.specs.declared.neutral.pairs.Row.{Row}
 
@@ -75,6 +76,24 @@ pub record IsTaken (before : BidiClass) (runs : List (ℕ × ℕ)) (units : List
   pub idle : embedding ≡ true → new.opposite.unit ≡ walk.opposite.unit
   pub nearest : embedding ≡ false → opposite ≡ true → IsNearestBefore before runs units pair.opening context
   pub is : taken ≡ (if embedding then Some walk.embedding.direction else (if opposite then Some context else None))
+
+-- the run of a unit: the first of some runs that ends behind it
+pub record IsRunOf (runs : List (ℕ × ℕ)) (unit run : ℕ) : Type 0 where
+  pub later : (k : ℕ) → unit ≤ k → in_runs (drop run runs) k ≡ in_runs runs k
+  pub upto : (k : ℕ) → k < unit → in_runs (take (run + 1) runs) k ≡ in_runs runs k
+  pub within : run ≤ length runs
+
+-- where a bracket is: it ends where its character does
+pub record IsPlace (len_of : ℕ → ℕ) (chars : List ℕ) (runs : List (ℕ × ℕ)) (bracket : Place) : Type 0 where
+  pub ends : (k : ℕ) → k < length chars → bracket.unit ≡ place len_of chars k → bracket.end ≡ place len_of chars (k + 1)
+  pub run : IsRunOf runs bracket.unit bracket.run
+
+-- a bracket and the unit behind it are in the ranges, and no mark begins there, nor BN
+pub record IsUnmarked (runs : List (ℕ × ℕ)) (original units : List BidiClass) (bracket : Place) : Type 0 where
+  pub seen : (k : ℕ) → bracket.unit ≤ k → k ≤ bracket.end → in_runs runs k ≡ true
+  pub kept : is_kept_in_place (class_at units bracket.end) ≡ true
+  pub plain : is_nsm (class_at original bracket.end) ≡ false
+  pub inside : bracket.end < length units
 
 -- a bracket and the marks behind it have a direction, where the k-th character comes behind the bracket, and
 -- the marks end at `end`

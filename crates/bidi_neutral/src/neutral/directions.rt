@@ -165,7 +165,7 @@ impl Join {
             → (get_or s.runs run (0, 0)).0 ≤ at → end ≤ (get_or s.runs run (0, 0)).1
             → IsJoined s classes.now self.old.waits at at → IsUnderWay s classes.now self.new result }
     {
-        let next = first_passing(NotFor(self.opposite), classes, at, end);
+        let next = first_passing(NotFor(self.opposite), classes, at + 1, end);
         self.waits = true;
         self.first = next;
         self.first_run = run;

@@ -2,20 +2,23 @@
 
 ghost use Rattle.std.specs.Prelude.{◌≡◌, ℕ, ◌+◌, ◌<◌, ◌≤◌, List, length, map, All, IsTrue};
 ghost use Rattle.bidi_base.specs.Brackets.{AreNestedPairs};
-ghost use Rattle.bidi_base.specs.Classes.{is_l_or_r};
+ghost use Rattle.bidi_base.specs.Classes.{is_kept_in_place, is_l_or_r};
+ghost use Rattle.bidi_base.specs.Places.{class_at};
 ghost use Rattle.bidi_base.specs.Text.{is_boundary, place, text_len};
 ghost use Rattle.bidi_base.specs.Units.{bounds, are_ordered, kept_in_place, AreLines};
 ghost use Rattle.bidi_neutral.specs.NeutralPass.{IsPaired, IsReady};
-ghost use Rattle.bidi_neutral.specs.PairWalk.{at_spots, opposite_of, IsAsked, IsRow, IsSet, IsSetUpTo, IsTaken};
+ghost use Rattle.bidi_neutral.specs.PairWalk.{at_spots, opposite_of, IsAsked, IsMarksEnd, IsPlace, IsRow, IsRunOf, IsSet};
+ghost use Rattle.bidi_neutral.specs.PairWalk.{IsSetUpTo, IsTaken, IsUnmarked};
+ghost use Rattle.bidi_runs.specs.Written.{is_seen, IsWrittenOver};
 
 use super::directions::{Directions, opposite_of};
-use super::marks::marks_end;
+use super::marks::{ends_marks, marks_end};
 use super::nearest::{direction_before, first_for, run_of};
 use bidi_base::char_data::BidiClass;
 use bidi_base::classes::is_nsm;
 use bidi_runs::characters::end_of;
 use bidi_runs::prepare::LevelRun;
-use bidi_runs::written::write_over_runs;
+use bidi_runs::written::{is_kept_in_place, write_over_runs};
 use bidi_text::text::TextSource;
 
 /// Applies N0 to the bracket pairs one by one, in the order of their opening brackets.
@@ -58,17 +61,46 @@ pub fn resolve_pairs<T: TextSource>(
     let mut row = Row::new(directions.embedding);
     for pair in pairs {
         let (opening, closing) = *pair;
+        let first = place_of(text, runs, opening);
         let pair = Pair {
             opening,
-            inside: end_of(text, opening),
+            inside: first.end,
             closing,
             is_marked: is_nsm(original_classes[opening]),
         };
-        let taken = walk.pair_direction(directions.sos, runs, classes, pair);
+        let taken = walk.pair_direction(directions.sos, runs, first.run, classes, pair);
         if let Some(direction) = taken {
-            row.set_direction(text, runs, original_classes, classes, opening, direction);
-            row.set_direction(text, runs, original_classes, classes, closing, direction);
+            row.set_direction(text, runs, original_classes, classes, first, direction);
+            let last = place_of(text, runs, closing);
+            row.set_direction(text, runs, original_classes, classes, last, direction);
         }
+    }
+}
+
+/// Where a bracket is.
+#[derive(Clone, Copy, Debug)]
+struct Place {
+    /// The index at which it begins.
+    unit: usize,
+    /// The index after it.
+    end: usize,
+    /// The index of the first run that ends after `unit`, or else the number of runs.
+    run: usize,
+}
+
+/// Returns the place of the bracket that begins at `unit`.
+fn place_of<T: TextSource>(text: T, runs: &[LevelRun], unit: usize) -> Place
+    requires ordered { IsTrue (are_ordered (map bounds runs.now)) }
+    requires begins { IsTrue (is_boundary T.units (T.characters text) unit) }
+    requires inside { unit < text_len T.units (T.characters text) }
+    requires fits { text_len T.units (T.characters text) ≤ usize.MAX }
+    ensures unit { result.unit ≡ unit }
+    ensures is { IsPlace T.units (T.characters text) (map bounds runs.now) result }
+{
+    Place {
+        unit,
+        end: end_of(text, unit),
+        run: run_of(runs, unit),
     }
 }
 
@@ -142,11 +174,12 @@ impl PairWalk {
 
     /// Returns the direction that a pair takes. This is the embedding direction if it is inside (N0 b).
     /// Otherwise, if the opposite one is inside, it is that of the context before the pair (N0 c). If
-    /// neither is inside, returns `None` (N0 d).
+    /// neither is inside, returns `None` (N0 d). The opening bracket is in the run at the index `run`.
     fn pair_direction(
         &mut self,
         sos: BidiClass,
         runs: &[LevelRun],
+        run: usize,
         classes: &[BidiClass],
         pair: Pair,
     ) -> Option<BidiClass>
@@ -154,11 +187,11 @@ impl PairWalk {
         requires runs { All (λ r. r.1 ≤ length classes.now) (map bounds runs.now) }
         requires closing { pair.closing ≤ length classes.now }
         requires inside { pair.opening ≤ pair.inside }
+        requires run { IsRunOf (map bounds runs.now) pair.opening run }
         ensures embedding { self.new.embedding.direction ≡ self.old.embedding.direction }
         ensures opposite { self.new.opposite.direction ≡ self.old.opposite.direction }
         ensures taken { IsTaken sos (map bounds runs.now) classes.now pair self.old self.new result }
     {
-        let run = run_of(runs, pair.opening);
         let later = &runs[run..];
         if self.embedding.is_inside(later, classes, pair) {
             return Some(self.embedding.direction);
@@ -194,33 +227,35 @@ impl Row {
 
     /// Gives a direction to a bracket, and to the nonspacing marks directly after it by their original
     /// classes. Does nothing if the last write did that already.
+    #[inline(always)]
     fn set_direction<T: TextSource>(
         &mut self,
         text: T,
         runs: &[LevelRun],
         original_classes: &[BidiClass],
         classes: &mut [BidiClass],
-        bracket: usize,
+        bracket: Place,
         direction: BidiClass,
     )
         requires lines { AreLines T.units (T.characters text) (map bounds runs.now) }
         requires ordered { IsTrue (are_ordered (map bounds runs.now)) }
         requires long { length classes.old ≡ text_len T.units (T.characters text) }
         requires original { length original_classes.now ≡ length classes.old }
-        requires begins { IsTrue (is_boundary T.units (T.characters text) bracket) }
-        requires inside { bracket < text_len T.units (T.characters text) }
+        requires begins { IsTrue (is_boundary T.units (T.characters text) bracket.unit) }
+        requires inside { bracket.unit < text_len T.units (T.characters text) }
+        requires place { IsPlace T.units (T.characters text) (map bounds runs.now) bracket }
         requires row { IsRow T.units (T.characters text) (map bounds runs.now) original_classes.now classes.old self.old }
-        ensures set { (k : ℕ) → k < length (T.characters text) → bracket ≡ place T.units (T.characters text) k
-            → IsSet T.units (T.characters text) (map bounds runs.now) original_classes.now direction bracket (k + 1)
+        ensures set { (k : ℕ) → k < length (T.characters text) → bracket.unit ≡ place T.units (T.characters text) k
+            → IsSet T.units (T.characters text) (map bounds runs.now) original_classes.now direction bracket.unit (k + 1)
             classes.old classes.new }
         ensures row { IsRow T.units (T.characters text) (map bounds runs.now) original_classes.now classes.new self.new }
     {
-        if self.from <= bracket && bracket < self.end && self.direction == direction {
+        if self.from <= bracket.unit && bracket.unit < self.end && self.direction == direction {
             return;
         }
         let end = set_direction(text, runs, original_classes, classes, bracket, direction);
         *self = Row {
-            from: bracket,
+            from: bracket.unit,
             end,
             direction,
         };
@@ -229,27 +264,87 @@ impl Row {
 
 /// Gives a direction to a bracket, and to the nonspacing marks directly after it by their original classes.
 /// Returns where the marks end.
+#[inline(always)]
 fn set_direction<T: TextSource>(
     text: T,
     runs: &[LevelRun],
     original_classes: &[BidiClass],
     classes: &mut [BidiClass],
-    bracket: usize,
+    bracket: Place,
     direction: BidiClass,
 ) -> usize
     requires lines { AreLines T.units (T.characters text) (map bounds runs.now) }
     requires ordered { IsTrue (are_ordered (map bounds runs.now)) }
     requires long { length classes.old ≡ text_len T.units (T.characters text) }
     requires original { length original_classes.now ≡ length classes.old }
-    requires begins { IsTrue (is_boundary T.units (T.characters text) bracket) }
-    requires inside { bracket < text_len T.units (T.characters text) }
-    ensures { (k : ℕ) → k < length (T.characters text) → bracket ≡ place T.units (T.characters text) k
-        → IsSetUpTo T.units (T.characters text) (map bounds runs.now) original_classes.now direction bracket (k + 1)
+    requires begins { IsTrue (is_boundary T.units (T.characters text) bracket.unit) }
+    requires inside { bracket.unit < text_len T.units (T.characters text) }
+    requires place { IsPlace T.units (T.characters text) (map bounds runs.now) bracket }
+    ensures { (k : ℕ) → k < length (T.characters text) → bracket.unit ≡ place T.units (T.characters text) k
+        → IsSetUpTo T.units (T.characters text) (map bounds runs.now) original_classes.now direction bracket.unit (k + 1)
         result classes.old classes.new }
 {
-    let inside = end_of(text, bracket);
-    let later = &runs[run_of(runs, bracket)..];
-    let end = marks_end(text, later, original_classes, classes, inside);
-    write_over_runs(later, classes, bracket, end, direction);
+    let later = &runs[bracket.run..];
+    if no_mark_follows(later, original_classes, classes, bracket) {
+        write_bracket(classes, bracket, direction);
+        return bracket.end;
+    }
+    set_with_marks(text, later, original_classes, classes, bracket, direction)
+}
+
+/// Whether the first of some runs has the whole bracket and the character after it, and that character is
+/// neither BN nor a nonspacing mark by its original class.
+fn no_mark_follows(
+    runs: &[LevelRun],
+    original_classes: &[BidiClass],
+    classes: &[BidiClass],
+    bracket: Place,
+) -> bool
+    requires inside { All (λ r. r.1 ≤ length classes.now) (map bounds runs.now) }
+    requires original { length original_classes.now ≡ length classes.now }
+    ensures { IsTrue result → IsUnmarked (map bounds runs.now) original_classes.now classes.now bracket }
+{
+    if runs.is_empty() || bracket.unit < runs[0].start || runs[0].end <= bracket.end {
+        return false;
+    }
+    ends_marks(classes[bracket.end], original_classes[bracket.end])
+}
+
+/// Gives a direction to the code units of a bracket, except to those with BN.
+fn write_bracket(classes: &mut [BidiClass], bracket: Place, direction: BidiClass)
+    requires { bracket.end ≤ length classes.old }
+    ensures { IsWrittenOver (λ k. is_kept_in_place (class_at classes.old k)) direction bracket.unit bracket.end
+        classes.old classes.new }
+{
+    for unit in bracket.unit..bracket.end {
+        if is_kept_in_place(classes[unit]) {
+            classes[unit] = direction;
+        }
+    }
+}
+
+/// Gives a direction to a bracket in some runs, and to the nonspacing marks directly after it by their
+/// original classes. Returns where the marks end.
+#[inline(never)]
+fn set_with_marks<T: TextSource>(
+    text: T,
+    runs: &[LevelRun],
+    original_classes: &[BidiClass],
+    classes: &mut [BidiClass],
+    bracket: Place,
+    direction: BidiClass,
+) -> usize
+    requires lines { AreLines T.units (T.characters text) (map bounds runs.now) }
+    requires ordered { IsTrue (are_ordered (map bounds runs.now)) }
+    requires long { length classes.old ≡ text_len T.units (T.characters text) }
+    requires original { length original_classes.now ≡ length classes.old }
+    requires ends { IsTrue (is_boundary T.units (T.characters text) bracket.end) }
+    ensures marks { IsMarksEnd T.units (T.characters text) (map bounds runs.now) original_classes.now classes.old
+        bracket.end result }
+    ensures written { IsWrittenOver (is_seen (map bounds runs.now) classes.old) direction bracket.unit result classes.old
+        classes.new }
+{
+    let end = marks_end(text, runs, original_classes, classes, bracket.end);
+    write_over_runs(runs, classes, bracket.unit, end, direction);
     end
 }

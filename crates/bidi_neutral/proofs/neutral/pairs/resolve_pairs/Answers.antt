@@ -23,11 +23,17 @@ here g c = search (arith, stands)
 long : (g : Over) (c : In-loop-pair g) → length c.args.classes.now ≡ text_len g.T.TextSource.units (g.T.TextSource.characters c.args.text)
 long g c = grind arith steps 400000
 
-pub end_of-requires-clause-begins : goal.end_of-requires-clause-begins
-end_of-requires-clause-begins g c = (here g (goal.at.end_of-requires-clause-begins g c).In-loop-pair).first_begins
+pub place_of-first-requires-clause-begins : goal.place_of-first-requires-clause-begins
+place_of-first-requires-clause-begins g c = (here g (goal.at.place_of-first-requires-clause-begins g c).In-loop-pair).first_begins
 
-pub end_of-requires-clause-inside : goal.end_of-requires-clause-inside
-end_of-requires-clause-inside g c = (here g (goal.at.end_of-requires-clause-inside g c).In-loop-pair).first_inside
+pub place_of-first-requires-clause-inside : goal.place_of-first-requires-clause-inside
+place_of-first-requires-clause-inside g c = (here g (goal.at.place_of-first-requires-clause-inside g c).In-loop-pair).first_inside
+
+pub place_of-last-requires-clause-begins : goal.place_of-last-requires-clause-begins
+place_of-last-requires-clause-begins g c = (here g (goal.at.place_of-last-requires-clause-begins g c).In-loop-pair).last_begins
+
+pub place_of-last-requires-clause-inside : goal.place_of-last-requires-clause-inside
+place_of-last-requires-clause-inside g c = (here g (goal.at.place_of-last-requires-clause-inside g c).In-loop-pair).last_inside
 
 pub bounds-original_classes-opening : goal.bounds-original_classes-opening
 bounds-original_classes-opening g c =
@@ -41,7 +47,7 @@ pair_direction-taken-requires-clause-runs g c =
 pub pair_direction-taken-requires-clause-inside : goal.pair_direction-taken-requires-clause-inside
 pair_direction-taken-requires-clause-inside g c =
     let st = here g (goal.at.pair_direction-taken-requires-clause-inside g c).In-loop-pair in
-    grind (arith, st.first_place, c.end_of.ensures _ st.first_within st.first_place, place-mono g.T.TextSource.units (g.T.TextSource.characters c.args.text))
+    grind (arith, st.first_place, c.place_of-first.ensures.is.ends _ st.first_within (c.place_of-first.ensures.unit ∙ st.first_place), place-mono g.T.TextSource.units (g.T.TextSource.characters c.args.text))
 
 pub pair_direction-taken-requires-clause-closing : goal.pair_direction-taken-requires-clause-closing
 pair_direction-taken-requires-clause-closing g c =
@@ -52,19 +58,19 @@ pub set_direction-requires-clause-long : goal.set_direction-requires-clause-long
 set_direction-requires-clause-long g c = grind arith steps 400000
 
 pub set_direction-requires-clause-begins : goal.set_direction-requires-clause-begins
-set_direction-requires-clause-begins g c = (here g (goal.at.set_direction-requires-clause-begins g c).In-loop-pair).first_begins
+set_direction-requires-clause-begins g c = rw c.place_of-first.ensures.unit (here g (goal.at.set_direction-requires-clause-begins g c).In-loop-pair).first_begins
 
 pub set_direction-requires-clause-inside : goal.set_direction-requires-clause-inside
-set_direction-requires-clause-inside g c = (here g (goal.at.set_direction-requires-clause-inside g c).In-loop-pair).first_inside
+set_direction-requires-clause-inside g c = rw c.place_of-first.ensures.unit (here g (goal.at.set_direction-requires-clause-inside g c).In-loop-pair).first_inside
 
 pub set_direction-requires-in-Some-clause-long : goal.set_direction-requires-in-Some-clause-long
 set_direction-requires-in-Some-clause-long g c = grind arith steps 400000
 
 pub set_direction-requires-in-Some-clause-begins : goal.set_direction-requires-in-Some-clause-begins
-set_direction-requires-in-Some-clause-begins g c = (here g (goal.at.set_direction-requires-in-Some-clause-begins g c).In-loop-pair).last_begins
+set_direction-requires-in-Some-clause-begins g c = rw c.place_of-last.ensures.unit (here g (goal.at.set_direction-requires-in-Some-clause-begins g c).In-loop-pair).last_begins
 
 pub set_direction-requires-in-Some-clause-inside : goal.set_direction-requires-in-Some-clause-inside
-set_direction-requires-in-Some-clause-inside g c = (here g (goal.at.set_direction-requires-in-Some-clause-inside g c).In-loop-pair).last_inside
+set_direction-requires-in-Some-clause-inside g c = rw c.place_of-last.ensures.unit (here g (goal.at.set_direction-requires-in-Some-clause-inside g c).In-loop-pair).last_inside
 
 pub loop-pair-preserved : goal.loop-pair-preserved
 loop-pair-preserved g c = (
@@ -84,7 +90,8 @@ loop-pair-preserved g c = (
       let j = (pair_at found k).1 in
       let st = stands len_of h chars original runs sos old ready e side long found nested a.pairs.now is k c.loop-pair-test.true in
       let w = s.invariant.0 h ready side long found nested is in
-      let inside : c.end_of.result ≡ place len_of chars (get_or ks i 0 + 1) = c.end_of.ensures (get_or ks i 0) st.first_within st.first_place in
+      let opening = c.place_of-first.ensures in
+      let inside : c.place_of-first.result.end ≡ place len_of chars (get_or ks i 0 + 1) = opening.is.ends (get_or ks i 0) st.first_within (opening.unit ∙ st.first_place) in
       let answer = IsAnswered-taken len_of h chars original runs sos old ready e side long found nested s.classes k st.fits s.walk c.pair_direction-taken.new.self w c.pair_direction-taken.result
       (rw (sym st.first, sym st.last, sym inside, sym (c.is_nsm.ensures ∙ ap is_nsm (sym st.class_is))) c.pair_direction-taken.ensures.taken) in
       elim c.match-taken.branch [
@@ -92,8 +99,8 @@ loop-pair-preserved g c = (
             rw b.classes-is
             (IsWalkedTo-set len_of h chars original runs sos old ready e side long found nested s.classes k st.fits s.walk c.pair_direction-taken.new.self w c.pair_direction-taken.result b.in-Some.direction b.set_direction.new.classes b.set_direction-in-Some.new.classes answer b.in-Some.is
             (c.pair_direction-taken.ensures.embedding ∙ w.embedding_is) (c.pair_direction-taken.ensures.opposite ∙ w.opposite_is)
-            (subst (λ u. IsSet len_of chars (map bounds runs) original b.in-Some.direction u (get_or ks i 0 + 1) s.classes b.set_direction.new.classes) st.first (b.set_direction.ensures.set (get_or ks i 0) st.first_within st.first_place))
-            (subst (λ u. IsSet len_of chars (map bounds runs) original b.in-Some.direction u (get_or ks j 0 + 1) b.set_direction.new.classes b.set_direction-in-Some.new.classes) st.last (b.set_direction-in-Some.ensures.set (get_or ks j 0) st.last_within st.last_place)))
+            (subst (λ u. IsSet len_of chars (map bounds runs) original b.in-Some.direction u (get_or ks i 0 + 1) s.classes b.set_direction.new.classes) (opening.unit ∙ st.first) (b.set_direction.ensures.set (get_or ks i 0) st.first_within (opening.unit ∙ st.first_place)))
+            (subst (λ u. IsSet len_of chars (map bounds runs) original b.in-Some.direction u (get_or ks j 0 + 1) b.set_direction.new.classes b.set_direction-in-Some.new.classes) (b.place_of-last.ensures.unit ∙ st.last) (b.set_direction-in-Some.ensures.set (get_or ks j 0) st.last_within (b.place_of-last.ensures.unit ∙ st.last_place))))
         | in_default b ↦
             rw b.classes-is
             (IsWalkedTo-none len_of h chars original runs sos old ready e side long found nested s.classes k st.fits s.walk c.pair_direction-taken.new.self w c.pair_direction-taken.result answer b.in_default.is

@@ -40,8 +40,8 @@ direction_before-requires-clause-ordered c = grind (arith, front, are_ordered-ta
 
 pub direction_before-requires-clause-inside : goal.direction_before-requires-clause-inside
 direction_before-requires-clause-inside c =
-    subst (λ (rs : List (ℕ × ℕ)). All (λ (r : ℕ × ℕ). r.1 ≤ length c.args.classes.now) rs) (sym (front c.args.runs.now c.min-upto.result c.run_of-run.result c.min-upto.ensures))
-    (ends-later (length c.args.classes.now) (c.run_of-run.result + 1) (map bounds c.args.runs.now) c.requires.runs)
+    subst (λ (rs : List (ℕ × ℕ)). All (λ (r : ℕ × ℕ). r.1 ≤ length c.args.classes.now) rs) (sym (front c.args.runs.now c.min-upto.result c.args.run c.min-upto.ensures))
+    (ends-later (length c.args.classes.now) (c.args.run + 1) (map bounds c.args.runs.now) c.requires.runs)
 
 pub returns-then-is_inside-2-clause-taken : goal.returns-then-is_inside-2-clause-taken
 returns-then-is_inside-2-clause-taken c = grind (arith, later, front)
