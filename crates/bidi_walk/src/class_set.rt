@@ -73,9 +73,7 @@ impl ClassSet {
     /// The classes that the later steps tell apart: all but PDI, the neutrals, and those weak types that are
     /// neither numbers nor removed by X9.
     pub(crate) const COUNTED: ClassSet = ClassSet {
-        bits: ClassSet::TURNING_EVEN.bits
-            | ClassSet::TURNING_ODD.bits
-            | ClassSet::REMOVED.bits,
+        bits: ClassSet::TURNING_EVEN.bits | ClassSet::TURNING_ODD.bits | ClassSet::REMOVED.bits,
     };
 
     /// Whether the class is in the set.
