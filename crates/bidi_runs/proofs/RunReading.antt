@@ -47,7 +47,8 @@ read-closed_own c wait waits n pdi some =
     let one : n - 1 + 1 ≡ n = omega arith in
     grind (arith, read-closed_one c wait waits (n - 1) pdi)
 
-read-closed : (c : BidiClass) (wait : Option ℕ) (waits now : List (Option ℕ)) (n : ℕ) → is_pdi c ≡ true → n ≡ 0 → now ≡ take (length waits - 1) waits → now ++ replicate n None ≡ read_class c wait (waits ++ replicate n None)
+read-closed : (c : BidiClass) (wait : Option ℕ) (waits now : List (Option ℕ)) (n : ℕ) → is_pdi c ≡ true → n ≡ 0 → now ≡ take (length waits - 1) waits
+    → now ++ replicate n None ≡ read_class c wait (waits ++ replicate n None)
 read-closed c wait waits now n pdi none is = grind (arith, pdi-apart c, append-nil)
 
 -- the characters of a run before the one with an index are read, which stands at a unit
@@ -216,12 +217,14 @@ module _ (len_of : ℕ → ℕ) (h : HasUnits len_of) (chars : List ℕ) (units 
     pub counted-waits : (more now : List (Option ℕ)) → is_pdi (class_at units control) ≡ false → behind ≡ last → more ≡ waits_there → now ≡ more ++ Some s ∷ [] → CountedTo old now 0 behind
     counted-waits more now pdi same all is =
         record {
-          read = IsReadTo-more old waits_there _ control behind (Some s) below ends (rw (eq-eqb behind last same) refl) (read-waits (class_at units control) s waits more now n (f.at below) pdi all is) jumped;
+          read = IsReadTo-more old waits_there _ control behind (Some s) below ends (rw (eq-eqb behind last same) refl)
+              (read-waits (class_at units control) s waits more now n (f.at below) pdi all is) jumped;
           few = omega arith;
         }
 
   -- no control is left
-  pub counted-end : (old waits : List (Option ℕ)) (n at control : ℕ) → IsFirst is_isolate_control units at end control → control ≡ end → CountedTo old waits n at → waits ++ replicate n None ≡ read_units len_of chars units last s start end old
+  pub counted-end : (old waits : List (Option ℕ)) (n at control : ℕ) → IsFirst is_isolate_control units at end control → control ≡ end → CountedTo old waits n at
+      → waits ++ replicate n None ≡ read_units len_of chars units last s start end old
   counted-end old waits n at control f same r =
       IsReadTo-end old (waits ++ replicate n None) (simp same at (IsReadTo-jump at control old (waits ++ replicate n None) r.read f))
 
