@@ -27,7 +27,7 @@ loop-at-preserved g c = elim c.if-keeps_top.branch [
         let begins = read-begins _ _ _ _ _ _ _ c.loop-at.invariant.0 in
         let ends = read-begins _ _ _ _ _ _ _ (read.read _ _ c.loop-at.invariant.0) in
         simp (w.progress-is, w.stack-is, w.steps-is)
-        (count-some _ g.met.T.TextSource.has_units _ c.args.paragraph.now.stride _ _ begins ends read.some c.loop-at.steps _ _ c.args.steps.now (omega (arith, read.steps, c.tick.ensures))
+        (count-some _ g.met.T.TextSource.has_units _ c.args.paragraph.now.stride _ _ begins ends read.some c.loop-at.steps _ _ c.args.steps.now (omega (arith, read.steps))
         (omega (arith, read.entries, c.loop-at.invariant.2))),
   )
   | else-keeps_top+then-is_control w ↦ (
