@@ -84,7 +84,7 @@ struct Place {
     unit: usize,
     /// The index after it.
     end: usize,
-    /// The index of the first run that ends after `unit`, or else the number of runs.
+    /// The index of its run: the first that ends after `unit`. If there is none, the number of runs.
     run: usize,
 }
 
@@ -174,7 +174,7 @@ impl PairWalk {
 
     /// Returns the direction that a pair takes. This is the embedding direction if it is inside (N0 b).
     /// Otherwise, if the opposite one is inside, it is that of the context before the pair (N0 c). If
-    /// neither is inside, returns `None` (N0 d). The opening bracket is in the run at the index `run`.
+    /// neither is inside, returns `None` (N0 d). The opening bracket is in the run at `run`, or in none.
     fn pair_direction(
         &mut self,
         sos: BidiClass,
@@ -263,7 +263,7 @@ impl Row {
 }
 
 /// Gives a direction to a bracket, and to the nonspacing marks directly after it by their original classes.
-/// Returns where the marks end.
+/// Returns where the marks end. Most brackets have no marks, and are then written without a search.
 #[inline(always)]
 fn set_direction<T: TextSource>(
     text: T,
