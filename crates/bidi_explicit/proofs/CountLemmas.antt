@@ -1,5 +1,5 @@
 -- What the pass counts up to an index: characters, or code units.
-use Rattle.bidi_base.proofs.Common.{◌≡◌, ℕ, zero, suc, ◌+◌, ◌*◌, ◌-◌, ◌<◌, ◌≤◌, true, List, length, get_or, refl, arith, char_index, is_boundary, place}
+use Rattle.bidi_base.proofs.Common.{◌≡◌, ℕ, zero, suc, ◌+◌, ◌-◌, ◌<◌, ◌≤◌, true, List, length, get_or, refl, arith, char_index, is_boundary, place}
 use Rattle.bidi_base.proofs.PlaceLemmas.{char_index-le, place-char_index, place-more}
 use Rattle.bidi_base.proofs.TextLemmas.{HasUnits}
 use Rattle.bidi_runs.proofs.CharEnds.{index-le, index-lt, index-zero}
@@ -54,10 +54,3 @@ module _ (len_of : ℕ → ℕ) (h : HasUnits len_of) (chars : List ℕ) where
   pub count-one : (stride : Stride) (u v : ℕ) → u < v → char_index len_of chars v ≡ char_index len_of chars u + 1 → count_to stride len_of chars u + 1 ≤ count_to stride len_of chars v
   count-one CodeUnit u v some one = omega arith
   count-one Character u v some one = omega arith
-
-  -- a step for each character, and one more, are at most four for each that is counted
-  pub count-some : (stride : Stride) (u v : ℕ) → is_boundary len_of chars u ≡ true → is_boundary len_of chars v ≡ true → u < v
-      → (before after entries first : ℕ) → after + char_index len_of chars u ≡ before + 1 + char_index len_of chars v
-      → before + entries ≤ first + (4 * count_to stride len_of chars u + 1) → after + entries ≤ first + (4 * count_to stride len_of chars v + 1)
-  count-some stride u v begins ends some before after entries first steps upto =
-      omega (arith, count-lt stride u v begins ends some, index-count stride u v begins ends (omega arith), steps, upto)

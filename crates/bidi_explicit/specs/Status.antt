@@ -1,7 +1,5 @@
 -- The status stack in code as the state of the machine.
-use Rattle.std.specs.Prelude.{ℕ, ◌+◌, Bool, false, not, nat_lt, ◌&&◌, ◌||◌, List, [], length, map, None}
-use Rattle.bidi_base.specs.declared.char_data.BidiClass.{BidiClass}
-use Rattle.bidi_base.specs.Classes.{is_paragraph_separator, is_pdi}
+use Rattle.std.specs.Prelude.{ℕ, ◌+◌, false, List, [], length, map, None}
 use Rattle.bidi_base.specs.StatusMachine.{Entry, State, with_stack}
 use Rattle.bidi_explicit.specs.declared.explicit.status.StatusEntry.{StatusEntry}
 
@@ -25,7 +23,3 @@ state_by entries isolates embeddings valid = with_stack (empty_state isolates em
 -- how many entries the stack has
 abbrev pub entry_count : State → ℕ
 entry_count s = length s.below + 1
-
--- an open initiator has overflowed, and a character of this class, which is no paragraph separator, closes nothing that was taken
-abbrev pub keeps_top : BidiClass → State → Bool
-keeps_top c s = not (is_paragraph_separator c) && (nat_lt 0 s.overflow_isolates || (nat_lt 0 s.overflow_embeddings && not (is_pdi c)))

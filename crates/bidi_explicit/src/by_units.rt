@@ -15,9 +15,8 @@ use std::sync::ledger::{Blank, Ledger};
 
 /// Finds what [`compute`](crate::explicit::compute) finds, with the same parameters.
 ///
-/// The pass reads the text only at controls, and at each character while an initiator that overflowed is
-/// open. It goes through the classes between two controls without the text, and looks for the next control
-/// sixteen code units at a time.
+/// The pass reads the text only at controls. It goes through the classes between two controls without the
+/// text, and looks for the next control sixteen code units at a time.
 pub fn compute<T: TextSource>(
     _alloc: Global,
     text: T,

@@ -262,10 +262,7 @@ pub(crate) fn compute_by<T: TextSource, S: Ledger>(
     let mut at = 0;
     while at < units {
         steps.tick();
-        let class = original_classes[at];
-        let progress = if stack.keeps_top(class) {
-            paragraph.read_overflowed(at, &mut stack, levels, processing_classes, steps)
-        } else if is_control(class) {
+        let progress = if is_control(original_classes[at]) {
             paragraph.read_control(at, &mut stack, levels, processing_classes, steps)
         } else {
             paragraph.read_stretch(at, stack.top(), levels, processing_classes, steps)

@@ -1,11 +1,11 @@
 //! The directional status stack with its three counts (X1 to X8).
 
-ghost use Rattle.std.specs.Prelude.{◌≡◌, ℕ, ◌<◌, ◌≤◌, ◌+◌, ◌^◌, length, map, reverse, Option, Some, None, IsTrue, if◌then◌else◌};
+ghost use Rattle.std.specs.Prelude.{◌≡◌, ℕ, ◌<◌, ◌≤◌, ◌+◌, ◌^◌, length, map, reverse, Option, Some, None, if◌then◌else◌};
 ghost use Rattle.std.specs.Result.{OkIff};
 ghost use Rattle.bidi_base.specs.Classes.{is_initiator};
 ghost use Rattle.bidi_base.specs.Explicit.{asked_level, override_of};
 ghost use Rattle.bidi_base.specs.StatusMachine.{State, start, entered, closed, opened, step, fits_in, close_isolate, close_embedding, drop_isolate, counted, IsWithinDepth, IsPoppable};
-ghost use Rattle.bidi_explicit.specs.Status.{entry_count, keeps_top, seen, state_by};
+ghost use Rattle.bidi_explicit.specs.Status.{entry_count, seen, state_by};
 
 use arrayvec::ArrayVec;
 use bidi_base::char_data::{BidiClass, is_rtl};
@@ -131,37 +131,6 @@ impl StatusStack {
                 self.open(class);
                 status
             }
-        }
-    }
-
-    /// Returns whether an open initiator has overflowed, and a character of this class changes at most the
-    /// overflow counts. For a paragraph separator this is false, since it has a level of its own.
-    pub fn keeps_top(&self, class: BidiClass) -> bool
-        ensures { result ≡ keeps_top class self.now }
-    {
-        let in_isolate = self.overflow_isolates > 0;
-        let in_embedding = self.overflow_embeddings > 0;
-        class != BidiClass::B && (in_isolate || (in_embedding && class != BidiClass::PDI))
-    }
-
-    /// Reads a character that changes at most the overflow counts (X2 to X7).
-    pub fn count_overflow(&mut self, class: BidiClass)
-        requires keeps { IsTrue (keeps_top class self.old) }
-        requires counts { counted (closed class self.old) + 1 < 2 ^ 64 }
-        ensures state { self.new ≡ step class self.old }
-        ensures top { self.new.top ≡ self.old.top }
-        ensures entries { entry_count self.new ≡ entry_count self.old }
-    {
-        // Inside an isolate that overflowed, embeddings are not counted.
-        let embedding = usize::from(self.overflow_isolates == 0);
-        match class {
-            BidiClass::LRI | BidiClass::RLI | BidiClass::FSI => self.overflow_isolates += 1,
-            BidiClass::PDI => self.overflow_isolates -= 1,
-            BidiClass::LRE | BidiClass::LRO | BidiClass::RLE | BidiClass::RLO => {
-                self.overflow_embeddings += embedding
-            }
-            BidiClass::PDF => self.overflow_embeddings -= embedding,
-            _ => {}
         }
     }
 

@@ -1,20 +1,16 @@
 //! The explicit pass by stretches. Between two controls the status does not change, so all code units there
 //! get the same level and the same override.
 //!
-//! The pass goes through a stretch from character to character, or from code unit to code unit. While an
-//! initiator that overflowed is open, most controls change nothing but a count. The pass then reads them in
-//! one part with the text between them, from character to character.
+//! The pass goes through a stretch from character to character, or from code unit to code unit.
 
 ghost use Rattle.std.specs.Prelude.{◌≡◌, ℕ, ◌+◌, ◌*◌, ◌-◌, ◌<◌, ◌≤◌, false, List, None, Some, length, map, IsTrue, OnOk};
-ghost use Rattle.std.specs.Bool.{then_some};
-ghost use Rattle.bidi_base.specs.Classes.{is_kept};
 ghost use Rattle.bidi_base.specs.Places.{class_at};
 ghost use Rattle.bidi_base.specs.Search.{IsFirst};
 ghost use Rattle.bidi_base.specs.StatusMachine.{State};
 ghost use Rattle.bidi_base.specs.Text.{char_index, is_boundary, is_per_char, place, text_len};
 ghost use Rattle.bidi_base.specs.Units.{bounds};
 ghost use Rattle.bidi_explicit.specs.ExplicitStretches.{is_control, paragraph_of, run_met, runs_met, IsOverridden, IsReadTo, ReadsOn};
-ghost use Rattle.bidi_explicit.specs.Status.{entry_count, keeps_top, seen};
+ghost use Rattle.bidi_explicit.specs.Status.{entry_count, seen};
 ghost use Rattle.bidi_explicit.specs.Stride.{count_to};
 
 use super::status::{StatusEntry, StatusStack};
@@ -65,7 +61,7 @@ impl ClassTest for Kept {
     }
 }
 
-/// The part of the paragraph just read, with one level: a stretch, a control, or what an overflow encloses.
+/// The part of the paragraph just read: a stretch or a control, with one level.
 #[derive(Clone, Copy, Debug)]
 pub struct Progress {
     /// The index after that part.
@@ -73,13 +69,6 @@ pub struct Progress {
     level: Level,
     /// The first code unit of the part that X9 keeps.
     first_kept: Option<usize>,
-}
-
-// The index of a character, if X9 keeps it.
-fn if_kept(class: BidiClass, start: usize) -> Option<usize>
-    ensures { result ≡ then_some (is_kept class) start }
-{
-    not_removed_by_x9(&class).then_some(start)
 }
 
 /// The current level run, which no later run has ended yet.
@@ -396,87 +385,7 @@ impl<'p, T: TextSource> Paragraph<'p, T> {
         Progress {
             end,
             level,
-            first_kept: if_kept(class, start),
-        }
-    }
-
-    // Reads a character that leaves the top of the stack as it is. Counts one step.
-    fn read_at_top<S: Ledger>(
-        &self,
-        start: usize,
-        top: &StatusEntry,
-        stack: &mut StatusStack,
-        levels: &mut [Level],
-        classes: &mut [BidiClass],
-        steps: &mut Steps<S>,
-    ) -> Progress
-        requires inside { start < length self.now.original_classes.now }
-        requires read { (runs : List (ℕ × ℕ)) × (run : OpenRun)
-            × IsReadTo
-            (paragraph_of T.units (T.characters self.now.text) self.now.level self.now.original_classes.now) start
-            stack.old levels.old classes.old runs run }
-        requires keeps { IsTrue (keeps_top (class_at self.now.original_classes.now start) stack.old) }
-        requires top { seen top.now ≡ stack.old.top }
-        ensures read { ReadsOn
-            (paragraph_of T.units (T.characters self.now.text) self.now.level self.now.original_classes.now) start
-            stack.old levels.old classes.old result stack.new levels.new classes.new }
-        ensures level { result.level ≡ top.now.level }
-        ensures top { seen top.now ≡ stack.new.top }
-        ensures entries { entry_count stack.new ≡ entry_count stack.old }
-        ensures some { start < result.end }
-        ensures one { char_index T.units (T.characters self.now.text) result.end
-            ≡ char_index T.units (T.characters self.now.text) start + 1 }
-        ensures steps { steps.new ≡ steps.old + 1 }
-    {
-        let class = self.original_classes[start];
-        stack.count_overflow(class);
-        let end = self.step_over(start, steps);
-        let put = own_class(class, top.override_class);
-        write_control(levels, classes, start..end, top.level, put);
-        Progress {
-            end,
-            level: top.level,
-            first_kept: if_kept(class, start),
-        }
-    }
-
-    /// Reads the characters from an index on that leave the top of the stack as it is, while an initiator
-    /// that overflowed is open. They all get the level of the top. Counts one step for each character.
-    pub fn read_overflowed<S: Ledger>(
-        &self,
-        from: usize,
-        stack: &mut StatusStack,
-        levels: &mut [Level],
-        classes: &mut [BidiClass],
-        steps: &mut Steps<S>,
-    ) -> Progress
-        requires inside { from < length self.now.original_classes.now }
-        requires read { (runs : List (ℕ × ℕ)) × (run : OpenRun)
-            × IsReadTo
-            (paragraph_of T.units (T.characters self.now.text) self.now.level self.now.original_classes.now) from
-            stack.old levels.old classes.old runs run }
-        requires keeps { IsTrue (keeps_top (class_at self.now.original_classes.now from) stack.old) }
-        ensures read { ReadsOn
-            (paragraph_of T.units (T.characters self.now.text) self.now.level self.now.original_classes.now) from
-            stack.old levels.old classes.old result stack.new levels.new classes.new }
-        ensures entries { entry_count stack.new ≡ entry_count stack.old }
-        ensures some { from < result.end }
-        ensures steps { steps.new + char_index T.units (T.characters self.now.text) from
-            ≡ steps.old + char_index T.units (T.characters self.now.text) result.end }
-    {
-        let units = self.original_classes.len();
-        let top = stack.top();
-        let mut at = from;
-        let mut first_kept = None;
-        while at < units && stack.keeps_top(self.original_classes[at]) {
-            let read = self.read_at_top(at, &top, stack, levels, classes, steps);
-            first_kept = first_kept.or(read.first_kept);
-            at = read.end;
-        }
-        Progress {
-            end: at,
-            level: top.level,
-            first_kept,
+            first_kept: not_removed_by_x9(&class).then_some(start),
         }
     }
 }
