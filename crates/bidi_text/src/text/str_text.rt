@@ -1,6 +1,6 @@
 //! Texts in UTF-8. A code unit is a byte.
 
-ghost use Rattle.std.specs.Prelude.{◌≡◌, ℕ, ◌+◌, ◌*◌, ◌%◌, ◌<◌, ◌^◌, true, length, get_or};
+ghost use Rattle.std.specs.Prelude.{if◌then◌else◌, nat_lt, ◌≡◌, ℕ, ◌+◌, ◌*◌, ◌%◌, ◌<◌, ◌^◌, true, length, get_or};
 ghost use Rattle.std.specs.Char.{len_utf8};
 ghost use Rattle.std.specs.Str.{chars, IsUtf8};
 ghost use Rattle.std.specs.Str.Iter.{char_indices_rest, char_indices_offset};
@@ -76,6 +76,17 @@ impl<'t> Iterator for Utf8IndexLenIter<'t> {
             None => None,
         }
     }
+}
+
+// How many bytes a character has, by the upper four bits of its first byte.
+const LENGTHS: [u8; 16] = [1, 1, 1, 1, 1, 1, 1, 1, 1, 1, 1, 1, 2, 2, 3, 4];
+
+// The number of bytes of a character whose first byte this is. The compiler makes of tests a longer row of
+// instructions than of a table.
+fn len_of_first(first: u8) -> usize
+    ensures { result ≡ (if nat_lt first 192 then 1 else if nat_lt first 224 then 2 else if nat_lt first 240 then 3 else 4) }
+{
+    usize::from(LENGTHS[usize::from(first / 16)])
 }
 
 // Decodes a character of two bytes.
@@ -191,18 +202,7 @@ impl<'t> TextSource for StrText<'t> {
     }
 
     fn len_at(&self, index: usize) -> usize {
-        let bytes = self.as_str().as_bytes();
-        // Branches, as in `next_at`.
-        let first = bytes[index];
-        if first < 0xC0 {
-            1
-        } else if first < 0xE0 {
-            2
-        } else if first < 0xF0 {
-            3
-        } else {
-            4
-        }
+        len_of_first(self.as_str().as_bytes()[index])
     }
 
     fn subrange(self, range: Range<usize>) -> StrText<'t> {
