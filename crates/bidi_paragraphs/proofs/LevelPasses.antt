@@ -18,7 +18,7 @@ use Rattle.bidi_runs.specs.Joining.{JoinedRuns, characters_of}
 use Rattle.bidi_runs.specs.Links.{begins, sequence_at, sequences_before, linked_runs, linked_sequences, sequences_of, AreLinked}
 use Rattle.bidi_runs.specs.declared.prepare.links.RunLinks.{RunLinks}
 use Rattle.bidi_runs.proofs.LinkedSequences.{IsPart, linked_sequences-part, sequences_before-more, sequences_before-same}
-use Rattle.bidi_paragraphs.proofs.SequencesInPlace.{IsUnderWay, IsNext, IsWeakNext, IsWeakNext-from, weak_next-resolved, IsUnderWay-more, IsUnderWay-whole, IsUnderWay-start, IsNext-at, AreResolved-all}
+use Rattle.bidi_paragraphs.proofs.SequencesInPlace.{IsUnderWay, IsNext, IsWeakNext, IsWeakNext-from, weak_next-resolved, IsUnderWay-more, IsUnderWay-start, IsNext-at, AreResolved-all}
 use Rattle.bidi_paragraphs.proofs.SequenceUnits.{at_places-map, at_places-place, level_at-first, kept_in_place-kept, kept_in_runs-within, stays_elsewhere}
 
 -- two values for each unit
@@ -146,39 +146,6 @@ module _ (len_of : ℕ → ℕ) (h : HasUnits len_of) (chars : List ℕ) (source
         let own = λ (values : List BidiClass) (units : List BidiClass). at_places-place len_of h chars L values units ps in
         let stays = stays_elsewhere len_of h chars stored now.values values old new runs lines old_long new_long now.is is (λ p there. now.next.read p (within p there)) removed outside in
         let under_way = IsUnderWay-more source brackets stored levels classes seqs (members s) next now.values values now.next (new_long ∙ sym old_long) stays
-        (grind (
-          arith,
-          kept_in_place-kept len_of h chars stored now.values old runs,
-          kept_in_runs-within len_of h chars stored runs,
-          level_at-first len_of h chars levels unit_levels ps,
-          length-explicit_levels,
-          as_long stored refl,
-          own values new,
-          own now.values old,
-          own stored original,
-          at_places-map,
-          neutral_classes-source,
-          marks-stored_classes,
-          within,
-        )) in
-        record { values = values; is = is; under_way = under_way }
-
-    -- or all of W1 to N2 at once
-    pub AreResolvedTo-whole : (old new original : List BidiClass) (unit_levels : List ℕ) → original ≡ per_unit len_of chars stored → unit_levels ≡ per_unit len_of chars levels → AreResolvedTo seqs old
-        → map (n2_rule (direction_of (level_at unit_levels (first_or 0 (map (place len_of chars) (kept_in_place len_of chars old runs)))))) (at_places L new (map (place len_of chars) (kept_in_place len_of chars old runs)))
-        ≡ neutral_classes (level_at unit_levels (first_or 0 (map (place len_of chars) (kept_in_place len_of chars old runs)))) s.sos s.eos
-        (at_places L original (map (place len_of chars) (kept_in_place len_of chars old runs))) (map bracket_of (at_places 0 chars (kept_in_place len_of chars old runs)))
-        (weak_classes s.sos (at_places L old (map (place len_of chars) (kept_in_place len_of chars old runs))))
-        → ((u : ℕ) → class_at old u ≡ BN → class_at new u ≡ BN) → ((u : ℕ) → in_runs runs u ≡ false → class_at new u ≡ class_at old u) → is_per_char class_eq len_of chars new ≡ true
-        → AreResolvedTo (seqs ++ members s ∷ []) new
-    AreResolvedTo-whole old new original unit_levels original_is levels_is now kept removed outside per =
-        let values = per_char L len_of chars new in
-        let is = per_unit-from_is_per_char class_eq class_test L len_of h chars new per in
-        let old_long = as_long now.values now.under_way.long in
-        let new_long = length-per_char L len_of chars new in
-        let own = λ (values : List BidiClass) (units : List BidiClass). at_places-place len_of h chars L values units ps in
-        let stays = stays_elsewhere len_of h chars stored now.values values old new runs lines old_long new_long now.is is (λ p there. now.under_way.read p (within p there)) removed outside in
-        let under_way = IsUnderWay-whole source brackets stored levels classes seqs (members s) next now.values values now.under_way (new_long ∙ sym old_long) stays
         (grind (
           arith,
           kept_in_place-kept len_of h chars stored now.values old runs,

@@ -3,5 +3,4 @@ pub mod FlatPasses
 pub mod LevelPasses
 pub mod SequenceUnits
 pub mod SequencesInPlace
-pub mod DirectedSequences
 pub mod SettledSequences

@@ -104,19 +104,6 @@ module _ (source : List BidiClass) (brackets : List (Option BidiMatchedOpeningBr
         let done = AreNeutral-push new seqs s (AreNeutral-kept old new seqs (λ p there. stays p (none_of p there)) h.done) answer in
         record { long = long ∙ h.long; read = read; done = done; rest = grind (arith, stays, h.rest, flat_map-append, sum_by-append) }
 
-    -- or all of W1 to N2 at once
-    pub IsUnderWay-whole : (old new : List BidiClass) → IsUnderWay seqs old → length new ≡ length old → StaysElsewhere s.places old new
-        → map (n2_rule (own_direction s)) (at_places L new s.places)
-        ≡ neutral_classes (level_at levels (first_or 0 s.places)) s.sos s.eos (at_places L source s.places) (at_places None brackets s.places) (weak_classes s.sos (at_places L old s.places))
-        → IsUnderWay (seqs ++ s ∷ []) new
-    IsUnderWay-whole old new h long stays given =
-        let same = at_places-agree L old classes s.places (λ p there. h.rest p (next.kept p there).1 (next.kept p there).0 (next.apart p there)) in
-        let answer : map (n2_rule (own_direction s)) (at_places L new s.places) ≡ resolved_classes s = simp same at given in
-        let directed : list_all has_direction (map (n2_rule (own_direction s)) (at_places L new s.places)) ≡ true = grind (arith, answer, neutral_classes-directed, next.sos, weak_resolved) in
-        let read = read_after old new h.read stays (all_read (λ c. has_direction (n2_rule (own_direction s) c)) (λ c known. grind arith) (at_places L new s.places) (rw list_all-map at directed)) in
-        let done = AreNeutral-push new seqs s (AreNeutral-kept old new seqs (λ p there. stays p (none_of p there)) h.done) answer in
-        record { long = long ∙ h.long; read = read; done = done; rest = grind (arith, stays, h.rest, flat_map-append, sum_by-append) }
-
   -- ---- the levels
 
   -- N2 changes no level: neither a neutral nor the direction of its level adds to it

@@ -1,23 +1,19 @@
--- A sequence that one look resolves has the classes that W1 to N1 leave.
-use Rattle.bidi_base.proofs.Common.{ap, subst, IsPerChar, same_class, ◌≡◌, ℕ, zero, suc, ◌+◌, ◌-◌, ◌<◌, ◌≤◌, Bool, true, false, not, ◌&&◌, List, [], ◌∷◌, length, get_or, map, find, Some, refl, sym, arith, nat_lt, filter, All, list_all, cases_Bool, and_parts, and_from, All-head, All-tail, All-nil, All-cons, All-map, bounds, are_ordered, is_l_or_r, is_en, is_kept_in_place, is_weak_resolved, in_context, w1_rule, w2_rule, w3_rule, w4_rule, w5_rule, w6_rule, w7_rule, weak_classes, class_at, at_places, Source, text_len, place, in_runs, units_in_runs, chars_in_runs, kept_in_place, AreLines, is_per_char, inl, inr, get_or_past, first_or, indexes, n0, n1_rule, n2_rule, neutral_classes, ◌∙◌, level_at, direction_of}
+-- A settled sequence is as W1 to N1 leave it.
+use Rattle.bidi_base.proofs.Common.{◌≡◌, ℕ, zero, suc, ◌-◌, ◌<◌, ◌≤◌, Bool, true, false, not, ◌&&◌, List, [], ◌∷◌, length, get_or, map, find, Some, refl, sym, arith, nat_lt, filter, All, list_all, cases_Bool, and_parts, and_from, All-head, All-tail, All-nil, All-cons, All-map, bounds, are_ordered, is_l_or_r, is_en, is_kept_in_place, is_weak_resolved, in_context, w1_rule, w2_rule, w3_rule, w4_rule, w5_rule, w6_rule, w7_rule, weak_classes, class_at, at_places, Source, text_len, place, in_runs, units_in_runs, chars_in_runs, kept_in_place, AreLines, is_per_char, ◌⊎◌, inl, inr, get_or_past, first_or, indexes, n0, n1_rule, n2_rule, neutral_classes, ◌∙◌, level_at, direction_of}
 use Rattle.std.specs.Prelude.{◌==◌, filter_map, fold, Option, None}
 use Rattle.bidi_base.specs.Brackets.{counted_brackets, bracket_at, with_closing, closed_pairs, bracket_limit, pairs_of, bracket_pairs}
 use Rattle.bidi_base.specs.declared.data_source.BidiMatchedOpeningBracket.{BidiMatchedOpeningBracket}
 use Rattle.bidi_base.specs.declared.char_data.BidiClass.{BidiClass}
-use Rattle.bidi_base.specs.declared.char_data.BidiClass.TheVariants.{L, AL, BN, EN, ES, ET, AN, CS, NSM, R}
+use Rattle.bidi_base.specs.declared.char_data.BidiClass.TheVariants.{L, AL, EN, ES, ET, AN, CS, NSM, R}
 use Rattle.bidi_base.proofs.TextLemmas.{HasUnits, is_boundary-le}
-use Rattle.bidi_text.proofs.PerCharTests.{class_eq, class_test}
-use Rattle.bidi_laws.proofs.StoredLemmas.{length-at_places}
-use Rattle.bidi_base.proofs.UnitsLemmas.{IsPerChar-from_is_per_char, is_per_char-from_IsPerChar, length-from_IsPerChar}
-use Rattle.bidi_laws.proofs.OneDirection.{itself}
-use Rattle.bidi_neutral.proofs.FirstKept.{first_kept-is, first-Some}
+use Rattle.bidi_text.proofs.PerCharTests.{class_eq}
+use Rattle.bidi_neutral.specs.NeutralPass.{turns_from}
+use Rattle.bidi_neutral.proofs.NeutralSteps.{IsUpToN1, IsReady-sequence}
 use Rattle.bidi_neutral.proofs.NeutralUnits.{places_in_runs}
-use Rattle.bidi_runs.proofs.PassOverText.{IsPerChar-alike, alike_class, in_runs-alike, in_runs-within}
-use Rattle.bidi_runs.specs.Written.{is_seen, IsWrittenOver}
+use Rattle.bidi_neutral.proofs.OneDirection.{IsUpToN1-one}
 use Rattle.bidi_runs.specs.RunSequence.{lent_runs, lent_sos, lent_eos}
 use Rattle.bidi_runs.specs.declared.prepare.lent.LentSequence.{LentSequence}
-use Rattle.bidi_paragraphs.specs.Settled.{is_directed, first_unit, HasOneDirection, HasNoNeutral, IsSettled}
-use Rattle.bidi_paragraphs.proofs.DirectedSequences.{along, directed-classes}
+use Rattle.bidi_paragraphs.specs.Settled.{goes_along, is_directed, first_unit, HasOneDirection, HasNoNeutral}
 
 -- ---- W1 to W7 change numbers, terminators, separators, Arabic letters and nonspacing marks alone
 
@@ -80,6 +76,14 @@ weak_classes-idle sos classes h =
     )
 
 -- ---- what stays and is kept
+
+along-idle : (d c : BidiClass) → is_l_or_r d ≡ true → goes_along d c ≡ true → is_kept_in_place c ≡ true → is_idle c ≡ true
+unfolding goes_along
+along-idle d c side h kept = grind arith
+
+along-keeps : (d c : BidiClass) → is_l_or_r d ≡ true → goes_along d c ≡ true → turns_from d c ≡ false
+unfolding goes_along
+along-keeps d c side h = grind arith
 
 directed-only : (c : BidiClass) → is_directed c ≡ true → is_kept_in_place c ≡ true → is_l_or_r c ≡ true
 unfolding is_directed
@@ -175,94 +179,54 @@ module _ (len_of : ℕ → ℕ) (h : HasUnits len_of) (chars : List ℕ) (s : Le
       (filter_each (λ k. is_kept_in_place (class_at units (place len_of chars k))) (λ k. in_runs rs (place len_of chars k)) (λ k. P (place len_of chars k))
       (λ k inside kept. holds (place len_of chars k) inside kept) (chars_in_runs len_of chars rs) (places_in_runs len_of h chars rs lines))
 
-  ordered : are_ordered rs ≡ true
-  ordered = second (nat_lt 0 (length rs)) (are_ordered rs) (is_l_or_r s.sos) (is_l_or_r s.eos) s.well_formed
-    where
-      second : (a b c d : Bool) → a && (b && (c && d)) ≡ true → b ≡ true
-      second a b c d all = grind arith
-
-  -- what W1 to N1 leave
-  pub record IsGiven (source : Source) (original new : List BidiClass) : Type 0 where
-    pub kept : map (n2_rule (direction_of (level_at levels (first_or 0 places)))) (at_places L new places)
-        ≡ neutral_classes (level_at levels (first_or 0 places)) (lent_sos s) (lent_eos s) (at_places L original places)
-        (map source.bracket_of (at_places 0 chars (kept_in_place len_of chars units rs))) (weak_classes (lent_sos s) (at_places L units places))
-    pub removed : (u : ℕ) → class_at units u ≡ BN → class_at new u ≡ BN
-    pub outside : (u : ℕ) → in_runs rs u ≡ false → class_at new u ≡ class_at units u
-    pub per_char : is_per_char class_eq len_of chars new ≡ true
-
   idle-directed : (cs : List BidiClass) → list_all is_l_or_r cs ≡ true → list_all is_idle cs ≡ true
   idle-directed [] all = refl
   idle-directed (L ∷ cs) all = idle-directed cs all
   idle-directed (R ∷ cs) all = idle-directed cs all
   idle-directed (c ∷ cs) all = absurd (cc (and_parts (is_l_or_r c) (list_all is_l_or_r cs) all).0)
 
-  -- the class at each unit is one of the direction, where it was written
-  module _ (new : List BidiClass) (one : HasOneDirection s levels units) (written : IsWrittenOver (is_seen rs units) (lent_sos s) 0 (length units) units new) where
-    whole : IsPerChar len_of chars units
-    whole = IsPerChar-from_is_per_char class_eq class_test len_of h chars units per
+  resolved : (cs : List BidiClass) → list_all is_idle cs ≡ true → list_all is_weak_resolved cs ≡ true
+  resolved [] all = refl
+  resolved (c ∷ cs) all = grind (arith, and_parts, and_from, resolved cs)
 
-    long : length units ≡ text_len len_of chars
-    long = length-from_IsPerChar len_of chars units whole
+  -- what W1 to N1 leave where they change nothing
+  pub record IsLeft (source : Source) (original : List BidiClass) : Type 0 where
+    pub weak : at_places L units places ≡ weak_classes (lent_sos s) (at_places L units places)
+    pub neutral : IsUpToN1 len_of chars source levels original units units (lent_runs s) (lent_sos s) (lent_eos s)
 
-    at_seen : (u : ℕ) → in_runs rs u ≡ true → is_kept_in_place (class_at units u) ≡ true → class_at new u ≡ lent_sos s
-    at_seen u inside kept =
-        written.inside u (omega arith) (omega (arith, long, in_runs-within len_of h chars rs lines u inside)) (and_from (in_runs rs u) (is_kept_in_place (class_at units u)) inside kept)
-
-    unseen : (u : ℕ) → is_seen rs units u ≡ false → class_at new u ≡ class_at units u
-    unseen u plain = written.failing u plain
-
-    even : (k : ℕ) → k < length chars → (u : ℕ) → place len_of chars k ≤ u → u < place len_of chars (k + 1) → class_at new u ≡ class_at new (place len_of chars k)
-    even k fits u from below =
-        let first = place len_of chars k in
-        let same : class_at units u ≡ class_at units first = alike_class len_of h chars units whole k u fits from below in
-        let alike : is_seen rs units u ≡ is_seen rs units first = simp (in_runs-alike len_of h chars rs lines k u from below, same) in
-        elim (cases_Bool (is_seen rs units first)) [
-          | inl seen ↦
-              let there = and_parts (in_runs rs first) (is_kept_in_place (class_at units first)) seen in
-              let here = and_parts (in_runs rs u) (is_kept_in_place (class_at units u)) (alike ∙ seen) in
-              at_seen u here.0 here.1 ∙ sym (at_seen first there.0 there.1)
-          | inr plain ↦ unseen u (alike ∙ plain) ∙ same ∙ sym (unseen first plain)
-        ]
-
-    first_is : first_or 0 places ≡ first_unit s
-    first_is =
-        let found = found_first (λ u. is_kept_in_place (class_at units u)) rs (and_parts _ _ s.well_formed).0 ordered one.kept in
-        first-Some places (first_unit s) (sym (first_kept-is len_of h chars units whole rs lines) ∙ sym found)
-
-    given_one : (source : Source) (original : List BidiClass) → IsGiven source original new
-    given_one source original =
-        let d = lent_sos s in
-        let alongs = list_all-at_places (along d) units places (at_kept (λ u. along d (class_at units u) ≡ true) (λ u inside kept. and_from _ _ (one.along u inside) kept)) in
-        let same = list_all-at_places (same_class d) new places
-        (at_kept (λ u. same_class d (class_at new u) ≡ true) (λ u inside kept. ap (same_class d) (at_seen u inside kept) ∙ itself d side)) in
-        let brackets = map source.bracket_of (at_places 0 chars (kept_in_place len_of chars units rs)) in
-        let level = level_at levels (first_or 0 places) in
-        let is : d ≡ direction_of level = sym (ap (λ u. direction_of (level_at levels u)) first_is ∙ one.embedding) in
+  module _ (source : Source) (original : List BidiClass) where
+    left_one : HasOneDirection s levels units → IsLeft source original
+    left_one one =
+        let idle =
+        list_all-at_places is_idle units places
+        (at_kept (λ u. is_idle (class_at units u) ≡ true) (λ u inside kept. along-idle (lent_sos s) (class_at units u) side (one.along u inside) kept)) in
+        let ready = IsReady-sequence len_of h chars s (lent_runs s) (lent_sos s) units refl refl per lines (resolved (at_places L units places) idle) in
+        let found = found_first (λ u. is_kept_in_place (class_at units u)) rs (and_parts _ _ s.well_formed).0 ready.ordered one.kept in
         record {
-          kept =
-              directed-classes d side level (at_places L original places) brackets (at_places L units places) (at_places L new places) is alongs same (grind (arith, length-at_places))
-              ∙ ap (λ x. neutral_classes level d x (at_places L original places) brackets (weak_classes d (at_places L units places))) (sym one.sides);
-          removed = λ u gone. unseen u (grind (arith, gone)) ∙ gone;
-          outside = λ u out. unseen u (grind (arith, out));
-          per_char = is_per_char-from_IsPerChar class_eq class_test len_of chars new (IsPerChar-alike len_of chars new (written.long ∙ long) even);
+          weak = sym (weak_classes-idle (lent_sos s) (at_places L units places) idle);
+          neutral =
+              IsUpToN1-one len_of h chars (lent_runs s) (lent_sos s) units ready (lent_sos s) side (λ u inside. along-keeps (lent_sos s) (class_at units u) side (one.along u inside))
+              source levels original (lent_eos s) (first_unit s) refl one.sides found (sym one.embedding);
         }
 
-  given_directed : HasNoNeutral s units → (source : Source) (original : List BidiClass) → IsGiven source original units
-  given_directed none source original =
-      let directed =
-      list_all-at_places is_l_or_r units places
-      (at_kept (λ u. is_l_or_r (class_at units u) ≡ true) (λ u inside kept. directed-only (class_at units u) (none u inside) kept)) in
-      let brackets = map source.bracket_of (at_places 0 chars (kept_in_place len_of chars units rs)) in
-      let level = level_at levels (first_or 0 places) in
-      record {
-        kept =
-            without_neutrals (at_places L units places) brackets directed level (lent_sos s) (lent_eos s) (at_places L original places)
-            ∙ ap (neutral_classes level (lent_sos s) (lent_eos s) (at_places L original places) brackets) (sym (weak_classes-idle (lent_sos s) (at_places L units places) (idle-directed (at_places L units places) directed)));
-        removed = λ u gone. gone;
-        outside = λ u out. refl;
-        per_char = per;
-      }
+    left_directed : HasNoNeutral s units → IsLeft source original
+    left_directed none =
+        let directed =
+        list_all-at_places is_l_or_r units places
+        (at_kept (λ u. is_l_or_r (class_at units u) ≡ true) (λ u inside kept. directed-only (class_at units u) (none u inside) kept)) in
+        record {
+          weak = sym (weak_classes-idle (lent_sos s) (at_places L units places) (idle-directed (at_places L units places) directed));
+          neutral =
+              record {
+                kept =
+                    without_neutrals (at_places L units places) (map source.bracket_of (at_places 0 chars (kept_in_place len_of chars units rs))) directed (level_at levels (first_or 0 places)) (lent_sos s) (lent_eos s)
+                    (at_places L original places);
+                removed = λ u gone. gone;
+                outside = λ u out. refl;
+                per_char = per;
+              };
+        }
 
-  pub settled-given : (new : List BidiClass) → IsSettled s levels units new → (source : Source) (original : List BidiClass) → IsGiven source original new
-  settled-given new (inl one) source original = given_one new one.0 one.1 source original
-  settled-given new (inr none) source original = subst (λ us. IsGiven source original us) (sym none.1) (given_directed none.0 source original)
+    pub settled-left : HasOneDirection s levels units ⊎ HasNoNeutral s units → IsLeft source original
+    settled-left (inl one) = left_one one
+    settled-left (inr none) = left_directed none

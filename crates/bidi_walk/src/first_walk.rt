@@ -166,8 +166,8 @@ fn seek_minded<D: BidiDataSource, T: TextSource>(
     None
 }
 
-// After an isolate control, the characters that begin among so many code units are read one by one. Often the
-// next control is among them, and a search for it costs more.
+// After an isolate control, the characters that begin among so many code units are read one by one, unless the
+// state is decided. Often the next control is among them, and a search for it costs more.
 const NEAR: usize = 4;
 
 // Writes the classes of the characters from an index on, up to the first one that would change the state of
@@ -189,6 +189,16 @@ fn next_met<D: BidiDataSource, T: TextSource>(
         return Some(read_next(data_source, text, classes, from));
     }
     seek_minded(data_source, text, classes, from, reading.minded())
+}
+
+// Returns up to where characters are read one by one, once a character of this class was read, up to `end`.
+fn near_end_after(near_end: usize, end: usize, class: BidiClass, reading: &Reading) -> usize {
+    let is_isolate_control = is_initiator(class) || is_pdi(class);
+    if is_isolate_control && !reading.is_decided() {
+        end.saturating_add(NEAR)
+    } else {
+        near_end
+    }
 }
 
 // Whether a line feed that separates paragraphs begins at an index. The index must be a boundary.
@@ -262,11 +272,9 @@ pub fn walk<D: BidiDataSource, T: TextSource>(
     let mut near_end = 0;
     while let Some(met) = next_met(data_source, text, classes, at, &walk.reading, at < near_end) {
         at = met.start + T::char_len(met.c);
-        if is_initiator(met.class) || is_pdi(met.class) {
-            near_end = at.saturating_add(NEAR);
-        }
         let ends = ends_paragraph(data_source, text, split, met.c, met.class, at);
         walk.meet(classes, met.class, met.start..at, ends)?;
+        near_end = near_end_after(near_end, at, met.class, &walk.reading);
     }
     let end = text.len();
     if split.is_none() || walk.reading.start < end {

@@ -106,9 +106,9 @@ impl Reading {
         }
     }
 
-    // Whether no character can decide anything before the next FSI: the level of the paragraph is decided,
-    // and so is the direction of each open FSI. Then it does not matter how many isolates are open.
-    fn is_decided(&self) -> bool
+    /// Whether no character can decide anything before the next FSI: the level of the paragraph is decided,
+    /// and so is the direction of each open FSI. Then it does not matter how many isolates are open.
+    pub(super) fn is_decided(&self) -> bool
         ensures { result ≡ is_decided self.now }
     {
         self.deciding.is_some() && self.undecided.is_empty()

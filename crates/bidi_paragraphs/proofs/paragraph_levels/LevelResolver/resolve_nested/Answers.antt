@@ -7,11 +7,11 @@ use Rattle.bidi_runs.specs.Links.{begins, sequence_at, linked_runs, linked_seque
 use Rattle.bidi_runs.specs.declared.prepare.lent.LentSequence.{LentSequence}
 use Rattle.bidi_runs.specs.declared.prepare.links.RunLinks.{RunLinks}
 use Rattle.bidi_runs.specs.RunSequence.{lent_joined}
-use Rattle.bidi_paragraphs.proofs.LevelPasses.{ArePrepared, AreResolvedTo-start, AreResolvedTo-per_char, AreResolvedTo-long, AreWeakTo-from, AreWeakTo-resolved, AreResolvedTo-more, AreResolvedTo-whole, prepared, prepared-next, prepared-lines, prepared-more, prepared-same, prepared-long, prepared-low, AreLevels-from}
-use Rattle.bidi_paragraphs.proofs.SettledSequences.{lines-within, settled-given}
+use Rattle.bidi_paragraphs.proofs.LevelPasses.{ArePrepared, AreResolvedTo-start, AreResolvedTo-per_char, AreResolvedTo-long, AreWeakTo-from, AreWeakTo-resolved, AreResolvedTo-more, prepared, prepared-next, prepared-lines, prepared-more, prepared-same, prepared-long, prepared-low, AreLevels-from}
+use Rattle.bidi_paragraphs.proofs.SettledSequences.{lines-within, settled-left}
 use Rattle.bidi_paragraphs.proofs.paragraph_levels.LevelResolver.resolve_nested.Given.{Over}
 use Rattle.bidi_paragraphs.proofs.paragraph_levels.LevelResolver.resolve_nested.Goals as goal
-use Rattle.bidi_paragraphs.proofs.paragraph_levels.LevelResolver.resolve_nested.Goals.{In_ok-prepare, After-lend-sequence, in-Some+else-settle+in_ok-resolve_up_to_n1, in_default}
+use Rattle.bidi_paragraphs.proofs.paragraph_levels.LevelResolver.resolve_nested.Goals.{In_ok-prepare, After-lend-sequence, in-Some+else-is_settled+in_ok-resolve_up_to_n1, in_default}
 
 pub prepare-requires : goal.prepare-requires
 prepare-requires g c = grind (arith, length-per_unit, length-stored_classes, length-map)
@@ -60,22 +60,22 @@ side s =
     let j = lent_joined s in
     third (nat_lt 0 (length j.runs)) (are_ordered j.runs) (is_l_or_r j.sos) (is_l_or_r j.eos) s.well_formed
 
-pub settle-requires-clause-inside : goal.settle-requires-clause-inside
-settle-requires-clause-inside g c =
-    let at = goal.at.settle-requires-clause-inside g c in
+pub is_settled-requires-clause-inside : goal.is_settled-requires-clause-inside
+is_settled-requires-clause-inside g c =
+    let at = goal.at.is_settled-requires-clause-inside g c in
     let hand = at_hand g at.After-lend-sequence in
     lines-within g.T.TextSource.units (g.T.TextSource.characters c.args.paragraph.now.text) c.loop-first.classes (lent_joined c.lend-sequence.result).runs
     (AreResolvedTo-long _ _ _ _ _ _ _ _ (length-map (g.T.TextSource.characters c.args.paragraph.now.text) _) c.loop-first.invariant.resolved)
     (prepared-lines _ _ _ _ _ _ _ _ _ _ (ready g at.In_ok-prepare) c.loop-first.first (lent_joined c.lend-sequence.result) hand.within hand.here hand.is)
 
-pub settle-requires-clause-levels : goal.settle-requires-clause-levels
-settle-requires-clause-levels g c =
-    let is_ready = ready g (goal.at.settle-requires-clause-levels g c).In_ok-prepare in
+pub is_settled-requires-clause-levels : goal.is_settled-requires-clause-levels
+is_settled-requires-clause-levels g c =
+    let is_ready = ready g (goal.at.is_settled-requires-clause-levels g c).In_ok-prepare in
     omega (arith, prepared-long _ _ _ _ _ _ _ _ _ _ is_ready, AreResolvedTo-long _ _ _ _ _ _ _ _ is_ready.fits c.loop-first.invariant.resolved)
 
-pub loop-first-preserved-then-settle : goal.loop-first-preserved-then-settle
-loop-first-preserved-then-settle g c =
-    let at = goal.at.loop-first-preserved-then-settle g c in
+pub loop-first-preserved-then-is_settled : goal.loop-first-preserved-then-is_settled
+loop-first-preserved-then-is_settled g c =
+    let at = goal.at.loop-first-preserved-then-is_settled g c in
     let is_ready = ready g at.In_ok-prepare in
     let hand = at_hand g at.After-lend-sequence in
     let s = lent_joined c.lend-sequence.result in
@@ -83,22 +83,23 @@ loop-first-preserved-then-settle g c =
     let next = prepared-next _ _ _ _ _ _ _ _ _ _ is_ready c.loop-first.first s hand.within hand.here hand.is (side c.lend-sequence.result) in
     let line = prepared-lines _ _ _ _ _ _ _ _ _ _ is_ready c.loop-first.first s hand.within hand.here hand.is in
     let per = AreResolvedTo-per_char _ _ _ _ _ _ _ _ (length-map chars _) c.loop-first.invariant.resolved in
-    let given =
-    settled-given g.T.TextSource.units g.met.T.TextSource.has_units chars c.lend-sequence.result c.prepare.new.levels c.loop-first.classes line per c.settle.new.classes (c.settle.ensures.settled c.if-settle.true)
-    (g.D.BidiDataSource.source c.args.paragraph.now.data_source.now) c.args.paragraph.now.original_classes.now in
+    let left =
+    settled-left g.T.TextSource.units g.met.T.TextSource.has_units chars c.lend-sequence.result c.prepare.new.levels c.loop-first.classes line per (g.D.BidiDataSource.source c.args.paragraph.now.data_source.now) c.args.paragraph.now.original_classes.now
+    (c.is_settled.ensures c.if-is_settled.true) in
+    let weak = AreWeakTo-from _ _ _ _ _ _ is_ready.fits _ s line next _ c.loop-first.classes c.loop-first.invariant.resolved left.weak (λ u gone. gone) (λ u out. refl) per in
+    let neutral = left.neutral in
     record {
       kept = c.in_ok-found.ensures.kept ∙ c.loop-first.invariant.kept;
       resolved = rw (prepared-more _ _ _ _ _ _ _ _ _ _ is_ready c.loop-first.first s hand.within hand.here hand.is)
-          (AreResolvedTo-whole _ _ _ _ _ _ is_ready.fits _ s line next _ c.settle.new.classes c.args.paragraph.now.original_classes.now _
-          c.args.paragraph.now.stored is_ready.levels_is c.loop-first.invariant.resolved given.kept given.removed given.outside given.per_char);
+          (AreResolvedTo-more _ _ _ _ _ _ is_ready.fits _ s line next _ c.loop-first.classes c.args.paragraph.now.original_classes.now _
+          c.args.paragraph.now.stored is_ready.levels_is weak neutral.kept neutral.removed neutral.outside neutral.per_char);
     }
 
 pub resolve_weak_lent-requires : goal.resolve_weak_lent-requires
 resolve_weak_lent-requires g c =
     let at = goal.at.resolve_weak_lent-requires g c in
-    let hand = at_hand g at.After-lend-sequence in
-    let now = rw (sym (c.settle.ensures.other c.if-settle.false)) at c.loop-first.invariant.resolved in record {
-      per_char = AreResolvedTo-per_char _ _ _ _ _ _ _ _ (length-map (g.T.TextSource.characters c.args.paragraph.now.text) _) now;
+    let hand = at_hand g at.After-lend-sequence in record {
+      per_char = AreResolvedTo-per_char _ _ _ _ _ _ _ _ (length-map (g.T.TextSource.characters c.args.paragraph.now.text) _) c.loop-first.invariant.resolved;
       fits = prepared-lines _ _ _ _ _ _ _ _ _ _ (ready g at.In_ok-prepare) c.loop-first.first (lent_joined c.lend-sequence.result) hand.within hand.here hand.is;
     }
 
@@ -110,14 +111,13 @@ resolve_up_to_n1-requires g c =
     let s = lent_joined c.lend-sequence.result in
     let next = prepared-next _ _ _ _ _ _ _ _ _ _ is_ready c.loop-first.first s hand.within hand.here hand.is (side c.lend-sequence.result) in
     let line = prepared-lines _ _ _ _ _ _ _ _ _ _ is_ready c.loop-first.first s hand.within hand.here hand.is in
-    let now = rw (sym (c.settle.ensures.other c.if-settle.false)) at c.loop-first.invariant.resolved in
     let weak =
-    AreWeakTo-from _ _ _ _ _ _ is_ready.fits _ s line next _ c.resolve_weak_lent.new.processing_classes now
+    AreWeakTo-from _ _ _ _ _ _ is_ready.fits _ s line next _ c.resolve_weak_lent.new.processing_classes c.loop-first.invariant.resolved
     c.resolve_weak_lent.ensures.kept c.resolve_weak_lent.ensures.removed c.resolve_weak_lent.ensures.outside c.resolve_weak_lent.ensures.per_char in
     record {
       per_char = first_of (search rules, grind arith);
       fits = line;
-      levels = omega (arith, prepared-long _ _ _ _ _ _ _ _ _ _ is_ready, AreResolvedTo-long _ _ _ _ _ _ _ _ is_ready.fits now, c.resolve_weak_lent.auto.processing_classes);
+      levels = omega (arith, prepared-long _ _ _ _ _ _ _ _ _ _ is_ready, AreResolvedTo-long _ _ _ _ _ _ _ _ is_ready.fits c.loop-first.invariant.resolved, c.resolve_weak_lent.auto.processing_classes);
       original = grind (arith, length-map, length-per_unit, length-stored_classes);
       resolved = AreWeakTo-resolved _ _ _ _ _ _ is_ready.fits _ s line next _ weak;
     }
@@ -131,7 +131,7 @@ loop-first-preserved g c =
     let h = c.loop-first.invariant in
     let kept = c.in_ok-found.ensures.kept ∙ h.kept in
     elim c.match-branch-3.branch [
-      | in-Some+else-settle+in_ok-resolve_up_to_n1 w ↦
+      | in-Some+else-is_settled+in_ok-resolve_up_to_n1 w ↦
           let found = rw w.in-Some.is at c.in_ok-found.ensures.sequence in
           let s = lent_joined w.lend-sequence.result in
           let within : c.loop-first.first < length runs = grind (arith, c.in_ok-prepare.ensures.linked.all_next) in
@@ -140,9 +140,8 @@ loop-first-preserved g c =
           w.lend-sequence.ensures ∙ ap (gathered_in w.in-Some.found) w.as_slice.ensures.value ∙ found.is ∙ ap (λ (rs : List (ℕ × ℕ)). sequence_at links rs c.loop-first.first) h.kept in
           let next = prepared-next _ _ _ _ _ _ _ _ _ _ is_ready c.loop-first.first s within here is (side w.lend-sequence.result) in
           let line = prepared-lines _ _ _ _ _ _ _ _ _ _ is_ready c.loop-first.first s within here is in
-          let now = rw (sym (w.settle.ensures.other w.if-settle.false)) at h.resolved in
           let weak =
-          AreWeakTo-from _ _ _ _ _ _ is_ready.fits _ s line next _ w.resolve_weak_lent.new.processing_classes now
+          AreWeakTo-from _ _ _ _ _ _ is_ready.fits _ s line next _ w.resolve_weak_lent.new.processing_classes h.resolved
           w.resolve_weak_lent.ensures.kept w.resolve_weak_lent.ensures.removed w.resolve_weak_lent.ensures.outside w.resolve_weak_lent.ensures.per_char in
           record {
             kept = kept;
