@@ -8,7 +8,8 @@ use bidi_vectors_format::source::Tables;
 use bidi_vectors_format::tally::Tally;
 use std::alloc::Global;
 
-// Makes the calls of a row of directions, orders or layouts over this source. Returns whether the row is of such a kind.
+// Makes the calls of a row of directions, visual order or layout over this source. Returns whether the row is of such
+// a kind.
 fn run_own(
     alloc: Global,
     tables: &Tables,

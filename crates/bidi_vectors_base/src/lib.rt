@@ -1,5 +1,5 @@
-//! Rows of what all rules share: makes the calls of characters, classes, levels, searches and the code units of texts,
-//! and compares their results.
+//! Rows of characters, classes, levels, and texts in each encoding: makes the calls that every rule builds on, and
+//! compares their results.
 #![tactic(auto)]
 
 mod characters;
