@@ -1,9 +1,9 @@
 //! Rows of directions: the base direction of a text, and the direction of a paragraph's levels.
 
-use crate::texts::base_of;
 use bidi_base::data_source::TableBidiData;
 use bidi_text::text::{CharsText, StrText, TextSource, Utf16Text};
 use bidi_vectors_format::answer::{direction_word, flag_word};
+use bidi_vectors_format::base::base_of;
 use bidi_vectors_format::fault::RowFault;
 use bidi_vectors_format::row::Row;
 use bidi_vectors_format::source::Tables;

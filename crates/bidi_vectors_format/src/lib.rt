@@ -5,6 +5,7 @@
 #![tactic(auto)]
 
 pub mod answer;
+pub mod base;
 pub mod class;
 pub mod fault;
 pub mod item;

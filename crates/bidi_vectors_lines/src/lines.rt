@@ -1,6 +1,5 @@
 //! Rows of lines: levels after L1, visual runs, and the text from left to right (L2).
 
-use crate::texts::base_of;
 use bidi_base::char_data::BidiClass;
 use bidi_base::data_source::TableBidiData;
 use bidi_base::level::Level;
@@ -9,6 +8,7 @@ use bidi_text_lines::shown_line::ShownLine;
 use bidi_vectors_format::answer::{
     char_words, flag_word, level_words, levels_in, places_of, ranges_in, unit_words,
 };
+use bidi_vectors_format::base::base_of;
 use bidi_vectors_format::fault::{RowFault, Why};
 use bidi_vectors_format::item::{level_of, range_of};
 use bidi_vectors_format::row::Row;

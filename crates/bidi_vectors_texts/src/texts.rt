@@ -1,7 +1,5 @@
 //! Rows of texts: stored classes, paragraphs and stored levels, by each constructor.
 
-ghost use Rattle.std.specs.Prelude.{◌≤◌, IfOk, IfSome};
-
 use bidi_base::char_data::BidiClass;
 use bidi_base::data_source::TableBidiData;
 use bidi_base::level::{Level, has_rtl};
@@ -10,6 +8,7 @@ use bidi_vectors_format::answer::{
     class_words, classes_in, flag_word, index_at, level_words, levels_in, paragraph_words,
     per_char, places_of,
 };
+use bidi_vectors_format::base::base_of;
 use bidi_vectors_format::fault::{RowFault, Why};
 use bidi_vectors_format::item::level_of;
 use bidi_vectors_format::row::Row;
@@ -55,23 +54,6 @@ fn paragraphs_in<T: TextSource>(
         found.push((start, end, paragraph.level().number()))?;
     }
     paragraph_words(alloc, found.as_slice())
-}
-
-/// Returns the base level of a row: none for `auto`, or without such a field.
-pub fn base_of(row: &Row<'_>) -> Result<Option<Level>, RowFault>
-    ensures { IfOk result (λ base. IfSome base (λ level. level ≤ 125)) }
-{
-    let Some(field) = row.get("base") else {
-        return Ok(None);
-    };
-    if field.value == "auto" {
-        return Ok(None);
-    }
-    let level = level_of(field.value, field.line)?;
-    match Level::new_explicit(level.number()) {
-        Ok(level) => Ok(Some(level)),
-        Err(_) => Err(RowFault::Line(field.line, Why::ExplicitLevel)),
-    }
 }
 
 // Where a paragraph ends: after each separator, after each one except a CR before LF, or only at the text's end.
