@@ -28,7 +28,7 @@ use bidi_base::level::Level;
 use bidi_base::search::first_passing;
 use bidi_runs::prepare::{IsolatingRunSequence, LentSequence, LevelRun};
 use bidi_text::text::TextSource;
-use class_tests::{OtherNeutral, next_passing};
+use class_tests::OtherNeutral;
 use directions::{Directions, resolve_opposite, settle_rest};
 use nearest::first_kept;
 use one_direction::stands_alone;
@@ -227,7 +227,7 @@ impl NeutralResolver {
             if let Some((c, _)) = text.char_at(at) {
                 self.push(data_source, at, c)?;
             }
-            at = next_passing(OtherNeutral, classes, at + 1, end);
+            at = first_passing(OtherNeutral, classes, at + 1, end);
         }
         Ok(())
     }

@@ -1,6 +1,6 @@
 //! Sequences that W1 to N1 leave as they are.
 
-ghost use Rattle.std.specs.Prelude.{◌≡◌, ◌⊎◌, ℕ, ◌<◌, ◌≤◌, true, false, length, map, All, IsTrue};
+ghost use Rattle.std.specs.Prelude.{◌≡◌, ◌⊎◌, ℕ, ◌<◌, ◌≤◌, true, length, map, All, IsTrue};
 ghost use Rattle.bidi_base.specs.Places.{class_at};
 ghost use Rattle.bidi_base.specs.Units.{bounds, in_runs};
 ghost use Rattle.bidi_paragraphs.specs.Settled.{HasOneDirection, HasNoNeutral};
@@ -9,15 +9,14 @@ ghost use Rattle.bidi_runs.specs.RunSequence.{lent_runs};
 use bidi_base::char_data::BidiClass::{self, BN, L, R};
 use bidi_base::classes::is_neutral;
 use bidi_base::level::Level;
-use bidi_base::search::{ClassTest, first_passing};
+use bidi_base::search::ClassTest;
 use bidi_rules::prepare::{LentSequence, LevelRun};
 
-/// A sequence of one direction is recognized by its code units one by one. Runs of more code units than this
-/// are left to the passes, which read them by blocks.
+/// Runs of more code units than this are left to the passes, which read them by blocks.
 const SHORT: usize = 32;
 
-/// Returns whether a look at a sequence shows that W1 to N1 change no class in it, and that N2 gives its
-/// neutrals the direction of its level.
+/// Returns whether a look at a sequence of short runs shows that W1 to N1 change no class in it, and that N2
+/// gives its neutrals the direction of its level.
 ///
 /// Most isolates and embeddings are such sequences: a name, or a few words of one language. The look takes
 /// the place of two passes.
@@ -29,8 +28,7 @@ pub fn is_settled(sequence: LentSequence<'_>, levels: &[Level], classes: &[BidiC
     has_one_direction(sequence, levels, classes) || has_no_neutral(sequence, classes)
 }
 
-/// Whether the runs of a sequence are short, and its level, sos, eos and all classes have one direction.
-/// Neutrals do not count.
+/// Whether the level, sos, eos and all classes of a sequence have one direction. Neutrals do not count.
 fn has_one_direction(sequence: LentSequence<'_>, levels: &[Level], classes: &[BidiClass]) -> bool
     requires inside { All (λ r. r.1 ≤ length classes.now) (map bounds (lent_runs sequence)) }
     requires levels { length levels.now ≡ length classes.now }
@@ -50,7 +48,7 @@ fn has_no_neutral(sequence: LentSequence<'_>, classes: &[BidiClass]) -> bool
     requires { All (λ r. r.1 ≤ length classes.now) (map bounds (lent_runs sequence)) }
     ensures { IsTrue result → HasNoNeutral sequence.entry classes.now }
 {
-    none_passes(Undirected, sequence.runs(), classes)
+    all_pass(Directed, sequence.runs(), classes)
 }
 
 /// Whether some runs are short, and all their classes pass a test.
@@ -82,29 +80,6 @@ fn run_passes<C: ClassTest>(test: C, run: &LevelRun, classes: &[BidiClass]) -> b
     true
 }
 
-/// Whether no class in some runs passes a test.
-fn none_passes<C: ClassTest>(test: C, runs: &[LevelRun], classes: &[BidiClass]) -> bool
-    requires { All (λ r. r.1 ≤ length classes.now) (map bounds runs.now) }
-    ensures { IsTrue result → (u : ℕ) → in_runs (map bounds runs.now) u ≡ true → C.test test (class_at classes.now u) ≡ false }
-{
-    for run in runs {
-        if passes_in(test, run, classes) {
-            return false;
-        }
-    }
-    true
-}
-
-/// Whether a class in a run passes a test.
-fn passes_in<C: ClassTest>(test: C, run: &LevelRun, classes: &[BidiClass]) -> bool
-    requires { run.now.end ≤ length classes.now }
-    ensures { result ≡ false → (u : ℕ) → run.now.start ≤ u → u < run.now.end → C.test test (class_at classes.now u) ≡ false }
-{
-    let end = run.end;
-    let start = run.start.min(end);
-    first_passing(test, classes, start, end) < end
-}
-
 /// This direction, the neutrals, and BN.
 #[derive(Clone, Copy, Debug)]
 struct GoesWith(BidiClass);
@@ -120,18 +95,17 @@ impl ClassTest for GoesWith {
     }
 }
 
-/// All classes but L, R and BN.
+/// L, R and BN.
 #[derive(Clone, Copy, Debug)]
-struct Undirected;
+struct Directed;
 
-impl ClassTest for Undirected {
-    ghost use Rattle.std.specs.Prelude.{not};
+impl ClassTest for Directed {
     ghost use Rattle.bidi_paragraphs.specs.Settled.{is_directed};
 
-    ghost test = { λ _ c. not (is_directed c) };
+    ghost test = { λ _. is_directed };
 
     #[tactic(auto, unfolding(crate::specs::Settled::is_directed))]
     fn passes(self, class: BidiClass) -> bool {
-        (class != L) & (class != R) & (class != BN)
+        (class == L) | (class == R) | (class == BN)
     }
 }

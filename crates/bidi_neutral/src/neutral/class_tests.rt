@@ -1,13 +1,12 @@
-//! The tests that searches use on the classes of a sequence, and a search for a class that is mostly near.
-//! The tests have no branch, so that many code units are tested at once.
+//! The tests that searches use on the classes of a sequence. They have no branch, so that many code units
+//! are tested at once.
 
-ghost use Rattle.std.specs.Prelude.{◌≡◌, ◌≤◌, length, not};
+ghost use Rattle.std.specs.Prelude.{◌≡◌, not};
 ghost use Rattle.bidi_base.specs.Classes.{has_direction, same_class, stands_for};
-ghost use Rattle.bidi_base.specs.Search.{IsFirst};
 ghost use Rattle.bidi_base.specs.declared.char_data.BidiClass.TheVariants.{ON};
 
 use bidi_base::char_data::BidiClass::{self, AN, EN, L, R};
-use bidi_base::search::{ClassTest, first_passing};
+use bidi_base::search::ClassTest;
 
 /// The class that brackets have, among others: ON.
 #[derive(Clone, Copy, Debug)]
@@ -64,23 +63,4 @@ impl ClassTest for NotFor {
     fn passes(self, class: BidiClass) -> bool {
         !is_for(self.0, class)
     }
-}
-
-// In a text with many brackets, the next one is mostly among this many code units. They are tested one by
-// one before the search by blocks begins.
-const NEAR: usize = 3;
-
-/// Returns the first index in `from..to` with a class that passes a test, or else `to`.
-pub fn next_passing<C: ClassTest>(test: C, classes: &[BidiClass], from: usize, to: usize) -> usize
-    requires ordered { from ≤ to }
-    requires inside { to ≤ length classes.now }
-    ensures { IsFirst (C.test test) classes.now from to result }
-{
-    let near = from + NEAR.min(to - from);
-    for at in from..near {
-        if test.passes(classes[at]) {
-            return at;
-        }
-    }
-    first_passing(test, classes, near, to)
 }

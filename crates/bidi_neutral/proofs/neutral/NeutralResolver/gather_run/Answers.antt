@@ -12,8 +12,8 @@ use Rattle.bidi_neutral.proofs.neutral.NeutralResolver.gather_run.Goals.{in-Some
 pub first_passing-at-requires-clause-inside : goal.first_passing-at-requires-clause-inside
 first_passing-at-requires-clause-inside g c = grind (arith, is_boundary-le)
 
-pub next_passing-at-requires-clause-inside : goal.next_passing-at-requires-clause-inside
-next_passing-at-requires-clause-inside g c = grind (arith, is_boundary-le)
+pub first_passing-at-requires-in-loop-at-clause-inside : goal.first_passing-at-requires-in-loop-at-clause-inside
+first_passing-at-requires-in-loop-at-clause-inside g c = grind (arith, is_boundary-le)
 
 pub loop-at-init : goal.loop-at-init
 loop-at-init g c = grind (arith, unit_brackets-none, append-nil)
@@ -33,8 +33,8 @@ loop-at-preserved g c =
     let units = c.args.classes.now in
     let at = c.loop-at.at in
     let i = c.loop-at.invariant in
-    let f = c.next_passing-at.ensures in
-    let more = unit_brackets-more len_of chars source units c.args.run.now.start at c.next_passing-at.result i.begins (omega (arith, f.begins)) f.before in
+    let f = c.first_passing-at-in-loop-at.ensures in
+    let more = unit_brackets-more len_of chars source units c.args.run.now.start at c.first_passing-at-in-loop-at.result i.begins (omega (arith, f.begins)) f.before in
     let so_far = unit_brackets len_of chars source units c.args.run.now.start at in
     let own = unit_bracket len_of chars source units at in
     let from : Option (ℕ × ℕ) → List Bracket = λ o. option_map_or (λ e. brackets_from at (counted_bracket (class_at units at) (source.bracket_of e.0) ∷ [])) o [] in
