@@ -1,5 +1,6 @@
 -- What options before others ask for, where words are texts.
-use Rattle.bidi_base.proofs.Common.{◌≡◌, refl, sym, ap, ◌∙◌, ℕ, ◌-◌, ◌<◌, ◌≤◌, Bool, true, false, List, [], ◌∷◌, Some, None, Ok, Err, length, get_or, map, drop, string_bytes, arith, codes, slice_range, take_all}
+use Rattle.bidi_base.proofs.Common.{◌≡◌, refl, sym, ap, ◌∙◌, ℕ, ◌-◌, ◌<◌, ◌≤◌, Bool, true, false, List, [], ◌∷◌, Some, None, Ok, Err}
+use Rattle.bidi_base.proofs.Common.{length, get_or, map, drop, string_bytes, arith, codes, slice_range, take_all}
 use Rattle.std.specs.Str.{bytes_eq}
 use Rattle.std.specs.declared.string.String.{String}
 use Rattle.std.proofs.lemmas.List.{length-drop}
@@ -63,7 +64,8 @@ module _ {Z : Type 0} where
   explain_of-files view operands (w ∷ []) first third some is is' other named = simp (simp is at other, simp is' at named)
   explain_of-files view operands (w ∷ v ∷ words) first third some is is' other named = simp (rest-all 1 (w ∷ v ∷ words), simp is at other, simp is' at named)
 
-  pub explain_of-base : (view : StageView) (operands : Operands) (words : List (String Z)) (first third fourth second : String Z) (base : Base) → 2 ≤ length words → first ≡ get_or words 0 first → third ≡ get_or words 0 third
+  pub explain_of-base : (view : StageView) (operands : Operands) (words : List (String Z)) (first third fourth second : String Z) (base : Base)
+      → 2 ≤ length words → first ≡ get_or words 0 first → third ≡ get_or words 0 third
       → fourth ≡ get_or words 0 fourth → second ≡ get_or words 1 second → is_named first (codes "--html") ≡ false → is_named third (codes "--files") ≡ false
       → is_named fourth (codes "--base") ≡ true → base_named (string_bytes second) ≡ Some base
       → explain_of (record view { base = base }) operands (map string_bytes (slice_range words 2 (length words))) ≡ explain_of view operands (map string_bytes words)
@@ -71,7 +73,8 @@ module _ {Z : Type 0} where
       simp (rest-all 2 (w ∷ v ∷ words), simp is at other, simp is' at neither, simp is'' at named, simp next at level)
   explain_of-base view operands words first third fourth second base some is is' is'' next other neither named level = absurd (omega arith)
 
-  pub explain_of-width : (view : StageView) (operands : Operands) (words : List (String Z)) (first third fourth fifth second : String Z) (width : ℕ) → 2 ≤ length words → first ≡ get_or words 0 first → third ≡ get_or words 0 third
+  pub explain_of-width : (view : StageView) (operands : Operands) (words : List (String Z)) (first third fourth fifth second : String Z) (width : ℕ)
+      → 2 ≤ length words → first ≡ get_or words 0 first → third ≡ get_or words 0 third
       → fourth ≡ get_or words 0 fourth → fifth ≡ get_or words 0 fifth → second ≡ get_or words 1 second → is_named first (codes "--html") ≡ false → is_named third (codes "--files") ≡ false
       → is_named fourth (codes "--base") ≡ false → is_named fifth (codes "--width") ≡ true → number_of (string_bytes second) ≡ Some width
       → explain_of (record view { width = Some width }) operands (map string_bytes (slice_range words 2 (length words))) ≡ explain_of view operands (map string_bytes words)

@@ -1,5 +1,6 @@
 -- What a search over all indexes finds, and the value of a few digits.
-use Rattle.bidi_base.proofs.Common.{◌≡◌, ℕ, ◌+◌, ◌-◌, ◌*◌, ◌<◌, ◌≤◌, Bool, true, false, List, length, get_or, take, find, Some, None, arith, rules, list_all, list_all_at, range_with_len, map, get_or-map, sym, flat_map, flat_map-append, append-nil, list_any, list_any-append, ◌++◌, ◌∷◌, [], ap, ◌∙◌, take_more, map-append, append_assoc, not, length-map, take-map}
+use Rattle.bidi_base.proofs.Common.{◌≡◌, ℕ, ◌+◌, ◌-◌, ◌*◌, ◌<◌, ◌≤◌, Bool, true, false, List, length, get_or, take, find, Some, None, arith, rules, list_all, list_all_at, range_with_len, map, get_or-map, sym}
+use Rattle.bidi_base.proofs.Common.{flat_map, flat_map-append, append-nil, list_any, list_any-append, ◌++◌, ◌∷◌, [], ap, ◌∙◌, take_more, map-append, append_assoc, not, length-map, take-map}
 use Rattle.std.specs.Char.{is_ascii_digit}
 use Rattle.std.specs.Str.Parse.{digits_value}
 use Rattle.std.specs.Char.{digit_value}
@@ -54,10 +55,12 @@ module _ (lines : List (Bor (List ℕ))) (i : ℕ) (d : Bor (List ℕ)) (within 
   lines-more : {X : Type 0} (f : List ℕ → List X) → flat_map f (texts (take (i + 1) lines)) ≡ flat_map f (texts (take i lines)) ++ f (get_or lines i d).now
   lines-more f = simp (texts-more, flat_map-append, append-nil)
 
-  pub entries-more : {X : Type 0} (f : List ℕ → List X) (first old new : List X) → old ≡ first ++ flat_map f (texts (take i lines)) → new ≡ old ++ f (get_or lines i d).now → new ≡ first ++ flat_map f (texts (take (i + 1) lines))
+  pub entries-more : {X : Type 0} (f : List ℕ → List X) (first old new : List X) → old ≡ first ++ flat_map f (texts (take i lines))
+      → new ≡ old ++ f (get_or lines i d).now → new ≡ first ++ flat_map f (texts (take (i + 1) lines))
   entries-more f first old new before here = simp (here, before, lines-more f, append_assoc)
 
-  pub any-more : (test : List ℕ → Bool) (passes : Bool) → list_any test (texts (take i lines)) ≡ false → passes ≡ not (test (get_or lines i d).now) → passes ≡ true → list_any test (texts (take (i + 1) lines)) ≡ false
+  pub any-more : (test : List ℕ → Bool) (passes : Bool) → list_any test (texts (take i lines)) ≡ false
+      → passes ≡ not (test (get_or lines i d).now) → passes ≡ true → list_any test (texts (take (i + 1) lines)) ≡ false
   any-more test passes none says here = let e : test (get_or lines i d).now ≡ false = grind arith in simp (texts-more, list_any-append, none, e)
 
   pub first-wrong : (test : List ℕ → Bool) (passes : Bool) → list_any test (texts (take i lines)) ≡ false → passes ≡ not (test (get_or lines i d).now) → passes ≡ false

@@ -1,5 +1,8 @@
 -- The search for bracket pairs over the brackets of a sequence alone: a stack of openings, each with the place of its pair in the list of pairs.
-use Rattle.bidi_base.proofs.Common.{◌≡◌, ℕ, zero, suc, ◌+◌, ◌-◌, ◌<◌, ◌≤◌, Bool, true, false, not, cond, eqb, ltb, List, [], ◌∷◌, ◌++◌, map, length, get_or, take, drop, set, filter_map, find, Option, Some, None, option_map, refl, ap, ◌∙◌, ◌⊎◌, arith, inl, inr, add-one, append-nil, append_assoc, common_steps, range_with_len, cases_Bool, length-map, map_push, take-map, get_or-map, drop_more, drop_all, All-nil, filter-append, filter_map-append, find-append, slice_get-get_or, BidiMatchedOpeningBracket, find_last, max_open_brackets, bracket_at, is_opening, is_closing, is_same_bracket, pairs_of, Bracket, Waiting, brackets_from, closed_before, AreWithin, IsAt, HasRead}
+use Rattle.bidi_base.proofs.Common.{◌≡◌, ℕ, zero, suc, ◌+◌, ◌-◌, ◌<◌, ◌≤◌, Bool, true, false, not, cond, eqb, ltb, List, [], ◌∷◌, ◌++◌, map, length, get_or, take, drop, set, filter_map, find, Option, Some}
+use Rattle.bidi_base.proofs.Common.{None, option_map, refl, ap, ◌∙◌, ◌⊎◌, arith, inl, inr, add-one, append-nil, append_assoc, common_steps, range_with_len, cases_Bool, length-map, map_push, take-map}
+use Rattle.bidi_base.proofs.Common.{get_or-map, drop_more, drop_all, All-nil, filter-append, filter_map-append, find-append, slice_get-get_or, BidiMatchedOpeningBracket, find_last, max_open_brackets}
+use Rattle.bidi_base.proofs.Common.{bracket_at, is_opening, is_closing, is_same_bracket, pairs_of, Bracket, Waiting, brackets_from, closed_before, AreWithin, IsAt, HasRead}
 use Rattle.std.proofs.Common.{filter}
 use Rattle.std.specs.List.{slice_get}
 use Rattle.bidi_base.proofs.ChainLemmas.{range_with_len-append}
@@ -33,11 +36,13 @@ module _ {X : Type 0} (p : ℕ → Bool) (i : ℕ) (passes : p i ≡ true) (f g 
   set_at low (suc n) from to = grind (arith, below_next p i low, below_none p i low, same low, same_above (low + 1) n, set_at (low + 1) n)
 
 -- what i stands at among those that pass
-pub get_at : (p : ℕ → Bool) (i low n d : ℕ) → p i ≡ true → low ≤ i → i < low + n → (length (below p i low) < length (filter p (range_with_len low n))) × (get_or (filter p (range_with_len low n)) (length (below p i low)) d ≡ i)
+pub get_at : (p : ℕ → Bool) (i low n d : ℕ) → p i ≡ true → low ≤ i → i < low + n
+    → (length (below p i low) < length (filter p (range_with_len low n))) × (get_or (filter p (range_with_len low n)) (length (below p i low)) d ≡ i)
 get_at p i low zero d passes from to = absurd (omega arith)
 get_at p i low (suc n) d passes from to = grind (arith, below_next p i low, below_none p i low, get_at p i (low + 1) n d passes)
 
-pub AreWithin-opening : (slots : List (ℕ × ℕ)) (p : ℕ × ℕ) (waiting : List Waiting) (e : Waiting) → AreWithin (length slots) waiting → e.pair ≡ length slots → AreWithin (length (slots ++ p ∷ [])) (waiting ++ e ∷ [])
+pub AreWithin-opening : (slots : List (ℕ × ℕ)) (p : ℕ × ℕ) (waiting : List Waiting) (e : Waiting) → AreWithin (length slots) waiting
+    → e.pair ≡ length slots → AreWithin (length (slots ++ p ∷ [])) (waiting ++ e ∷ [])
 AreWithin-opening slots p waiting e h is = grind (arith, common_steps)
 
 pub AreWithin-pair : (slots : List (ℕ × ℕ)) (i k : ℕ) (p : ℕ × ℕ) (waiting : List Waiting) → AreWithin (length slots) waiting → AreWithin (length (set slots i p)) (take k waiting)
@@ -70,7 +75,8 @@ module _ (counted : List (Option BidiMatchedOpeningBracket)) where
       → slots ≡ map (pair_at (closed_before counted (j + 1))) (openings counted (j + 1))
   same_slots slots j found other same = grind (arith, openings_same)
 
-  IsPairing-none : (slots : List (ℕ × ℕ)) (waiting : List Waiting) (j : ℕ) → IsPairing counted slots waiting j → j < length counted → bracket_at counted j ≡ None → IsPairing counted slots waiting (j + 1)
+  IsPairing-none : (slots : List (ℕ × ℕ)) (waiting : List Waiting) (j : ℕ) → IsPairing counted slots waiting j → j < length counted
+      → bracket_at counted j ≡ None → IsPairing counted slots waiting (j + 1)
   IsPairing-none slots waiting j h fits is =
       grind (arith, IsUnderWay-other counted j h.places h.under_way, same_slots slots j)
 
@@ -104,7 +110,8 @@ module _ (counted : List (Option BidiMatchedOpeningBracket)) where
   place_of i j opening before = grind (arith, (let same : i - 0 ≡ i = omega arith in same), get_at (opens counted) i 0 j 0)
 
   -- the opening that a search over the entries finds
-  found_opening : (slots : List (ℕ × ℕ)) (waiting : List Waiting) (j k : ℕ) (b : BidiMatchedOpeningBracket) (h : IsPairing counted slots waiting j) → bracket_at counted j ≡ Some b → k < length h.places
+  found_opening : (slots : List (ℕ × ℕ)) (waiting : List Waiting) (j k : ℕ) (b : BidiMatchedOpeningBracket) (h : IsPairing counted slots waiting j)
+      → bracket_at counted j ≡ Some b → k < length h.places
       → find_last (λ (e : Waiting). eqb e.opening b.opening) waiting ≡ Some (entry_of counted (get_or h.places k 0))
       → find_last (λ i. is_same_bracket (bracket_at counted i) (bracket_at counted j)) h.places ≡ Some (get_or h.places k 0)
   found_opening slots waiting j k b h is fits hit =
@@ -119,7 +126,8 @@ module _ (counted : List (Option BidiMatchedOpeningBracket)) where
             grind (arith, place_of x j waits1.opening waits1.below, place_of (get_or h.places k 0) j waits.opening waits.below)
       ]
 
-  IsPairing-pair : (slots : List (ℕ × ℕ)) (waiting : List Waiting) (j k : ℕ) (b : BidiMatchedOpeningBracket) (e : Waiting) (old : ℕ × ℕ) → IsPairing counted slots waiting j → j < length counted → bracket_at counted j ≡ Some b
+  IsPairing-pair : (slots : List (ℕ × ℕ)) (waiting : List Waiting) (j k : ℕ) (b : BidiMatchedOpeningBracket) (e : Waiting) (old : ℕ × ℕ)
+      → IsPairing counted slots waiting j → j < length counted → bracket_at counted j ≡ Some b
       → b.is_open ≡ false → k < length waiting → find_last (λ (w : Waiting). eqb w.opening b.opening) waiting ≡ Some e → get_or waiting k e ≡ e
       → old ≡ get_or slots e.pair old → IsPairing counted (set slots e.pair (old.0, j)) (take k waiting) (j + 1)
   IsPairing-pair slots waiting j k b e old h fits is closes below hit at before =
@@ -148,7 +156,8 @@ module _ (counted : List (Option BidiMatchedOpeningBracket)) where
   abbrev kept_at : List (ℕ × ℕ) → ℕ → Option (ℕ × ℕ)
   kept_at pairs i = cond (opens counted i) (cond (ltb (pair_at pairs i).0 (pair_at pairs i).1) (Some (pair_at pairs i)) None) None
 
-  kept_slots : (pairs : List (ℕ × ℕ)) (low n : ℕ) → filter (λ (p : ℕ × ℕ). ltb p.0 p.1) (map (pair_at pairs) (filter (opens counted) (range_with_len low n))) ≡ filter_map (kept_at pairs) (range_with_len low n)
+  kept_slots : (pairs : List (ℕ × ℕ)) (low n : ℕ)
+      → filter (λ (p : ℕ × ℕ). ltb p.0 p.1) (map (pair_at pairs) (filter (opens counted) (range_with_len low n))) ≡ filter_map (kept_at pairs) (range_with_len low n)
   kept_slots pairs low zero = refl
   kept_slots pairs low (suc n) = grind (arith, kept_slots pairs (low + 1) n)
 
@@ -196,7 +205,8 @@ module _ (counted : List (Option BidiMatchedOpeningBracket)) where
   here : (j : ℕ) → j < length counted → (o : Option BidiMatchedOpeningBracket) → bracket_at counted j ≡ o → brackets_from j (drop j counted) ≡ brackets_from j (o ∷ drop (j + 1) counted)
   here j fits o is = simp (drop_more counted j None fits, is)
 
-  skip : (n j : ℕ) (slots : List (ℕ × ℕ)) (waiting : List Waiting) (bracket : Bracket) (rest : List Bracket) → j + n ≡ length counted → IsPairing counted slots waiting j → bracket ∷ rest ≡ brackets_from j (drop j counted) → IsNext slots waiting bracket rest
+  skip : (n j : ℕ) (slots : List (ℕ × ℕ)) (waiting : List Waiting) (bracket : Bracket) (rest : List Bracket) → j + n ≡ length counted
+      → IsPairing counted slots waiting j → bracket ∷ rest ≡ brackets_from j (drop j counted) → IsNext slots waiting bracket rest
   skip zero j slots waiting bracket rest size h left = grind (arith, drop_all j counted)
   skip (suc n) j slots waiting bracket rest size h left = elim (cases_Option (bracket_at counted j)) [
     | inl is ↦ skip n (j + 1) slots waiting bracket rest (omega arith) (IsPairing-none slots waiting j h (omega arith) is)
@@ -207,7 +217,8 @@ module _ (counted : List (Option BidiMatchedOpeningBracket)) where
         simp first (record { pairing = h; fits = omega arith; is = is; left = cc both })
   ]
 
-  skip_all : (n j : ℕ) (slots : List (ℕ × ℕ)) (waiting : List Waiting) → j + n ≡ length counted → IsPairing counted slots waiting j → [] ≡ brackets_from j (drop j counted) → IsPairing counted slots waiting (length counted)
+  skip_all : (n j : ℕ) (slots : List (ℕ × ℕ)) (waiting : List Waiting) → j + n ≡ length counted → IsPairing counted slots waiting j
+      → [] ≡ brackets_from j (drop j counted) → IsPairing counted slots waiting (length counted)
   skip_all zero j slots waiting size h left = let end : j ≡ length counted = omega arith in simp (← end) h
   skip_all (suc n) j slots waiting size h left = elim (cases_Option (bracket_at counted j)) [
     | inl is ↦ skip_all n (j + 1) slots waiting (omega arith) (IsPairing-none slots waiting j h (omega arith) is)
@@ -221,7 +232,8 @@ module _ (counted : List (Option BidiMatchedOpeningBracket)) where
   pub IsAt-start : (slots : List (ℕ × ℕ)) (waiting : List Waiting) (all : List Bracket) → slots ≡ [] → waiting ≡ [] → all ≡ brackets_from 0 counted → IsAt counted slots waiting all
   IsAt-start slots waiting all empty none is = grind (arith, IsUnderWay-start counted)
 
-  pub IsAt-opening : (slots : List (ℕ × ℕ)) (waiting : List Waiting) (bracket : Bracket) (rest : List Bracket) → IsAt counted slots waiting (bracket ∷ rest) → bracket.is_open ≡ true → length waiting < max_open_brackets
+  pub IsAt-opening : (slots : List (ℕ × ℕ)) (waiting : List Waiting) (bracket : Bracket) (rest : List Bracket)
+      → IsAt counted slots waiting (bracket ∷ rest) → bracket.is_open ≡ true → length waiting < max_open_brackets
       → IsAt counted (slots ++ (bracket.index, bracket.index) ∷ []) (waiting ++ record { opening = bracket.opening; pair = length slots } ∷ []) rest
   IsAt-opening slots waiting bracket rest h opening few =
       let n = next slots waiting bracket rest h in
@@ -233,7 +245,8 @@ module _ (counted : List (Option BidiMatchedOpeningBracket)) where
       let n = next slots waiting bracket rest h in
       record { place = bracket.index + 1; pairing = IsPairing-unmatched slots waiting bracket.index (record { opening = bracket.opening; is_open = bracket.is_open }) n.pairing n.fits n.is closes none; left = n.left }
 
-  pub IsAt-pair : (slots : List (ℕ × ℕ)) (waiting : List Waiting) (bracket : Bracket) (rest : List Bracket) (k : ℕ) (e : Waiting) (old : ℕ × ℕ) → IsAt counted slots waiting (bracket ∷ rest) → bracket.is_open ≡ false → k < length waiting
+  pub IsAt-pair : (slots : List (ℕ × ℕ)) (waiting : List Waiting) (bracket : Bracket) (rest : List Bracket) (k : ℕ) (e : Waiting) (old : ℕ × ℕ)
+      → IsAt counted slots waiting (bracket ∷ rest) → bracket.is_open ≡ false → k < length waiting
       → find_last (λ (w : Waiting). eqb w.opening bracket.opening) waiting ≡ slice_get waiting k → get_or waiting k e ≡ e → old ≡ get_or slots e.pair old
       → IsAt counted (set slots e.pair (old.0, bracket.index)) (take k waiting) rest
   IsAt-pair slots waiting bracket rest k e old h closes below hit at before =
@@ -244,7 +257,8 @@ module _ (counted : List (Option BidiMatchedOpeningBracket)) where
         left = n.left;
       }
 
-  pub IsAt-full : (slots : List (ℕ × ℕ)) (waiting : List Waiting) (bracket : Bracket) (rest : List Bracket) → IsAt counted slots waiting (bracket ∷ rest) → bracket.is_open ≡ true → max_open_brackets ≤ length waiting
+  pub IsAt-full : (slots : List (ℕ × ℕ)) (waiting : List Waiting) (bracket : Bracket) (rest : List Bracket)
+      → IsAt counted slots waiting (bracket ∷ rest) → bracket.is_open ≡ true → max_open_brackets ≤ length waiting
       → filter (λ (p : ℕ × ℕ). ltb p.0 p.1) slots ≡ pairs_of counted
   IsAt-full slots waiting bracket rest h opening full =
       grind (arith, next slots waiting bracket rest h, IsPairing-end slots waiting bracket.index)
@@ -259,7 +273,8 @@ pub HasRead-start : (s : PairSearch) → s.waiting.items ≡ [] → s.pairs.item
 HasRead-start s waiting pairs over = grind (arith, All-nil, IsAt-start)
 
 -- and one that ends
-pub HasRead-end : (s : PairSearch) (all : List Bracket) → HasRead s all → (counted : List (Option BidiMatchedOpeningBracket)) → all ≡ brackets_from 0 counted → filter (λ (p : ℕ × ℕ). ltb p.0 p.1) s.pairs.items ≡ pairs_of counted
+pub HasRead-end : (s : PairSearch) (all : List Bracket) → HasRead s all → (counted : List (Option BidiMatchedOpeningBracket))
+    → all ≡ brackets_from 0 counted → filter (λ (p : ℕ × ℕ). ltb p.0 p.1) s.pairs.items ≡ pairs_of counted
 HasRead-end s all h counted is = elim (cases_Bool s.is_over) [
   | inl over ↦ h.ended over counted [] (append-nil all ∙ is)
   | inr goes_on ↦ IsAt-end counted s.pairs.items s.waiting.items (h.goes_on goes_on counted [] (append-nil all ∙ is))

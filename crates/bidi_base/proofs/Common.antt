@@ -1,21 +1,31 @@
 -- The words that proofs cite in more than one file, passed on from one place: the kit's, and those of the definitions. Declares nothing.
-pub use Rattle.std.proofs.Common.{ℕ, ◌%◌, ◌&&◌, ◌*◌, ◌++◌, ◌+◌, ◌-◌, ◌/◌, ◌<◌, ◌==◌, ◌^◌, ◌||◌, ◌↔◌, ◌∙◌, ◌∷◌, ◌≡◌, ◌≢◌, ◌≤◌, ◌⊎◌, AllPairs, Bool, Contains, Err, List, None, Ok, OnOk, Option, Result, Some, [], add-one, ap, append-nil, append_assoc, ap₂, arith, bit_or, cond, count_by, decimal, drop, drop-cons, encode_utf8, eq-eqb, eqb, eqb-true, false, filter_map, find, flat_map, fold, get_or, get_or-drop, get_or-set_other, get_or-set_same, get_or-take, if◌then◌else◌, inl, inr, is_ok, is_some, le-ltb, le_refl, leb, leb-true, length, length-append, length-drop, length-take, lt-ltb, ltb, map, max, min, nat_le, nat_lt, ne_eqb, not, option_and_then, option_map, refl, replicate, reverse, rules, set, slice_get, slice_index, string_bytes, subst, suc, sym, take, true, unwrap_or, vec_len, w8, zero, zero-add, zip}
+pub use Rattle.std.proofs.Common.{ℕ, ◌%◌, ◌&&◌, ◌*◌, ◌++◌, ◌+◌, ◌-◌, ◌/◌, ◌<◌, ◌==◌, ◌^◌, ◌||◌, ◌↔◌, ◌∙◌, ◌∷◌, ◌≡◌, ◌≢◌, ◌≤◌, ◌⊎◌, AllPairs, Bool, Contains, Err, List, None, Ok, OnOk, Option, Result}
+pub use Rattle.std.proofs.Common.{Some, [], add-one, ap, append-nil, append_assoc, ap₂, arith, bit_or, cond, count_by, decimal, drop, drop-cons, encode_utf8, eq-eqb, eqb, eqb-true, false, filter_map}
+pub use Rattle.std.proofs.Common.{find, flat_map, fold, get_or, get_or-drop, get_or-set_other, get_or-set_same, get_or-take, if◌then◌else◌, inl, inr, is_ok, is_some, le-ltb, le_refl, leb, leb-true}
+pub use Rattle.std.proofs.Common.{length, length-append, length-drop, length-take, lt-ltb, ltb, map, max, min, nat_le, nat_lt, ne_eqb, not, option_and_then, option_map, refl, replicate, reverse}
+pub use Rattle.std.proofs.Common.{rules, set, slice_get, slice_index, string_bytes, subst, suc, sym, take, true, unwrap_or, vec_len, w8, zero, zero-add, zip}
 pub use Rattle.std.proofs.Math.Bool.{and-true, or-false, or_assoc}
 pub use Rattle.std.proofs.Math.ListN.{get_or-append}
 pub use Rattle.std.proofs.Math.Nat.{add-zero, suc-add}
 pub use Rattle.std.proofs.Math.Seq.{drop-append-add, drop-append_seam, get_or-append_seam, take-append-add, take-append_seam}
-pub use Rattle.std.proofs.lemmas.Bool.{and_from, and_left, and_parts, and_right, both_ways, cases_Bool, cases_eq, cases_lt, cases_order, cond-false, cond-true, cond_both, eqb-false, false_from_ne_true, le-leb, not-true, or_cases, or_left, or_parts, or_right}
+pub use Rattle.std.proofs.lemmas.Bool.{and_from, and_left, and_parts, and_right, both_ways, cases_Bool, cases_eq, cases_lt, cases_order, cond-false, cond-true}
+pub use Rattle.std.proofs.lemmas.Bool.{cond_both, eqb-false, false_from_ne_true, le-leb, not-true, or_cases, or_left, or_parts, or_right}
 pub use Rattle.std.proofs.lemmas.Bool.Decides.{nat_tests}
 pub use Rattle.std.proofs.lemmas.Grind.{common_steps, flat_map-append, same_number_lists}
 pub use Rattle.std.proofs.lemmas.Iterator.{YieldsList}
 pub use Rattle.std.proofs.lemmas.Iterator.Consumers.{YieldsList-end, YieldsList-from_first, YieldsList-turn}
-pub use Rattle.std.proofs.lemmas.List.{at_drop_all, drop-append-le, drop-drop, drop-take, drop_all, drop_more, ext_get_or, flat_map_more, get_or-append-add, get_or-append_right, get_or-map, get_or-replicate, get_or-reverse, get_or_append_left, get_or_default, get_or_past, get_or_push, length-map, length-replicate, length-reverse, length-set, length-take-le, length_push, map-append, map-id, map-set, map_push, nil_from_length, replicate-append-replicate, reverse-append, reverse-reverse, same_lists, take-append-drop, take-append-le, take-map, take-take, take_all, take_more, take_more_set, take_rest}
+pub use Rattle.std.proofs.lemmas.List.{at_drop_all, drop-append-le, drop-drop, drop-take, drop_all, drop_more, ext_get_or, flat_map_more, get_or-append-add, get_or-append_right, get_or-map}
+pub use Rattle.std.proofs.lemmas.List.{get_or-replicate, get_or-reverse, get_or_append_left, get_or_default, get_or_past, get_or_push, length-map, length-replicate, length-reverse}
+pub use Rattle.std.proofs.lemmas.List.{length-set, length-take-le, length_push, map-append, map-id, map-set, map_push, nil_from_length, replicate-append-replicate, reverse-append}
+pub use Rattle.std.proofs.lemmas.List.{reverse-reverse, same_lists, take-append-drop, take-append-le, take-map, take-take, take_all, take_more, take_more_set, take_rest}
 pub use Rattle.std.proofs.lemmas.List.Edits.{map_over_more}
-pub use Rattle.std.proofs.lemmas.List.Elements.{All-append, All-cons, All-filter, All-from_recursion, All-get_or, All-head, All-map, All-nil, All-push, All-tail, All-take, All-weaker, filter-append, filter_agree, filter_map-append, filter_passes}
+pub use Rattle.std.proofs.lemmas.List.Elements.{All-append, All-cons, All-filter, All-from_recursion, All-get_or, All-head, All-map, All-nil, All-push}
+pub use Rattle.std.proofs.lemmas.List.Elements.{All-tail, All-take, All-weaker, filter-append, filter_agree, filter_map-append, filter_passes}
 pub use Rattle.std.proofs.lemmas.List.Folds.{find-append, flat_map-map, list_all-map, list_all_at, list_any-append, list_any_at, list_any_none}
 pub use Rattle.std.proofs.lemmas.List.FromFn.{fill_by_all, get_or-map-range_with_len, get_or-range_with_len, length-map-range_with_len, length-range_with_len}
 pub use Rattle.std.proofs.lemmas.List.Kept.{AllPairs-cons}
-pub use Rattle.std.proofs.lemmas.List.Sorted.{All-permutation, Contains-permutation, IsPermutation-append_comm, IsPermutation-append_left, IsPermutation-append_right, IsPermutation-cons, IsPermutation-middle, IsPermutation-refl, IsPermutation-reverse, IsPermutation-sym, IsPermutation-trans, length_permutation, sum_by-IsPermutation}
+pub use Rattle.std.proofs.lemmas.List.Sorted.{All-permutation, Contains-permutation, IsPermutation-append_comm, IsPermutation-append_left, IsPermutation-append_right, IsPermutation-cons}
+pub use Rattle.std.proofs.lemmas.List.Sorted.{IsPermutation-middle, IsPermutation-refl, IsPermutation-reverse, IsPermutation-sym, IsPermutation-trans, length_permutation, sum_by-IsPermutation}
 pub use Rattle.std.proofs.lemmas.List.Sums.{count_by-le-length, fails_before_first, fold_push, prefix_len-le-length, sum_by-append, sum_by-cons}
 pub use Rattle.std.proofs.lemmas.Option.{slice_get-get_or}
 pub use Rattle.std.proofs.lemmas.Result.{IfOk-weaker}
@@ -37,8 +47,10 @@ pub use Rattle.std.specs.declared.ops.Range.{Range}
 pub use Rattle.std.specs.declared.str.CharIndices.{CharIndices}
 pub use Rattle.bidi_base.specs.Analysed.{AnalysedText, IsAnalysis, IsPerCharText, line_levels_per_char}
 unfoldable pub use Rattle.bidi_base.specs.Brackets.{available, bracket_limit, bracket_pairs, closed_pairs, pairs_of, partner, with_closing}
-pub use Rattle.bidi_base.specs.Brackets.{AreNestedPairs, IsBehindOrWithin, bracket_at, counted_bracket, counted_brackets, is_available, is_closing, is_opening, is_same_bracket, is_taken, max_open_brackets}
-pub use Rattle.bidi_base.specs.Classes.{as_direction, class_number, has_direction, is_al, is_embedding, is_en, is_et, is_initiator, is_kept, is_kept_in_place, is_l, is_l_or_r, is_neutral, is_nsm, is_opener, is_paragraph_separator, is_pdf, is_pdi, is_removed, is_strong, is_weak_resolved, same_class, stands_for}
+pub use Rattle.bidi_base.specs.Brackets.{AreNestedPairs, IsBehindOrWithin, bracket_at, counted_bracket, counted_brackets}
+pub use Rattle.bidi_base.specs.Brackets.{is_available, is_closing, is_opening, is_same_bracket, is_taken, max_open_brackets}
+pub use Rattle.bidi_base.specs.Classes.{as_direction, class_number, has_direction, is_al, is_embedding, is_en, is_et, is_initiator, is_kept, is_kept_in_place, is_l, is_l_or_r}
+pub use Rattle.bidi_base.specs.Classes.{is_neutral, is_nsm, is_opener, is_paragraph_separator, is_pdf, is_pdi, is_removed, is_strong, is_weak_resolved, same_class, stands_for}
 unfoldable pub use Rattle.bidi_base.specs.Direction.{base_direction, direction_of_levels}
 pub use Rattle.bidi_base.specs.Direction.{direction_by, is_pure_ltr, may_turn}
 unfoldable pub use Rattle.bidi_base.specs.Display.{line_text, reordered_text, visual_runs, written_runs}
@@ -79,7 +91,8 @@ unfoldable pub use Rattle.bidi_base.specs.StatusMachine.{close_embedding, close_
 pub use Rattle.bidi_base.specs.StatusMachine.{Entry, IsPoppable, IsWithinDepth, State, counted, drop_isolate, entry_of, fits_in, refused, start, step, taken}
 unfoldable pub use Rattle.bidi_base.specs.Stored.{filled_levels, levels_in, paragraph_levels, resolved_levels, sequence_levels, stored_levels, text_classes, text_levels}
 pub use Rattle.bidi_base.specs.Stored.{AreResolved, level_in}
-pub use Rattle.bidi_base.specs.Text.{Gives, IsLine, IsPerChar, ascii_at, ascii_of, char_at, char_index, char_indices, char_indices_from, indices_lengths_from, is_boundary, is_per_char, one_unit, per_char, per_unit, place, subrange, text_len}
+pub use Rattle.bidi_base.specs.Text.{Gives, IsLine, IsPerChar, ascii_at, ascii_of, char_at, char_index, char_indices, char_indices_from}
+pub use Rattle.bidi_base.specs.Text.{indices_lengths_from, is_boundary, is_per_char, one_unit, per_char, per_unit, place, subrange, text_len}
 unfoldable pub use Rattle.bidi_base.specs.Units.{chars_in_runs, kept_in_place, kept_in_runs, level_run_ranges}
 pub use Rattle.bidi_base.specs.Units.{AreLines, are_ordered, are_ordered_from, bounds, in_runs, ranges_between, units_in_runs}
 pub use Rattle.bidi_base.specs.Utf16.{lone_char, pair_char, splits_pair, utf16_len, utf16_text}

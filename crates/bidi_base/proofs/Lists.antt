@@ -1,5 +1,7 @@
 -- Facts on lists and searches that several files use.
-use Rattle.bidi_base.proofs.Common.{◌≡◌, ℕ, zero, suc, ◌+◌, ◌-◌, ◌<◌, ◌≤◌, Bool, true, false, cond, ◌&&◌, List, [], ◌∷◌, ◌++◌, length, map, get_or, take, drop, reverse, filter_map, find, Option, Some, None, option_map, refl, sym, ap, ◌∙◌, arith, ◌⊎◌, inl, inr, append-nil, length-append, length-drop, list_all, option_or, cases_Bool, and_parts, reverse-append, reverse-reverse, take-append-le, take_all, length-take-le, get_or-append_right, length-replicate, filter-append, last_or}
+use Rattle.bidi_base.proofs.Common.{◌≡◌, ℕ, zero, suc, ◌+◌, ◌-◌, ◌<◌, ◌≤◌, Bool, true, false, cond, ◌&&◌, List, [], ◌∷◌, ◌++◌, length, map, get_or, take, drop, reverse, filter_map, find, Option}
+use Rattle.bidi_base.proofs.Common.{Some, None, option_map, refl, sym, ap, ◌∙◌, arith, ◌⊎◌, inl, inr, append-nil, length-append, length-drop, list_all, option_or, cases_Bool, and_parts}
+use Rattle.bidi_base.proofs.Common.{reverse-append, reverse-reverse, take-append-le, take_all, length-take-le, get_or-append_right, length-replicate, filter-append, last_or}
 use Rattle.std.proofs.Common.{filter}
 use Rattle.std.specs.Prelude.{replicate}
 use Rattle.std.proofs.lemmas.List.{get_or-drop}

@@ -1,5 +1,7 @@
 -- Bracket pairs never cross: each stands behind those that open before it, or within them.
-use Rattle.bidi_base.proofs.Common.{◌≡◌, ℕ, zero, suc, ◌+◌, ◌<◌, true, false, ◌&&◌, eqb, ltb, List, [], ◌∷◌, ◌++◌, length, get_or, find, filter_map, Option, Some, subst, ◌⊎◌, arith, inl, inr, add-one, rules, All, range_with_len, AllByRecursion, cases_lt, get_or_append_left, get_or-append_seam, All-append, All-cons, All-nil, All-from_recursion, list_any_at, AllPairs-cons, BidiClass, BidiMatchedOpeningBracket, bracket_at, is_opening, is_closing, is_taken, is_available, partner, closed_pairs, pairs_of, bracket_pairs, IsBehindOrWithin, AreNestedPairs, closed_before}
+use Rattle.bidi_base.proofs.Common.{◌≡◌, ℕ, zero, suc, ◌+◌, ◌<◌, true, false, ◌&&◌, eqb, ltb, List, [], ◌∷◌, ◌++◌, length, get_or, find, filter_map, Option, Some, subst, ◌⊎◌, arith, inl, inr, add-one, rules, All}
+use Rattle.bidi_base.proofs.Common.{range_with_len, AllByRecursion, cases_lt, get_or_append_left, get_or-append_seam, All-append, All-cons, All-nil, All-from_recursion, list_any_at, AllPairs-cons, BidiClass}
+use Rattle.bidi_base.proofs.Common.{BidiMatchedOpeningBracket, bracket_at, is_opening, is_closing, is_taken, is_available, partner, closed_pairs, pairs_of, bracket_pairs, IsBehindOrWithin, AreNestedPairs, closed_before}
 use Rattle.std.specs.List.{AllPairs}
 use Rattle.std.proofs.lemmas.List.{length-append}
 use Rattle.bidi_base.proofs.PlacesLemmas.{find_last-range_with_len}
@@ -59,7 +61,8 @@ module _ (brackets : List (Option BidiMatchedOpeningBracket)) where
   AreApart pairs = (k m : ℕ) → k < length pairs → m < length pairs → (get_or pairs k (0, 0)).0 < (get_or pairs m (0, 0)).0 → IsBehindOrWithin (get_or pairs k (0, 0)) (get_or pairs m (0, 0))
 
   -- the pair that j closes and one that was closed before
-  free_at : (pairs : List (ℕ × ℕ)) (j i k : ℕ) → is_taken pairs j i ≡ false → is_opening (bracket_at brackets i) ≡ true → k < length pairs → IsClosedPair j (get_or pairs k (0, 0)) → (get_or pairs k (0, 0)).0 < i → (get_or pairs k (0, 0)).1 < i
+  free_at : (pairs : List (ℕ × ℕ)) (j i k : ℕ) → is_taken pairs j i ≡ false → is_opening (bracket_at brackets i) ≡ true → k < length pairs
+      → IsClosedPair j (get_or pairs k (0, 0)) → (get_or pairs k (0, 0)).0 < i → (get_or pairs k (0, 0)).1 < i
   free_at pairs j i k free opening fits h order = grind (arith, list_any_at)
 
   apart-more : (j i : ℕ) → Closes j i → AreApart (closed_before brackets j) → AreApart (closed_before brackets j ++ (i, j) ∷ [])
@@ -83,7 +86,9 @@ module _ (brackets : List (Option BidiMatchedOpeningBracket)) where
   closed_before-apart (suc j) = grind (arith, closes j, closed_before-apart j, apart-more j)
 
   -- those that are found at two indexes
-  apart-found : (pairs : List (ℕ × ℕ)) (limit : ℕ) → AreApart pairs → (i m : ℕ) (p q : ℕ × ℕ) → find (λ (r : ℕ × ℕ). eqb r.0 i && ltb r.1 limit) pairs ≡ Some p → find (λ (r : ℕ × ℕ). eqb r.0 m && ltb r.1 limit) pairs ≡ Some q → i < m → IsBehindOrWithin p q
+  apart-found : (pairs : List (ℕ × ℕ)) (limit : ℕ) → AreApart pairs → (i m : ℕ) (p q : ℕ × ℕ)
+      → find (λ (r : ℕ × ℕ). eqb r.0 i && ltb r.1 limit) pairs ≡ Some p → find (λ (r : ℕ × ℕ). eqb r.0 m && ltb r.1 limit) pairs ≡ Some q → i < m
+      → IsBehindOrWithin p q
   apart-found pairs limit apart i m p q e g order = let t : ℕ → ℕ × ℕ → _ = λ k r. eqb r.0 k && ltb r.1 limit in
       grind (arith, find-index (t i) pairs p (0, 0) e, find-index (t m) pairs q (0, 0) g, find-passes (t i) pairs p e, find-passes (t m) pairs q g)
 
@@ -93,6 +98,7 @@ module _ (brackets : List (Option BidiMatchedOpeningBracket)) where
   pairs_of-nested = search (rules, found_nested, apart-found, closed_before-apart)
 
 -- the pairs of a sequence nest within it
-pub bracket_pairs-nested : (classes : List BidiClass) (brackets : List (Option BidiMatchedOpeningBracket)) → length brackets ≡ length classes → AreNestedPairs (length classes) (bracket_pairs classes brackets)
+pub bracket_pairs-nested : (classes : List BidiClass) (brackets : List (Option BidiMatchedOpeningBracket))
+    → length brackets ≡ length classes → AreNestedPairs (length classes) (bracket_pairs classes brackets)
 unfolding bracket_pairs
 bracket_pairs-nested classes brackets h = grind (arith, bracket_pairs-in_order, pairs_of-nested)

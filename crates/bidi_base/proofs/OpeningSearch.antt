@@ -1,5 +1,6 @@
 -- The search for the opening of a closing, over entries that a stack keeps of the openings that wait.
-use Rattle.bidi_base.proofs.Common.{◌≡◌, ℕ, ◌-◌, ◌<◌, Bool, eqb, List, map, length, get_or, reverse, Option, Some, option_map, sym, ap, ◌∙◌, arith, length-reverse, get_or-reverse, BidiMatchedOpeningBracket, find_last, bracket_at, is_same_bracket, IsUnderWay}
+use Rattle.bidi_base.proofs.Common.{◌≡◌, ℕ, ◌-◌, ◌<◌, Bool, eqb, List, map, length, get_or, reverse, Option, Some, option_map, sym, ap, ◌∙◌, arith}
+use Rattle.bidi_base.proofs.Common.{length-reverse, get_or-reverse, BidiMatchedOpeningBracket, find_last, bracket_at, is_same_bracket, IsUnderWay}
 use Rattle.bidi_base.specs.PairSearch.{opening_of}
 use Rattle.bidi_base.proofs.PairsLemmas.{IsUnderWay-entry}
 use Rattle.bidi_base.proofs.Lists.{find-map, find-same, map-reverse}
@@ -12,7 +13,8 @@ find_last-same p q xs same = find-same p q (reverse xs) 0 (λ k below.
     ap p at ∙ same (length xs - 1 - k) (omega arith) ∙ ap q (sym at))
 
 -- the search over the entries is one over the openings
-pub find_last-entries : {X : Type 0} (brackets : List (Option BidiMatchedOpeningBracket)) (entry : ℕ → X) (q : X → Bool) (j : ℕ) (places : List ℕ) (b : BidiMatchedOpeningBracket) → IsUnderWay brackets j places
+pub find_last-entries : {X : Type 0} (brackets : List (Option BidiMatchedOpeningBracket)) (entry : ℕ → X) (q : X → Bool) (j : ℕ) (places : List ℕ) (b : BidiMatchedOpeningBracket)
+    → IsUnderWay brackets j places
     → bracket_at brackets j ≡ Some b → ((i : ℕ) → q (entry i) ≡ eqb (opening_of (bracket_at brackets i)) b.opening)
     → find_last q (map entry places) ≡ option_map entry (find_last (λ i. is_same_bracket (bracket_at brackets i) (bracket_at brackets j)) places)
 find_last-entries brackets entry q j places b h is tests =

@@ -1,5 +1,8 @@
 -- Bracket pairs in one pass from the front: what is closed and what waits at each place, and what the pass has found at its end.
-use Rattle.bidi_base.proofs.Common.{◌≡◌, ℕ, zero, suc, ◌+◌, ◌-◌, ◌<◌, ◌≤◌, Bool, true, false, ◌&&◌, eqb, ltb, leb, List, [], ◌∷◌, ◌++◌, length, get_or, take, filter_map, find, Option, Some, None, refl, ap, subst, ◌∙◌, ◌⊎◌, arith, inl, inr, append-nil, append_assoc, add-one, lt-ltb, le-ltb, rules, common_steps, ⊤, range_with_len, AllByRecursion, All-from_recursion, find-append, list_any-append, fold_push, BidiClass, BidiMatchedOpeningBracket, between, indexes, find_last, max_open_brackets, counted_brackets, bracket_at, is_opening, is_closing, is_same_bracket, is_taken, is_available, available, partner, with_closing, closed_pairs, bracket_limit, pairs_of, bracket_pairs, closed_before, IsUnderWay, and-true}
+use Rattle.bidi_base.proofs.Common.{◌≡◌, ℕ, zero, suc, ◌+◌, ◌-◌, ◌<◌, ◌≤◌, Bool, true, false, ◌&&◌, eqb, ltb, leb, List, [], ◌∷◌, ◌++◌, length, get_or, take, filter_map, find, Option, Some, None, refl, ap, subst}
+use Rattle.bidi_base.proofs.Common.{◌∙◌, ◌⊎◌, arith, inl, inr, append-nil, append_assoc, add-one, lt-ltb, le-ltb, rules, common_steps, ⊤, range_with_len, AllByRecursion, All-from_recursion, find-append}
+use Rattle.bidi_base.proofs.Common.{list_any-append, fold_push, BidiClass, BidiMatchedOpeningBracket, between, indexes, find_last, max_open_brackets, counted_brackets, bracket_at, is_opening, is_closing}
+use Rattle.bidi_base.proofs.Common.{is_same_bracket, is_taken, is_available, available, partner, with_closing, closed_pairs, bracket_limit, pairs_of, bracket_pairs, closed_before, IsUnderWay, and-true}
 use Rattle.std.proofs.Common.{filter}
 use Rattle.bidi_base.specs.Brackets.{ArePairsWithin}
 use Rattle.bidi_base.proofs.PlacesLemmas.{range_with_len-more, find-between-is, find-between-is_None, find_last-range_with_len}
@@ -153,7 +156,8 @@ module _ (brackets : List (Option BidiMatchedOpeningBracket)) where
   unfolding available
   IsUnderWay-start = record { waits = refl; room = λ k below. absurd (omega arith) }
 
-  same_after : (j : ℕ) (waiting : List ℕ) → IsUnderWay brackets j waiting → is_opening (bracket_at brackets j) ≡ false → closed_before brackets (j + 1) ≡ closed_before brackets j → IsUnderWay brackets (j + 1) waiting
+  same_after : (j : ℕ) (waiting : List ℕ) → IsUnderWay brackets j waiting → is_opening (bracket_at brackets j) ≡ false
+      → closed_before brackets (j + 1) ≡ closed_before brackets j → IsUnderWay brackets (j + 1) waiting
   same_after j waiting h other same = grind (arith, available-other, closed_before-closed)
 
   -- no opening and no closing
@@ -252,7 +256,8 @@ module _ (brackets : List (Option BidiMatchedOpeningBracket)) where
   pairs_of-in_order = search (rules, All-from_recursion, filter_map-All, find_in_order, closed_before-in_order)
 
 -- the counted brackets, one a class
-pub length-counted_brackets : (classes : List BidiClass) (brackets : List (Option BidiMatchedOpeningBracket)) → length brackets ≡ length classes → length (counted_brackets classes brackets) ≡ length classes
+pub length-counted_brackets : (classes : List BidiClass) (brackets : List (Option BidiMatchedOpeningBracket))
+    → length brackets ≡ length classes → length (counted_brackets classes brackets) ≡ length classes
 length-counted_brackets [] brackets h = refl
 length-counted_brackets (c ∷ classes) brackets h = grind (arith, length-counted_brackets classes)
 

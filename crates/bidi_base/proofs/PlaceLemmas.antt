@@ -1,5 +1,7 @@
 -- Places by index: the place of the k-th character, ranges between two places, and turns of loops over a text.
-use Rattle.bidi_base.proofs.Common.{zero, suc, drop-cons, ◌≡◌, ℕ, ◌+◌, ◌-◌, ◌<◌, ◌≤◌, true, List, [], ◌∷◌, length, take, drop, get_or, Option, Some, None, inl, inr, refl, sym, ◌∙◌, ap, arith, length-take, length-drop, length-append, common_steps, cases_lt, slice_range, Count, Yields, take-append-add, take-append_seam, take-append-drop, drop-drop, take_all, take-take, sum_by-append, sum_by-cons, count_by-le-length, text_len, place, char_indices_from, char_indices, indices_lengths_from, char_at, is_boundary, IsLine, char_index, subrange, one_unit, Gives}
+use Rattle.bidi_base.proofs.Common.{zero, suc, drop-cons, ◌≡◌, ℕ, ◌+◌, ◌-◌, ◌<◌, ◌≤◌, true, List, [], ◌∷◌, length, take, drop, get_or, Option, Some, None, inl, inr, refl, sym, ◌∙◌, ap, arith, length-take, length-drop}
+use Rattle.bidi_base.proofs.Common.{length-append, common_steps, cases_lt, slice_range, Count, Yields, take-append-add, take-append_seam, take-append-drop, drop-drop, take_all, take-take, sum_by-append, sum_by-cons}
+use Rattle.bidi_base.proofs.Common.{count_by-le-length, text_len, place, char_indices_from, char_indices, indices_lengths_from, char_at, is_boundary, IsLine, char_index, subrange, one_unit, Gives}
 use Rattle.std.proofs.lemmas.List.{get_or-drop}
 use Rattle.std.proofs.lemmas.List.Sums.{sum_by_more, sum_by_more_le, sum_by-take-le}
 use Rattle.bidi_base.specs.Text.{indices_lengths}
@@ -105,7 +107,8 @@ place-slice_range len_of chars i j k inside within = grind (arith, take-take, pl
 
 -- ---- the character that begins at a place
 
-pub char_at-place : (len_of : ℕ → ℕ) → HasUnits len_of → (chars : List ℕ) (k c : ℕ) → k < length chars → char_at len_of chars (place len_of chars k) ≡ Some (get_or chars k c, len_of (get_or chars k c))
+pub char_at-place : (len_of : ℕ → ℕ) → HasUnits len_of → (chars : List ℕ) (k c : ℕ) → k < length chars
+    → char_at len_of chars (place len_of chars k) ≡ Some (get_or chars k c, len_of (get_or chars k c))
 char_at-place len_of h chars k c within = grind (arith, take-append-drop k chars, char_at-append len_of h (take k chars) (drop k chars), drop-cons chars k c within)
 
 -- each unit is one of a character: of the one at `index`, `offset` units after its place
@@ -132,7 +135,8 @@ drop-char_indices_from len_of from chars zero = ap (λ m. char_indices_from len_
 drop-char_indices_from len_of from [] (suc k) = grind arith
 drop-char_indices_from len_of from (c ∷ cs) (suc k) = grind (arith, drop-char_indices_from (len_of) (from + len_of c) cs k, sum_by-cons)
 
-drop-indices_lengths_from : (len_of : ℕ → ℕ) (from : ℕ) (chars : List ℕ) (k : ℕ) → drop k (indices_lengths_from len_of from chars) ≡ indices_lengths_from len_of (from + place len_of chars k) (drop k chars)
+drop-indices_lengths_from : (len_of : ℕ → ℕ) (from : ℕ) (chars : List ℕ) (k : ℕ)
+    → drop k (indices_lengths_from len_of from chars) ≡ indices_lengths_from len_of (from + place len_of chars k) (drop k chars)
 drop-indices_lengths_from len_of from chars zero = ap (λ m. indices_lengths_from len_of m chars) (omega arith)
 drop-indices_lengths_from len_of from [] (suc k) = grind arith
 drop-indices_lengths_from len_of from (c ∷ cs) (suc k) = grind (arith, drop-indices_lengths_from (len_of) (from + len_of c) cs k, sum_by-cons)
@@ -141,7 +145,9 @@ first_index : (len_of : ℕ → ℕ) (from : ℕ) (chars : List ℕ) (at c : ℕ
 first_index len_of from [] at c rest e = absurd (cc e)
 first_index len_of from (d ∷ ds) at c rest e = grind arith
 
-first_length : (len_of : ℕ → ℕ) (from : ℕ) (chars : List ℕ) (at l : ℕ) (rest : List (ℕ × ℕ)) → indices_lengths_from len_of from chars ≡ (at, l) ∷ rest → (at ≡ from) × (chars ≡ get_or chars 0 0 ∷ drop 1 chars) × (l ≡ len_of (get_or chars 0 0))
+first_length : (len_of : ℕ → ℕ) (from : ℕ) (chars : List ℕ) (at l : ℕ) (rest : List (ℕ × ℕ))
+    → indices_lengths_from len_of from chars ≡ (at, l) ∷ rest
+    → (at ≡ from) × (chars ≡ get_or chars 0 0 ∷ drop 1 chars) × (l ≡ len_of (get_or chars 0 0))
 first_length len_of from [] at l rest e = absurd (cc e)
 first_length len_of from (d ∷ ds) at l rest e = grind arith
 
@@ -158,7 +164,8 @@ pub char_turn_of : (len_of : ℕ → ℕ) (chars : List ℕ) (n at c : ℕ) → 
 char_turn_of len_of chars n at c here next = grind (arith, length-drop n chars, drop-cons, place-more len_of chars n 0, place-more-le len_of chars n 0)
 
 -- `for (at, c) in text.char_indices()`, which has given xs
-pub index_turn : {S : Type 0} {can : S → Type 0} {steps : S → Option (ℕ × ℕ) → S → Type 0} {left : S → Count} {s b : S} (len_of : ℕ → ℕ) (chars : List ℕ) → Gives can steps left s (char_indices len_of chars) → b ≡ s
+pub index_turn : {S : Type 0} {can : S → Type 0} {steps : S → Option (ℕ × ℕ) → S → Type 0} {left : S → Count} {s b : S} (len_of : ℕ → ℕ) (chars : List ℕ)
+    → Gives can steps left s (char_indices len_of chars) → b ≡ s
     → (xs : List (ℕ × ℕ)) (t : S) → Yields steps b xs t → (r : Option (ℕ × ℕ)) (u : S) (at c : ℕ) → r ≡ Some (at, c) → steps t r u → CharTurn len_of chars (length xs) at c
 index_turn len_of chars g e xs t y r u at c is st =
     let d = turn_drop g e xs t y r u (at, c) is st in
@@ -178,7 +185,8 @@ pub record LengthTurn (len_of : ℕ → ℕ) (chars : List ℕ) (n at l : ℕ) :
   pub after : place len_of chars (n + 1) ≡ at + l
   pub fits : at + l ≤ text_len len_of chars
 
-pub length_turn : {S : Type 0} {can : S → Type 0} {steps : S → Option (ℕ × ℕ) → S → Type 0} {left : S → Count} {s b : S} (len_of : ℕ → ℕ) (chars : List ℕ) → Gives can steps left s (indices_lengths len_of chars) → b ≡ s
+pub length_turn : {S : Type 0} {can : S → Type 0} {steps : S → Option (ℕ × ℕ) → S → Type 0} {left : S → Count} {s b : S} (len_of : ℕ → ℕ) (chars : List ℕ)
+    → Gives can steps left s (indices_lengths len_of chars) → b ≡ s
     → (xs : List (ℕ × ℕ)) (t : S) → Yields steps b xs t → (r : Option (ℕ × ℕ)) (u : S) (at l : ℕ) → r ≡ Some (at, l) → steps t r u → LengthTurn len_of chars (length xs) at l
 length_turn len_of chars g e xs t y r u at l is st =
     let d = turn_drop g e xs t y r u (at, l) is st in
@@ -205,11 +213,13 @@ char_turn len_of chars g e xs t y r u c is st =
     )
 
 -- at the end of each of these loops every character has come
-pub index_end : {S : Type 0} {can : S → Type 0} {steps : S → Option (ℕ × ℕ) → S → Type 0} {left : S → Count} {s b : S} (len_of : ℕ → ℕ) (chars : List ℕ) → Gives can steps left s (char_indices len_of chars) → b ≡ s
+pub index_end : {S : Type 0} {can : S → Type 0} {steps : S → Option (ℕ × ℕ) → S → Type 0} {left : S → Count} {s b : S} (len_of : ℕ → ℕ) (chars : List ℕ)
+    → Gives can steps left s (char_indices len_of chars) → b ≡ s
     → (xs : List (ℕ × ℕ)) (t : S) → Yields steps b xs t → (r : Option (ℕ × ℕ)) (u : S) → r ≡ None → steps t r u → length xs ≡ length chars
 index_end len_of chars g e xs t y r u is st = ap length (end g e xs t y r u is st) ∙ length-char_indices_from len_of 0 chars
 
-pub length_end : {S : Type 0} {can : S → Type 0} {steps : S → Option (ℕ × ℕ) → S → Type 0} {left : S → Count} {s b : S} (len_of : ℕ → ℕ) (chars : List ℕ) → Gives can steps left s (indices_lengths len_of chars) → b ≡ s
+pub length_end : {S : Type 0} {can : S → Type 0} {steps : S → Option (ℕ × ℕ) → S → Type 0} {left : S → Count} {s b : S} (len_of : ℕ → ℕ) (chars : List ℕ)
+    → Gives can steps left s (indices_lengths len_of chars) → b ≡ s
     → (xs : List (ℕ × ℕ)) (t : S) → Yields steps b xs t → (r : Option (ℕ × ℕ)) (u : S) → r ≡ None → steps t r u → length xs ≡ length chars
 length_end len_of chars g e xs t y r u is st = ap length (end g e xs t y r u is st) ∙ length-indices_lengths_from len_of 0 chars
 

@@ -1,5 +1,6 @@
 -- The first of sixteen lanes that a test marks.
-use Rattle.bidi_base.proofs.Common.{◌≡◌, ℕ, ◌+◌, ◌<◌, ◌≤◌, Bool, false, not, List, [], ◌∷◌, map, length, cond, eqb, ap, ◌∙◌, arith, prefix_len, map-map, length-chunk, run_in_chunk_fails, run_in_chunk_stops, BidiClass, L, class_at, IsFirst}
+use Rattle.bidi_base.proofs.Common.{◌≡◌, ℕ, ◌+◌, ◌<◌, ◌≤◌, Bool, false, not, List, [], ◌∷◌, map, length, cond, eqb, ap, ◌∙◌, arith, prefix_len}
+use Rattle.bidi_base.proofs.Common.{map-map, length-chunk, run_in_chunk_fails, run_in_chunk_stops, BidiClass, L, class_at, IsFirst}
 use Rattle.std.proofs.lemmas.Simd.{trailing_mask_l, leading_from_mask_l}
 use lib.Count.{count_trailing_zeros}
 use lib.Lanes.{chunk, mask_l}

@@ -1,5 +1,6 @@
 -- What a table of ranges and one of brackets answer, by indexes, and when a table has a fault.
-use Rattle.bidi_base.proofs.Common.{◌≡◌, ℕ, zero, suc, ◌+◌, ◌-◌, ◌<◌, ◌≤◌, true, false, min, List, length, get_or, take, drop, replicate, find, Option, Some, None, is_some, option_and_then, ap, ◌∙◌, arith, common_steps, length-take-le, nat_tests, BidiClass, L, between, indexes, table_class, is_member, range_at, fault_at}
+use Rattle.bidi_base.proofs.Common.{◌≡◌, ℕ, zero, suc, ◌+◌, ◌-◌, ◌<◌, ◌≤◌, true, false, min, List, length, get_or, take, drop, replicate, find, Option, Some, None, is_some, option_and_then}
+use Rattle.bidi_base.proofs.Common.{ap, ◌∙◌, arith, common_steps, length-take-le, nat_tests, BidiClass, L, between, indexes, table_class, is_member, range_at, fault_at}
 use borrow.Rule.Slice.PartMut.{put_mid}
 use Rattle.bidi_base.specs.declared.data_source.TableError.{TableError}
 use Rattle.bidi_base.specs.Source.{in_range, bracket_in, table_bracket, table_fault}
@@ -7,7 +8,9 @@ use Rattle.bidi_base.proofs.PlacesLemmas.{find-between, find-between-is, find-be
 use Rattle.bidi_base.proofs.Lists.{find-first, find-none, put_mid-after}
 
 -- the bracket where an entry holds the character and none before it does, and where none does
-pub table_bracket-at : (brackets : List (ℕ × ℕ × Option ℕ)) (c i : ℕ) → i < length brackets → is_member c (get_or brackets i (0, 0, None)) ≡ true → ((k : ℕ) → k < i → is_member c (get_or brackets k (0, 0, None)) ≡ false) → table_bracket brackets c ≡ Some (bracket_in (get_or brackets i (0, 0, None)) c)
+pub table_bracket-at : (brackets : List (ℕ × ℕ × Option ℕ)) (c i : ℕ) → i < length brackets
+    → is_member c (get_or brackets i (0, 0, None)) ≡ true → ((k : ℕ) → k < i → is_member c (get_or brackets k (0, 0, None)) ≡ false)
+    → table_bracket brackets c ≡ Some (bracket_in (get_or brackets i (0, 0, None)) c)
 table_bracket-at brackets c i below holds before = grind (arith, find-first)
 
 pub table_bracket-none : (brackets : List (ℕ × ℕ × Option ℕ)) (c : ℕ) → ((k : ℕ) → k < length brackets → is_member c (get_or brackets k (0, 0, None)) ≡ false) → table_bracket brackets c ≡ None
@@ -18,7 +21,8 @@ indexes_between : (ranges : List (ℕ × ℕ × BidiClass)) → between 0 (lengt
 indexes_between ranges = grind arith
 
 -- the fault of a table where one range is faulty and none before it is, and where none is
-pub table_fault-first : (ranges : List (ℕ × ℕ × BidiClass)) (i : ℕ) (e : TableError) → i < length ranges → fault_at ranges i ≡ Some e → ((k : ℕ) → k < i → fault_at ranges k ≡ None) → table_fault ranges ≡ Some e
+pub table_fault-first : (ranges : List (ℕ × ℕ × BidiClass)) (i : ℕ) (e : TableError) → i < length ranges → fault_at ranges i ≡ Some e
+    → ((k : ℕ) → k < i → fault_at ranges k ≡ None) → table_fault ranges ≡ Some e
 table_fault-first ranges i e below faulty before =
     let found = find-between-is (λ k. is_some (fault_at ranges k)) 0 (length ranges) i (grind arith) in
     ap (option_and_then (fault_at ranges)) (rw (indexes_between ranges) at found) ∙ faulty
@@ -29,7 +33,8 @@ table_fault-none ranges none =
     simp found
 
 -- a range with no fault
-pub fault_at-in_order : (ranges : List (ℕ × ℕ × BidiClass)) (i : ℕ) → fault_at ranges i ≡ None → ((range_at ranges i).0 ≤ (range_at ranges i).1) × (0 < i → (range_at ranges (i - 1)).1 < (range_at ranges i).0)
+pub fault_at-in_order : (ranges : List (ℕ × ℕ × BidiClass)) (i : ℕ) → fault_at ranges i ≡ None
+    → ((range_at ranges i).0 ≤ (range_at ranges i).1) × (0 < i → (range_at ranges (i - 1)).1 < (range_at ranges i).0)
 fault_at-in_order ranges i h = grind arith
 
 -- in a table with no fault each range is in order, and begins after the end of every one before it
@@ -51,15 +56,19 @@ pub all_after : (ranges : List (ℕ × ℕ × BidiClass)) (c i : ℕ) → table_
 all_after ranges c i none h k later below = grind (arith, faultless-ascending, faultless-in_order)
 
 -- the class of a character that a range holds, and of one that lies between all ranges
-pub table_class-holder : (ranges : List (ℕ × ℕ × BidiClass)) (c i : ℕ) → table_fault ranges ≡ None → i < length ranges → (range_at ranges i).0 ≤ c → c ≤ (range_at ranges i).1 → table_class ranges c ≡ (range_at ranges i).2
+pub table_class-holder : (ranges : List (ℕ × ℕ × BidiClass)) (c i : ℕ) → table_fault ranges ≡ None → i < length ranges
+    → (range_at ranges i).0 ≤ c → c ≤ (range_at ranges i).1 → table_class ranges c ≡ (range_at ranges i).2
 table_class-holder ranges c i none below from to =
     grind (arith, nat_tests, find-first (in_range c) ranges i (0, 0, L) below, faultless-ascending ranges)
 
-pub table_class-between : (ranges : List (ℕ × ℕ × BidiClass)) (c low high : ℕ) → high ≤ low → ((k : ℕ) → k < low → (range_at ranges k).1 < c) → ((k : ℕ) → high ≤ k → k < length ranges → c < (range_at ranges k).0) → table_class ranges c ≡ L
+pub table_class-between : (ranges : List (ℕ × ℕ × BidiClass)) (c low high : ℕ) → high ≤ low
+    → ((k : ℕ) → k < low → (range_at ranges k).1 < c) → ((k : ℕ) → high ≤ k → k < length ranges → c < (range_at ranges k).0)
+    → table_class ranges c ≡ L
 table_class-between ranges c low high met before after = grind (arith, nat_tests, find-none (in_range c) ranges (0, 0, L))
 
 -- the classes of the first characters by the ranges from `i` on, once the part that range `i` holds was filled
-pub kept-filled : (kept : ℕ) (ranges : List (ℕ × ℕ × BidiClass)) (i later end : ℕ) (classes part : List BidiClass) → later ≡ i + 1 → i < length ranges → end ≡ min ((range_at ranges i).1 + 1) kept → (range_at ranges i).0 < end → length classes ≡ kept
+pub kept-filled : (kept : ℕ) (ranges : List (ℕ × ℕ × BidiClass)) (i later end : ℕ) (classes part : List BidiClass) → later ≡ i + 1
+    → i < length ranges → end ≡ min ((range_at ranges i).1 + 1) kept → (range_at ranges i).0 < end → length classes ≡ kept
     → part ≡ replicate (length (take (end - (range_at ranges i).0) (drop (range_at ranges i).0 classes))) (range_at ranges i).2
     → ((n : ℕ) → n < kept → get_or classes n L ≡ table_class (drop later ranges) n)
     → (n : ℕ) → n < kept → get_or (put_mid (range_at ranges i).0 (end - (range_at ranges i).0) classes part) n L ≡ table_class (drop i ranges) n

@@ -1,5 +1,7 @@
 -- Texts cut at boundaries: a boundary is the length of some first characters.
-use Rattle.bidi_base.proofs.Common.{◌≡◌, ◌==◌, ℕ, ◌+◌, ◌-◌, ◌≤◌, true, false, ◌||◌, nat_lt, cond, List, [], ◌∷◌, ◌++◌, length, None, is_some, option_map, slice_get, count_by, refl, sym, ap, append_assoc, arith, le-ltb, length-append, take-append_seam, drop-append_seam, sum_by-cons, sum_by-append, nat_tests, text_len, char_at, is_boundary, char_indices_from, char_index, subrange}
+use Rattle.bidi_base.proofs.Common.{◌≡◌, ◌==◌, ℕ, ◌+◌, ◌-◌, ◌≤◌, true, false, ◌||◌, nat_lt, cond, List, [], ◌∷◌, ◌++◌, length, None, is_some, option_map}
+use Rattle.bidi_base.proofs.Common.{slice_get, count_by, refl, sym, ap, append_assoc, arith, le-ltb, length-append, take-append_seam, drop-append_seam}
+use Rattle.bidi_base.proofs.Common.{sum_by-cons, sum_by-append, nat_tests, text_len, char_at, is_boundary, char_indices_from, char_index, subrange}
 
 -- every character is at least one unit long
 abbrev pub HasUnits : (ℕ → ℕ) → Type 0
@@ -48,7 +50,8 @@ none_before : (len_of : ℕ → ℕ) (from u : ℕ) (chars : List ℕ) → u ≤
 none_before len_of from u [] order = refl
 none_before len_of from u (c ∷ cs) order = grind (arith, le-ltb, sum_by-cons, none_before len_of (from + len_of c) u cs)
 
-counted : (len_of : ℕ → ℕ) → HasUnits len_of → (from u : ℕ) (xs ys : List ℕ) → u ≡ from + text_len len_of xs → count_by (λ (e : ℕ × ℕ). nat_lt e.0 u) (char_indices_from len_of from (xs ++ ys)) ≡ length xs
+counted : (len_of : ℕ → ℕ) → HasUnits len_of → (from u : ℕ) (xs ys : List ℕ) → u ≡ from + text_len len_of xs
+    → count_by (λ (e : ℕ × ℕ). nat_lt e.0 u) (char_indices_from len_of from (xs ++ ys)) ≡ length xs
 counted len_of h from u [] ys e = none_before len_of from u ys (omega arith)
 counted len_of h from u (x ∷ xs) ys e =
     let rest = counted len_of h (from + len_of x) u xs ys in

@@ -1,5 +1,6 @@
 -- What the test `is_per_char` says of entries that go with units.
-use Rattle.bidi_base.proofs.Common.{◌≡◌, ℕ, zero, suc, ◌<◌, ◌≤◌, Bool, true, false, nat_le, List, [], ◌∷◌, length, take, drop, refl, ap, ◌∙◌, arith, length-append, length-take, common_steps, nil_from_length, take-append-drop, length-replicate, nat_tests, list_all, text_len, per_unit, per_char, is_per_char, IsPerChar, and_parts}
+use Rattle.bidi_base.proofs.Common.{◌≡◌, ℕ, zero, suc, ◌<◌, ◌≤◌, Bool, true, false, nat_le, List, [], ◌∷◌, length, take, drop, refl, ap, ◌∙◌, arith, length-append, length-take, common_steps}
+use Rattle.bidi_base.proofs.Common.{nil_from_length, take-append-drop, length-replicate, nat_tests, list_all, text_len, per_unit, per_char, is_per_char, IsPerChar, and_parts}
 use Rattle.std.specs.Prelude.{replicate}
 use Rattle.bidi_base.specs.Text.{all_same}
 use Rattle.bidi_base.proofs.TextLemmas.{HasUnits, zero_test}
@@ -18,7 +19,8 @@ module _ {X : Type 0} (eq : X → X → Bool) (len_of : ℕ → ℕ) (ds cs : Li
 
 -- ---- units that are those of some values
 
-pub per_unit-from_IsPerChar : {X : Type 0} (d : X) (len_of : ℕ → ℕ) → HasUnits len_of → (chars : List ℕ) (units : List X) → IsPerChar len_of chars units → units ≡ per_unit len_of chars (per_char d len_of chars units)
+pub per_unit-from_IsPerChar : {X : Type 0} (d : X) (len_of : ℕ → ℕ) → HasUnits len_of → (chars : List ℕ) (units : List X)
+    → IsPerChar len_of chars units → units ≡ per_unit len_of chars (per_char d len_of chars units)
 per_unit-from_IsPerChar d len_of h chars units w = grind (arith, per_char-per_unit len_of h d chars w.0 w.1)
 
 pub length-from_IsPerChar : {X : Type 0} (len_of : ℕ → ℕ) (chars : List ℕ) (units : List X) → IsPerChar len_of chars units → length units ≡ text_len len_of chars
@@ -76,7 +78,8 @@ module _ {X : Type 0} (eq : X → X → Bool) (test : IsSameTest eq) where
   pub is_per_char-from_IsPerChar : (len_of : ℕ → ℕ) (chars : List ℕ) (units : List X) → IsPerChar len_of chars units → is_per_char eq len_of chars units ≡ true
   is_per_char-from_IsPerChar len_of chars units w = grind (arith, is_per_char-per_unit)
 
-  pub per_unit-from_is_per_char : (d : X) (len_of : ℕ → ℕ) → HasUnits len_of → (chars : List ℕ) (units : List X) → is_per_char eq len_of chars units ≡ true → units ≡ per_unit len_of chars (per_char d len_of chars units)
+  pub per_unit-from_is_per_char : (d : X) (len_of : ℕ → ℕ) → HasUnits len_of → (chars : List ℕ) (units : List X)
+      → is_per_char eq len_of chars units ≡ true → units ≡ per_unit len_of chars (per_char d len_of chars units)
   per_unit-from_is_per_char d len_of h chars units e = per_unit-from_IsPerChar d len_of h chars units (IsPerChar-from_is_per_char len_of h chars units e)
 
   pub length-from_is_per_char : (len_of : ℕ → ℕ) → HasUnits len_of → (chars : List ℕ) (units : List X) → is_per_char eq len_of chars units ≡ true → length units ≡ text_len len_of chars

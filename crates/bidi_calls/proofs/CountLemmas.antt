@@ -1,5 +1,6 @@
 -- How many characters a text has, counted by its units.
-use Rattle.bidi_base.proofs.Common.{◌≡◌, ℕ, true, false, lt-ltb, le-ltb, ◌+◌, ◌/◌, ◌≤◌, inl, inr, cases_lt, List, [], ◌∷◌, ◌++◌, length, refl, sym, ap, ◌∙◌, arith, nat_tests, and_parts, list_all, chars, encode_utf8, IsUtf8, text_len, per_unit, per_char, utf16_text, sum_by-cons, sum_by-append, if◌then◌else◌}
+use Rattle.bidi_base.proofs.Common.{◌≡◌, ℕ, true, false, lt-ltb, le-ltb, ◌+◌, ◌/◌, ◌≤◌, inl, inr, cases_lt, List, [], ◌∷◌, ◌++◌, length, refl, sym, ap, ◌∙◌, arith, nat_tests}
+use Rattle.bidi_base.proofs.Common.{and_parts, list_all, chars, encode_utf8, IsUtf8, text_len, per_unit, per_char, utf16_text, sum_by-cons, sum_by-append, if◌then◌else◌}
 use Rattle.std.specs.List.{count_by}
 use lib.Utf8.{encode, encodes, next}
 use Rattle.std.proofs.lemmas.Str.{encodes-chars}

@@ -1,5 +1,7 @@
 -- Entries that are equal within each character: each that begins no character equals the one before it.
-use Rattle.bidi_base.proofs.Common.{◌≡◌, ℕ, zero, suc, ◌+◌, ◌-◌, ◌<◌, ◌≤◌, Bool, true, false, nat_tests, List, [], ◌∷◌, ◌++◌, length, get_or, take, drop, replicate, refl, sym, ap, ◌∙◌, subst, inl, inr, arith, cases_lt, nil_from_length, get_or_append_left, get_or-append_right, get_or-replicate, get_or-take, get_or-drop, ext_get_or, length-append, length-replicate, length-take, length-drop, take-append-drop, sum_by-cons, text_len, per_unit, is_per_char, IsPerChar, is_boundary}
+use Rattle.bidi_base.proofs.Common.{◌≡◌, ℕ, zero, suc, ◌+◌, ◌-◌, ◌<◌, ◌≤◌, Bool, true, false, nat_tests, List, [], ◌∷◌, ◌++◌, length, get_or, take, drop, replicate, refl, sym, ap, ◌∙◌, subst}
+use Rattle.bidi_base.proofs.Common.{inl, inr, arith, cases_lt, nil_from_length, get_or_append_left, get_or-append_right, get_or-replicate, get_or-take, get_or-drop, ext_get_or, length-append}
+use Rattle.bidi_base.proofs.Common.{length-replicate, length-take, length-drop, take-append-drop, sum_by-cons, text_len, per_unit, is_per_char, IsPerChar, is_boundary}
 use Rattle.bidi_base.proofs.TextLemmas.{HasUnits}
 use Rattle.bidi_base.proofs.UnitsLemmas.{IsSameTest, IsPerChar-from_is_per_char, is_per_char-from_IsPerChar}
 

@@ -1,5 +1,7 @@
 -- Classes and levels that are equal along each character of a text are those that are equal within each.
-use Rattle.bidi_base.proofs.Common.{◌≡◌, ◌==◌, ℕ, zero, suc, ◌-◌, ◌<◌, ◌≤◌, Bool, true, false, not, ◌&&◌, ◌↔◌, IsTrue, nat_tests, List, ◌++◌, length, get_or, take, drop, map, refl, sym, ap, ◌∙◌, subst, inl, inr, arith, cases_Bool, eqb-true, list_all, length-map, length-take-le, get_or-map, get_or-range_with_len, range_with_len, take-append-drop, text_len, is_per_char, is_boundary, class_number, zero-add, len_utf8, chars, IsUtf8, IsCharBoundary, utf16_text, utf16_len, splits_pair}
+use Rattle.bidi_base.proofs.Common.{◌≡◌, ◌==◌, ℕ, zero, suc, ◌-◌, ◌<◌, ◌≤◌, Bool, true, false, not, ◌&&◌, ◌↔◌, IsTrue, nat_tests, List, ◌++◌, length, get_or, take, drop, map, refl, sym, ap, ◌∙◌}
+use Rattle.bidi_base.proofs.Common.{subst, inl, inr, arith, cases_Bool, eqb-true, list_all, length-map, length-take-le, get_or-map, get_or-range_with_len, range_with_len, take-append-drop}
+use Rattle.bidi_base.proofs.Common.{text_len, is_per_char, is_boundary, class_number, zero-add, len_utf8, chars, IsUtf8, IsCharBoundary, utf16_text, utf16_len, splits_pair}
 use Rattle.std.proofs.lemmas.Str.{chars-append, IsUtf8-take}
 use Rattle.bidi_base.specs.declared.char_data.BidiClass.{BidiClass}
 use Rattle.bidi_base.specs.declared.char_data.BidiClass.TheVariants.{L}

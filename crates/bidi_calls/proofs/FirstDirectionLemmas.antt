@@ -1,5 +1,6 @@
 -- What a search tells that stops where a text decides its base direction.
-use Rattle.bidi_base.proofs.Common.{◌≡◌, ◌⊎◌, ◌∙◌, ℕ, zero, suc, ◌+◌, ◌<◌, ◌≤◌, Bool, true, false, ◌||◌, ◌==◌, if◌then◌else◌, List, [], ◌∷◌, ◌++◌, length, take, drop, map, map-append, list_all, prefix_len, Result, Ok, Err, refl, sym, ap, arith, IsUtf8, chars, chars-nil, and_parts, nil_from_length, length-take, drop_all, drop-cons, get_or, Source}
+use Rattle.bidi_base.proofs.Common.{◌≡◌, ◌⊎◌, ◌∙◌, ℕ, zero, suc, ◌+◌, ◌<◌, ◌≤◌, Bool, true, false, ◌||◌, ◌==◌, if◌then◌else◌, List, [], ◌∷◌, ◌++◌, length, take, drop, map, map-append, list_all}
+use Rattle.bidi_base.proofs.Common.{prefix_len, Result, Ok, Err, refl, sym, ap, arith, IsUtf8, chars, chars-nil, and_parts, nil_from_length, length-take, drop_all, drop-cons, get_or, Source}
 use Rattle.std.specs.Prelude.{take_while}
 use Rattle.std.specs.Str.{is_utf8}
 use Rattle.std.specs.Str.Lossy.{utf8_valid_len}
@@ -102,7 +103,8 @@ module _ (source : Source) (full : Bool) where
   pub utf8-valid : (bs : List ℕ) → IsUtf8 bs → first_direction_utf8 source full bs ≡ Ok (direction_in source full (chars bs))
   utf8-valid bs u = rw (is_utf8-from_IsUtf8 bs u, utf8_front-valid bs u) refl
 
-  decided_result : (found : DirectionSearch) → is_over found ≡ true → (n : ℕ) → n ≡ direction_number (direction_found found) → (more : ℕ → DirectionSearch) (whole : Bool) (fault : Fault) → told (search_on more found) whole fault ≡ Ok n
+  decided_result : (found : DirectionSearch) → is_over found ≡ true → (n : ℕ) → n ≡ direction_number (direction_found found)
+      → (more : ℕ → DirectionSearch) (whole : Bool) (fault : Fault) → told (search_on more found) whole fault ≡ Ok n
   decided_result (Found direction) over n is more whole fault = ap Ok (sym is)
   decided_result (Open depth) over n is more whole fault = absurd (cc over)
 
@@ -115,7 +117,8 @@ module _ (source : Source) (full : Bool) where
   direction-found cs = ap direction_number (sym (search_in-is source full cs))
 
   -- what follows a front that decides counts for nothing
-  pub utf8-decided : (bs : List ℕ) (n : ℕ) → n ≤ length bs → IsUtf8 (take n bs) → is_decided source full (chars (take n bs)) ≡ true → first_direction_utf8 source full bs ≡ Ok (direction_in source full (chars (take n bs)))
+  pub utf8-decided : (bs : List ℕ) (n : ℕ) → n ≤ length bs → IsUtf8 (take n bs) → is_decided source full (chars (take n bs)) ≡ true
+      → first_direction_utf8 source full bs ≡ Ok (direction_in source full (chars (take n bs)))
   utf8-decided bs n within front over =
       let found = search_in full 0 (map source.class_of (chars (take n bs))) in
       utf8_from-start bs ∙ later n 0 bs within front found refl
@@ -141,10 +144,13 @@ module _ (source : Source) (full : Bool) where
         → utf32_from depth (drop i ns) ≡ told (search_on (λ now. search_in full now (map source.class_of (take_while is_scalar (drop (i + 1) ns)))) found) (list_all is_scalar (drop (i + 1) ns)) NotScalar
     utf32-turn good found is = rw (next, is, take_while-more (get_or ns i 0) (drop (i + 1) ns) good, good) refl
 
-    pub utf32-found : is_scalar (get_or ns i 0) ≡ true → (direction : Direction) → search_step full depth (source.class_of (get_or ns i 0)) ≡ Found direction → Ok (direction_number direction) ≡ utf32_from depth (drop i ns)
+    pub utf32-found : is_scalar (get_or ns i 0) ≡ true → (direction : Direction)
+        → search_step full depth (source.class_of (get_or ns i 0)) ≡ Found direction
+        → Ok (direction_number direction) ≡ utf32_from depth (drop i ns)
     utf32-found good direction is = sym (utf32-turn good (Found direction) (sym is))
 
-    pub utf32-open : is_scalar (get_or ns i 0) ≡ true → (now : ℕ) → search_step full depth (source.class_of (get_or ns i 0)) ≡ Open now → utf32_from depth (drop i ns) ≡ utf32_from now (drop (i + 1) ns)
+    pub utf32-open : is_scalar (get_or ns i 0) ≡ true → (now : ℕ) → search_step full depth (source.class_of (get_or ns i 0)) ≡ Open now
+        → utf32_from depth (drop i ns) ≡ utf32_from now (drop (i + 1) ns)
     utf32-open good now is = utf32-turn good (Open now) (sym is)
 
   pub utf32_from-end : (depth i : ℕ) (ns : List ℕ) → length ns ≤ i → Ok (direction_number Mixed) ≡ utf32_from depth (drop i ns)
@@ -159,7 +165,8 @@ module _ (source : Source) (full : Bool) where
   take_while-front (suc n) (m ∷ ns) all = let both = and_parts _ _ all in take_while-more m ns both.0 ∙ ap (λ t. m ∷ t) (take_while-front n ns both.1)
 
   -- the same of a list of characters
-  pub utf32-decided : (ns : List ℕ) (n : ℕ) → list_all is_scalar (take n ns) ≡ true → is_decided source full (take n ns) ≡ true → first_direction_utf32 source full ns ≡ Ok (direction_in source full (take n ns))
+  pub utf32-decided : (ns : List ℕ) (n : ℕ) → list_all is_scalar (take n ns) ≡ true → is_decided source full (take n ns) ≡ true
+      → first_direction_utf32 source full ns ≡ Ok (direction_in source full (take n ns))
   utf32-decided ns n front over =
       let found = search_in full 0 (map source.class_of (take n ns)) in
       let joined : search_in full 0 (map source.class_of (take_while is_scalar ns)) ≡ search_on (λ now. search_in full now (map source.class_of (take_while is_scalar (drop n ns)))) found =

@@ -1,5 +1,6 @@
 -- What an analysis holds, as a caller's buffers have it.
-use Rattle.bidi_base.proofs.Common.{length-take-le, ◌≡◌, ◌∙◌, ℕ, ◌≤◌, ◌&&◌, nat_le, None, take, List, [], ◌∷◌, map, length, refl, ap, ap₂, sym, Option, arith, length-map, AnalysedText, IsPerCharText, Source, text_len}
+use Rattle.bidi_base.proofs.Common.{length-take-le, ◌≡◌, ◌∙◌, ℕ, ◌≤◌, ◌&&◌, nat_le, None, take, List, [], ◌∷◌, map, length, refl, ap}
+use Rattle.bidi_base.proofs.Common.{ap₂, sym, Option, arith, length-map, AnalysedText, IsPerCharText, Source, text_len}
 use Rattle.bidi_text.proofs.PerCharTests.{class_test, level_eq, level_test}
 use Rattle.bidi_base.proofs.TextLemmas.{HasUnits}
 use Rattle.bidi_base.proofs.UnitsLemmas.{length-from_is_per_char}

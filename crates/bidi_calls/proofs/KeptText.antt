@@ -1,5 +1,6 @@
 -- The text of a line whose classes and levels are kept, and equal within each character.
-use Rattle.bidi_base.proofs.Common.{◌≡◌, ℕ, ◌+◌, true, false, Some, nat_le, List, length, refl, sym, ap, subst, ◌∙◌, arith, take_all, le_refl, char_index, subrange, text_len, per_char, per_unit, line_text, levels_of_line, IsLine, IsPerChar}
+use Rattle.bidi_base.proofs.Common.{◌≡◌, ℕ, ◌+◌, true, false, Some, nat_le, List, length, refl, sym, ap, subst, ◌∙◌, arith, take_all, le_refl}
+use Rattle.bidi_base.proofs.Common.{char_index, subrange, text_len, per_char, per_unit, line_text, levels_of_line, IsLine, IsPerChar}
 use Rattle.std.proofs.Math.Nat.{sub-zero}
 use Rattle.bidi_base.specs.declared.char_data.BidiClass.TheVariants.{L}
 use Rattle.bidi_base.proofs.PerUnit.{length-per_char}
@@ -57,7 +58,8 @@ module _ (len_of : ℕ → ℕ) (some : HasUnits len_of) (chars : List ℕ) (l :
       ∙ flat_map-runs len_of some chars l.paragraph.now.level (line_classes l) (own_levels l) 0 (text_len len_of chars) of_classes of_levels kept-is_line encode units _ e refl
       ∙ ap (line_text len_of encode chars units l.paragraph.now.level (per_char L len_of chars (line_classes l)) (per_char 0 len_of chars (own_levels l)) 0) (sym e)
 
-  pub length-kept : (encode : ℕ → List ℕ) (units : List ℕ) → length units ≡ text_len len_of chars → ((c : ℕ) → length (encode c) ≡ len_of c) → length (reordered len_of encode chars units l) ≡ length units
+  pub length-kept : (encode : ℕ → List ℕ) (units : List ℕ) → length units ≡ text_len len_of chars
+      → ((c : ℕ) → length (encode c) ≡ len_of c) → length (reordered len_of encode chars units l) ≡ length units
   length-kept encode units e each =
       let shown = length-shown_levels l sound in
       ap length (sym (kept-text encode units e))
@@ -76,5 +78,6 @@ module _ (len_of : ℕ → ℕ) (encode : ℕ → List ℕ) (chars units : List 
   pub told-uneven : is_even len_of chars l ≡ false → shown_fault len_of encode chars units l room ≡ Some UnevenCharacter
   told-uneven uneven = simp (uneven)
 
-  pub told-room : (count : ℕ) → is_even len_of chars l ≡ true → length (reordered len_of encode chars units l) ≡ count → shown_fault len_of encode chars units l room ≡ fault_unless (nat_le count room) NoRoom
+  pub told-room : (count : ℕ) → is_even len_of chars l ≡ true → length (reordered len_of encode chars units l) ≡ count
+      → shown_fault len_of encode chars units l room ≡ fault_unless (nat_le count room) NoRoom
   told-room count even e = simp (even, e)

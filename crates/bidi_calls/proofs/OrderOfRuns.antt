@@ -1,5 +1,7 @@
 -- The order of a line's characters, from the visual runs of its units.
-use Rattle.bidi_base.proofs.Common.{◌≡◌, ℕ, ◌+◌, ◌-◌, ◌<◌, ◌≤◌, Bool, List, length, length-reverse, get_or, subst, Range, run_of, map, flat_map, reverse, if◌then◌else◌, refl, sym, ap, ◌∙◌, arith, map-id, le_refl, length-take-le, slice_range, take, take_all, get_or-map, length-map, flat_map-map, zero-add, between, is_odd, true, is_boundary, char_index, place, subrange, per_char, per_unit, text_len, IsLine, IsPerChar, Run, run_level, visual_order, visual_runs, written_run, written_runs, IsLevelRun, AreVisualRuns}
+use Rattle.bidi_base.proofs.Common.{◌≡◌, ℕ, ◌+◌, ◌-◌, ◌<◌, ◌≤◌, Bool, List, length, length-reverse, get_or, subst, Range, run_of, map, flat_map, reverse, if◌then◌else◌, refl, sym, ap, ◌∙◌, arith, map-id}
+use Rattle.bidi_base.proofs.Common.{le_refl, length-take-le, slice_range, take, take_all, get_or-map, length-map, flat_map-map, zero-add, between, is_odd, true, is_boundary, char_index, place, subrange}
+use Rattle.bidi_base.proofs.Common.{per_char, per_unit, text_len, IsLine, IsPerChar, Run, run_level, visual_order, visual_runs, written_run, written_runs, IsLevelRun, AreVisualRuns}
 use Rattle.std.proofs.Common.{All}
 use Rattle.std.proofs.lemmas.List.Concat.{length-flat_map}
 use Rattle.std.proofs.lemmas.List.Folds.{length-flat_map-take}
@@ -36,10 +38,12 @@ module _ (len_of : ℕ → ℕ) (some : HasUnits len_of) (chars : List ℕ) wher
   count-is start end n line e = e ∙ length-subrange start end line
 
   -- the characters before one end of a range, from those before the other
-  pub index-after : (start end before n : ℕ) → IsLine len_of chars start end → before ≡ char_index len_of chars start → n ≡ length (subrange len_of chars start end) → before + n ≡ char_index len_of chars end
+  pub index-after : (start end before n : ℕ) → IsLine len_of chars start end → before ≡ char_index len_of chars start
+      → n ≡ length (subrange len_of chars start end) → before + n ≡ char_index len_of chars end
   index-after start end before n line e f = omega (arith, e, count-is start end n line f, (line_places len_of some chars start end line).ordered)
 
-  pub index-before : (start end behind n : ℕ) → IsLine len_of chars start end → behind ≡ char_index len_of chars end → n ≡ length (subrange len_of chars start end) → behind - n ≡ char_index len_of chars start
+  pub index-before : (start end behind n : ℕ) → IsLine len_of chars start end → behind ≡ char_index len_of chars end
+      → n ≡ length (subrange len_of chars start end) → behind - n ≡ char_index len_of chars start
   index-before start end behind n line e f = omega (arith, e, count-is start end n line f, (line_places len_of some chars start end line).ordered)
 
   -- no more than units

@@ -1,5 +1,6 @@
 -- The lines of clusters, one after another.
-use Rattle.bidi_base.proofs.Common.{◌≡◌, ℕ, ◌-◌, ◌<◌, ◌≤◌, zero, suc, List, [], ◌∷◌, ◌++◌, length, map, drop, max, refl, sym, Range, Run, run_of, arith, length-drop, cases_Bool, inl, inr, nat_le, nat_lt, ◌||◌}
+use Rattle.bidi_base.proofs.Common.{◌≡◌, ℕ, ◌-◌, ◌<◌, ◌≤◌, zero, suc, List, [], ◌∷◌, ◌++◌, length, map, drop, max, refl, sym, Range}
+use Rattle.bidi_base.proofs.Common.{Run, run_of, arith, length-drop, cases_Bool, inl, inr, nat_le, nat_lt, ◌||◌}
 use Rattle.bidi_columns.specs.Bounds.{IsRangeOf}
 use Rattle.bidi_columns.specs.Breaks.{fitting, first_line, or_empty, line_of_fitting, line_range, lines_up_to, lines_of, up_to_space, leading_spaces, cut_line}
 use Rattle.bidi_columns.specs.declared.breaks.LineLength.{LineLength}

@@ -1,5 +1,7 @@
 -- The opener that a character closes, by the openers that are open before it: it is the one whose match that character is (BD9, BD11).
-use Rattle.bidi_base.proofs.Common.{◌≡◌, ℕ, suc, ◌+◌, ◌-◌, ◌<◌, Bool, true, false, cond, List, [], ◌∷◌, length, drop, find, Option, Some, None, refl, sym, ap, subst, ◌∙◌, arith, filter, and_parts, and_from, false_from_ne_true, is_embedding, is_opener, is_pdf, class_at, is_initiator_at, is_pdi_at, matching_pdi, is_inside, is_level_with, is_embedding_level_with, is_pdf_level_with, closing_pdf}
+use Rattle.bidi_base.proofs.Common.{◌≡◌, ℕ, suc, ◌+◌, ◌-◌, ◌<◌, Bool, true, false, cond, List, [], ◌∷◌, length, drop, find, Option, Some, None, refl, sym, ap, subst}
+use Rattle.bidi_base.proofs.Common.{◌∙◌, arith, filter, and_parts, and_from, false_from_ne_true, is_embedding, is_opener, is_pdf, class_at, is_initiator_at}
+use Rattle.bidi_base.proofs.Common.{is_pdi_at, matching_pdi, is_inside, is_level_with, is_embedding_level_with, is_pdf_level_with, closing_pdf}
 use Rattle.bidi_base.specs.declared.char_data.BidiClass.{BidiClass}
 use Rattle.bidi_base.proofs.PlacesLemmas.{IsLeast}
 use Rattle.bidi_laws.proofs.MatchingLemmas.{match_of-IsLeast, match_of-closes}
@@ -7,7 +9,8 @@ use Rattle.bidi_laws.proofs.IsolatesLemmas.{initiators_apart, matching_pdi-IsLea
 use Rattle.bidi_laws.proofs.EmbeddingsLemmas.{is_level_with-each, is_level_with-same, is_level_with-refl}
 use Rattle.bidi_laws.proofs.ReadStack.{read_closed, IsReadStack}
 use Rattle.bidi_laws.proofs.OpenMatches.{IsReadStack-match, IsReadStack-matched}
-use Rattle.bidi_laws.proofs.OpenersStack.{Leaves, leaves_at, IsPushed, openers_read-IsPushed, pdf_apart, initiators-IsReadStack, is_inside-parts, is_inside-sooner, same_inside, level-Leaves, level-IsReadStack, openers_read, closed_by, left_at}
+use Rattle.bidi_laws.proofs.OpenersStack.{Leaves, leaves_at, IsPushed, openers_read-IsPushed, pdf_apart, initiators-IsReadStack, is_inside-parts}
+use Rattle.bidi_laws.proofs.OpenersStack.{is_inside-sooner, same_inside, level-Leaves, level-IsReadStack, openers_read, closed_by, left_at}
 use Rattle.bidi_controls.specs.Matches.{closer_of}
 
 -- the innermost opener, if that is an embedding or an override
@@ -60,7 +63,8 @@ module _ (classes : List BidiClass) where
       let h = rw (found_first (is_initiator_at classes) (openers_read classes p) q e) at (initiators-IsReadStack classes p) in
       grind (arith, h.are_open, IsReadStack-match (is_initiator_at classes) (is_pdi_at classes) (initiators_apart classes) (length classes) p q (drop 1 stack) h pdi fits)
 
-  closed_embedding : (p q : ℕ) (below : List ℕ) → p < length classes → is_pdi_at classes p ≡ false → is_pdf (class_at classes p) ≡ true → openers_read classes p ≡ q ∷ below → is_initiator_at classes q ≡ false → IsCloser p q
+  closed_embedding : (p q : ℕ) (below : List ℕ) → p < length classes → is_pdi_at classes p ≡ false → is_pdf (class_at classes p) ≡ true
+      → openers_read classes p ≡ q ∷ below → is_initiator_at classes q ≡ false → IsCloser p q
   unfolding closed_by closing_pdf
   closed_embedding p q below fits pdi pdf top other =
       let pushed = subst (IsPushed classes p) top (openers_read-IsPushed classes p) in

@@ -1,5 +1,6 @@
 -- The findings of a line, one character more.
-use Rattle.bidi_base.proofs.Common.{◌≡◌, ℕ, ◌+◌, ◌<◌, Bool, false, List, ◌++◌, Option, length, get_or, take, map, arith, append_assoc, common_steps, range_with_len, append-nil, flat_map, holds_number, option_to_list, get_or-map, get_or_default, get_or-map-range_with_len, indexes}
+use Rattle.bidi_base.proofs.Common.{◌≡◌, ℕ, ◌+◌, ◌<◌, Bool, false, List, ◌++◌, Option, length, get_or, take, map, arith, append_assoc, common_steps, range_with_len}
+use Rattle.bidi_base.proofs.Common.{append-nil, flat_map, holds_number, option_to_list, get_or-map, get_or_default, get_or-map-range_with_len, indexes}
 use Rattle.std.proofs.lemmas.Grind.{flat_map-append}
 use Rattle.bidi_controls.proofs.IndexLemmas.{next_index}
 use Rattle.bidi_base.specs.declared.char_data.BidiClass.{BidiClass}
@@ -20,5 +21,6 @@ more_findings class_of any differing number from line p c class flags here befor
     grind (arith, get_or-map-range_with_len, get_or_default, get_or-map, append_assoc, flat_map-range)
 
 -- the report of findings, one finding more
-pub report_of-more : (name : List ℕ) (findings : List Finding) (i : ℕ) (d : Finding) → i < length findings → report_of name (take i findings) ++ finding_line name (get_or findings i d) ≡ report_of name (take (i + 1) findings)
+pub report_of-more : (name : List ℕ) (findings : List Finding) (i : ℕ) (d : Finding) → i < length findings
+    → report_of name (take i findings) ++ finding_line name (get_or findings i d) ≡ report_of name (take (i + 1) findings)
 report_of-more name findings i d within = grind (arith, common_steps)

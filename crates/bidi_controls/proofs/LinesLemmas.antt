@@ -1,5 +1,6 @@
 -- The first line or paragraph of a text, character by character.
-use Rattle.bidi_base.proofs.Common.{◌≡◌, ℕ, zero, suc, ◌+◌, ◌<◌, ◌≤◌, true, false, List, [], ◌∷◌, ◌++◌, length, get_or, take, drop, refl, sym, ap, subst, get_or_default, ◌∙◌, arith, drop-cons, add-one, onto_first, take_more, drop_all, SplitTest, cut_after}
+use Rattle.bidi_base.proofs.Common.{◌≡◌, ℕ, zero, suc, ◌+◌, ◌<◌, ◌≤◌, true, false, List, [], ◌∷◌, ◌++◌, length, get_or, take, drop, refl, sym, ap, subst}
+use Rattle.bidi_base.proofs.Common.{get_or_default, ◌∙◌, arith, drop-cons, add-one, onto_first, take_more, drop_all, SplitTest, cut_after}
 
 -- characters put before the first of some lines
 abbrev onto_front : List ℕ → List (List ℕ) → List (List ℕ)

@@ -1,5 +1,6 @@
 -- Lines without direction controls and marks: one character more, and what is found in them.
-use Rattle.bidi_base.proofs.Common.{◌≡◌, ℕ, zero, suc, ◌+◌, ◌<◌, ◌≤◌, ⊤, SplitTest, cut_after, cr_lf_together, onto_first, get_or_default, Bool, true, false, if◌then◌else◌, List, [], ◌∷◌, ◌++◌, Option, None, length, get_or, take, map, refl, ap, sym, subst, arith, ◌∙◌, take_more, flat_map, holds_number, get_or-map, range_with_len, class_at, Source}
+use Rattle.bidi_base.proofs.Common.{◌≡◌, ℕ, zero, suc, ◌+◌, ◌<◌, ◌≤◌, ⊤, SplitTest, cut_after, cr_lf_together, onto_first, get_or_default, Bool, true, false, if◌then◌else◌, List, [], ◌∷◌, ◌++◌, Option}
+use Rattle.bidi_base.proofs.Common.{None, length, get_or, take, map, refl, ap, sym, subst, arith, ◌∙◌, take_more, flat_map, holds_number, get_or-map, range_with_len, class_at, Source}
 use Rattle.std.proofs.lemmas.List.Elements.{All-push, All-head, All-tail, All-cons, All-nil}
 use Rattle.bidi_base.specs.declared.char_data.BidiClass.{BidiClass}
 use Rattle.bidi_controls.specs.Controls.{control_of}
@@ -61,7 +62,8 @@ AllQuiet-front source c [] none quiet = (one_quiet source c none, tt)
 AllQuiet-front source c (piece ∷ pieces) none quiet = (All-cons (λ x. control_of (source.class_of x) x ≡ None) c piece none quiet.0, quiet.1)
 
 -- a character before pieces, which is a piece by itself or goes to the first
-AllQuiet-with : (source : Source) (stops : Bool) (c : ℕ) (pieces : List (List ℕ)) → control_of (source.class_of c) c ≡ None → AllQuiet source pieces → AllQuiet source (if stops then (c ∷ []) ∷ pieces else onto_first c pieces)
+AllQuiet-with : (source : Source) (stops : Bool) (c : ℕ) (pieces : List (List ℕ)) → control_of (source.class_of c) c ≡ None
+    → AllQuiet source pieces → AllQuiet source (if stops then (c ∷ []) ∷ pieces else onto_first c pieces)
 AllQuiet-with source true c pieces none quiet = (one_quiet source c none, quiet)
 AllQuiet-with source false c pieces none quiet = AllQuiet-front source c pieces none quiet
 

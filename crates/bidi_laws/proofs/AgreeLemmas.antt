@@ -1,5 +1,6 @@
 -- Sequences and level runs read levels at kept characters alone.
-use Rattle.bidi_base.proofs.Common.{◌≡◌, ℕ, zero, suc, ◌<◌, true, List, [], ◌∷◌, length, map, Some, refl, arith, inl, inr, filter_agree, class_at, chain, last_or, matching_pdi, is_kept_at, kept_places, next_kept, kept_before, level_at, resumed_at, successor, is_first, start_class, end_class, sequence_from, sequences, explicit_levels, get_or-map-range_with_len}
+use Rattle.bidi_base.proofs.Common.{◌≡◌, ℕ, zero, suc, ◌<◌, true, List, [], ◌∷◌, length, map, Some, refl, arith, inl, inr, filter_agree, class_at, chain, last_or, matching_pdi, is_kept_at, kept_places}
+use Rattle.bidi_base.proofs.Common.{next_kept, kept_before, level_at, resumed_at, successor, is_first, start_class, end_class, sequence_from, sequences, explicit_levels, get_or-map-range_with_len}
 use Rattle.bidi_base.specs.declared.char_data.BidiClass.{BidiClass}
 use Rattle.bidi_base.specs.Sequences.{HasExplicitLevels}
 use Rattle.bidi_base.proofs.ChainLemmas.{chain-None, IsMaximal-chain}
@@ -42,11 +43,13 @@ module _ (classes : List BidiClass) (levels other : List ℕ) (agree : (p : ℕ)
   unfolding end_class
   end_class-agree paragraph p kept within = grind (arith, next_level)
 
-  last_along : (p : ℕ) (ps : List ℕ) → is_kept_at classes p ≡ true → p < length classes → AreSuccessors classes levels (p ∷ ps) → (is_kept_at classes (last_or p ps) ≡ true) × (last_or p ps < length classes)
+  last_along : (p : ℕ) (ps : List ℕ) → is_kept_at classes p ≡ true → p < length classes → AreSuccessors classes levels (p ∷ ps)
+      → (is_kept_at classes (last_or p ps) ≡ true) × (last_or p ps < length classes)
   last_along p [] kept within follows = (kept, within)
   last_along p (q ∷ ps) kept within follows = grind (arith, successor-IsLaterKept classes levels p q, last_along q ps)
 
-  last_kept : (p : ℕ) → is_kept_at classes p ≡ true → p < length classes → (is_kept_at classes (last_or p (places_from classes levels p)) ≡ true) × (last_or p (places_from classes levels p) < length classes)
+  last_kept : (p : ℕ) → is_kept_at classes p ≡ true → p < length classes
+      → (is_kept_at classes (last_or p (places_from classes levels p)) ≡ true) × (last_or p (places_from classes levels p) < length classes)
   last_kept p kept within = grind (arith, IsMaximal-chain (length classes) (is_kept_at classes) (successor classes levels) (IsLinked-successor classes levels) p, last_along p)
 
   sequence_from-agree : (paragraph p : ℕ) → is_kept_at classes p ≡ true → p < length classes → sequence_from paragraph classes levels p ≡ sequence_from paragraph classes other p
@@ -63,6 +66,7 @@ module _ (classes : List BidiClass) (levels other : List ℕ) (agree : (p : ℕ)
       all_agree (p ∷ ps) h = grind (arith, sequence_from-agree paragraph p, all_agree ps)
 
 -- with the explicit levels at kept characters, the sequences are those of all explicit levels
-pub sequences-explicit_levels : (paragraph : ℕ) (classes : List BidiClass) (levels : List ℕ) → HasExplicitLevels paragraph classes levels → sequences paragraph classes levels ≡ sequences paragraph classes (explicit_levels paragraph classes)
+pub sequences-explicit_levels : (paragraph : ℕ) (classes : List BidiClass) (levels : List ℕ) → HasExplicitLevels paragraph classes levels
+    → sequences paragraph classes levels ≡ sequences paragraph classes (explicit_levels paragraph classes)
 unfolding explicit_levels
 sequences-explicit_levels paragraph classes levels h = grind (arith, sequences-agree, get_or-map-range_with_len)

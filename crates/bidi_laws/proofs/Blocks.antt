@@ -1,5 +1,7 @@
 -- A block of classes that pass a test: what is seen over it, and how a pass that rewrites block by block goes on.
-use Rattle.bidi_base.proofs.Common.{◌≡◌, ℕ, zero, suc, ◌+◌, ◌-◌, ◌<◌, ◌≤◌, Bool, true, false, List, [], ◌∷◌, length, get_or, take, drop, replicate, reverse, sym, ap, ◌∙◌, arith, inl, inr, length-take, length-drop, length-append, get_or-take, get_or-drop, common_steps, cases_lt, length-replicate, get_or-replicate, drop_more, drop_all, take_rest, ext_get_or, length-take-le, get_or-append_right, prefix_len-le-length, prefix_len, in_context}
+use Rattle.bidi_base.proofs.Common.{◌≡◌, ℕ, zero, suc, ◌+◌, ◌-◌, ◌<◌, ◌≤◌, Bool, true, false, List, [], ◌∷◌, length, get_or, take, drop, replicate, reverse, sym, ap, ◌∙◌, arith}
+use Rattle.bidi_base.proofs.Common.{inl, inr, length-take, length-drop, length-append, get_or-take, get_or-drop, common_steps, cases_lt, length-replicate, get_or-replicate}
+use Rattle.bidi_base.proofs.Common.{drop_more, drop_all, take_rest, ext_get_or, length-take-le, get_or-append_right, prefix_len-le-length, prefix_len, in_context}
 use Rattle.bidi_base.specs.declared.char_data.BidiClass.{BidiClass}
 use Rattle.bidi_base.specs.declared.char_data.BidiClass.TheVariants.{L}
 use Rattle.std.proofs.Common.{drop-drop}
@@ -19,7 +21,8 @@ pub IsBlock-prefix_len : (test : BidiClass → Bool) (xs : List BidiClass) (i n 
 IsBlock-prefix_len test xs i n fits is = grind (arith, length-drop, prefix_len-le-length, get_or-drop, prefix_len_passes, prefix_len_stops)
 
 -- the same from what a pass counts, behind i nothing being written yet
-pub IsBlock-counted : (test : BidiClass → Bool) (old now : List BidiClass) (i n : ℕ) → i ≤ length old → drop i now ≡ drop i old → n ≡ prefix_len test (take (length now - i) (drop i now)) → IsBlock test old i n
+pub IsBlock-counted : (test : BidiClass → Bool) (old now : List BidiClass) (i n : ℕ) → i ≤ length old → drop i now ≡ drop i old
+    → n ≡ prefix_len test (take (length now - i) (drop i now)) → IsBlock test old i n
 IsBlock-counted test old now i n fits rest is = grind (arith, IsBlock-prefix_len test old i n fits, take_rest now i)
 
 -- the length of the part that is filled

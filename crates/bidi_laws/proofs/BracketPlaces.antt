@@ -1,5 +1,7 @@
 -- Brackets pair alike where their indexes are other numbers that rise with them, as places do.
-use Rattle.bidi_base.proofs.Common.{◌≡◌, ℕ, zero, suc, ◌+◌, ◌-◌, ◌<◌, ◌≤◌, Bool, ltb, eqb, List, [], ◌∷◌, ◌++◌, map, length, get_or, slice_get, take, set, Option, Some, None, refl, sym, ap, ◌∙◌, arith, inl, inr, cases_Bool, cases_lt, length-map, map-set, map_push, get_or-map, get_or_default, All-nil, slice_get-get_or, max_open_brackets, counted_brackets, bracket_pairs, pairs_of, brackets_from, found_brackets, ArePairsOf, find_last, AreWithin, IsAt}
+use Rattle.bidi_base.proofs.Common.{◌≡◌, ℕ, zero, suc, ◌+◌, ◌-◌, ◌<◌, ◌≤◌, Bool, ltb, eqb, List, [], ◌∷◌, ◌++◌, map, length, get_or, slice_get, take, set, Option, Some, None, refl, sym}
+use Rattle.bidi_base.proofs.Common.{ap, ◌∙◌, arith, inl, inr, cases_Bool, cases_lt, length-map, map-set, map_push, get_or-map, get_or_default, All-nil, slice_get-get_or}
+use Rattle.bidi_base.proofs.Common.{max_open_brackets, counted_brackets, bracket_pairs, pairs_of, brackets_from, found_brackets, ArePairsOf, find_last, AreWithin, IsAt}
 use Rattle.bidi_base.specs.declared.brackets.Bracket.{Bracket}
 use Rattle.bidi_base.specs.declared.brackets.Waiting.{Waiting}
 use Rattle.bidi_base.specs.declared.char_data.BidiClass.{BidiClass}
@@ -90,7 +92,8 @@ module _ (f : ℕ → ℕ) (rises : (i j : ℕ) → i < j → f i < f j) where
   rising low k (Some b ∷ xs) h = (h, rising (f k + 1) (k + 1) xs (omega (arith, rises k (k + 1) (omega arith))))
 
   -- what a search over them finds
-  pub bracket_pairs-moved : (found : List Bracket) (pairs : List (ℕ × ℕ)) (classes : List BidiClass) (sources : List (Option BidiMatchedOpeningBracket)) → ArePairsOf found pairs → found ≡ map moved (found_brackets classes sources)
+  pub bracket_pairs-moved : (found : List Bracket) (pairs : List (ℕ × ℕ)) (classes : List BidiClass) (sources : List (Option BidiMatchedOpeningBracket))
+      → ArePairsOf found pairs → found ≡ map moved (found_brackets classes sources)
       → pairs ≡ map both (bracket_pairs classes sources)
   unfolding found_brackets bracket_pairs
   bracket_pairs-moved found pairs classes sources search is =

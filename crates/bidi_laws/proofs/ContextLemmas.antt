@@ -8,7 +8,8 @@ pub list_all-in_context : (rule : List BidiClass → BidiClass → List BidiClas
 list_all-in_context rule p q answers before [] h k = refl
 list_all-in_context rule p q answers before (x ∷ xs) h k = grind (arith, and_parts, and_from, list_all-in_context rule p q answers (x ∷ before) xs)
 
-pub list_all-mapped : (f : BidiClass → BidiClass) (p q : BidiClass → Bool) → ((c : BidiClass) → p c ≡ true → q (f c) ≡ true) → (xs : List BidiClass) → list_all p xs ≡ true → list_all q (map f xs) ≡ true
+pub list_all-mapped : (f : BidiClass → BidiClass) (p q : BidiClass → Bool) → ((c : BidiClass) → p c ≡ true → q (f c) ≡ true)
+    → (xs : List BidiClass) → list_all p xs ≡ true → list_all q (map f xs) ≡ true
 list_all-mapped f p q answers [] h = refl
 list_all-mapped f p q answers (x ∷ xs) h = grind (arith, and_parts, and_from, list_all-mapped f p q answers xs)
 

@@ -1,5 +1,6 @@
 -- What the paragraphs of a text are where a carriage return and the line feed after it stay together.
-use Rattle.bidi_base.proofs.Common.{◌≡◌, ℕ, true, false, not, ◌&&◌, ◌==◌, List, [], ◌∷◌, refl, inl, inr, arith, All, onto_first, All-nil, All-cons, All-tail, cases_Bool, and_parts, SplitTest, cut_after, begins_with_line_feed, cr_lf_together, paragraphs_of, ranges_from, Source}
+use Rattle.bidi_base.proofs.Common.{◌≡◌, ℕ, true, false, not, ◌&&◌, ◌==◌, List, [], ◌∷◌, refl, inl, inr, arith, All, onto_first, All-nil, All-cons, All-tail}
+use Rattle.bidi_base.proofs.Common.{cases_Bool, and_parts, SplitTest, cut_after, begins_with_line_feed, cr_lf_together, paragraphs_of, ranges_from, Source}
 use Rattle.bidi_base.specs.CrLf.{has_unpaired_separator, AreCrLfParagraphRanges}
 use Rattle.bidi_laws.proofs.ParagraphsLemmas.{All-onto_first, is_stop, Ends, cut_after-ended, cut_after-partition, cut_after-lines, cut_after-AllButLast, cut_after-All}
 use Rattle.bidi_base.proofs.TextLemmas.{HasUnits}
@@ -31,7 +32,8 @@ module _ (source : Source) where
           rw stop (All-cons Holds (c ∷ d ∷ []) (cut_after ends ds) (grind arith) (All-tail Holds (d ∷ []) (cut_after ends ds) (rw stop at h)))
 
 -- the ranges of the paragraphs of a text
-pub together-AreCrLfParagraphRanges : (source : Source) (len_of : ℕ → ℕ) → HasUnits len_of → (chars : List ℕ) → AreCrLfParagraphRanges source len_of chars (ranges_from len_of 0 (paragraphs_of (cr_lf_together source) chars))
+pub together-AreCrLfParagraphRanges : (source : Source) (len_of : ℕ → ℕ) → HasUnits len_of → (chars : List ℕ)
+    → AreCrLfParagraphRanges source len_of chars (ranges_from len_of 0 (paragraphs_of (cr_lf_together source) chars))
 together-AreCrLfParagraphRanges source len_of units chars = let ends : SplitTest = cr_lf_together source in
     grind (
       arith,

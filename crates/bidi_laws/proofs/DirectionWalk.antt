@@ -1,5 +1,7 @@
 -- The base direction of a text in one walk, which counts the isolates that are open.
-use Rattle.bidi_base.proofs.Common.{◌≡◌, ◌↔◌, ℕ, ◌+◌, ◌-◌, ◌≤◌, Bool, true, false, ◌&&◌, cond, if◌then◌else◌, List, [], ◌∷◌, drop, map, find, Option, Some, None, is_some, refl, ap, ◌∙◌, ◌⊎◌, inl, inr, arith, onto_first, option_or, cases_Bool, is_strong, is_initiator, is_pdi, is_paragraph_separator, direction_by, base_direction, deciding_class, paragraph_level, paragraphs_of, each_separator, first_or, Source}
+use Rattle.bidi_base.proofs.Common.{◌≡◌, ◌↔◌, ℕ, ◌+◌, ◌-◌, ◌≤◌, Bool, true, false, ◌&&◌, cond, if◌then◌else◌, List, [], ◌∷◌, drop, map, find, Option, Some, None, is_some}
+use Rattle.bidi_base.proofs.Common.{refl, ap, ◌∙◌, ◌⊎◌, inl, inr, arith, onto_first, option_or, cases_Bool, is_strong, is_initiator, is_pdi, is_paragraph_separator}
+use Rattle.bidi_base.proofs.Common.{direction_by, base_direction, deciding_class, paragraph_level, paragraphs_of, each_separator, first_or, Source}
 use Rattle.bidi_base.specs.declared.char_data.BidiClass.{BidiClass}
 use Rattle.bidi_base.specs.declared.char_data.Direction.{Direction}
 use Rattle.bidi_base.specs.declared.char_data.Direction.TheVariants.{Rtl, Mixed}
@@ -125,7 +127,8 @@ module _ (f : ℕ → BidiClass) (chars : List ℕ) (n c : ℕ) (class : BidiCla
   direction-next full all separator = simp (step full) (simp (separator_weak class separator, separator, all))
 
   -- it goes on
-  pub direction-on : (full : Bool) (e : ℕ) → e ≡ (if is_initiator class then d + 1 else if is_pdi class then d - 1 else d) → (is_strong class ≡ false) ⊎ (d ≡ 0 → ⊥) → is_paragraph_separator class ≡ false
+  pub direction-on : (full : Bool) (e : ℕ) → e ≡ (if is_initiator class then d + 1 else if is_pdi class then d - 1 else d)
+      → (is_strong class ≡ false) ⊎ (d ≡ 0 → ⊥) → is_paragraph_separator class ≡ false
       → direction_from full d (map f (drop n chars)) ≡ direction_from full e (map f (drop (n + 1) chars))
   direction-on full e counted undecided other = simp (step full, open_or_weak undecided, other, counted, depth_by-counted class d)
     where

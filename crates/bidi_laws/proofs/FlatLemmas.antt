@@ -1,12 +1,17 @@
 -- A paragraph in which no embedding and no isolate begins: one level, and one sequence of all that X9 keeps.
-use Rattle.bidi_base.proofs.Common.{◌≡◌, ℕ, zero, suc, ◌+◌, ◌-◌, ◌<◌, ◌≤◌, Bool, true, false, cond, List, [], ◌∷◌, length, map, max, find, Option, Some, None, refl, sym, ap, ◌∙◌, arith, inl, inr, add-one, filter, range_with_len, both_ways, or_parts, ext_get_or, length-map, get_or-map, get_or_past, get_or-replicate, length-replicate, list_any_at, IsPermutation-refl, is_initiator, is_embedding, is_opener, is_removed, direction_of, chain, class_at, at_places, last_or, indexes, stored_class, stored_classes, is_inside, is_embedded, is_open_at, open_at, status_inside, status_at, explicit_level, explicit_class, explicit_levels, explicit_classes, processing_class, processing_classes, has_places, is_kept_at, is_first, kept_places, level_at, level_or, kept_before, next_kept, resumed_at, successor, start_class, end_class, sequence_from, sequences, neutral_classes, resolved_levels, AreResolved, levels_in, is_flat, run_levels, kept_of}
+use Rattle.bidi_base.proofs.Common.{◌≡◌, ℕ, zero, suc, ◌+◌, ◌-◌, ◌<◌, ◌≤◌, Bool, true, false, cond, List, [], ◌∷◌, length, map, max, find, Option, Some, None, refl, sym, ap, ◌∙◌, arith, inl, inr, add-one, filter}
+use Rattle.bidi_base.proofs.Common.{range_with_len, both_ways, or_parts, ext_get_or, length-map, get_or-map, get_or_past, get_or-replicate, length-replicate, list_any_at, IsPermutation-refl, is_initiator, is_embedding}
+use Rattle.bidi_base.proofs.Common.{is_opener, is_removed, direction_of, chain, class_at, at_places, last_or, indexes, stored_class, stored_classes, is_inside, is_embedded, is_open_at, open_at, status_inside, status_at}
+use Rattle.bidi_base.proofs.Common.{explicit_level, explicit_class, explicit_levels, explicit_classes, processing_class, processing_classes, has_places, is_kept_at, is_first, kept_places, level_at, level_or, kept_before}
+use Rattle.bidi_base.proofs.Common.{next_kept, resumed_at, successor, start_class, end_class, sequence_from, sequences, neutral_classes, resolved_levels, AreResolved, levels_in, is_flat, run_levels, kept_of}
 use Rattle.bidi_base.specs.declared.char_data.BidiClass.{BidiClass}
 use Rattle.bidi_base.specs.declared.char_data.BidiClass.TheVariants.{L, BN}
 use Rattle.bidi_base.specs.declared.data_source.BidiMatchedOpeningBracket.{BidiMatchedOpeningBracket}
 use Rattle.std.specs.Prelude.{replicate}
 use Rattle.bidi_base.specs.Flat.{whole_run}
 use Rattle.bidi_base.proofs.ChainLemmas.{chain-None, filter_range-none, filter_range-agree, filter_chain_from}
-use Rattle.bidi_laws.proofs.ExplicitLemmas.{length-explicit_levels, level_at-explicit_levels, length-explicit_classes, class_at-explicit_classes, length-processing_classes, class_at-processing_classes}
+use Rattle.bidi_laws.proofs.ExplicitLemmas.{length-explicit_levels, level_at-explicit_levels, length-explicit_classes}
+use Rattle.bidi_laws.proofs.ExplicitLemmas.{class_at-explicit_classes, length-processing_classes, class_at-processing_classes}
 use Rattle.bidi_laws.proofs.LevelsInLemmas.{levels_in-written}
 use Rattle.bidi_base.proofs.Lists.{cases_Option}
 use Rattle.bidi_base.proofs.PlacesLemmas.{IsLeast, find-range_with_len, length-in_context}
@@ -26,7 +31,8 @@ stored_class-flat classes q c h = grind arith
 
 -- ---- what stands at the kept places
 
-at_places-later : {X : Type 0} (d x : X) (xs : List X) (test : ℕ → Bool) (low m : ℕ) → at_places d (x ∷ xs) (filter test (range_with_len (low + 1) m)) ≡ at_places d xs (filter (λ p. test (p + 1)) (range_with_len low m))
+at_places-later : {X : Type 0} (d x : X) (xs : List X) (test : ℕ → Bool) (low m : ℕ)
+    → at_places d (x ∷ xs) (filter test (range_with_len (low + 1) m)) ≡ at_places d xs (filter (λ p. test (p + 1)) (range_with_len low m))
 at_places-later d x xs test low zero = refl
 at_places-later d x xs test low (suc m) = grind (arith, add-one low, at_places-later d x xs test (low + 1) m)
 
@@ -206,7 +212,8 @@ module _ (classes : List BidiClass) (flat : is_flat classes ≡ true) where
       kept_levels = run_levels paragraph (at_places L classes (kept_places classes)) (at_places None brackets (kept_places classes))
 
       -- a list that has those levels at the kept places has what the rules give each sequence
-      pub AreResolved-flat : (new : List ℕ) → at_places 0 new (kept_places classes) ≡ kept_levels → AreResolved classes brackets levels (explicit_classes paragraph classes) new (sequences paragraph classes levels)
+      pub AreResolved-flat : (new : List ℕ) → at_places 0 new (kept_places classes) ≡ kept_levels
+          → AreResolved classes brackets levels (explicit_classes paragraph classes) new (sequences paragraph classes levels)
       unfolding resolved_levels
       AreResolved-flat new is =
           grind (arith, sequences-flat, kept_places-none, some_kept, level_at-flat, first_within, explicit_classes-flat)

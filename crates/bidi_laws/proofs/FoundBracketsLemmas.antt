@@ -1,5 +1,6 @@
 -- The brackets of a sequence, gathered one character after the other.
-use Rattle.bidi_base.proofs.Common.{◌≡◌, ℕ, ◌+◌, ◌<◌, List, [], ◌∷◌, ◌++◌, length, get_or, take, Option, Some, None, ap, arith, common_steps, counted_bracket, counted_brackets, brackets_from, found_brackets}
+use Rattle.bidi_base.proofs.Common.{◌≡◌, ℕ, ◌+◌, ◌<◌, List, [], ◌∷◌, ◌++◌, length, get_or, take, Option, Some, None, ap, arith}
+use Rattle.bidi_base.proofs.Common.{common_steps, counted_bracket, counted_brackets, brackets_from, found_brackets}
 use Rattle.bidi_base.specs.declared.char_data.BidiClass.{BidiClass}
 use Rattle.bidi_base.specs.declared.data_source.BidiMatchedOpeningBracket.{BidiMatchedOpeningBracket}
 use Rattle.bidi_base.proofs.PairsLemmas.{length-counted_brackets}

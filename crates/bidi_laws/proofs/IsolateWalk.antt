@@ -1,5 +1,7 @@
 -- Isolates in one walk from the front, which counts those that are open: the matching PDI (BD9), the deciding character (P2), and what an FSI becomes (X5c).
-use Rattle.bidi_base.proofs.Common.{◌≡◌, ℕ, zero, suc, ◌+◌, ◌-◌, ◌<◌, ◌≤◌, Bool, true, false, not, ◌&&◌, ◌||◌, cond, List, [], ◌∷◌, ◌++◌, length, take, drop, map, find, Option, Some, None, unwrap_or, option_map, refl, ap, ◌∙◌, arith, inl, inr, lt-ltb, le-ltb, length-drop, range_with_len, list_any, take_more, cases_Bool, is_strong, class_at, count_between, is_closed_at, is_before, match_of, is_initiator_at, is_pdi_at, is_initiator, is_pdi, matching_pdi, is_inside, is_isolated, deciding_class, isolated_classes, resolved_fsi, stored_class, stored_classes}
+use Rattle.bidi_base.proofs.Common.{◌≡◌, ℕ, zero, suc, ◌+◌, ◌-◌, ◌<◌, ◌≤◌, Bool, true, false, not, ◌&&◌, ◌||◌, cond, List, [], ◌∷◌, ◌++◌, length, take, drop, map, find, Option, Some, None, unwrap_or, option_map, refl}
+use Rattle.bidi_base.proofs.Common.{ap, ◌∙◌, arith, inl, inr, lt-ltb, le-ltb, length-drop, range_with_len, list_any, take_more, cases_Bool, is_strong, class_at, count_between, is_closed_at, is_before, match_of}
+use Rattle.bidi_base.proofs.Common.{is_initiator_at, is_pdi_at, is_initiator, is_pdi, matching_pdi, is_inside, is_isolated, deciding_class, isolated_classes, resolved_fsi, stored_class, stored_classes}
 use Rattle.bidi_base.specs.declared.char_data.BidiClass.{BidiClass}
 use Rattle.bidi_base.specs.declared.char_data.BidiClass.TheVariants.{L, LRI, RLI, FSI, PDI}
 use Rattle.std.proofs.lemmas.List.{get_or-drop}
@@ -108,7 +110,8 @@ record IsUnder (classes : List BidiClass) (q p d : ℕ) : Type 0 where
   later : q < p
   counts : count_between (is_initiator_at classes) (q + 1) p ≡ count_between (is_pdi_at classes) (q + 1) p + d
 
-find_end : (classes : List BidiClass) (q p d : ℕ) (rest : List BidiClass) → drop p classes ≡ rest → IsUnder classes q p d → find (is_closed_at (is_initiator_at classes) (is_pdi_at classes) q) (range_with_len p (length rest)) ≡ end_from d p rest
+find_end : (classes : List BidiClass) (q p d : ℕ) (rest : List BidiClass) → drop p classes ≡ rest → IsUnder classes q p d
+    → find (is_closed_at (is_initiator_at classes) (is_pdi_at classes) q) (range_with_len p (length rest)) ≡ end_from d p rest
 find_end classes q p d [] e h = refl
 find_end classes q p d (x ∷ rest) e h =
     grind (arith, at_front classes p x rest e, count_between-more, initiator-kind x, pdi-kind x, find_end classes q (p + 1) (depth_by (kind_of x) d) rest)
@@ -242,7 +245,8 @@ deciding_class-isolated classes q within = grind (arith, deciding_class-from, ma
 stored_class-by : (classes : List BidiClass) (q : ℕ) (c : BidiClass) → stored_class classes q c ≡ stored_by c (deciding_class (isolated_classes classes q))
 stored_class-by classes q c = grind arith
 
-all_stored : (classes : List BidiClass) (p : ℕ) (rest : List BidiClass) → drop p classes ≡ rest → map (λ q. stored_class classes q (class_at classes q)) (range_with_len p (length rest)) ≡ stored_from rest
+all_stored : (classes : List BidiClass) (p : ℕ) (rest : List BidiClass) → drop p classes ≡ rest
+    → map (λ q. stored_class classes q (class_at classes q)) (range_with_len p (length rest)) ≡ stored_from rest
 all_stored classes p [] e = refl
 all_stored classes p (x ∷ rest) e = grind (
   arith,

@@ -1,5 +1,8 @@
 -- A paragraph without a character that may leave its level: all its levels are that one.
-use Rattle.bidi_base.proofs.Common.{◌≡◌, ℕ, Bool, true, false, not, ◌&&◌, ◌||◌, cond, List, [], ◌∷◌, length, Option, None, refl, sym, ◌∙◌, arith, list_all, list_any, and_parts, or_parts, cases_Bool, inl, inr, not-true, get_or-replicate, length-replicate, is_opener, is_kept, is_nsm, is_al, is_en, is_et, is_l, is_l_or_r, is_strong, is_weak_resolved, same_class, is_odd, direction_of, at_places, nearest, nearest_is, in_context, carried, w1_rule, w2_rule, w3_rule, w4_rule, w5_rule, w6_rule, w7_rule, w1, w2, w3, w4, w5, w6, weak_classes, may_turn, is_pure_ltr, implicit_levels, kept_places, levels_in, is_flat, may_leave, run_levels, kept_of}
+use Rattle.bidi_base.proofs.Common.{◌≡◌, ℕ, Bool, true, false, not, ◌&&◌, ◌||◌, cond, List, [], ◌∷◌, length, Option, None, refl, sym, ◌∙◌, arith, list_all, list_any, and_parts, or_parts, cases_Bool}
+use Rattle.bidi_base.proofs.Common.{inl, inr, not-true, get_or-replicate, length-replicate, is_opener, is_kept, is_nsm, is_al, is_en, is_et, is_l, is_l_or_r, is_strong, is_weak_resolved, same_class}
+use Rattle.bidi_base.proofs.Common.{is_odd, direction_of, at_places, nearest, nearest_is, in_context, carried, w1_rule, w2_rule, w3_rule, w4_rule, w5_rule, w6_rule, w7_rule, w1, w2, w3, w4, w5, w6}
+use Rattle.bidi_base.proofs.Common.{weak_classes, may_turn, is_pure_ltr, implicit_levels, kept_places, levels_in, is_flat, may_leave, run_levels, kept_of}
 use Rattle.bidi_base.specs.declared.char_data.BidiClass.{BidiClass}
 use Rattle.bidi_base.specs.declared.char_data.BidiClass.TheVariants.{L, R, AL, EN, ET, NSM}
 use Rattle.bidi_base.specs.declared.data_source.BidiMatchedOpeningBracket.{BidiMatchedOpeningBracket}
@@ -47,7 +50,8 @@ carried_quiet : (odd : Bool) (c : BidiClass) → is_quiet_after_w1 odd c ≡ tru
 carried_quiet true c h = grind arith
 carried_quiet false c h = grind arith
 
-quiet_w1 : (odd : Bool) (before : List BidiClass) (c : BidiClass) (after : List BidiClass) → list_all (is_quiet odd) before ≡ true → is_quiet odd c ≡ true → is_quiet_after_w1 odd (w1_rule (direction odd) before c after) ≡ true
+quiet_w1 : (odd : Bool) (before : List BidiClass) (c : BidiClass) (after : List BidiClass) → list_all (is_quiet odd) before ≡ true
+    → is_quiet odd c ≡ true → is_quiet_after_w1 odd (w1_rule (direction odd) before c after) ≡ true
 quiet_w1 odd before NSM after h k = carried_quiet odd _ (nearest_quiet odd before h)
 quiet_w1 true before c after h k = k
 quiet_w1 false before c after h k = k
@@ -62,7 +66,8 @@ nearest_no_al (b ∷ before) h =
     let parts = and_parts (is_quiet_after_w1 false b) (list_all (is_quiet_after_w1 false) before) h in
     elim (cases_Bool (is_strong b)) [ inl strong ↦ simp strong (no_al b parts.0) | inr weak ↦ simp weak (nearest_no_al before parts.1) ]
 
-quiet_w2 : (odd : Bool) (before : List BidiClass) (c : BidiClass) (after : List BidiClass) → list_all (is_quiet_after_w1 odd) before ≡ true → is_quiet_after_w1 odd c ≡ true → is_quiet_after_w1 odd (w2_rule (direction odd) before c after) ≡ true
+quiet_w2 : (odd : Bool) (before : List BidiClass) (c : BidiClass) (after : List BidiClass) → list_all (is_quiet_after_w1 odd) before ≡ true
+    → is_quiet_after_w1 odd c ≡ true → is_quiet_after_w1 odd (w2_rule (direction odd) before c after) ≡ true
 quiet_w2 true before EN after h k = absurd (cc k)
 quiet_w2 false before EN after h k = simp (nearest_no_al before h)
 quiet_w2 true before c after h k = k
@@ -84,7 +89,8 @@ nearest_no_en (c ∷ near) h =
     let parts = and_parts (is_quiet_after_w3 true c) (list_all (is_quiet_after_w3 true) near) h in
     elim (cases_Bool (is_et c)) [ inl terminator ↦ simp terminator (nearest_no_en near parts.1) | inr other ↦ simp other (no_en c parts.0) ]
 
-quiet_w5 : (odd : Bool) (before : List BidiClass) (c : BidiClass) (after : List BidiClass) → list_all (is_quiet_after_w3 odd) before ≡ true → is_quiet_after_w3 odd c ≡ true → list_all (is_quiet_after_w3 odd) after ≡ true
+quiet_w5 : (odd : Bool) (before : List BidiClass) (c : BidiClass) (after : List BidiClass) → list_all (is_quiet_after_w3 odd) before ≡ true
+    → is_quiet_after_w3 odd c ≡ true → list_all (is_quiet_after_w3 odd) after ≡ true
     → is_quiet_after_w3 odd (w5_rule before c after) ≡ true
 quiet_w5 true before ET after h k m = simp (nearest_no_en before h, nearest_no_en after m)
 quiet_w5 false before ET after h k m = either_passes (is_quiet_after_w3 false) _ EN ET refl refl
@@ -106,7 +112,8 @@ nearest_l (b ∷ before) h =
     let parts = and_parts (is_quiet_after_w6 false b) (list_all (is_quiet_after_w6 false) before) h in
     elim (cases_Bool (is_l_or_r b)) [ inl side ↦ simp side (only_l b side parts.0) | inr other ↦ simp other (nearest_l before parts.1) ]
 
-quiet_w7 : (odd : Bool) (before : List BidiClass) (c : BidiClass) (after : List BidiClass) → list_all (is_quiet_after_w6 odd) before ≡ true → is_quiet_after_w6 odd c ≡ true → is_direction_or_neutral odd (w7_rule (direction odd) before c after) ≡ true
+quiet_w7 : (odd : Bool) (before : List BidiClass) (c : BidiClass) (after : List BidiClass) → list_all (is_quiet_after_w6 odd) before ≡ true
+    → is_quiet_after_w6 odd c ≡ true → is_direction_or_neutral odd (w7_rule (direction odd) before c after) ≡ true
 quiet_w7 true before EN after h k = absurd (cc k)
 quiet_w7 false before EN after h k = simp (nearest_l before h)
 quiet_w7 true before c after h k = k
@@ -138,7 +145,8 @@ implicit_levels-is level [] h = refl
 implicit_levels-is level (c ∷ classes) h = grind (arith, implicit_levels-is level classes)
 
 -- a run of such characters keeps its level
-pub run_levels-quiet : (level : ℕ) (classes : List BidiClass) (brackets : List (Option BidiMatchedOpeningBracket)) → list_all (is_quiet (is_odd level)) classes ≡ true → run_levels level classes brackets ≡ replicate (length classes) level
+pub run_levels-quiet : (level : ℕ) (classes : List BidiClass) (brackets : List (Option BidiMatchedOpeningBracket))
+    → list_all (is_quiet (is_odd level)) classes ≡ true → run_levels level classes brackets ≡ replicate (length classes) level
 run_levels-quiet level classes brackets h =
     let d = direction_of level in
     let one = neutral_classes-one d (direction_of-l_or_r level) level classes brackets (weak_classes d classes) refl (weak_classes-quiet (is_odd level) classes h) in
@@ -160,7 +168,8 @@ list_any-or f g (c ∷ cs) = simp (list_any-or f g cs) (grind arith)
 pub keeps_to-parts : (level : ℕ) (classes : List BidiClass) → keeps_to level classes ≡ (is_flat classes && not (list_any (turns (is_odd level)) classes))
 keeps_to-parts level classes = simp (list_any-or is_opener (turns (is_odd level)) classes) (grind arith)
 
-pub levels_in-keeps_to : (paragraph : ℕ) (source : List BidiClass) (brackets : List (Option BidiMatchedOpeningBracket)) → keeps_to paragraph source ≡ true → levels_in paragraph source brackets ≡ replicate (length source) paragraph
+pub levels_in-keeps_to : (paragraph : ℕ) (source : List BidiClass) (brackets : List (Option BidiMatchedOpeningBracket))
+    → keeps_to paragraph source ≡ true → levels_in paragraph source brackets ≡ replicate (length source) paragraph
 levels_in-keeps_to paragraph source brackets keeps =
     let flat : is_flat source ≡ true = (and_parts _ _ (sym (keeps_to-parts paragraph source) ∙ keeps)).0 in
     let new : List ℕ = replicate (length source) paragraph in

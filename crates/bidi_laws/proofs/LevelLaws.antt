@@ -1,5 +1,6 @@
 -- The levels of a paragraph: how many they are, where they lie, and that one character of class BN is as good as another.
-use Rattle.bidi_base.proofs.Common.{◌≡◌, ℕ, ◌≤◌, List, [], ◌∷◌, length, map, Option, refl, append-nil, arith, All, IfSome, length-map, All-nil, All-head, All-tail, All-append, paragraph_level, stored_classes, AreLevelsFrom, Source, stored_levels, text_classes, text_levels, paragraph_levels, per_unit}
+use Rattle.bidi_base.proofs.Common.{◌≡◌, ℕ, ◌≤◌, List, [], ◌∷◌, length, map, Option, refl, append-nil, arith, All, IfSome, length-map, All-nil, All-head, All-tail, All-append}
+use Rattle.bidi_base.proofs.Common.{paragraph_level, stored_classes, AreLevelsFrom, Source, stored_levels, text_classes, text_levels, paragraph_levels, per_unit}
 use Rattle.bidi_base.specs.declared.char_data.BidiClass.{BidiClass}
 use Rattle.std.specs.Prelude.{replicate}
 use Rattle.std.proofs.lemmas.List.Elements.{All-replicate}
@@ -22,7 +23,8 @@ pub length-stored_levels : (source : Source) (base : Option ℕ) (piece : List �
 unfolding stored_levels
 length-stored_levels source base piece = grind (arith, length-levels_in, length-map)
 
-pub stored_levels-AreLevelsFrom : (source : Source) (base : Option ℕ) (piece : List ℕ) → IfSome base (λ level. level ≤ 125) → AreLevelsFrom (paragraph_level base (map source.class_of piece)) (stored_levels source base piece)
+pub stored_levels-AreLevelsFrom : (source : Source) (base : Option ℕ) (piece : List ℕ) → IfSome base (λ level. level ≤ 125)
+    → AreLevelsFrom (paragraph_level base (map source.class_of piece)) (stored_levels source base piece)
 unfolding stored_levels
 stored_levels-AreLevelsFrom source base piece few k d within = grind (arith, levels_in-IsStoredIn, paragraph_level-few)
 

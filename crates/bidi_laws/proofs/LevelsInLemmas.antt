@@ -1,5 +1,7 @@
 -- The levels of a paragraph do not depend on the order in which its sequences are resolved.
-use Rattle.bidi_base.proofs.Common.{◌≡◌, ℕ, suc, ◌+◌, ◌<◌, ◌≤◌, Bool, true, false, not, cond, eqb, List, [], ◌∷◌, map, length, count_by, Option, add-one, refl, sym, ap, ◌∙◌, arith, rules, map-append, sum_by, IsPermutation, sum_by-cons, sum_by-IsPermutation, class_at, at_places, is_removed, stored_classes, explicit_levels, explicit_classes, RunSequence, level_at, is_kept_at, kept_places, sequences, sequence_levels, AreResolved, level_in, filled_levels, levels_in}
+use Rattle.bidi_base.proofs.Common.{◌≡◌, ℕ, suc, ◌+◌, ◌<◌, ◌≤◌, Bool, true, false, not, cond, eqb, List, [], ◌∷◌, map, length, count_by, Option, add-one, refl, sym, ap, ◌∙◌, arith, rules}
+use Rattle.bidi_base.proofs.Common.{map-append, sum_by, IsPermutation, sum_by-cons, sum_by-IsPermutation, class_at, at_places, is_removed, stored_classes, explicit_levels, explicit_classes}
+use Rattle.bidi_base.proofs.Common.{RunSequence, level_at, is_kept_at, kept_places, sequences, sequence_levels, AreResolved, level_in, filled_levels, levels_in}
 use Rattle.bidi_base.specs.declared.char_data.BidiClass.{BidiClass}
 use Rattle.bidi_base.specs.declared.data_source.BidiMatchedOpeningBracket.{BidiMatchedOpeningBracket}
 use Rattle.std.specs.Prelude.{flat_map, zip}
@@ -24,7 +26,8 @@ module _ (entries : RunSequence → List (ℕ × ℕ)) (few : (test : ℕ → Bo
       omega arith
 
   -- the table gives the same in each order of the sequences
-  pub level_in-order : (classes : List BidiClass) (seqs other : List RunSequence) (p : ℕ) → IsPermutation (kept_places classes) (flat_map (λ (s : RunSequence). s.places) seqs) → IsPermutation seqs other
+  pub level_in-order : (classes : List BidiClass) (seqs other : List RunSequence) (p : ℕ)
+      → IsPermutation (kept_places classes) (flat_map (λ (s : RunSequence). s.places) seqs) → IsPermutation seqs other
       → level_in (flat_map entries other) p ≡ level_in (flat_map entries seqs) p
   level_in-order classes seqs other p shared moved =
       grind (
@@ -45,7 +48,8 @@ zip-at_places : (new ps : List ℕ) → zip ps (at_places 0 new ps) ≡ map (λ 
 zip-at_places new [] = refl
 zip-at_places new (p ∷ ps) = ap {B = List (ℕ × ℕ)} (λ xs. (p, level_at new p) ∷ xs) (zip-at_places new ps)
 
-table_of_resolved : (source : List BidiClass) (brackets : List (Option BidiMatchedOpeningBracket)) (levels : List ℕ) (classes : List BidiClass) (new : List ℕ) (seqs : List RunSequence) → AreResolved source brackets levels classes new seqs
+table_of_resolved : (source : List BidiClass) (brackets : List (Option BidiMatchedOpeningBracket)) (levels : List ℕ) (classes : List BidiClass) (new : List ℕ) (seqs : List RunSequence)
+    → AreResolved source brackets levels classes new seqs
     → flat_map (sequence_levels source brackets levels classes) seqs ≡ map (λ p. (p, level_at new p)) (flat_map (λ (s : RunSequence). s.places) seqs)
 unfolding sequence_levels
 table_of_resolved source brackets levels classes new [] h = refl

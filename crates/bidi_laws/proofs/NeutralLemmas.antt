@@ -1,5 +1,7 @@
 -- The classes that N0 to N2 leave: N0 keeps those that W7 leaves, and after N2 each has a direction.
-use Rattle.bidi_base.proofs.Common.{◌≡◌, ℕ, zero, suc, ◌+◌, ◌<◌, ◌≤◌, Bool, true, List, [], ◌∷◌, map, Option, Some, unwrap_or, refl, arith, rules, common_steps, list_all, range_with_len, and_from, or_left, as_direction, has_direction, is_l_or_r, is_neutral, is_weak_resolved, is_odd, direction_of, nearest_direction, pair_direction, with_pair, n0_pair, n0, n1_rule, n1_n2, neutral_classes}
+use Rattle.bidi_base.proofs.Common.{◌≡◌, ℕ, zero, suc, ◌+◌, ◌<◌, ◌≤◌, Bool, true, List, [], ◌∷◌, map, Option, Some, unwrap_or, refl, arith, rules, common_steps}
+use Rattle.bidi_base.proofs.Common.{list_all, range_with_len, and_from, or_left, as_direction, has_direction, is_l_or_r, is_neutral, is_weak_resolved, is_odd}
+use Rattle.bidi_base.proofs.Common.{direction_of, nearest_direction, pair_direction, with_pair, n0_pair, n0, n1_rule, n1_n2, neutral_classes}
 use Rattle.bidi_base.specs.declared.char_data.BidiClass.{BidiClass}
 use Rattle.bidi_base.specs.declared.char_data.BidiClass.TheVariants.{L, R}
 use Rattle.bidi_base.specs.declared.data_source.BidiMatchedOpeningBracket.{BidiMatchedOpeningBracket}
@@ -22,7 +24,8 @@ pub direction_of-l_or_r : (level : ℕ) → is_l_or_r (direction_of level) ≡ t
 direction_of-l_or_r level = chosen is_l_or_r (is_odd level) R L refl refl
 
 -- what a pair takes is L or R
-pub pair_direction-l_or_r : (e sos : BidiClass) (classes : List BidiClass) (pair : ℕ × ℕ) (d : BidiClass) → is_l_or_r e ≡ true → is_l_or_r sos ≡ true → pair_direction e sos classes pair ≡ Some d → is_l_or_r d ≡ true
+pub pair_direction-l_or_r : (e sos : BidiClass) (classes : List BidiClass) (pair : ℕ × ℕ) (d : BidiClass) → is_l_or_r e ≡ true
+    → is_l_or_r sos ≡ true → pair_direction e sos classes pair ≡ Some d → is_l_or_r d ≡ true
 unfolding pair_direction
 pair_direction-l_or_r e sos classes pair d h k is = grind (arith, nearest_direction-l_or_r)
 
@@ -53,10 +56,12 @@ n1_rule-directed : (e sos eos : BidiClass) → is_l_or_r e ≡ true → is_l_or_
     → has_direction (n1_rule e sos eos before c after) ≡ true
 n1_rule-directed e sos eos h k before c after good = grind (arith, common_steps, nearest_direction-l_or_r, directed)
 
-pub n1_n2-directed : (e sos eos : BidiClass) (classes : List BidiClass) → is_l_or_r e ≡ true → is_l_or_r sos ≡ true → list_all is_weak_resolved classes ≡ true → list_all has_direction (n1_n2 e sos eos classes) ≡ true
+pub n1_n2-directed : (e sos eos : BidiClass) (classes : List BidiClass) → is_l_or_r e ≡ true → is_l_or_r sos ≡ true
+    → list_all is_weak_resolved classes ≡ true → list_all has_direction (n1_n2 e sos eos classes) ≡ true
 n1_n2-directed e sos eos classes h k l = search (rules, list_all-in_context, n1_rule-directed)
 
-pub neutral_classes-directed : (level : ℕ) (sos eos : BidiClass) (source : List BidiClass) (brackets : List (Option BidiMatchedOpeningBracket)) (classes : List BidiClass) → is_l_or_r sos ≡ true → list_all is_weak_resolved classes ≡ true
+pub neutral_classes-directed : (level : ℕ) (sos eos : BidiClass) (source : List BidiClass) (brackets : List (Option BidiMatchedOpeningBracket)) (classes : List BidiClass)
+    → is_l_or_r sos ≡ true → list_all is_weak_resolved classes ≡ true
     → list_all has_direction (neutral_classes level sos eos source brackets classes) ≡ true
 unfolding neutral_classes
 neutral_classes-directed level sos eos source brackets classes h k = grind (arith, n1_n2-directed, n0-resolved)

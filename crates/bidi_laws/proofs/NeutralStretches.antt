@@ -1,5 +1,6 @@
 -- N1 and N2 stretch by stretch: neutrals, and the class with a direction, or the end, behind them.
-use Rattle.bidi_base.proofs.Common.{◌≡◌, true, List, [], ◌∷◌, ◌++◌, length, replicate, Some, refl, append-nil, arith, list_all, and_parts, as_direction, is_neutral, nearest_direction, n1_rule, n1_n2, in_context}
+use Rattle.bidi_base.proofs.Common.{◌≡◌, true, List, [], ◌∷◌, ◌++◌, length, replicate, Some, refl, append-nil, arith, list_all}
+use Rattle.bidi_base.proofs.Common.{and_parts, as_direction, is_neutral, nearest_direction, n1_rule, n1_n2, in_context}
 use Rattle.bidi_base.specs.declared.char_data.BidiClass.{BidiClass}
 use Rattle.bidi_laws.proofs.NeutralBlocks.{common, past_neutral}
 use Rattle.bidi_laws.proofs.NeutralLemmas.{nearest_direction-more}

@@ -1,5 +1,7 @@
 -- A list in which each class is a neutral or one direction, which stands at its ends too: N0 to N2 give that direction to all.
-use Rattle.bidi_base.proofs.Common.{◌≡◌, ℕ, Bool, true, false, cond, if◌then◌else◌, List, [], ◌∷◌, length, take, reverse, filter_map, find, Option, Some, None, option_map, refl, ap, ◌∙◌, arith, ◌⊎◌, inl, inr, sym, and_parts, list_all, list_any, bracket_pairs, as_direction, is_l_or_r, is_neutral, same_class, direction_of, nearest_direction, pair_direction, n0, n1_rule, neutral_classes}
+use Rattle.bidi_base.proofs.Common.{◌≡◌, ℕ, Bool, true, false, cond, if◌then◌else◌, List, [], ◌∷◌, length, take, reverse, filter_map, find, Option, Some, None}
+use Rattle.bidi_base.proofs.Common.{option_map, refl, ap, ◌∙◌, arith, ◌⊎◌, inl, inr, sym, and_parts, list_all, list_any, bracket_pairs, as_direction, is_l_or_r}
+use Rattle.bidi_base.proofs.Common.{is_neutral, same_class, direction_of, nearest_direction, pair_direction, n0, n1_rule, neutral_classes}
 use Rattle.bidi_base.specs.declared.char_data.BidiClass.{BidiClass}
 use Rattle.bidi_base.specs.declared.char_data.BidiClass.TheVariants.{L, R}
 use Rattle.bidi_base.specs.declared.data_source.BidiMatchedOpeningBracket.{BidiMatchedOpeningBracket}
@@ -62,7 +64,8 @@ module _ (e : BidiClass) (side : is_l_or_r e ≡ true) where
       context : BidiClass
       context = nearest_direction e (reverse (take pair.0 classes))
 
-      by_inside : (ds : List BidiClass) → list_all (same_class e) ds ≡ true → cond (list_any (same_class e) ds) (Some e) (option_map (λ (_ : BidiClass). context) (find (λ _. true) ds)) ≡ Some d → d ≡ e
+      by_inside : (ds : List BidiClass) → list_all (same_class e) ds ≡ true
+          → cond (list_any (same_class e) ds) (Some e) (option_map (λ (_ : BidiClass). context) (find (λ _. true) ds)) ≡ Some d → d ≡ e
       by_inside [] k f = absurd (cc f)
       by_inside (x ∷ ds) k f =
           let g : cond (list_any (same_class e) (x ∷ ds)) (Some e) (option_map (λ (_ : BidiClass). context) (find (λ _. true) (x ∷ ds))) ≡ Some e = simp (and_parts (same_class e x) (list_all (same_class e) ds) k).0 in
@@ -75,7 +78,8 @@ module _ (e : BidiClass) (side : is_l_or_r e ≡ true) where
     | inr none ↦ simp (none.1, nearest-is before h, either_way (same_class e (nearest_direction e after)) e) (itself e side)
   ]
 
-  pub neutral_classes-one : (level : ℕ) (source : List BidiClass) (brackets : List (Option BidiMatchedOpeningBracket)) (classes : List BidiClass) → e ≡ direction_of level → list_all (goes_with e) classes ≡ true
+  pub neutral_classes-one : (level : ℕ) (source : List BidiClass) (brackets : List (Option BidiMatchedOpeningBracket)) (classes : List BidiClass)
+      → e ≡ direction_of level → list_all (goes_with e) classes ≡ true
       → list_all (same_class e) (neutral_classes level e e source brackets classes) ≡ true
   unfolding neutral_classes
   neutral_classes-one level source brackets classes is h =

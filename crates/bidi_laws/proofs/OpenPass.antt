@@ -1,5 +1,6 @@
 -- The pass from the front, with what is open as the code keeps it: the innermost last.
-use Rattle.bidi_base.proofs.Common.{◌≡◌, ℕ, ◌+◌, ◌-◌, ◌<◌, ◌≤◌, true, false, List, [], ◌∷◌, ◌++◌, length, map, get_or, take, reverse, Option, Some, None, refl, sym, ap, subst, ◌⊎◌, inl, inr, cases_Bool, reverse-append, class_at, last_or, is_initiator_at, is_pdi_at, successor, is_first, sequences, read_class, waiting_for}
+use Rattle.bidi_base.proofs.Common.{◌≡◌, ℕ, ◌+◌, ◌-◌, ◌<◌, ◌≤◌, true, false, List, [], ◌∷◌, ◌++◌, length, map, get_or, take, reverse, Option, Some, None, refl, sym, ap, subst, ◌⊎◌, inl}
+use Rattle.bidi_base.proofs.Common.{inr, cases_Bool, reverse-append, class_at, last_or, is_initiator_at, is_pdi_at, successor, is_first, sequences, read_class, waiting_for}
 use Rattle.bidi_base.specs.declared.char_data.BidiClass.{BidiClass}
 use Rattle.bidi_base.proofs.Lists.{reverse_front, last_or-reverse, reverse_none}
 use Rattle.bidi_laws.proofs.PassLemmas.{sequence_of}

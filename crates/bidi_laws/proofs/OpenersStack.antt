@@ -3,7 +3,10 @@
 --
 -- Of that stack the initiators are what a stack of isolates alone holds, and so they are the isolates round a place. The embeddings
 -- level with a place c are what a stack of those alone holds, as long as no isolate round c has ended.
-use Rattle.bidi_base.proofs.Common.{◌≡◌, ℕ, zero, suc, ◌+◌, ◌-◌, ◌<◌, ◌≤◌, Bool, true, false, not, ◌||◌, cond, List, [], ◌∷◌, length, reverse, rules, refl, sym, ap, subst, ◌∙◌, arith, ◌⊎◌, inl, inr, add-one, ⊤, filter, range_with_len, cases_Bool, both_ways, and_from, and_right, or_left, false_from_ne_true, reverse-append, filter-append, is_initiator, is_embedding, is_opener, is_pdi, is_pdf, class_at, match_of, is_before, is_initiator_at, is_pdi_at, matching_pdi, is_inside, is_level_with, is_embedding_level_with, is_pdf_level_with, closing_pdf, shares_isolates, is_embedded, is_open_at, open_at}
+use Rattle.bidi_base.proofs.Common.{◌≡◌, ℕ, zero, suc, ◌+◌, ◌-◌, ◌<◌, ◌≤◌, Bool, true, false, not, ◌||◌, cond, List, [], ◌∷◌, length, reverse, rules, refl, sym, ap, subst, ◌∙◌, arith}
+use Rattle.bidi_base.proofs.Common.{◌⊎◌, inl, inr, add-one, ⊤, filter, range_with_len, cases_Bool, both_ways, and_from, and_right, or_left, false_from_ne_true, reverse-append}
+use Rattle.bidi_base.proofs.Common.{filter-append, is_initiator, is_embedding, is_opener, is_pdi, is_pdf, class_at, match_of, is_before, is_initiator_at, is_pdi_at, matching_pdi}
+use Rattle.bidi_base.proofs.Common.{is_inside, is_level_with, is_embedding_level_with, is_pdf_level_with, closing_pdf, shares_isolates, is_embedded, is_open_at, open_at}
 use Rattle.bidi_base.specs.declared.char_data.BidiClass.{BidiClass}
 use Rattle.bidi_base.proofs.ChainLemmas.{range_with_len-append, filter_range-none}
 use Rattle.bidi_laws.proofs.IsolatesLemmas.{initiators_apart}

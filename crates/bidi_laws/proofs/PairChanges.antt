@@ -1,5 +1,6 @@
 -- What N0 for one pair leaves: all before its opening, and all within a later pair whose opening is no mark.
-use Rattle.bidi_base.proofs.Common.{◌≡◌, ℕ, ◌+◌, ◌-◌, ◌<◌, ◌≤◌, false, List, length, arith, length-take, length-drop, get_or-take, get_or-drop, list_all_at, length-map-range_with_len, get_or-map-range_with_len, is_nsm, class_at, IsBehindOrWithin, is_mark_after, goes_with_pair, with_pair, n0_pair}
+use Rattle.bidi_base.proofs.Common.{◌≡◌, ℕ, ◌+◌, ◌-◌, ◌<◌, ◌≤◌, false, List, length, arith, length-take, length-drop, get_or-take, get_or-drop, list_all_at}
+use Rattle.bidi_base.proofs.Common.{length-map-range_with_len, get_or-map-range_with_len, is_nsm, class_at, IsBehindOrWithin, is_mark_after, goes_with_pair, with_pair, n0_pair}
 use Rattle.bidi_base.specs.declared.char_data.BidiClass.{BidiClass}
 use Rattle.bidi_base.specs.declared.char_data.BidiClass.TheVariants.{L}
 use Rattle.std.proofs.Common.{slice_range}
@@ -21,12 +22,14 @@ is_mark_after-stopped source b m k after to fits none =
       length-drop,
     )
 
-goes_with_none : (source : List BidiClass) (pair : ℕ × ℕ) (k : ℕ) → (k ≡ pair.0 → ⊥) → (k ≡ pair.1 → ⊥) → is_mark_after source pair.0 k ≡ false → is_mark_after source pair.1 k ≡ false → goes_with_pair source pair k ≡ false
+goes_with_none : (source : List BidiClass) (pair : ℕ × ℕ) (k : ℕ) → (k ≡ pair.0 → ⊥) → (k ≡ pair.1 → ⊥)
+    → is_mark_after source pair.0 k ≡ false → is_mark_after source pair.1 k ≡ false → goes_with_pair source pair k ≡ false
 unfolding goes_with_pair
 goes_with_none source pair k no_opening no_closing first last = grind arith
 
 -- nor does anything within a later pair, if that does not open among the marks of this one
-pub goes_with_pair-within : (source : List BidiClass) (q p : ℕ × ℕ) (k : ℕ) → q.0 < q.1 → IsBehindOrWithin q p → p.0 < length source → is_nsm (class_at source p.0) ≡ false → p.0 < k → k < p.1 → goes_with_pair source q k ≡ false
+pub goes_with_pair-within : (source : List BidiClass) (q p : ℕ × ℕ) (k : ℕ) → q.0 < q.1 → IsBehindOrWithin q p → p.0 < length source
+    → is_nsm (class_at source p.0) ≡ false → p.0 < k → k < p.1 → goes_with_pair source q k ≡ false
 goes_with_pair-within source q p k order h0 fits none from to = grind (arith, goes_with_none, is_mark_after-stopped, is_mark_after-before)
 
 pub length-n0_pair : (e sos : BidiClass) (source classes : List BidiClass) (pair : ℕ × ℕ) → length (n0_pair e sos source classes pair) ≡ length classes
@@ -34,6 +37,7 @@ unfolding n0_pair with_pair
 length-n0_pair e sos source classes pair = grind (arith, length-map-range_with_len)
 
 -- what does not go with the pair stays
-pub n0_pair-elsewhere : (e sos : BidiClass) (source classes : List BidiClass) (pair : ℕ × ℕ) (k : ℕ) → k < length classes → goes_with_pair source pair k ≡ false → class_at (n0_pair e sos source classes pair) k ≡ class_at classes k
+pub n0_pair-elsewhere : (e sos : BidiClass) (source classes : List BidiClass) (pair : ℕ × ℕ) (k : ℕ) → k < length classes
+    → goes_with_pair source pair k ≡ false → class_at (n0_pair e sos source classes pair) k ≡ class_at classes k
 unfolding n0_pair with_pair
 n0_pair-elsewhere e sos source classes pair k fits other = grind (arith, get_or-map-range_with_len)

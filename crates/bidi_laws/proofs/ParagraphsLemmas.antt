@@ -1,5 +1,7 @@
 -- Paragraphs (P1): a text that is cut while it is read, and what the pieces and their ranges are.
-use Rattle.bidi_base.proofs.Common.{◌≡◌, ℕ, ◌+◌, ◌<◌, Bool, true, false, List, [], ◌∷◌, ◌++◌, length, flat_map, refl, sym, ap, subst, ◌∙◌, append_assoc, arith, length-append, All, IsTrue, ⊤, onto_first, length-map, All-nil, All-cons, All-head, All-tail, sum_by-append, is_paragraph_separator, Source, text_classes, text_len, subrange, IsLine, SplitTest, cut_after, each_separator, paragraphs_of, pieces_of, ranges_from, IsPartition, ends_with_separator}
+use Rattle.bidi_base.proofs.Common.{◌≡◌, ℕ, ◌+◌, ◌<◌, Bool, true, false, List, [], ◌∷◌, ◌++◌, length, flat_map, refl, sym, ap, subst, ◌∙◌, append_assoc, arith, length-append, All}
+use Rattle.bidi_base.proofs.Common.{IsTrue, ⊤, onto_first, length-map, All-nil, All-cons, All-head, All-tail, sum_by-append, is_paragraph_separator, Source, text_classes, text_len}
+use Rattle.bidi_base.proofs.Common.{subrange, IsLine, SplitTest, cut_after, each_separator, paragraphs_of, pieces_of, ranges_from, IsPartition, ends_with_separator}
 use Rattle.std.proofs.lemmas.List.{append-nil}
 use Rattle.bidi_base.specs.Paragraphs.{AllButLast, has_inner_separator, AreParagraphRanges}
 use Rattle.bidi_base.proofs.TextLemmas.{HasUnits, subrange-middle, is_boundary-append, length-le-text_len}
@@ -50,11 +52,13 @@ module _ (ends : SplitTest) where
   IsCut-start chars = record { cut = refl; goes_on = tt }
 
   -- one more character of the same piece
-  pub IsCut-more : (chars : List ℕ) (done : List (List ℕ)) (current : List ℕ) (c : ℕ) (rest : List ℕ) → ends c rest ≡ false → IsCut chars done current (c ∷ rest) → IsCut chars done (current ++ c ∷ []) rest
+  pub IsCut-more : (chars : List ℕ) (done : List (List ℕ)) (current : List ℕ) (c : ℕ) (rest : List ℕ) → ends c rest ≡ false
+      → IsCut chars done current (c ∷ rest) → IsCut chars done (current ++ c ∷ []) rest
   IsCut-more chars done current c rest on h = grind (arith, append_assoc current (c ∷ []) rest, GoesOn-push current c rest h.goes_on on, h.cut)
 
   -- one that ends it
-  pub IsCut-stop : (chars : List ℕ) (done : List (List ℕ)) (current : List ℕ) (c : ℕ) (rest : List ℕ) → ends c rest ≡ true → IsCut chars done current (c ∷ rest) → IsCut chars (done ++ (current ++ c ∷ []) ∷ []) [] rest
+  pub IsCut-stop : (chars : List ℕ) (done : List (List ℕ)) (current : List ℕ) (c : ℕ) (rest : List ℕ) → ends c rest ≡ true
+      → IsCut chars done current (c ∷ rest) → IsCut chars (done ++ (current ++ c ∷ []) ∷ []) [] rest
   IsCut-stop chars done current c rest stop h = grind (arith, cut_after-stop, append_assoc)
 
   -- at the end the last piece is the one that has not ended, if it is not empty
@@ -99,7 +103,8 @@ module _ (source : Source) where
 -- ---- the ranges of pieces
 
 module _ (len_of : ℕ → ℕ) where
-  pub ranges_from-push : (from : ℕ) (ps : List (List ℕ)) (p : List ℕ) → ranges_from len_of from (ps ++ p ∷ []) ≡ ranges_from len_of from ps ++ (from + text_len len_of (joined ps), from + text_len len_of (joined ps) + text_len len_of p) ∷ []
+  pub ranges_from-push : (from : ℕ) (ps : List (List ℕ)) (p : List ℕ)
+      → ranges_from len_of from (ps ++ p ∷ []) ≡ ranges_from len_of from ps ++ (from + text_len len_of (joined ps), from + text_len len_of (joined ps) + text_len len_of p) ∷ []
   ranges_from-push from [] p = grind arith
   ranges_from-push from (q ∷ ps) p = grind (arith, sum_by-append, ranges_from-push (from + text_len len_of q) ps p)
 
@@ -109,7 +114,9 @@ module _ (len_of : ℕ → ℕ) where
     ranges_from-IsPartition from (p ∷ ps) some =
         grind (arith, ranges_from-IsPartition (from + text_len len_of p) ps, sum_by-append len_of p (joined ps), length-le-text_len len_of units p, All-head (λ (p : List ℕ). 0 < length p) p ps, All-tail (λ (p : List ℕ). 0 < length p) p ps)
 
-    shifted : (front p : List ℕ) (ps : List (List ℕ)) (Q : List ℕ → List (ℕ × ℕ) → Type 0) → Q ((front ++ p) ++ joined ps) (ranges_from len_of (text_len len_of (front ++ p)) ps) → Q (front ++ (p ++ joined ps)) (ranges_from len_of (text_len len_of front + text_len len_of p) ps)
+    shifted : (front p : List ℕ) (ps : List (List ℕ)) (Q : List ℕ → List (ℕ × ℕ) → Type 0)
+        → Q ((front ++ p) ++ joined ps) (ranges_from len_of (text_len len_of (front ++ p)) ps)
+        → Q (front ++ (p ++ joined ps)) (ranges_from len_of (text_len len_of front + text_len len_of p) ps)
     shifted front p ps Q h = grind (arith, append_assoc, sum_by-append)
 
     module _ (P : List ℕ → Type 0) where
@@ -123,7 +130,8 @@ module _ (len_of : ℕ → ℕ) where
           All-cons (λ (r : ℕ × ℕ). P (subrange len_of (front ++ (p ++ joined ps)) r.0 r.1)) _ _ (first_range front p (joined ps) (All-head P p ps h))
           (shifted front p ps (λ (cs : List ℕ) (rs : List (ℕ × ℕ)). All (λ (r : ℕ × ℕ). P (subrange len_of cs r.0 r.1)) rs) (ranges-All (front ++ p) ps (All-tail P p ps h)))
 
-      ranges-AllButLast : (front : List ℕ) (ps : List (List ℕ)) → AllButLast P ps → AllButLast (λ (r : ℕ × ℕ). P (subrange len_of (front ++ joined ps) r.0 r.1)) (ranges_from len_of (text_len len_of front) ps)
+      ranges-AllButLast : (front : List ℕ) (ps : List (List ℕ)) → AllButLast P ps
+          → AllButLast (λ (r : ℕ × ℕ). P (subrange len_of (front ++ joined ps) r.0 r.1)) (ranges_from len_of (text_len len_of front) ps)
       ranges-AllButLast front [] h = tt
       ranges-AllButLast front (p ∷ []) h = tt
       ranges-AllButLast front (p ∷ q ∷ ps) h = (
@@ -163,7 +171,8 @@ module _ (ends : SplitTest) (len_of : ℕ → ℕ) (units : HasUnits len_of) (ch
   cut_after-All P h = rw (cut_after-joined ends chars) at (ranges-All len_of units P [] pieces h)
 
 -- the ranges of the paragraphs of a text
-pub paragraphs-AreParagraphRanges : (source : Source) (len_of : ℕ → ℕ) → HasUnits len_of → (chars : List ℕ) → AreParagraphRanges source len_of chars (ranges_from len_of 0 (paragraphs_of (each_separator source) chars))
+pub paragraphs-AreParagraphRanges : (source : Source) (len_of : ℕ → ℕ) → HasUnits len_of → (chars : List ℕ)
+    → AreParagraphRanges source len_of chars (ranges_from len_of 0 (paragraphs_of (each_separator source) chars))
 paragraphs-AreParagraphRanges source len_of units chars = record {
   partition = cut_after-partition (each_separator source) len_of units chars;
   lines = cut_after-lines (each_separator source) len_of units chars;

@@ -1,5 +1,7 @@
 -- A pass that begins sequences and lets them go on: once each kept character stands in one of them, once, they are the isolating run sequences.
-use Rattle.bidi_base.proofs.Common.{◌≡◌, ℕ, zero, suc, ◌+◌, ◌<◌, ◌≤◌, Bool, true, not, cond, List, [], ◌∷◌, ◌++◌, length, map, get_or, set, count_by, append-nil, append_assoc, Some, None, refl, sym, arith, filter, range_with_len, sum_by, IsPermutation, sum_by-cons, sum_by-append, IsPermutation-trans, IsPermutation-append_left, IsPermutation-append_right, IsPermutation-append_comm, sum_by-IsPermutation, last_or, RunSequence, is_kept_at, kept_places, successor, is_first, with_ends, sequence_from, sequences, flat_map-append, flat_map-map, filter-append}
+use Rattle.bidi_base.proofs.Common.{◌≡◌, ℕ, zero, suc, ◌+◌, ◌<◌, ◌≤◌, Bool, true, not, cond, List, [], ◌∷◌, ◌++◌, length, map, get_or, set, count_by, append-nil, append_assoc, Some, None, refl, sym, arith, filter}
+use Rattle.bidi_base.proofs.Common.{range_with_len, sum_by, IsPermutation, sum_by-cons, sum_by-append, IsPermutation-trans, IsPermutation-append_left, IsPermutation-append_right, IsPermutation-append_comm}
+use Rattle.bidi_base.proofs.Common.{sum_by-IsPermutation, last_or, RunSequence, is_kept_at, kept_places, successor, is_first, with_ends, sequence_from, sequences, flat_map-append, flat_map-map, filter-append}
 use Rattle.bidi_base.specs.declared.char_data.BidiClass.{BidiClass}
 use Rattle.std.specs.Prelude.{flat_map, is_some}
 use Rattle.bidi_base.proofs.ChainLemmas.{range_with_len-append, Follows, Follows-chain, Follows-join, IsMaximal-chain}
@@ -121,7 +123,9 @@ module _ (classes : List BidiClass) (levels : List ℕ) where
   shared_chains out begun shared = rw (← flat_map-map (λ (xs : List ℕ). xs) (places_from classes levels) (firsts out), all_chains out begun (AllEnded-shared out begun shared)) shared
 
   -- in the order of their first characters it is the list of sequences
-  pub sequences-from_pass_in_order : (paragraph : ℕ) (out : List (List ℕ)) → AllBegun out → IsPermutation (kept_places classes) (all_of out) → Ascends 0 (firsts out) (length classes) → map (sequence_of paragraph) out ≡ sequences paragraph classes levels
+  pub sequences-from_pass_in_order : (paragraph : ℕ) (out : List (List ℕ)) → AllBegun out
+      → IsPermutation (kept_places classes) (all_of out) → Ascends 0 (firsts out) (length classes)
+      → map (sequence_of paragraph) out ≡ sequences paragraph classes levels
   unfolding sequences kept_places
   sequences-from_pass_in_order paragraph out begun shared in_order =
       let starts : List ℕ = filter (is_first classes levels) (kept_places classes) in
@@ -135,7 +139,9 @@ module _ (classes : List BidiClass) (levels : List ℕ) where
   AllBegun-push (xs ∷ out) p ps begun one = grind (arith, AllBegun-push out p ps)
 
   -- a step: the sequence at s goes on
-  pub AllBegun-join : (out : List (List ℕ)) (s q : ℕ) (qs : List ℕ) → AllBegun out → s < length out → successor classes levels (last_or 0 (get_or out s [])) ≡ Some q → AreSuccessors (q ∷ qs) → AllBegun (set out s (get_or out s [] ++ q ∷ qs))
+  pub AllBegun-join : (out : List (List ℕ)) (s q : ℕ) (qs : List ℕ) → AllBegun out → s < length out
+      → successor classes levels (last_or 0 (get_or out s [])) ≡ Some q → AreSuccessors (q ∷ qs)
+      → AllBegun (set out s (get_or out s [] ++ q ∷ qs))
   AllBegun-join [] s q qs begun within next follows = absurd (omega arith)
   AllBegun-join (xs ∷ out) s q qs begun within next follows =
       grind (
@@ -166,10 +172,13 @@ module _ (classes : List BidiClass) (levels : List ℕ) where
   joined (ys ∷ out) zero xs within = grind (arith, append_assoc, IsPermutation-append_right, IsPermutation-append_comm)
   joined (ys ∷ out) (suc s) xs within = grind (arith, joined out s xs, append_assoc, IsPermutation-append_right)
 
-  pub shares-push : (m n : ℕ) (out : List (List ℕ)) (xs : List ℕ) → IsPermutation (kept_below m) (all_of out) → filter (is_kept_at classes) (range_with_len m n) ≡ xs → IsPermutation (kept_below (m + n)) (all_of (out ++ xs ∷ []))
+  pub shares-push : (m n : ℕ) (out : List (List ℕ)) (xs : List ℕ) → IsPermutation (kept_below m) (all_of out)
+      → filter (is_kept_at classes) (range_with_len m n) ≡ xs → IsPermutation (kept_below (m + n)) (all_of (out ++ xs ∷ []))
   shares-push m n out xs shared here = grind (arith, kept_more, flat_map-append, append-nil, IsPermutation-append_left)
 
-  pub shares-join : (m n : ℕ) (out : List (List ℕ)) (s : ℕ) (xs : List ℕ) → IsPermutation (kept_below m) (all_of out) → filter (is_kept_at classes) (range_with_len m n) ≡ xs → s < length out → IsPermutation (kept_below (m + n)) (all_of (set out s (get_or out s [] ++ xs)))
+  pub shares-join : (m n : ℕ) (out : List (List ℕ)) (s : ℕ) (xs : List ℕ) → IsPermutation (kept_below m) (all_of out)
+      → filter (is_kept_at classes) (range_with_len m n) ≡ xs → s < length out
+      → IsPermutation (kept_below (m + n)) (all_of (set out s (get_or out s [] ++ xs)))
   shares-join m n out s xs shared here within =
       grind (
         arith,

@@ -1,5 +1,6 @@
 -- One value a unit of a text that is cut into pieces: the range of each piece has the piece's own values.
-use Rattle.bidi_base.proofs.Common.{◌≡◌, ℕ, ◌+◌, List, [], ◌∷◌, ◌++◌, length, refl, append_assoc, arith, length-append, common_steps, All, All-nil, All-cons, sum_by-append, HasOwnUnits, ranges_from, text_len, per_unit}
+use Rattle.bidi_base.proofs.Common.{◌≡◌, ℕ, ◌+◌, List, [], ◌∷◌, ◌++◌, length, refl, append_assoc, arith, length-append, common_steps}
+use Rattle.bidi_base.proofs.Common.{All, All-nil, All-cons, sum_by-append, HasOwnUnits, ranges_from, text_len, per_unit}
 use Rattle.std.specs.Prelude.{flat_map}
 use Rattle.bidi_laws.proofs.ParagraphsLemmas.{joined}
 use Rattle.bidi_base.proofs.PerUnit.{length-per_unit, per_unit-append}
@@ -39,5 +40,6 @@ module _ {X : Type 0} (values_of : List ℕ → List X) (one_each : (piece : Lis
           (HasOwnUnits-middle front p (joined pieces) before others long) (rw (sum, append_assoc before own others, append_assoc front p (joined pieces)) at rest)
 
       -- each range of the pieces of a text has its own values
-      pub HasOwnUnits-pieces : (chars : List ℕ) (pieces : List (List ℕ)) → joined pieces ≡ chars → All (HasOwnUnits len_of values_of chars (per_unit len_of chars (flat_map values_of pieces))) (ranges_from len_of 0 pieces)
+      pub HasOwnUnits-pieces : (chars : List ℕ) (pieces : List (List ℕ)) → joined pieces ≡ chars
+          → All (HasOwnUnits len_of values_of chars (per_unit len_of chars (flat_map values_of pieces))) (ranges_from len_of 0 pieces)
       HasOwnUnits-pieces chars pieces whole = grind (arith, per_unit-pieces pieces, HasOwnUnits-from [] [] pieces)

@@ -1,5 +1,7 @@
 -- The units of some characters: what stands at them is what stands at the characters, repeated; and the units that a pass reads are those of the characters that it reads.
-use Rattle.bidi_base.proofs.Common.{◌≡◌, ◌≢◌, ◌⊎◌, ℕ, zero, suc, ◌+◌, ◌-◌, ◌<◌, ◌≤◌, Bool, true, List, [], ◌∷◌, ◌++◌, length, map, get_or, replicate, refl, sym, ap, ◌∙◌, arith, inl, inr, filter, range_with_len, cases_eq, flat_map-append, All-nil, All-cons, All-head, All-tail, All-append, All-filter, filter-append, length-map, ext_get_or, is_kept_in_place, between, class_at, at_places, text_len, place, per_unit, per_char, IsPerChar, IsLine, char_index, chars_in_runs, kept_in_place, units_in_runs, AreLines}
+use Rattle.bidi_base.proofs.Common.{◌≡◌, ◌≢◌, ◌⊎◌, ℕ, zero, suc, ◌+◌, ◌-◌, ◌<◌, ◌≤◌, Bool, true, List, [], ◌∷◌, ◌++◌, length, map, get_or, replicate, refl, sym, ap, ◌∙◌, arith, inl, inr, filter}
+use Rattle.bidi_base.proofs.Common.{range_with_len, cases_eq, flat_map-append, All-nil, All-cons, All-head, All-tail, All-append, All-filter, filter-append, length-map, ext_get_or, is_kept_in_place}
+use Rattle.bidi_base.proofs.Common.{between, class_at, at_places, text_len, place, per_unit, per_char, IsPerChar, IsLine, char_index, chars_in_runs, kept_in_place, units_in_runs, AreLines}
 use Rattle.bidi_base.specs.declared.char_data.BidiClass.{BidiClass}
 use Rattle.bidi_base.specs.declared.char_data.BidiClass.TheVariants.{L}
 use Rattle.std.specs.Prelude.{flat_map}
@@ -67,7 +69,8 @@ row_each d w units xs ys u (suc n) zero below e = (let here : u + 0 ≡ u = omeg
 row_each d w units xs ys u (suc n) (suc j) below e = (let next : u + suc j ≡ u + 1 + j = omega arith in ap (λ (p : ℕ). get_or units p d) next) ∙ row_each d w units xs ys (u + 1) n j (omega arith) (cc e)
 
 -- at each unit of the characters
-pub get_or-from_units : {X : Type 0} (d : X) (len_of : ℕ → ℕ) (chars : List ℕ) (units : List X) (ks : List ℕ) (values : List X) → length values ≡ length ks → at_places d units (units_of_chars len_of chars ks) ≡ per_unit len_of (at_places 0 chars ks) values
+pub get_or-from_units : {X : Type 0} (d : X) (len_of : ℕ → ℕ) (chars : List ℕ) (units : List X) (ks : List ℕ) (values : List X)
+    → length values ≡ length ks → at_places d units (units_of_chars len_of chars ks) ≡ per_unit len_of (at_places 0 chars ks) values
     → (i j : ℕ) → i < length ks → j < len_of (get_or chars (get_or ks i 0) 0) → get_or units (place len_of chars (get_or ks i 0) + j) d ≡ get_or values i d
 get_or-from_units {X} d len_of chars units (k ∷ ks) (v ∷ values) long e zero j fits below = grind (arith, row_each, at_places-append)
 get_or-from_units {X} d len_of chars units (k ∷ ks) (v ∷ values) long e (suc i) j fits below =
@@ -92,7 +95,8 @@ row_without p u zero out = All-nil (λ (q : ℕ). q ≢ p)
 row_without p u (suc n) out = All-cons (λ (q : ℕ). q ≢ p) u (range_with_len (u + 1) n) (λ same. omega arith) (row_without p (u + 1) n (grind arith))
 
 -- the units of a character are not those of others
-units_without : (len_of : ℕ → ℕ) (chars : List ℕ) (k j : ℕ) → k < length chars → j < len_of (get_or chars k 0) → (ks : List ℕ) → AreIndexes chars ks → All (λ q. q ≢ k) ks → All (λ q. q ≢ place len_of chars k + j) (units_of_chars len_of chars ks)
+units_without : (len_of : ℕ → ℕ) (chars : List ℕ) (k j : ℕ) → k < length chars → j < len_of (get_or chars k 0) → (ks : List ℕ)
+    → AreIndexes chars ks → All (λ q. q ≢ k) ks → All (λ q. q ≢ place len_of chars k + j) (units_of_chars len_of chars ks)
 units_without len_of chars k j fits below [] are none = All-nil (λ (q : ℕ). q ≢ place len_of chars k + j)
 units_without len_of chars k j fits below (q ∷ ks) are none =
     let within = All-head (λ (i : ℕ). i < length chars) q ks are in
@@ -106,7 +110,9 @@ units_without len_of chars k j fits below (q ∷ ks) are none =
     )))
     (units_without len_of chars k j fits below ks (All-tail (λ (i : ℕ). i < length chars) q ks are) (All-tail (λ (i : ℕ). i ≢ k) q ks none))
 
-pub IsPerChar-units : {X : Type 0} (d : X) (len_of : ℕ → ℕ) → HasUnits len_of → (chars : List ℕ) (values new : List X) (ks : List ℕ) (answers : List X) → length values ≡ length chars → AreIndexes chars ks → length answers ≡ length ks
+pub IsPerChar-units : {X : Type 0} (d : X) (len_of : ℕ → ℕ) → HasUnits len_of
+    → (chars : List ℕ) (values new : List X) (ks : List ℕ) (answers : List X) → length values ≡ length chars → AreIndexes chars ks
+    → length answers ≡ length ks
     → length new ≡ text_len len_of chars → at_places d new (units_of_chars len_of chars ks) ≡ per_unit len_of (at_places 0 chars ks) answers
     → ((u : ℕ) → All (λ q. q ≢ u) (units_of_chars len_of chars ks) → get_or new u d ≡ get_or (per_unit len_of chars values) u d) → IsPerChar len_of chars new
 IsPerChar-units {X} d len_of h chars values new ks answers long are many size e stays =
@@ -173,7 +179,8 @@ module _ (len_of : ℕ → ℕ) (h : HasUnits len_of) (chars : List ℕ) (values
         filter_range-none reads a,
       ))
 
-  pub read_units-is : (runs : List (ℕ × ℕ)) → AreLines len_of chars runs → filter (λ u. is_kept_in_place (class_at (per_unit len_of chars values) u)) (units_in_runs runs) ≡ units_of_chars len_of chars (kept_in_place len_of chars (per_unit len_of chars values) runs)
+  pub read_units-is : (runs : List (ℕ × ℕ)) → AreLines len_of chars runs
+      → filter (λ u. is_kept_in_place (class_at (per_unit len_of chars values) u)) (units_in_runs runs) ≡ units_of_chars len_of chars (kept_in_place len_of chars (per_unit len_of chars values) runs)
   unfolding kept_in_place chars_in_runs
   read_units-is [] lines = refl
   read_units-is (r ∷ runs) lines =

@@ -1,5 +1,7 @@
 -- What the levels of sequences are, once some of them are resolved and once all are: bounds, and what they do not depend on.
-use Rattle.bidi_base.proofs.Common.{◌≡◌, ℕ, suc, ◌+◌, ◌<◌, ◌≤◌, true, cond, eqb, List, [], ◌∷◌, ◌++◌, length, get_or, map, count_by, Option, None, refl, ap, ◌∙◌, arith, rules, AllByRecursion, length-map, map-append, sum_by-cons, sum_by-append, is_removed, first_or, Source, stored_classes, explicit_levels, explicit_classes, RunSequence, is_kept_at, level_at, sequences, weak_classes, n0_pair, n0, neutral_classes, implicit_levels, resolved_levels, sequence_levels, level_in, filled_levels, levels_in, stored_levels, All-from_recursion}
+use Rattle.bidi_base.proofs.Common.{◌≡◌, ℕ, suc, ◌+◌, ◌<◌, ◌≤◌, true, cond, eqb, List, [], ◌∷◌, ◌++◌, length, get_or, map, count_by, Option, None, refl, ap, ◌∙◌, arith, rules, AllByRecursion, length-map}
+use Rattle.bidi_base.proofs.Common.{map-append, sum_by-cons, sum_by-append, is_removed, first_or, Source, stored_classes, explicit_levels, explicit_classes, RunSequence, is_kept_at, level_at, sequences}
+use Rattle.bidi_base.proofs.Common.{weak_classes, n0_pair, n0, neutral_classes, implicit_levels, resolved_levels, sequence_levels, level_in, filled_levels, levels_in, stored_levels, All-from_recursion}
 use Rattle.bidi_base.specs.declared.char_data.BidiClass.{BidiClass}
 use Rattle.bidi_base.specs.declared.char_data.BidiClass.TheVariants.{BN}
 use Rattle.bidi_base.specs.declared.data_source.BidiMatchedOpeningBracket.{BidiMatchedOpeningBracket}
@@ -22,7 +24,8 @@ unfolding n0
 length-n0 e sos source [] classes = refl
 length-n0 e sos source (pair ∷ pairs) classes = length-n0 e sos source pairs (n0_pair e sos source classes pair) ∙ length-n0_pair e sos source classes pair
 
-pub length-resolved_levels : (source : List BidiClass) (brackets : List (Option BidiMatchedOpeningBracket)) (levels : List ℕ) (classes : List BidiClass) (s : RunSequence) → length (resolved_levels source brackets levels classes s) ≡ length s.places
+pub length-resolved_levels : (source : List BidiClass) (brackets : List (Option BidiMatchedOpeningBracket)) (levels : List ℕ) (classes : List BidiClass) (s : RunSequence)
+    → length (resolved_levels source brackets levels classes s) ≡ length s.places
 unfolding resolved_levels neutral_classes
 length-resolved_levels source brackets levels classes s =
     grind (arith, length-map, length-in_context, length-n0, length-weak_classes, length-at_places)
@@ -65,7 +68,8 @@ level_in-AllByRecursion : (P : ℕ → Type 0) (table : List (ℕ × ℕ)) (p : 
 level_in-AllByRecursion P [] p h there = absurd (omega arith)
 level_in-AllByRecursion P (e ∷ table) p h there = grind (arith, sum_by-cons, level_in-AllByRecursion P table p h.1)
 
-AllByRecursion-filled_levels : (P : ℕ → Type 0) (table : List (ℕ × ℕ)) (p before : ℕ) (classes : List BidiClass) → P before → ((k : ℕ) → k < length classes → is_kept_at classes k ≡ true → P (level_in table (p + k)))
+AllByRecursion-filled_levels : (P : ℕ → Type 0) (table : List (ℕ × ℕ)) (p before : ℕ) (classes : List BidiClass) → P before
+    → ((k : ℕ) → k < length classes → is_kept_at classes k ≡ true → P (level_in table (p + k)))
     → AllByRecursion P (filled_levels table p before classes)
 unfolding filled_levels
 AllByRecursion-filled_levels P table p before [] h kept = tt
@@ -100,7 +104,8 @@ sequence-level paragraph classes k d fits within =
     (sequence-kept paragraph classes _ k d within _ (first_in _ (sequence-not_empty paragraph classes _ k d within))).1
 
 -- each stored level is at least the paragraph's, and at most the greatest
-pub levels_in-IsStoredIn : (paragraph : ℕ) (source : List BidiClass) (brackets : List (Option BidiMatchedOpeningBracket)) → paragraph ≤ 125 → All (IsStoredIn paragraph) (levels_in paragraph source brackets)
+pub levels_in-IsStoredIn : (paragraph : ℕ) (source : List BidiClass) (brackets : List (Option BidiMatchedOpeningBracket)) → paragraph ≤ 125
+    → All (IsStoredIn paragraph) (levels_in paragraph source brackets)
 unfolding levels_in sequence_levels resolved_levels
 levels_in-IsStoredIn paragraph source brackets fits =
     let stored = stored_classes source in
@@ -139,7 +144,8 @@ sequence_levels-agree source brackets other levels classes [] agree = refl
 sequence_levels-agree source brackets other levels classes (s ∷ seqs) agree =
     grind (arith, sequence_levels-agree source brackets other levels classes seqs, times_in, places_of, sum_by-append, at_places-agree)
 
-pub levels_in-agree : (paragraph : ℕ) (source : List BidiClass) (brackets other : List (Option BidiMatchedOpeningBracket)) → ((p : ℕ) → p < length source → is_kept_at source p ≡ true → get_or brackets p None ≡ get_or other p None)
+pub levels_in-agree : (paragraph : ℕ) (source : List BidiClass) (brackets other : List (Option BidiMatchedOpeningBracket))
+    → ((p : ℕ) → p < length source → is_kept_at source p ≡ true → get_or brackets p None ≡ get_or other p None)
     → levels_in paragraph source brackets ≡ levels_in paragraph source other
 unfolding levels_in
 levels_in-agree paragraph source brackets other agree =
@@ -157,6 +163,7 @@ found_there f [] back c e = refl
 found_there f (x ∷ front) back c e = found_there f front back c e
 
 -- a character of class BN may be another of that class
-pub stored_levels-BN : (source : Source) (base : Option ℕ) (front back : List ℕ) (c d : ℕ) → source.class_of c ≡ BN → source.class_of d ≡ BN → stored_levels source base (front ++ c ∷ back) ≡ stored_levels source base (front ++ d ∷ back)
+pub stored_levels-BN : (source : Source) (base : Option ℕ) (front back : List ℕ) (c d : ℕ) → source.class_of c ≡ BN
+    → source.class_of d ≡ BN → stored_levels source base (front ++ c ∷ back) ≡ stored_levels source base (front ++ d ∷ back)
 unfolding stored_levels
 stored_levels-BN source base front back c d first second = grind (arith, map-append, levels_in-agree, other_there, found_there)

@@ -1,7 +1,9 @@
 -- Level runs: each is a stretch of characters that follow one another, and a sequence that goes on does so at the first character of a run.
-use Rattle.bidi_base.proofs.Common.{◌≡◌, ℕ, zero, suc, ◌+◌, ◌-◌, ◌<◌, ◌≤◌, true, false, List, [], ◌∷◌, length, Some, refl, subst, arith, ◌⊎◌, inl, inr, filter, range_with_len, cases_Bool, false_from_ne_true, last_or, is_initiator_at, matching_pdi, is_kept_at, next_kept, kept_before, level_at, have_one_level, successor, is_first, begins_run}
+use Rattle.bidi_base.proofs.Common.{◌≡◌, ℕ, zero, suc, ◌+◌, ◌-◌, ◌<◌, ◌≤◌, true, false, List, [], ◌∷◌, length, Some, refl, subst, arith, ◌⊎◌, inl, inr, filter, range_with_len, cases_Bool}
+use Rattle.bidi_base.proofs.Common.{false_from_ne_true, last_or, is_initiator_at, matching_pdi, is_kept_at, next_kept, kept_before, level_at, have_one_level, successor, is_first, begins_run}
 use Rattle.bidi_base.specs.declared.char_data.BidiClass.{BidiClass}
-use Rattle.bidi_laws.proofs.SuccessorLemmas.{IsRunStep, have_one_level-level, have_one_level-from, next_kept-IsLeast, kept_before-next, kept_before-is, kept_before-is_None, next_kept-before, successor-cases, successor-run_step, successor-resumed}
+use Rattle.bidi_laws.proofs.SuccessorLemmas.{IsRunStep, have_one_level-level, have_one_level-from, next_kept-IsLeast, kept_before-next, kept_before-is}
+use Rattle.bidi_laws.proofs.SuccessorLemmas.{kept_before-is_None, next_kept-before, successor-cases, successor-run_step, successor-resumed}
 use Rattle.bidi_laws.proofs.SequencesLemmas.{is_first-from_none}
 use Rattle.bidi_laws.proofs.PassLemmas.{AreSuccessors}
 use Rattle.bidi_base.proofs.Lists.{cases_Option}
@@ -62,11 +64,13 @@ module _ (classes : List BidiClass) (levels : List ℕ) where
     last_below : last_or p xs < high
     last_alone : (k : ℕ) → last_or p xs < k → k < high → is_kept_at classes k ≡ false
 
-  step_inside : (p q : ℕ) → is_kept_at classes p ≡ true → p < q → q < length classes → is_kept_at classes q ≡ true → ((k : ℕ) → p < k → k < q → is_kept_at classes k ≡ false) → begins_run classes levels q ≡ false → IsRunStep classes levels p q
+  step_inside : (p q : ℕ) → is_kept_at classes p ≡ true → p < q → q < length classes → is_kept_at classes q ≡ true
+      → ((k : ℕ) → p < k → k < q → is_kept_at classes k ≡ false) → begins_run classes levels q ≡ false → IsRunStep classes levels p q
   unfolding begins_run
   step_inside p q kept before within here none inside = grind (arith, kept_before-is, next_kept-before)
 
-  walk : (low m p : ℕ) → is_kept_at classes p ≡ true → p < low → low + m ≤ length classes → ((k : ℕ) → p < k → k < low → is_kept_at classes k ≡ false) → ((k : ℕ) → low ≤ k → k < low + m → begins_run classes levels k ≡ false)
+  walk : (low m p : ℕ) → is_kept_at classes p ≡ true → p < low → low + m ≤ length classes
+      → ((k : ℕ) → p < k → k < low → is_kept_at classes k ≡ false) → ((k : ℕ) → low ≤ k → k < low + m → begins_run classes levels k ≡ false)
       → IsWalked p (filter (is_kept_at classes) (range_with_len low m)) (low + m)
   walk low zero p kept before fits none inside = record { steps = tt; last_kept = kept; last_below = omega arith; last_alone = λ k from below. none k from (omega arith) }
   walk low (suc m) p kept before fits none inside = elim (cases_Bool (is_kept_at classes low)) [

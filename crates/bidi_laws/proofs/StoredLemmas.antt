@@ -1,5 +1,7 @@
 -- What the rules of a sequence are given: the classes and levels of a paragraph at the places of its sequences.
-use Rattle.bidi_base.proofs.Common.{◌≡◌, ℕ, zero, suc, ◌<◌, ◌≤◌, Bool, true, cond, eqb, List, [], ◌∷◌, ◌++◌, length, get_or, unwrap_or, refl, ap, arith, leb, common_steps, list_all, cond_both, and_from, sum_by-cons, get_or-map-range_with_len, is_kept, class_at, at_places, stored_class, stored_classes, Status, override_of, asked_level, status_inside, status_at, explicit_class, explicit_levels, explicit_classes, is_kept_at, level_at}
+use Rattle.bidi_base.proofs.Common.{◌≡◌, ℕ, zero, suc, ◌<◌, ◌≤◌, Bool, true, cond, eqb, List, [], ◌∷◌, ◌++◌, length, get_or, unwrap_or, refl, ap, arith, leb, common_steps}
+use Rattle.bidi_base.proofs.Common.{list_all, cond_both, and_from, sum_by-cons, get_or-map-range_with_len, is_kept, class_at, at_places, stored_class, stored_classes, Status}
+use Rattle.bidi_base.proofs.Common.{override_of, asked_level, status_inside, status_at, explicit_class, explicit_levels, explicit_classes, is_kept_at, level_at}
 use Rattle.bidi_base.specs.declared.char_data.BidiClass.{BidiClass}
 use Rattle.bidi_laws.proofs.ExplicitLemmas.{explicit_level-IsWithin, level_at-explicit_levels, class_at-explicit_classes}
 use Rattle.bidi_laws.proofs.SequencePlaces.{times_in}
@@ -16,7 +18,8 @@ is_kept_at-stored_classes classes p within = grind (arith, class_at-stored_class
 
 -- ---- explicit classes: an override is L or R
 
-status_inside-kept : (status : Status) (openers : List BidiClass) (c : BidiClass) → is_kept c ≡ true → is_kept (unwrap_or status.override c) ≡ true → is_kept (unwrap_or (status_inside status openers).override c) ≡ true
+status_inside-kept : (status : Status) (openers : List BidiClass) (c : BidiClass) → is_kept c ≡ true
+    → is_kept (unwrap_or status.override c) ≡ true → is_kept (unwrap_or (status_inside status openers).override c) ≡ true
 unfolding status_inside
 status_inside-kept status [] c own h = h
 status_inside-kept status (opener ∷ openers) c own h =

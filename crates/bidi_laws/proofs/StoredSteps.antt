@@ -1,8 +1,11 @@
 -- A paragraph that is read from the front, one character more: its stored classes (X5c), its deciding character (P2) and its open isolates. The rules at what was read so far are what a pass holds, since an isolate with no matching PDI ends at the end.
-use Rattle.bidi_base.proofs.Common.{◌≡◌, ℕ, suc, ◌<◌, Bool, true, false, not, ◌&&◌, ◌||◌, cond, List, [], ◌∷◌, ◌++◌, length, set, map, Option, Some, None, option_map, refl, ap, ◌∙◌, arith, inl, inr, cases_Bool, and-true, and_parts, All, option_or, length-map, map-append, length-set, length-map-range_with_len, All-nil, All-map, is_strong, class_at, innermost, outer, opened_by, decided_by, is_fsi, deciding_class, resolved_fsi, stored_classes}
+use Rattle.bidi_base.proofs.Common.{◌≡◌, ℕ, suc, ◌<◌, Bool, true, false, not, ◌&&◌, ◌||◌, cond, List, [], ◌∷◌, ◌++◌, length, set, map, Option, Some, None, option_map, refl, ap, ◌∙◌}
+use Rattle.bidi_base.proofs.Common.{arith, inl, inr, cases_Bool, and-true, and_parts, All, option_or, length-map, map-append, length-set, length-map-range_with_len, All-nil, All-map}
+use Rattle.bidi_base.proofs.Common.{is_strong, class_at, innermost, outer, opened_by, decided_by, is_fsi, deciding_class, resolved_fsi, stored_classes}
 use Rattle.bidi_base.specs.declared.char_data.BidiClass.{BidiClass}
 use Rattle.bidi_base.specs.declared.char_data.BidiClass.TheVariants.{FSI, LRI, RLI}
-use Rattle.bidi_laws.proofs.IsolateWalk.{Kind, opening, closing, neither, kind_of, initiator-kind, pdi-kind, strong-neither, opens_one, depth_by, depth_after, depth_after-deeper, is_zero, ends_by, has_end, has_end-append, deciding_from, deciding_class-from, resolving_from, stored_by, stored_from, stored_classes-from}
+use Rattle.bidi_laws.proofs.IsolateWalk.{Kind, opening, closing, neither, kind_of, initiator-kind, pdi-kind, strong-neither, opens_one, depth_by, depth_after, depth_after-deeper, is_zero}
+use Rattle.bidi_laws.proofs.IsolateWalk.{ends_by, has_end, has_end-append, deciding_from, deciding_class-from, resolving_from, stored_by, stored_from, stored_classes-from}
 
 -- the indexes of the initiators of the isolates that some characters leave open, outermost first
 abbrev pub onto_later : Bool → List ℕ → List ℕ
@@ -52,7 +55,8 @@ open_initiators-push_kind (x ∷ xs) c =
     outer-map (q ∷ []) = refl
     outer-map (q ∷ r ∷ qs) = ap (λ (rs : List ℕ). suc q ∷ rs) (outer-map (r ∷ qs))
 
-    one : (k : Kind) (b e : Bool) (n : ℕ) (qs : List ℕ) → onto_later (b && not (e || ends_by k (length qs))) (map suc (opened_kind k n qs)) ≡ opened_kind k (suc n) (onto_later (b && not e) (map suc qs))
+    one : (k : Kind) (b e : Bool) (n : ℕ) (qs : List ℕ)
+        → onto_later (b && not (e || ends_by k (length qs))) (map suc (opened_kind k n qs)) ≡ opened_kind k (suc n) (onto_later (b && not e) (map suc qs))
     one opening b e n qs = grind (arith, map-append)
     one closing b e n [] = grind arith
     one closing b e n (q ∷ qs) = grind (arith, outer-map)
@@ -92,7 +96,8 @@ pushed true here later x now before found e = refl
 pushed false true later x now before found e = refl
 pushed false false later x now before found e = e
 
-resolving-push_from : (d : ℕ) (xs : List BidiClass) (c : BidiClass) → resolving_from d (xs ++ c ∷ []) ≡ option_or (resolving_from d xs) (cond (has_end d xs) None (cond (is_strong c && is_zero (depth_after d xs)) (Some c) None))
+resolving-push_from : (d : ℕ) (xs : List BidiClass) (c : BidiClass)
+    → resolving_from d (xs ++ c ∷ []) ≡ option_or (resolving_from d xs) (cond (has_end d xs) None (cond (is_strong c && is_zero (depth_after d xs)) (Some c) None))
 resolving-push_from d [] c = elim (cases_Bool (is_strong c)) [ inl strong ↦ simp (strong_ends_nothing c d strong) | inr weak ↦ simp weak (none_either (ends_by (kind_of c) d)) ]
 resolving-push_from d (x ∷ xs) c =
     pushed (ends_by (kind_of x) d) (is_strong x && is_zero d) (has_end (depth_by (kind_of x) d) xs) x _ _ _ (resolving-push_from (depth_by (kind_of x) d) xs c)
@@ -101,7 +106,8 @@ resolving-push : (xs : List BidiClass) (c : BidiClass) → resolving_from 0 (xs 
 unfolding found_by
 resolving-push xs c = resolving-push_from 0 xs c
 
-strong_by : (ends here : Bool) (x s : BidiClass) (later : Option BidiClass) → cond ends None (cond here (Some x) later) ≡ Some s → (here ≡ true → is_strong x ≡ true) → (later ≡ Some s → is_strong s ≡ true) → is_strong s ≡ true
+strong_by : (ends here : Bool) (x s : BidiClass) (later : Option BidiClass) → cond ends None (cond here (Some x) later) ≡ Some s
+    → (here ≡ true → is_strong x ≡ true) → (later ≡ Some s → is_strong s ≡ true) → is_strong s ≡ true
 strong_by true here x s later e first next = absurd (cc e)
 strong_by false true x s later e first next = cc (e, first refl)
 strong_by false false x s later e first next = next e

@@ -1,5 +1,6 @@
 -- The successor of a character in its sequence: the two ways in which there is one, and what both have in common.
-use Rattle.bidi_base.proofs.Common.{◌≡◌, ℕ, ◌+◌, ◌-◌, ◌<◌, true, false, List, length, Option, Some, None, refl, ap, ◌∙◌, arith, ◌⊎◌, inl, inr, both_ways, is_kept, is_initiator, is_pdi, is_initiator_at, matching_pdi, is_kept_at, next_kept, kept_before, level_at, have_one_level, resumed_at, successor}
+use Rattle.bidi_base.proofs.Common.{◌≡◌, ℕ, ◌+◌, ◌-◌, ◌<◌, true, false, List, length, Option, Some, None, refl, ap, ◌∙◌, arith, ◌⊎◌, inl, inr, both_ways, is_kept, is_initiator}
+use Rattle.bidi_base.proofs.Common.{is_pdi, is_initiator_at, matching_pdi, is_kept_at, next_kept, kept_before, level_at, have_one_level, resumed_at, successor}
 use Rattle.bidi_base.specs.declared.char_data.BidiClass.{BidiClass}
 use Rattle.bidi_base.proofs.PlacesLemmas.{IsLeast, find-between, find-between-is, IsGreatest, find_last-range_with_len, find_last-range_with_len-None, find-between-is_None}
 use Rattle.bidi_laws.proofs.IsolatesLemmas.{matching_pdi-IsLeast, matching_pdi-is_pdi}
@@ -104,12 +105,14 @@ pub successor-level : (classes : List BidiClass) (levels : List ℕ) (p q : ℕ)
 successor-level classes levels p q same e = grind (arith, successor-cases classes levels p q e)
 
 -- two initiators have no match in common
-pub matching_pdi-injective : (classes : List BidiClass) (p r q : ℕ) → is_initiator_at classes p ≡ true → is_initiator_at classes r ≡ true → matching_pdi classes p ≡ Some q → matching_pdi classes r ≡ Some q → p ≡ r
+pub matching_pdi-injective : (classes : List BidiClass) (p r q : ℕ) → is_initiator_at classes p ≡ true → is_initiator_at classes r ≡ true
+    → matching_pdi classes p ≡ Some q → matching_pdi classes r ≡ Some q → p ≡ r
 unfolding matching_pdi
 matching_pdi-injective classes p r q opens_p opens_r e f = grind (arith, match_of-injective)
 
 -- no two kept characters have one successor
-pub successor-injective : (classes : List BidiClass) (levels : List ℕ) (p r q : ℕ) → is_kept_at classes p ≡ true → is_kept_at classes r ≡ true → successor classes levels p ≡ Some q → successor classes levels r ≡ Some q → p ≡ r
+pub successor-injective : (classes : List BidiClass) (levels : List ℕ) (p r q : ℕ) → is_kept_at classes p ≡ true
+    → is_kept_at classes r ≡ true → successor classes levels p ≡ Some q → successor classes levels r ≡ Some q → p ≡ r
 successor-injective classes levels p r q kept_p kept_r e f =
     grind (
       arith,

@@ -1,5 +1,7 @@
 -- A pass over level runs: what is open waits for its match, and a run goes on with the sequence whose initiator its first character matches.
-use Rattle.bidi_base.proofs.Common.{◌≡◌, ◌≢◌, ℕ, zero, suc, ◌+◌, ◌<◌, ◌≤◌, true, false, List, [], ◌∷◌, ◌++◌, length, map, get_or, set, length-append, append-nil, Option, Some, None, refl, subst, arith, ◌⊎◌, eq-eqb, ne_eqb, filter, range_with_len, IsPermutation, false_from_ne_true, get_or_append_left, length-set, last_or, is_initiator_at, is_pdi_at, matching_pdi, is_kept_at, kept_places, next_kept, have_one_level, successor, is_first, sequences}
+use Rattle.bidi_base.proofs.Common.{◌≡◌, ◌≢◌, ℕ, zero, suc, ◌+◌, ◌<◌, ◌≤◌, true, false, List, [], ◌∷◌, ◌++◌, length, map, get_or, set, length-append, append-nil, Option, Some, None}
+use Rattle.bidi_base.proofs.Common.{refl, subst, arith, ◌⊎◌, eq-eqb, ne_eqb, filter, range_with_len, IsPermutation, false_from_ne_true, get_or_append_left, length-set, last_or}
+use Rattle.bidi_base.proofs.Common.{is_initiator_at, is_pdi_at, matching_pdi, is_kept_at, kept_places, next_kept, have_one_level, successor, is_first, sequences}
 use Rattle.bidi_base.specs.declared.char_data.BidiClass.{BidiClass}
 use Rattle.std.proofs.lemmas.List.{get_or-set_same, get_or-set_other}
 use Rattle.bidi_laws.proofs.ReadStack.{Member, IsReadStack, IsReadStack-more, IsReadStack-stay}
@@ -7,7 +9,8 @@ use Rattle.bidi_laws.proofs.OpenMatches.{IsReadStack-match, IsReadStack-matched,
 use Rattle.bidi_laws.proofs.IsolatesLemmas.{initiators_apart, pdis_apart, matching_pdi-is_pdi}
 use Rattle.bidi_laws.proofs.PermutationLemmas.{count_of, count_of-cons, count_of-IsPermutation, Ascends, Ascends-push, Ascends-higher, Ascends-filter, Ascends-range}
 use Rattle.bidi_laws.proofs.SuccessorLemmas.{have_one_level-from, is_kept-initiator, is_kept-pdi}
-use Rattle.bidi_laws.proofs.PassLemmas.{AreSuccessors, IsBegunList, AllBegun, all_of, firsts, firsts-push, firsts-join, AllBegun-push, AllBegun-join, kept_below, kept_more, shares-push, shares-join, sequence_of, sequences-from_pass_in_order}
+use Rattle.bidi_laws.proofs.PassLemmas.{AreSuccessors, IsBegunList, AllBegun, all_of, firsts, firsts-push, firsts-join, AllBegun-push, AllBegun-join}
+use Rattle.bidi_laws.proofs.PassLemmas.{kept_below, kept_more, shares-push, shares-join, sequence_of, sequences-from_pass_in_order}
 use Rattle.bidi_laws.proofs.RunsLemmas.{BeginsRun, EndsRun, AreRunSteps, IsFront, front_of, successor-at_match, is_first-run}
 
 -- what a list holds its longer lists hold

@@ -1,5 +1,6 @@
 -- The classes that W1 to W7 leave: of kept classes, those with a direction and the neutrals.
-use Rattle.bidi_base.proofs.Common.{◌≡◌, Bool, true, false, if◌then◌else◌, not, ◌&&◌, List, [], ◌∷◌, refl, arith, list_all, and_parts, is_kept, is_nsm, is_al, is_l, is_l_or_r, is_strong, is_weak_resolved, carried, nearest, w1_rule, w2_rule, w3_rule, w4_rule, w5_rule, w6_rule, w7_rule, w1, w2, w3, w4, w5, w6, weak_classes}
+use Rattle.bidi_base.proofs.Common.{◌≡◌, Bool, true, false, if◌then◌else◌, not, ◌&&◌, List, [], ◌∷◌, refl, arith, list_all, and_parts, is_kept, is_nsm, is_al, is_l, is_l_or_r, is_strong}
+use Rattle.bidi_base.proofs.Common.{is_weak_resolved, carried, nearest, w1_rule, w2_rule, w3_rule, w4_rule, w5_rule, w6_rule, w7_rule, w1, w2, w3, w4, w5, w6, weak_classes}
 use Rattle.bidi_base.specs.declared.char_data.BidiClass.{BidiClass}
 use Rattle.bidi_base.specs.declared.char_data.BidiClass.TheVariants.{L, R, AL, EN, ES, ET, AN, CS, NSM}
 use Rattle.bidi_laws.proofs.ContextLemmas.{list_all-in_context, list_all-mapped}
@@ -32,7 +33,8 @@ either_passes p true c d h k = h
 either_passes p false c d h k = k
 
 module _ (sos : BidiClass) where
-  passes_w1 : is_l_or_r sos ≡ true → (before : List BidiClass) (c : BidiClass) (after : List BidiClass) → list_all is_kept before ≡ true → is_kept c ≡ true → is_after_w1 (w1_rule sos before c after) ≡ true
+  passes_w1 : is_l_or_r sos ≡ true → (before : List BidiClass) (c : BidiClass) (after : List BidiClass) → list_all is_kept before ≡ true
+      → is_kept c ≡ true → is_after_w1 (w1_rule sos before c after) ≡ true
   passes_w1 side before NSM after h k = carried_kept _ (nearest_after_w1 sos before (start sos side) h)
     where
       start : (e : BidiClass) → is_l_or_r e ≡ true → is_after_w1 e ≡ true
@@ -45,7 +47,8 @@ module _ (sos : BidiClass) where
   passes_w2 before EN after h k = either_passes is_after_w1 (is_al (nearest is_strong before sos)) AN EN refl refl
   passes_w2 before c after h k = k
 
-  passes_w7 : (before : List BidiClass) (c : BidiClass) (after : List BidiClass) → list_all is_weak_resolved before ≡ true → is_weak_resolved c ≡ true → is_weak_resolved (w7_rule sos before c after) ≡ true
+  passes_w7 : (before : List BidiClass) (c : BidiClass) (after : List BidiClass) → list_all is_weak_resolved before ≡ true
+      → is_weak_resolved c ≡ true → is_weak_resolved (w7_rule sos before c after) ≡ true
   passes_w7 before EN after h k = either_passes is_weak_resolved (is_l (nearest is_l_or_r before sos)) L EN refl refl
   passes_w7 before c after h k = k
 

@@ -1,5 +1,6 @@
 -- Sixteen numbers at once, and the last sixteen of a list.
-use Rattle.bidi_base.proofs.Common.{◌≡◌, ℕ, ◌+◌, ◌-◌, ◌≤◌, ◌^◌, ◌%◌, Bool, true, false, not, eqb, nat_le, nat_lt, nat_tests, cond, list_all, List, [], ◌∷◌, ◌++◌, length, take, drop, map, replicate, refl, ap, ◌∙◌, arith, length-map, length-chunk, length-drop, take_all, take-take, drop-take, take-append-drop, cases_Bool, inl, inr}
+use Rattle.bidi_base.proofs.Common.{◌≡◌, ℕ, ◌+◌, ◌-◌, ◌≤◌, ◌^◌, ◌%◌, Bool, true, false, not, eqb, nat_le, nat_lt, nat_tests, cond, list_all, List, [], ◌∷◌, ◌++◌, length, take, drop, map}
+use Rattle.bidi_base.proofs.Common.{replicate, refl, ap, ◌∙◌, arith, length-map, length-chunk, length-drop, take_all, take-take, drop-take, take-append-drop, cases_Bool, inl, inr}
 use Rattle.std.proofs.lemmas.List.Folds.{list_all-append}
 use Rattle.bidi_base.proofs.Lists.{list_all-take, list_all-drop}
 use lib.Lanes.{chunk, mask_l, top, zip2}

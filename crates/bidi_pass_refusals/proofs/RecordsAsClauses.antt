@@ -39,7 +39,8 @@ module _ (len_of : ℕ → ℕ) (chars : List ℕ) where
         (λ all. (all.kept, all.removed, all.outside, all.per_char), λ all. record { kept = all.0; removed = all.1; outside = all.2; per_char = all.3 })
 
     -- the neutral pass: where an allocation fails, the classes stay, so that all clauses but the first hold then too
-    pub neutral-clauses : {A E : Type 0} (result : Result A E) (source : Source) (levels : List ℕ) (original : List BidiClass) → IsTrue (is_per_char class_eq len_of chars old) → OnErr result (new ≡ old)
+    pub neutral-clauses : {A E : Type 0} (result : Result A E) (source : Source) (levels : List ℕ) (original : List BidiClass)
+        → IsTrue (is_per_char class_eq len_of chars old) → OnErr result (new ≡ old)
         → OnOk result (AreNeutralsResolved len_of chars source runs sos eos levels original old new)
         → OnOk result (at_places L new places
         ≡ neutral_classes (level_at levels (first_or 0 places)) sos eos (at_places L original places) (map source.bracket_of (at_places 0 chars (kept_in_place len_of chars old runs))) (at_places L old places))

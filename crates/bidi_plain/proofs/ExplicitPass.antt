@@ -1,5 +1,6 @@
 -- What the pass over the characters keeps, and how a character goes into it.
-use Rattle.bidi_base.proofs.Common.{◌≡◌, ℕ, ◌+◌, ◌<◌, ◌||◌, cond, List, [], ◌∷◌, ◌++◌, length, map, reverse, None, unwrap_or, refl, arith, range_with_len, list_any, is_initiator, is_paragraph_separator, is_removed, class_at, Status, status_inside, status_at, explicit_level, explicit_class, explicit_levels, explicit_classes, outside_isolate, left_open}
+use Rattle.bidi_base.proofs.Common.{◌≡◌, ℕ, ◌+◌, ◌<◌, ◌||◌, cond, List, [], ◌∷◌, ◌++◌, length, map, reverse, None, unwrap_or, refl, arith, range_with_len, list_any, is_initiator, is_paragraph_separator}
+use Rattle.bidi_base.proofs.Common.{is_removed, class_at, Status, status_inside, status_at, explicit_level, explicit_class, explicit_levels, explicit_classes, outside_isolate, left_open}
 use Rattle.std.proofs.lemmas.List.FromFn.{map-range_with_len_more}
 use Rattle.std.proofs.Math.Nat.{zero-add}
 use Rattle.bidi_base.specs.declared.char_data.BidiClass.{BidiClass}
@@ -37,7 +38,8 @@ module _ (paragraph : ℕ) (classes : List BidiClass) where
   start = record { level = paragraph; override = None }
 
   -- the status inside what a character leaves open is that of its place
-  status_is : (p : ℕ) (openers closed : List BidiClass) → p < length classes → openers ≡ openers_at classes p → closed ≡ left_open (class_at classes p) openers → status_inside start (reverse closed) ≡ status_at paragraph classes p
+  status_is : (p : ℕ) (openers closed : List BidiClass) → p < length classes → openers ≡ openers_at classes p
+      → closed ≡ left_open (class_at classes p) openers → status_inside start (reverse closed) ≡ status_at paragraph classes p
   unfolding status_at
   status_is p openers closed fits is e = grind (arith, classes_of-closed_by, map-reverse, open_at-closed_by)
 
@@ -50,7 +52,8 @@ module _ (paragraph : ℕ) (classes : List BidiClass) where
   one_more : {Y : Type 0} (f : ℕ → Y) (p : ℕ) (ys : List Y) (y : Y) → ys ≡ map f (range_with_len 0 p) → y ≡ f p → ys ++ y ∷ [] ≡ map f (range_with_len 0 (p + 1))
   one_more f p ys y e g = simp (map-range_with_len_more f 0 p p (zero-add p), e, g)
 
-  pub IsExplicitSoFar-more : (p : ℕ) (openers closed next : List BidiClass) (levels : List ℕ) (overridden : List BidiClass) (status : Status) (x : ℕ) (y : BidiClass) → p < length classes → IsExplicitSoFar p openers levels overridden
+  pub IsExplicitSoFar-more : (p : ℕ) (openers closed next : List BidiClass) (levels : List ℕ) (overridden : List BidiClass) (status : Status) (x : ℕ) (y : BidiClass)
+      → p < length classes → IsExplicitSoFar p openers levels overridden
       → closed ≡ left_open (class_at classes p) openers → next ≡ then_open (class_at classes p) closed → status ≡ status_inside start (reverse closed)
       → x ≡ cond (is_paragraph_separator (class_at classes p)) paragraph status.level
       → y ≡ cond (is_paragraph_separator (class_at classes p) || is_removed (class_at classes p)) (class_at classes p) (unwrap_or status.override (class_at classes p))
@@ -63,10 +66,12 @@ module _ (paragraph : ℕ) (classes : List BidiClass) where
   unfolding openers_read
   IsExplicitSoFar-start openers levels overridden a b c = record { open_is = a; levels_are = b; classes_are = c }
 
-  pub IsExplicitSoFar-levels : (p : ℕ) (openers : List BidiClass) (levels : List ℕ) (overridden : List BidiClass) → p ≡ length classes → IsExplicitSoFar p openers levels overridden → levels ≡ explicit_levels paragraph classes
+  pub IsExplicitSoFar-levels : (p : ℕ) (openers : List BidiClass) (levels : List ℕ) (overridden : List BidiClass) → p ≡ length classes
+      → IsExplicitSoFar p openers levels overridden → levels ≡ explicit_levels paragraph classes
   unfolding explicit_levels
   IsExplicitSoFar-levels p openers levels overridden all h = simp (h.levels_are, all)
 
-  pub IsExplicitSoFar-classes : (p : ℕ) (openers : List BidiClass) (levels : List ℕ) (overridden : List BidiClass) → p ≡ length classes → IsExplicitSoFar p openers levels overridden → overridden ≡ explicit_classes paragraph classes
+  pub IsExplicitSoFar-classes : (p : ℕ) (openers : List BidiClass) (levels : List ℕ) (overridden : List BidiClass) → p ≡ length classes
+      → IsExplicitSoFar p openers levels overridden → overridden ≡ explicit_classes paragraph classes
   unfolding explicit_classes
   IsExplicitSoFar-classes p openers levels overridden all h = simp (h.classes_are, all)

@@ -1,5 +1,7 @@
 -- The pass over a list of characters, one by one.
-use Rattle.bidi_base.proofs.Common.{rules, ◌≡◌, ℕ, ◌+◌, ◌-◌, ◌<◌, Bool, true, false, eqb, List, [], ◌∷◌, ◌++◌, length, map, get_or, reverse, length-append, le_refl, Option, Some, None, refl, sym, ap, ◌∙◌, arith, inl, inr, eqb-true, IfSome, get_or_push, length-set, class_at, last_or, with_ends, is_kept_at, next_kept, level_at, have_one_level, successor, is_first, sequences, read_class, with_entry, index_of}
+use Rattle.bidi_base.proofs.Common.{rules, ◌≡◌, ℕ, ◌+◌, ◌-◌, ◌<◌, Bool, true, false, eqb, List, [], ◌∷◌, ◌++◌, length, map, get_or, reverse, length-append, le_refl}
+use Rattle.bidi_base.proofs.Common.{Option, Some, None, refl, sym, ap, ◌∙◌, arith, inl, inr, eqb-true, IfSome, get_or_push, length-set, class_at, last_or, with_ends}
+use Rattle.bidi_base.proofs.Common.{is_kept_at, next_kept, level_at, have_one_level, successor, is_first, sequences, read_class, with_entry, index_of}
 use Rattle.std.proofs.lemmas.List.{get_or-set_same}
 use Rattle.bidi_base.specs.declared.char_data.BidiClass.{BidiClass}
 use Rattle.bidi_base.specs.SequencePass.{wait_of, choice, waits_before, choice_at, ArePlaces}
@@ -39,19 +41,23 @@ module _ (classes : List BidiClass) (levels : List ℕ) where
   abbrev IsRead : ℕ → List (List ℕ) → List (Option ℕ) → Type 0
   IsRead p out waits = IsAt classes levels p p out waits
 
-  reading : (p l s : ℕ) (out : List (List ℕ)) (waits : List (Option ℕ)) (w : Option ℕ) → IsGoing p out waits l s → IsWaiting classes levels out l w → IsRead p out (read_class (class_at classes l) w waits)
+  reading : (p l s : ℕ) (out : List (List ℕ)) (waits : List (Option ℕ)) (w : Option ℕ) → IsGoing p out waits l s
+      → IsWaiting classes levels out l w → IsRead p out (read_class (class_at classes l) w waits)
   reading p l s out waits w h wait =
       let read = IsAt-read classes levels p l out waits w (record { stack = h.stack; pass = h.pass }) (λ opens. wait) in
       grind (arith, IsPass-skip classes levels (p - (l + 1)) p (l + 1) out read.stack, h.none)
 
   -- a character that goes on with a sequence, or begins one
-  came_join : (p s : ℕ) (out : List (List ℕ)) (waits : List (Option ℕ)) → is_kept_at classes p ≡ true → p < length classes → IsRead p out waits → s < length out → successor classes levels (last_or 0 (get_or out s [])) ≡ Some p → IsGoing (p + 1) (with_entry (Some s) p out) waits p s
+  came_join : (p s : ℕ) (out : List (List ℕ)) (waits : List (Option ℕ)) → is_kept_at classes p ≡ true → p < length classes
+      → IsRead p out waits → s < length out → successor classes levels (last_or 0 (get_or out s [])) ≡ Some p
+      → IsGoing (p + 1) (with_entry (Some s) p out) waits p s
   came_join p s out waits kept fits read within next =
       let here = get_or-set_same out s (get_or out s [] ++ p ∷ []) [] within in
       let pass = IsPass-join classes levels p 1 p p s [] out read.stack (reverse waits) read.pass (simp kept) tt within next in
       grind (arith, length-set, last_or-append, Member-append_right)
 
-  came_begin : (p : ℕ) (out : List (List ℕ)) (waits : List (Option ℕ)) → is_kept_at classes p ≡ true → p < length classes → IsRead p out waits → is_first classes levels p ≡ true → IsGoing (p + 1) (with_entry None p out) waits p (length out)
+  came_begin : (p : ℕ) (out : List (List ℕ)) (waits : List (Option ℕ)) → is_kept_at classes p ≡ true → p < length classes
+      → IsRead p out waits → is_first classes levels p ≡ true → IsGoing (p + 1) (with_entry None p out) waits p (length out)
   came_begin p out waits kept fits read first =
       let here = get_or_push out (p ∷ []) [] (length out) refl in
       let pass = IsPass-begin classes levels p 1 p p [] out read.stack (reverse waits) read.pass (simp kept) (omega arith) tt first in
@@ -75,7 +81,8 @@ module _ (classes : List BidiClass) (levels : List ℕ) where
     pub state : IsGoing (p + 1) (with_entry (choice same s (class_at classes p) (read_class (class_at classes l) (wait_of same s) waits)) p out) (read_class (class_at classes l) (wait_of same s) waits) p
         (index_of (choice same s (class_at classes p) (read_class (class_at classes l) (wait_of same s) waits)) out)
 
-  pub IsStateAt-next : (p l s : ℕ) (out : List (List ℕ)) (waits : List (Option ℕ)) (same : Bool) → IsGoing p out waits l s → is_kept_at classes p ≡ true → p < length classes → same ≡ eqb (level_at levels l) (level_at levels p) → IsNext p l s out waits same
+  pub IsStateAt-next : (p l s : ℕ) (out : List (List ℕ)) (waits : List (Option ℕ)) (same : Bool) → IsGoing p out waits l s
+      → is_kept_at classes p ≡ true → p < length classes → same ≡ eqb (level_at levels l) (level_at levels p) → IsNext p l s out waits same
   IsStateAt-next p l s out waits true h kept fits e =
       let level : level_at levels p ≡ level_at levels l = sym (eqb-true (level_at levels l) (level_at levels p) (sym e)) in
       let next = next_is p l s out waits h kept fits in
@@ -109,11 +116,13 @@ module _ (classes : List BidiClass) (levels : List ℕ) where
       → now ≡ waits_before classes levels last p waits → g ≡ choice_at classes levels last p now → HasCome p out g now
   HasCome-next p out waits now last g h kept fits read found = grind (arith, came_by)
 
-  pub IsStateAt-came : (p : ℕ) (out more : List (List ℕ)) (g : Option ℕ) (now : List (Option ℕ)) (s : ℕ) (last : Option (ℕ × ℕ)) → HasCome p out g now → more ≡ with_entry g p out → s ≡ index_of g out → last ≡ Some (p, s) → IsStateAt (p + 1) more now last
+  pub IsStateAt-came : (p : ℕ) (out more : List (List ℕ)) (g : Option ℕ) (now : List (Option ℕ)) (s : ℕ) (last : Option (ℕ × ℕ))
+      → HasCome p out g now → more ≡ with_entry g p out → s ≡ index_of g out → last ≡ Some (p, s) → IsStateAt (p + 1) more now last
   IsStateAt-came p out more g now s last came grown index e = grind arith
 
   -- at the end these are the sequences
-  pub IsStateAt-end : (out : List (List ℕ)) (waits : List (Option ℕ)) (last : Option (ℕ × ℕ)) → IsStateAt (length classes) out waits last → (paragraph : ℕ) → map (with_ends paragraph classes levels) out ≡ sequences paragraph classes levels
+  pub IsStateAt-end : (out : List (List ℕ)) (waits : List (Option ℕ)) (last : Option (ℕ × ℕ)) → IsStateAt (length classes) out waits last
+      → (paragraph : ℕ) → map (with_ends paragraph classes levels) out ≡ sequences paragraph classes levels
   IsStateAt-end out waits None h paragraph = ap (map (with_ends paragraph classes levels)) h.0 ∙ IsPass-end classes levels paragraph (length classes) [] [] [] (pass_none (length classes) h.2)
   IsStateAt-end out waits (Some e) h paragraph = IsPass-end classes levels paragraph e.0 out h.stack (reverse waits) h.pass
 
@@ -132,5 +141,6 @@ module _ (classes : List BidiClass) (levels : List ℕ) where
   places_at [] h k within = absurd (omega arith)
   places_at (xs ∷ out) h k within = grind (arith, begun_places xs, places_at out h.1 (k - 1))
 
-  pub IsStateAt-places : (p : ℕ) (out : List (List ℕ)) (waits : List (Option ℕ)) (last : Option (ℕ × ℕ)) → IsStateAt p out waits last → (k : ℕ) → k < length out → ArePlaces (length classes) (get_or out k [])
+  pub IsStateAt-places : (p : ℕ) (out : List (List ℕ)) (waits : List (Option ℕ)) (last : Option (ℕ × ℕ)) → IsStateAt p out waits last
+      → (k : ℕ) → k < length out → ArePlaces (length classes) (get_or out k [])
   IsStateAt-places p out waits last h k within = places_at out (begun p out waits last h) k within

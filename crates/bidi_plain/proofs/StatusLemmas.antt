@@ -12,7 +12,8 @@ abbrev pub status_of : ℕ → Option BidiClass → Status
 status_of level override = record { level = level; override = override }
 
 module _ (status : Status) (level : ℕ) (override : Option BidiClass) (is : status_of level override ≡ status) where
-  pub status_inside-first : (openers : List BidiClass) (x : ℕ) (y : Option BidiClass) → 1 ≤ length openers → asked_level (get_or openers 0 L) level ≤ 125 → x ≡ asked_level (get_or openers 0 L) level → y ≡ override_of (get_or openers 0 L)
+  pub status_inside-first : (openers : List BidiClass) (x : ℕ) (y : Option BidiClass) → 1 ≤ length openers
+      → asked_level (get_or openers 0 L) level ≤ 125 → x ≡ asked_level (get_or openers 0 L) level → y ≡ override_of (get_or openers 0 L)
       → status_inside (status_of x y) (take (length openers - 1) (drop 1 openers)) ≡ status_inside status openers
   status_inside-first openers x y some fits x_is y_is = grind (arith, common_steps, status_inside-taken)
 

@@ -1,5 +1,6 @@
 -- W5 block by block.
-use Rattle.bidi_base.proofs.Common.{◌≡◌, ℕ, suc, ◌+◌, ◌-◌, ◌<◌, ◌≤◌, Bool, true, false, not, ◌||◌, cond, List, ◌∷◌, length, get_or, take, drop, replicate, reverse, ap, subst, ◌∙◌, arith, inl, inr, cases_lt, drop_more, drop_all, get_or_past, prefix_len, is_et, is_en, class_at, nearest_is, w5_rule}
+use Rattle.bidi_base.proofs.Common.{◌≡◌, ℕ, suc, ◌+◌, ◌-◌, ◌<◌, ◌≤◌, Bool, true, false, not, ◌||◌, cond, List, ◌∷◌, length, get_or, take, drop, replicate, reverse, ap, subst}
+use Rattle.bidi_base.proofs.Common.{◌∙◌, arith, inl, inr, cases_lt, drop_more, drop_all, get_or_past, prefix_len, is_et, is_en, class_at, nearest_is, w5_rule}
 use borrow.Rule.Slice.PartMut.{put_mid}
 use Rattle.bidi_base.specs.declared.char_data.BidiClass.{BidiClass}
 use Rattle.bidi_base.specs.declared.char_data.BidiClass.TheVariants.{L, EN, ET}

@@ -1,5 +1,6 @@
 -- A line that is analysed as one paragraph, as a list of characters.
-use Rattle.bidi_base.proofs.Common.{◌≡◌, ℕ, false, List, length, map, Option, ap, ◌∙◌, arith, append-nil, length-map, IsAnalysis, paragraph_level, stored_classes, first_or, Source, stored_levels, text_classes, text_levels, paragraph_levels, one_unit}
+use Rattle.bidi_base.proofs.Common.{◌≡◌, ℕ, false, List, length, map, Option, ap, ◌∙◌, arith, append-nil, length-map, IsAnalysis, paragraph_level}
+use Rattle.bidi_base.proofs.Common.{stored_classes, first_or, Source, stored_levels, text_classes, text_levels, paragraph_levels, one_unit}
 use Rattle.bidi_base.specs.declared.char_data.BidiClass.{BidiClass}
 use Rattle.bidi_laws.proofs.LevelLaws.{length-stored_levels}
 use Rattle.bidi_laws.proofs.StoredSteps.{length-stored_classes}

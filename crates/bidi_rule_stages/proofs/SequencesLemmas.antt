@@ -1,5 +1,6 @@
 -- The isolating run sequences of a paragraph can be resolved.
-use Rattle.bidi_base.proofs.Common.{◌≡◌, ℕ, ◌<◌, ◌≤◌, List, length, get_or, Option, sym, ◌∙◌, arith, is_kept, explicit_levels, explicit_classes, stored_classes, RunSequence, sequences, sequence_from, start_class, end_class}
+use Rattle.bidi_base.proofs.Common.{◌≡◌, ℕ, ◌<◌, ◌≤◌, List, length, get_or, Option, sym, ◌∙◌, arith, is_kept, explicit_levels}
+use Rattle.bidi_base.proofs.Common.{explicit_classes, stored_classes, RunSequence, sequences, sequence_from, start_class, end_class}
 use Rattle.bidi_base.specs.declared.char_data.BidiClass.{BidiClass}
 use Rattle.bidi_base.specs.declared.char_data.BidiClass.TheVariants.{L}
 use Rattle.bidi_base.specs.declared.data_source.BidiMatchedOpeningBracket.{BidiMatchedOpeningBracket}

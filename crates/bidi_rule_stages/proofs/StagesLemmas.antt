@@ -1,5 +1,6 @@
 -- The rows that sequences write.
-use Rattle.bidi_base.proofs.Common.{◌≡◌, ℕ, ◌+◌, ◌<◌, true, List, [], ◌∷◌, ◌++◌, Option, Some, length, get_or, map, zip, take, flat_map, refl, ◌∙◌, arith, common_steps, slice_set, All, list_all, length-set, length-map, All-permutation, is_kept, is_l_or_r, is_weak_resolved, indexes, at_places, RunSequence, stored_classes, visual_order, Source}
+use Rattle.bidi_base.proofs.Common.{◌≡◌, ℕ, ◌+◌, ◌<◌, true, List, [], ◌∷◌, ◌++◌, Option, Some, length, get_or, map, zip, take, flat_map, refl, ◌∙◌, arith, common_steps, slice_set, All, list_all}
+use Rattle.bidi_base.proofs.Common.{length-set, length-map, All-permutation, is_kept, is_l_or_r, is_weak_resolved, indexes, at_places, RunSequence, stored_classes, visual_order, Source}
 use Rattle.bidi_base.specs.declared.char_data.BidiClass.{BidiClass}
 use Rattle.bidi_base.specs.declared.char_data.BidiClass.TheVariants.{L}
 use Rattle.bidi_laws.proofs.ResolvedLemmas.{length-weak_classes}
@@ -24,7 +25,8 @@ pub length-weak_in : (classes : List BidiClass) (s : RunSequence) → length (we
 unfolding weak_in
 length-weak_in classes s = grind (arith, length-weak_classes, length-at_places)
 
-pub weak_in-resolved : (classes : List BidiClass) (s : RunSequence) → is_l_or_r s.sos ≡ true → list_all is_kept (at_places L classes s.places) ≡ true → list_all is_weak_resolved (weak_in classes s) ≡ true
+pub weak_in-resolved : (classes : List BidiClass) (s : RunSequence) → is_l_or_r s.sos ≡ true
+    → list_all is_kept (at_places L classes s.places) ≡ true → list_all is_weak_resolved (weak_in classes s) ≡ true
 unfolding weak_in
 weak_in-resolved classes s sos kept = grind (arith, weak_classes-resolved)
 

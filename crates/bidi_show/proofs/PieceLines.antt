@@ -1,5 +1,8 @@
 -- What `show` and `lines` print of the paragraphs of a text, read in the text, is what they print of each by itself.
-use Rattle.bidi_base.proofs.Common.{◌≡◌, ℕ, ◌+◌, ◌-◌, ◌≤◌, List, [], ◌∷◌, ◌++◌, Option, length, map, flat_map, drop, encode_utf8, refl, sym, ap, ◌∙◌, append_assoc, length-append, arith, add-zero, take-append-add, take-append_seam, drop-append_seam, drop-append-add, slice_range, len_utf8, chars, IsUtf8, take_all, take-append-le, take-append-drop, drop-append-le, length-map, sum_by-append, encodes-chars, encodes-append, line_text, paragraph_level, stored_classes, lines_of, paragraphs_of, each_separator, ranges_from, Source, stored_levels, text_classes, text_levels, paragraph_levels, place, text_len, char_index, subrange, per_unit, per_char, IsLine}
+use Rattle.bidi_base.proofs.Common.{◌≡◌, ℕ, ◌+◌, ◌-◌, ◌≤◌, List, [], ◌∷◌, ◌++◌, Option, length, map, flat_map, drop, encode_utf8, refl, sym, ap, ◌∙◌, append_assoc, length-append, arith, add-zero}
+use Rattle.bidi_base.proofs.Common.{take-append-add, take-append_seam, drop-append_seam, drop-append-add, slice_range, len_utf8, chars, IsUtf8, take_all, take-append-le, take-append-drop}
+use Rattle.bidi_base.proofs.Common.{drop-append-le, length-map, sum_by-append, encodes-chars, encodes-append, line_text, paragraph_level, stored_classes, lines_of, paragraphs_of, each_separator}
+use Rattle.bidi_base.proofs.Common.{ranges_from, Source, stored_levels, text_classes, text_levels, paragraph_levels, place, text_len, char_index, subrange, per_unit, per_char, IsLine}
 use Rattle.std.proofs.Math.Nat.{zero-add}
 use Rattle.std.specs.Prelude.{encode_utf8_all}
 use Rattle.std.proofs.lemmas.List.{length-drop}
@@ -151,7 +154,8 @@ module _ (source : Source) (base : Option ℕ) (text : List ℕ) (utf8 : IsUtf8 
     layout_lines-from [] after e = ap (λ l. shown_line l ++ []) (rw add-zero at (line_in-piece [] [] after e))
     layout_lines-from (l ∷ lines) after e = rw add-zero at (layout_from [] (l ∷ lines) after e)
 
-    layout-piece : (limit : ℕ) → layout_text text level (per_unit len_utf8 (chars text) classes) (per_unit len_utf8 (chars text) levels) (layout_in source limit (chars text) start (start + text_len len_utf8 piece))
+    layout-piece : (limit : ℕ)
+        → layout_text text level (per_unit len_utf8 (chars text) classes) (per_unit len_utf8 (chars text) levels) (layout_in source limit (chars text) start (start + text_len len_utf8 piece))
         ≡ layout_lines source limit piece level (own_classes source piece) (stored_levels source base piece)
     layout-piece limit =
         let own : List ℕ = without_separator source piece in

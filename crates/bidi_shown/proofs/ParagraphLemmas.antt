@@ -1,5 +1,6 @@
 -- The lines of an analysed paragraph are those of its characters.
-use Rattle.bidi_base.proofs.Common.{◌≡◌, ◌∙◌, ℕ, List, [], ◌∷◌, Option, None, Some, length, map, flat_map, refl, sym, ap, arith, append-nil, length-map, chars, len_utf8, IsUtf8, Source, Run, Range, run_of, paragraph_level, paragraph_levels, text_classes, text_levels, get_or, ◌<◌, stored_classes, stored_levels, per_char, flat_map-map}
+use Rattle.bidi_base.proofs.Common.{◌≡◌, ◌∙◌, ℕ, List, [], ◌∷◌, Option, None, Some, length, map, flat_map, refl, sym, ap, arith, append-nil, length-map, chars, len_utf8, IsUtf8, Source, Run}
+use Rattle.bidi_base.proofs.Common.{Range, run_of, paragraph_level, paragraph_levels, text_classes, text_levels, get_or, ◌<◌, stored_classes, stored_levels, per_char, flat_map-map}
 use Rattle.std.proofs.lemmas.Str.{encodes-chars}
 use Rattle.bidi_base.specs.declared.char_data.BidiClass.{BidiClass}
 use Rattle.bidi_base.specs.declared.char_data.BidiClass.TheVariants.{L}

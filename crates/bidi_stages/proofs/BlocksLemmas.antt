@@ -1,5 +1,6 @@
 -- Parts of rows, and where blocks begin.
-use Rattle.bidi_base.proofs.Common.{◌≡◌, ◌∙◌, ℕ, zero, suc, ◌+◌, ◌-◌, ◌*◌, ◌/◌, ◌<◌, ◌≤◌, ◌++◌, List, length, get_or, map, flat_map, take, drop, max, subst, arith, common_steps, All, range_with_len, add-one, drop-take, flat_map_more, map-append, take-append-drop, take-take, take_all}
+use Rattle.bidi_base.proofs.Common.{◌≡◌, ◌∙◌, ℕ, zero, suc, ◌+◌, ◌-◌, ◌*◌, ◌/◌, ◌<◌, ◌≤◌, ◌++◌, List, length, get_or, map, flat_map, take, drop, max, subst, arith}
+use Rattle.bidi_base.proofs.Common.{common_steps, All, range_with_len, add-one, drop-take, flat_map_more, map-append, take-append-drop, take-take, take_all}
 use Rattle.std.proofs.Math.Nat.{div-mul-le_self, mul-le-mul_right, mul_comm}
 use Rattle.std.proofs.lemmas.Grind.{flat_map-append}
 use Rattle.std.proofs.lemmas.List.{take-map, drop-map}

@@ -15,7 +15,9 @@ tested size all number some short right = grind (arith, nat_tests)
 tested_empty : {A : Type 0} (size : ℕ) (all : Bool) (number : A) → ¬ (0 < size) → (if nat_le 1 size && nat_le size 3 && all then Some number else None) ≡ None
 tested_empty size all number none = grind (arith, nat_tests)
 
-value_of : {E : Type 0} (word : List ℕ) (result : Result ℕ E) → list_all is_ascii_digit word ≡ true → length word ≤ 3 → digits_value 10 word < 10 ^ 3 → OkIff result ((0 < length word) × (digits_value 10 word < 2 ^ 16)) (digits_value 10 word) → result_ok result ≡ number_of word
+value_of : {E : Type 0} (word : List ℕ) (result : Result ℕ E) → list_all is_ascii_digit word ≡ true → length word ≤ 3
+    → digits_value 10 word < 10 ^ 3 → OkIff result ((0 < length word) × (digits_value 10 word < 2 ^ 16)) (digits_value 10 word)
+    → result_ok result ≡ number_of word
 value_of word (Ok number) all short small parsed = rw parsed.1 (sym (tested (length word) _ (digits_value 10 word) parsed.0.0 short all))
 value_of word (Err fault) all short small parsed = sym (tested_empty (length word) _ (digits_value 10 word) (λ some. parsed (some, omega arith)))
 

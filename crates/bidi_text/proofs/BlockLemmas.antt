@@ -1,5 +1,6 @@
 -- Sixteen units at once.
-use Rattle.bidi_base.proofs.Common.{◌≡◌, ℕ, ◌+◌, ◌-◌, ◌<◌, ◌≤◌, ◌^◌, ◌%◌, Bool, false, nat_le, nat_tests, cond, List, length, take, drop, get_or, map, length-map, replicate, sym, ap, ◌∙◌, arith, take_all, length-drop, get_or-take, get_or-drop, slice_range}
+use Rattle.bidi_base.proofs.Common.{◌≡◌, ℕ, ◌+◌, ◌-◌, ◌<◌, ◌≤◌, ◌^◌, ◌%◌, Bool, false, nat_le, nat_tests, cond, List, length, take, drop, get_or, map}
+use Rattle.bidi_base.proofs.Common.{length-map, replicate, sym, ap, ◌∙◌, arith, take_all, length-drop, get_or-take, get_or-drop, slice_range}
 use lib.Lanes.{mask_l, top, zip2}
 use mir.Syntax.{Width}
 use mir.Val.{bits, hbits}

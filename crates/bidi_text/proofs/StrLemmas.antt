@@ -1,10 +1,15 @@
 -- A text of UTF-8 as a list of characters: `chars bs`, with `len_utf8` for the lengths.
-use Rattle.bidi_base.proofs.Common.{◌≡◌, ℕ, ◌+◌, ◌-◌, ◌≤◌, true, List, [], ◌∷◌, ◌++◌, length, take, drop, Option, Some, None, option_map, slice_get, refl, sym, ◌∙◌, ap, arith, subst, append-nil, length-append, length-take, length-drop, get_or, get_or-drop, get_or-take, ◌<◌, ◌*◌, ◌%◌, nat_lt, ◌/◌, inl, inr, cases_lt, if◌then◌else◌, common_steps, slice_range, take-append_seam, drop-append_seam, len_utf8, chars, IsUtf8, IsCharBoundary, encode_utf8_all, char_indices_steps, char_indices_rest, char_indices_offset, CharIndices, take-append-drop, sum_by-cons, encodes-chars, encodes-append, length-encode, chars-nil, IsUtf8-past_char, and_parts, nat_tests, YieldsList, text_len, char_indices, char_indices_from, indices_lengths_from, char_at, ascii_of, ascii_at, is_boundary, subrange, IsLine}
+use Rattle.bidi_base.proofs.Common.{◌≡◌, ℕ, ◌+◌, ◌-◌, ◌≤◌, true, List, [], ◌∷◌, ◌++◌, length, take, drop, Option, Some, None, option_map, slice_get, refl, sym, ◌∙◌, ap, arith, subst, append-nil}
+use Rattle.bidi_base.proofs.Common.{length-append, length-take, length-drop, get_or, get_or-drop, get_or-take, ◌<◌, ◌*◌, ◌%◌, nat_lt, ◌/◌, inl, inr, cases_lt, if◌then◌else◌, common_steps}
+use Rattle.bidi_base.proofs.Common.{slice_range, take-append_seam, drop-append_seam, len_utf8, chars, IsUtf8, IsCharBoundary, encode_utf8_all, char_indices_steps, char_indices_rest}
+use Rattle.bidi_base.proofs.Common.{char_indices_offset, CharIndices, take-append-drop, sum_by-cons, encodes-chars, encodes-append, length-encode, chars-nil, IsUtf8-past_char, and_parts, nat_tests}
+use Rattle.bidi_base.proofs.Common.{YieldsList, text_len, char_indices, char_indices_from, indices_lengths_from, char_at, ascii_of, ascii_at, is_boundary, subrange, IsLine}
 use Rattle.std.specs.Char.{encode_utf8, is_ascii}
 use Rattle.std.specs.Str.{all_scalars}
 use lib.Utf8.{encode, scalar, scalar_cases}
 use Rattle.std.specs.Iterator.{AlwaysYields}
-use Rattle.std.proofs.lemmas.Str.{chars-append, scalars-chars, len_utf8_bounds, chars_past_char, IsUtf8-take, IsUtf8-drop, IsCharBoundary-at_seam, IsCharBoundary-before_ascii, IsCharBoundary-from_take, byte_from_char, char_from_byte}
+use Rattle.std.proofs.lemmas.Str.{chars-append, scalars-chars, len_utf8_bounds, chars_past_char, IsUtf8-take, IsUtf8-drop}
+use Rattle.std.proofs.lemmas.Str.{IsCharBoundary-at_seam, IsCharBoundary-before_ascii, IsCharBoundary-from_take, byte_from_char, char_from_byte}
 use Rattle.std.proofs.lemmas.Iterator.Splits.{YieldsList-from_shown_while}
 use Rattle.bidi_base.proofs.TextLemmas.{HasUnits, cut_at, char_at-append, is_boundary-append, subrange-middle, char_at-None, char_at-end, char_at-zero}
 
@@ -57,7 +62,8 @@ three : (bs : List ℕ) (start end : ℕ) → start ≤ end → bs ≡ take star
 three bs start end le = grind (arith, take-append-drop)
 
 -- the characters of a line are those of its bytes
-pub subrange-from_str : (bs : List ℕ) (start end : ℕ) → IsUtf8 bs → IsLine len_utf8 (chars bs) start end → IsUtf8 (slice_range bs start end) → subrange len_utf8 (chars bs) start end ≡ chars (slice_range bs start end)
+pub subrange-from_str : (bs : List ℕ) (start end : ℕ) → IsUtf8 bs → IsLine len_utf8 (chars bs) start end
+    → IsUtf8 (slice_range bs start end) → subrange len_utf8 (chars bs) start end ≡ chars (slice_range bs start end)
 subrange-from_str bs start end u line mid =
     let xs : List ℕ = take start bs in
     let ys : List ℕ = slice_range bs start end in
@@ -86,7 +92,8 @@ YieldsList-from_char_indices s u =
     ))
     s u
 
-pub char_indices_gives : (s : CharIndices) (bs : List ℕ) → IsUtf8 bs → char_indices_rest s ≡ bs → char_indices_offset s ≡ 0 → AlwaysYields char_indices_steps (λ p. p) s (char_indices len_utf8 (chars bs))
+pub char_indices_gives : (s : CharIndices) (bs : List ℕ) → IsUtf8 bs → char_indices_rest s ≡ bs → char_indices_offset s ≡ 0
+    → AlwaysYields char_indices_steps (λ p. p) s (char_indices len_utf8 (chars bs))
 char_indices_gives s bs u e z = grind (arith, YieldsList-from_char_indices)
 
 -- nothing stands inside a character
@@ -94,7 +101,8 @@ pub char_at-inside : (bs : List ℕ) (i : ℕ) → IsUtf8 bs → ¬ (IsCharBound
 char_at-inside bs i u n = grind (arith, char_at-None len_utf8 has_units (chars bs) i, IsCharBoundary-from_is_boundary bs i u)
 
 -- what the first character of the rest says
-pub char_at-read : (bs rest : List ℕ) (i : ℕ) (o : Option ℕ) → IsUtf8 bs → IsCharBoundary bs i → rest ≡ drop i bs → o ≡ slice_get (chars rest) 0 → option_map (λ c. (c, len_utf8 c)) o ≡ char_at len_utf8 (chars bs) i
+pub char_at-read : (bs rest : List ℕ) (i : ℕ) (o : Option ℕ) → IsUtf8 bs → IsCharBoundary bs i → rest ≡ drop i bs
+    → o ≡ slice_get (chars rest) 0 → option_map (λ c. (c, len_utf8 c)) o ≡ char_at len_utf8 (chars bs) i
 char_at-read bs rest i o u b e is = grind (arith, char_at-from_str, char_at-zero)
 
 -- ---- a byte below 128 is a whole character, and no other byte begins one
@@ -120,7 +128,8 @@ ascii_at-below : (bs : List ℕ) (i : ℕ) → IsUtf8 bs → i < length bs → g
 ascii_at-below bs i u within below = grind (arith, ascii_at-byte bs i u within)
 
 -- and so are the bytes of a block
-pub ascii_at-block : (bs : List ℕ) (i k : ℕ) → IsUtf8 bs → i + 16 ≤ length bs → k < 16 → get_or (take 16 (drop i bs)) k 0 < 128 → Some (get_or (take 16 (drop i bs)) k 0) ≡ ascii_at len_utf8 (chars bs) (i + k)
+pub ascii_at-block : (bs : List ℕ) (i k : ℕ) → IsUtf8 bs → i + 16 ≤ length bs → k < 16 → get_or (take 16 (drop i bs)) k 0 < 128
+    → Some (get_or (take 16 (drop i bs)) k 0) ≡ ascii_at len_utf8 (chars bs) (i + k)
 ascii_at-block bs i k u room inside below =
     let here : get_or (take 16 (drop i bs)) k 0 ≡ get_or bs (i + k) 0 = get_or-take 16 (drop i bs) k 0 inside ∙ get_or-drop i bs k 0 in
     ap Some here ∙ ascii_at-below bs (i + k) u (omega (arith, room, inside)) (rw here at below)

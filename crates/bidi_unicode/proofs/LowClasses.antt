@@ -29,7 +29,8 @@ are_of_steps default [] c steps = true
 are_of_steps default (x ∷ xs) c steps =
     let here = skip steps c in (class_number x == class_number (class_named (step_value default here c))) && are_of_steps default xs (suc c) here
 
-pub are_of_steps-at : (default : Property.BidiClass) (classes : List BidiClass) (c : ℕ) (steps : List (Step Property.BidiClass)) (k : ℕ) → are_of_steps default classes c steps ≡ true → k < length classes
+pub are_of_steps-at : (default : Property.BidiClass) (classes : List BidiClass) (c : ℕ) (steps : List (Step Property.BidiClass)) (k : ℕ)
+    → are_of_steps default classes c steps ≡ true → k < length classes
     → get_or classes k L ≡ class_named (step_value default steps (c + k))
 unfolding are_of_steps
 are_of_steps-at default [] c steps k h fits = absurd (omega arith)

@@ -1,5 +1,6 @@
 -- The blocks of classes of the first plane beside the property, block by block.
-use Rattle.bidi_base.proofs.Common.{◌≡◌, ℕ, zero, suc, ◌+◌, ◌*◌, ◌/◌, ◌%◌, ◌<◌, ◌≤◌, Bool, true, ◌&&◌, nat_le, List, [], ◌∷◌, length, get_or, take, drop, refl, sym, ap, ◌∙◌, arith, and_parts, leb-true, get_or-take, get_or-drop, length-take, length-drop}
+use Rattle.bidi_base.proofs.Common.{◌≡◌, ℕ, zero, suc, ◌+◌, ◌*◌, ◌/◌, ◌%◌, ◌<◌, ◌≤◌, Bool, true, ◌&&◌, nat_le, List, [], ◌∷◌, length, get_or, take, drop}
+use Rattle.bidi_base.proofs.Common.{refl, sym, ap, ◌∙◌, arith, and_parts, leb-true, get_or-take, get_or-drop, length-take, length-drop}
 use Rattle.ucd_table.specs.Steps.{Step, step_value}
 use Rattle.ucd_table.proofs.StepsLemmas.{skip, step_value-skip}
 use Rattle.ucd_table.proofs.Computing.{tables}
@@ -23,7 +24,8 @@ blocks_of_steps default many classes (k ∷ ks) c steps =
     let here = skip steps c in
     (nat_le (k * 32 + 32) many && are_of_steps default (block classes k) c here) && blocks_of_steps default many classes ks (c + 32) here
 
-blocks_of_steps-at : (default : Property.BidiClass) (classes : List BidiClass) (blocks : List ℕ) (c : ℕ) (steps : List (Step Property.BidiClass)) (i j : ℕ) → blocks_of_steps default (length classes) classes blocks c steps ≡ true → i < length blocks → j < 32
+blocks_of_steps-at : (default : Property.BidiClass) (classes : List BidiClass) (blocks : List ℕ) (c : ℕ) (steps : List (Step Property.BidiClass)) (i j : ℕ)
+    → blocks_of_steps default (length classes) classes blocks c steps ≡ true → i < length blocks → j < 32
     → (get_or blocks i 0 * 32 + 32 ≤ length classes) × (get_or classes (get_or blocks i 0 * 32 + j) L ≡ class_named (step_value default steps (c + (i * 32 + j))))
 unfolding blocks_of_steps
 blocks_of_steps-at default classes [] c steps i j h fits inside = absurd (omega arith)
@@ -61,7 +63,8 @@ plane_ok_whole = ap (λ many. blocks_of_steps bidi_class_stepped.default many BL
 abbrev pub class_place : ℕ → ℕ
 class_place c = get_or BLOCK_OF (c / 32) 0 * 32 + c % 32
 
-at_character : (c : ℕ) → c < 0x1_0000 → (get_or BLOCK_OF (c / 32) 0 * 32 + 32 ≤ length BLOCK_CLASSES) × (get_or BLOCK_CLASSES (class_place c) L ≡ class_named (step_value bidi_class_stepped.default bidi_class_stepped.steps (0 + (c / 32 * 32 + c % 32))))
+at_character : (c : ℕ) → c < 0x1_0000
+    → (get_or BLOCK_OF (c / 32) 0 * 32 + 32 ≤ length BLOCK_CLASSES) × (get_or BLOCK_CLASSES (class_place c) L ≡ class_named (step_value bidi_class_stepped.default bidi_class_stepped.steps (0 + (c / 32 * 32 + c % 32))))
 at_character c low =
     blocks_of_steps-at bidi_class_stepped.default BLOCK_CLASSES BLOCK_OF 0 bidi_class_stepped.steps (c / 32) (c % 32) plane_ok_whole (omega (arith, many_blocks)) (omega arith)
 

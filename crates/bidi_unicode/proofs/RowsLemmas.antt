@@ -1,5 +1,6 @@
 -- What is found in a table whose rows ascend.
-use Rattle.bidi_base.proofs.Common.{◌≡◌, ◌≢◌, ℕ, zero, suc, ◌+◌, ◌<◌, ◌≤◌, true, nat_le, list_all, and_parts, leb-true, ◌∙◌, List, [], ◌∷◌, length, get_or, Some, None, Result, Ok, Err, refl, sym, arith, cases_lt, nat_tests}
+use Rattle.bidi_base.proofs.Common.{◌≡◌, ◌≢◌, ℕ, zero, suc, ◌+◌, ◌<◌, ◌≤◌, true, nat_le, list_all, and_parts, leb-true, ◌∙◌, List, [], ◌∷◌}
+use Rattle.bidi_base.proofs.Common.{length, get_or, Some, None, Result, Ok, Err, refl, sym, arith, cases_lt, nat_tests}
 use Rattle.std.proofs.Common.{MatchResult, zero-le, not-suc-le-zero}
 use Rattle.std.specs.List.Sorted.{IsSearchInRange, IsBinarySearchResult}
 use Rattle.std.specs.Ordering.{nat_cmp}

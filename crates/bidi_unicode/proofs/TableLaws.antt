@@ -1,5 +1,6 @@
 -- What the tables have in common with Unicode's general categories and its mirrored characters, each by a computation over steps.
-use Rattle.bidi_base.proofs.Common.{◌≡◌, ℕ, Bool, true, false, ◌&&◌, ◌||◌, not, ◌==◌, List, [], ◌∷◌, map, Option, Some, None, is_some, option_map, option_and_then, refl, sym, ap, ◌∙◌, arith, inl, inr, beq, cases_Bool, nat_tests, holds_number}
+use Rattle.bidi_base.proofs.Common.{◌≡◌, ℕ, Bool, true, false, ◌&&◌, ◌||◌, not, ◌==◌, List, [], ◌∷◌, map, Option, Some, None, is_some, option_map}
+use Rattle.bidi_base.proofs.Common.{option_and_then, refl, sym, ap, ◌∙◌, arith, inl, inr, beq, cases_Bool, nat_tests, holds_number}
 use Rattle.std.proofs.Common.{is_none}
 use Rattle.bidi_base.proofs.ChainLemmas.{holds_number-true}
 use Rattle.ucd_table.specs.Rows.{Row, value_in}

@@ -1,5 +1,6 @@
 -- The classes that a sequence's characters have are among those of all units.
-use Rattle.bidi_base.proofs.Common.{◌≡◌, ℕ, Bool, true, not, ◌||◌, List, [], ◌∷◌, length, map, refl, ap, ◌∙◌, inl, inr, filter, list_all, and_from, cases_Bool, cases_lt, cond-true, cond-false, get_or_past, is_kept_in_place, is_weak_resolved, at_places, class_at, place}
+use Rattle.bidi_base.proofs.Common.{◌≡◌, ℕ, Bool, true, not, ◌||◌, List, [], ◌∷◌, length, map, refl, ap, ◌∙◌, inl, inr, filter, list_all, and_from, cases_Bool}
+use Rattle.bidi_base.proofs.Common.{cases_lt, cond-true, cond-false, get_or_past, is_kept_in_place, is_weak_resolved, at_places, class_at, place}
 use Rattle.bidi_base.specs.declared.char_data.BidiClass.{BidiClass}
 use Rattle.bidi_base.specs.declared.char_data.BidiClass.TheVariants.{L, BN}
 use Rattle.bidi_laws.proofs.ContextLemmas.{list_all-get_or}

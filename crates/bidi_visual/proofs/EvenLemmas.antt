@@ -1,5 +1,6 @@
 -- A line without an odd level shows its characters in order.
-use Rattle.bidi_base.proofs.Common.{◌≡◌, ℕ, ◌+◌, ◌-◌, ◌≤◌, ◌<◌, ◌++◌, Bool, false, List, [], ◌∷◌, drop, length, get_or, flat_map, encode_utf8, ap, sym, ◌∙◌, arith, list_any_none, map, length-map, get_or-map, drop-drop, flat_map-append, has_rtl, is_odd, Run, run_level, level_runs, slice_range, Source, take_all, list_any, ◌==◌}
+use Rattle.bidi_base.proofs.Common.{◌≡◌, ℕ, ◌+◌, ◌-◌, ◌≤◌, ◌<◌, ◌++◌, Bool, false, List, [], ◌∷◌, drop, length, get_or, flat_map, encode_utf8, ap, sym, ◌∙◌, arith, list_any_none, map}
+use Rattle.bidi_base.proofs.Common.{length-map, get_or-map, drop-drop, flat_map-append, has_rtl, is_odd, Run, run_level, level_runs, slice_range, Source, take_all, list_any, ◌==◌}
 use Rattle.std.proofs.Math.Seq.{take-add}
 use Rattle.bidi_lines.proofs.Ordered.{none_odd}
 use Rattle.bidi_lines.proofs.RunsLemmas.{Follow, level_runs-follow, level_runs-each}
@@ -20,7 +21,8 @@ follow-up a b [] e = omega (arith, e)
 follow-up a b (run ∷ runs) h = let up = follow-up run.1 b runs h.2 in omega (arith, h.0, h.1)
 
 -- parts that follow one another from a up to b
-parts-joined : (chars : List ℕ) (a b : ℕ) (runs : List Run) → Follow a b runs → flat_map (λ (r : Run). flat_map encode_utf8 (slice_range chars r.0 r.1)) runs ≡ flat_map encode_utf8 (slice_range chars a b)
+parts-joined : (chars : List ℕ) (a b : ℕ) (runs : List Run) → Follow a b runs
+    → flat_map (λ (r : Run). flat_map encode_utf8 (slice_range chars r.0 r.1)) runs ≡ flat_map encode_utf8 (slice_range chars a b)
 parts-joined chars a b [] e =
     let none : b - a ≡ 0 = omega (arith, e) in simp (none)
 parts-joined chars a b (run ∷ runs) h =

@@ -1,5 +1,6 @@
 -- What follows of the analysis of a text that is cut into its paragraphs.
-use Rattle.bidi_base.proofs.Common.{◌≡◌, ◌≤◌, ℕ, Bool, true, false, refl, text_len, List, [], ◌∷◌, map, arith, then_some, All, IfSome, slice_range, AnalysedText, IsPerCharText, paragraph_level, stored_classes, HasOwnUnits, AreLevelsFrom, ranges_from, Source, text_classes, text_levels, stored_levels, per_unit, IsLine}
+use Rattle.bidi_base.proofs.Common.{◌≡◌, ◌≤◌, ℕ, Bool, true, false, refl, text_len, List, [], ◌∷◌, map, arith, then_some, All, IfSome, slice_range, AnalysedText, IsPerCharText}
+use Rattle.bidi_base.proofs.Common.{paragraph_level, stored_classes, HasOwnUnits, AreLevelsFrom, ranges_from, Source, text_classes, text_levels, stored_levels, per_unit, IsLine}
 use Rattle.std.proofs.lemmas.List.{append-nil}
 use Rattle.std.specs.Prelude.{Option, Some, None}
 use Rattle.bidi_base.specs.declared.char_data.BidiClass.TheVariants.{L}
@@ -9,7 +10,8 @@ use Rattle.bidi_base.proofs.PerUnit.{per_char-per_unit}
 use Rattle.bidi_text.proofs.PerCharTests.{class_test}
 use Rattle.bidi_base.proofs.TextLemmas.{HasUnits}
 use Rattle.bidi_base.proofs.UnitsLemmas.{is_per_char-per_unit}
-use Rattle.bidi_laws.proofs.LevelLaws.{BoundaryNeutralsAreAlike-all, StaysLeftToRight-all, length-text_levels, text_classes-one, text_levels-one, paragraph_levels-one, stored_levels-AreLevelsFrom, All-per_unit}
+use Rattle.bidi_laws.proofs.LevelLaws.{BoundaryNeutralsAreAlike-all, StaysLeftToRight-all, length-text_levels, text_classes-one}
+use Rattle.bidi_laws.proofs.LevelLaws.{text_levels-one, paragraph_levels-one, stored_levels-AreLevelsFrom, All-per_unit}
 use Rattle.bidi_laws.proofs.ParagraphsLemmas.{cut_after-joined, joined, length-text_classes, paragraphs-AreParagraphRanges}
 use Rattle.bidi_walk.specs.declared.paragraph_info.ParagraphInfo.{ParagraphInfo}
 use Rattle.bidi_walk.specs.ParagraphInfo.{range_of, ranges_of, levels_of}
@@ -53,7 +55,8 @@ module _ (source : Source) (len_of : ℕ → ℕ) (some : HasUnits len_of) (char
   rule-AreParagraphRanges : (rule : SplitRule) → AreParagraphRangesBy rule source len_of chars (ranges_from len_of 0 (pieces_by (Some rule) source chars))
   rule-AreParagraphRanges rule = grind (arith, paragraphs-AreParagraphRanges, together-AreCrLfParagraphRanges)
 
-  pub lines-found : (rule : SplitRule) (ps : List ParagraphInfo) → ranges_of ps ≡ ranges_from len_of 0 (pieces_by (Some rule) source chars) → All (λ p. IsLine len_of chars (range_of p).start (range_of p).end) ps
+  pub lines-found : (rule : SplitRule) (ps : List ParagraphInfo) → ranges_of ps ≡ ranges_from len_of 0 (pieces_by (Some rule) source chars)
+      → All (λ p. IsLine len_of chars (range_of p).start (range_of p).end) ps
   lines-found rule ps e = paragraphs-are_lines len_of chars ps (rw e (grind (arith, rule-AreParagraphRanges rule)))
 
 -- the same of a text that is one paragraph
@@ -82,7 +85,8 @@ module _ (source : Source) (base : Option ℕ) (a : AnalysedText) (ps : List Par
     rule-whole : (rule : Option SplitRule) → ranges ≡ ranges_from a.len_of 0 (pieces_by rule source a.chars) → rule ≡ None → ranges ≡ (0, text_len a.len_of a.chars) ∷ []
     rule-whole rule e is = grind arith
 
-  pub rule-IsAnalysedBy : (rule : Option SplitRule) → HasUnits a.len_of → IfSome base (λ level. level ≤ 125) → IsAnalysisBy source base rule a (ranges_of ps) (levels_of ps) → IsAnalysedBy source base rule a ps
+  pub rule-IsAnalysedBy : (rule : Option SplitRule) → HasUnits a.len_of → IfSome base (λ level. level ≤ 125)
+      → IsAnalysisBy source base rule a (ranges_of ps) (levels_of ps) → IsAnalysedBy source base rule a ps
   rule-IsAnalysedBy rule some few found =
       let whole = pieces_by-joined rule source a.chars in
       record {

@@ -1,5 +1,7 @@
 -- The levels of a text, written paragraph by paragraph.
-use Rattle.bidi_base.proofs.Common.{◌≡◌, Option, ℕ, ◌+◌, ◌-◌, ◌<◌, ◌≤◌, List, [], ◌∷◌, ◌++◌, length, get_or, take, drop, map, refl, subst, ◌∙◌, append_assoc, append-nil, arith, length-append, zero-add, take-append_seam, drop-append-add, Range, All, IfSome, slice_range, get_or-map, take_more, drop_more, drop-drop, length-map, flat_map-map, sum_by-append, map-map, paragraph_level, stored_classes, HasOwnUnits, AreLevelsFrom, ranges_from, Source, levels_in, stored_levels, text_classes, text_levels, paragraph_levels, text_len, subrange, per_unit, IsLine}
+use Rattle.bidi_base.proofs.Common.{◌≡◌, Option, ℕ, ◌+◌, ◌-◌, ◌<◌, ◌≤◌, List, [], ◌∷◌, ◌++◌, length, get_or, take, drop, map, refl, subst, ◌∙◌, append_assoc, append-nil, arith, length-append, zero-add, take-append_seam}
+use Rattle.bidi_base.proofs.Common.{drop-append-add, Range, All, IfSome, slice_range, get_or-map, take_more, drop_more, drop-drop, length-map, flat_map-map, sum_by-append, map-map, paragraph_level, stored_classes}
+use Rattle.bidi_base.proofs.Common.{HasOwnUnits, AreLevelsFrom, ranges_from, Source, levels_in, stored_levels, text_classes, text_levels, paragraph_levels, text_len, subrange, per_unit, IsLine}
 use Rattle.bidi_text_lines.proofs.RunText.{flat_map-same_on}
 use Rattle.std.specs.Prelude.{flat_map}
 use Rattle.std.proofs.lemmas.List.Concat.{flat_map-append}
@@ -25,7 +27,8 @@ pub record IsPart (len_of : ℕ → ℕ) (chars : List ℕ) (units : Range ℕ) 
   pub within : units.end ≤ text_len len_of chars
   pub long : text_len len_of piece ≡ units.end - units.start
 
-pub paragraph-IsPart : (len_of : ℕ → ℕ) → HasUnits len_of → (chars : List ℕ) (p : ParagraphInfo) (units : Range ℕ) → units ≡ range_of p → IsLine len_of chars p.range.start p.range.end → IsPart len_of chars units (subrange len_of chars units.start units.end)
+pub paragraph-IsPart : (len_of : ℕ → ℕ) → HasUnits len_of → (chars : List ℕ) (p : ParagraphInfo) (units : Range ℕ) → units ≡ range_of p
+    → IsLine len_of chars p.range.start p.range.end → IsPart len_of chars units (subrange len_of chars units.start units.end)
 paragraph-IsPart len_of h chars p units e line = grind (arith, is_boundary-le, text_len-subrange)
 
 -- the pass over its own characters, in the levels of the whole text
@@ -38,7 +41,8 @@ paragraph-written source len_of chars p units piece level levels new is_range is
     let n : units.start + (units.end - units.start) ≡ units.end = omega arith in
     cc (drop-drop (units.end - units.start) units.start levels)
 
-pub length-unit_levels : (source : Source) (len_of : ℕ → ℕ) → HasUnits len_of → (chars : List ℕ) (p : ParagraphInfo) → IsLine len_of chars p.range.start p.range.end → length (unit_levels source len_of chars p) ≡ p.range.end - p.range.start
+pub length-unit_levels : (source : Source) (len_of : ℕ → ℕ) → HasUnits len_of → (chars : List ℕ) (p : ParagraphInfo)
+    → IsLine len_of chars p.range.start p.range.end → length (unit_levels source len_of chars p) ≡ p.range.end - p.range.start
 unfolding unit_levels
 length-unit_levels source len_of h chars p line = grind (arith, length-per_unit, length-levels_in, length-map, text_len-subrange)
 
@@ -108,7 +112,8 @@ module _ (source : Source) (base : Option ℕ) (len_of : ℕ → ℕ) (units : H
   unfolding paragraph_flags
   paragraphs-flags = simp (← paragraphs-chars, map-map)
 
-  pub paragraphs-CanWrite : (classes : List BidiClass) → classes ≡ per_unit len_of chars (text_classes source pieces) → IfSome base (λ level. level ≤ 125) → All (CanWrite source len_of chars classes) ps
+  pub paragraphs-CanWrite : (classes : List BidiClass) → classes ≡ per_unit len_of chars (text_classes source pieces)
+      → IfSome base (λ level. level ≤ 125) → All (CanWrite source len_of chars classes) ps
   unfolding text_classes
   paragraphs-CanWrite classes e few k d within =
       let stored : List ℕ → List BidiClass = λ piece. stored_classes (map source.class_of piece) in
@@ -125,7 +130,8 @@ module _ (source : Source) (base : Option ℕ) (len_of : ℕ → ℕ) (units : H
   paragraphs-HasOwnUnits = rw ranges (HasOwnUnits-pieces (stored_levels source base) (length-stored_levels source base) len_of units chars pieces whole)
 
   -- its levels are at least its own, and at most the greatest
-  pub paragraphs-AreLevelsFrom : IfSome base (λ level. level ≤ 125) → All (λ p. AreLevelsFrom p.level (slice_range (per_unit len_of chars (text_levels source base pieces)) p.range.start p.range.end)) ps
+  pub paragraphs-AreLevelsFrom : IfSome base (λ level. level ≤ 125)
+      → All (λ p. AreLevelsFrom p.level (slice_range (per_unit len_of chars (text_levels source base pieces)) p.range.start p.range.end)) ps
   paragraphs-AreLevelsFrom few k d within =
       let piece : List ℕ = chars_of len_of chars (get_or ps k d) in
       let own = of_ranges (HasOwnUnits len_of (stored_levels source base) chars (per_unit len_of chars (text_levels source base pieces))) ps paragraphs-HasOwnUnits k d within in
@@ -146,5 +152,6 @@ flags-one source piece = refl
 
 -- ---- the paragraphs that are found
 
-pub paragraphs-are_lines : (len_of : ℕ → ℕ) (chars : List ℕ) (ps : List ParagraphInfo) → All (λ r. IsLine len_of chars r.0 r.1) (ranges_of ps) → All (λ p. IsLine len_of chars (range_of p).start (range_of p).end) ps
+pub paragraphs-are_lines : (len_of : ℕ → ℕ) (chars : List ℕ) (ps : List ParagraphInfo)
+    → All (λ r. IsLine len_of chars r.0 r.1) (ranges_of ps) → All (λ p. IsLine len_of chars (range_of p).start (range_of p).end) ps
 paragraphs-are_lines len_of chars ps lines = of_ranges (λ r. IsLine len_of chars r.0 r.1) ps lines

@@ -1,4 +1,5 @@
-use Rattle.bidi_base.proofs.Common.{◌≡◌, ℕ, ◌<◌, ◌+◌, List, length, get_or, drop, reverse, None, unwrap_or, Option, sym, ap, ◌∙◌, arith, common_steps, YieldsList-turn, YieldsList-end, at_drop_all, length_push, BidiClass, as_direction, nearest_direction}
+use Rattle.bidi_base.proofs.Common.{◌≡◌, ℕ, ◌<◌, ◌+◌, List, length, get_or, drop, reverse, None, unwrap_or, Option, sym, ap, ◌∙◌, arith, common_steps}
+use Rattle.bidi_base.proofs.Common.{YieldsList-turn, YieldsList-end, at_drop_all, length_push, BidiClass, as_direction, nearest_direction}
 use Rattle.std.proofs.lemmas.Iterator.Adapters.{YieldsList-from_rev_slice}
 use Rattle.bidi_base.proofs.neutrals.nearest_direction.Goals as goal
 

@@ -3,7 +3,8 @@ use Rattle.bidi_controls.specs.Lines.{is_printable_ascii}
 use Rattle.bidi_controls.proofs.lines.are_printable_ascii.Goals as goal
 
 -- one character more
-one_more : (chars : List ℕ) (n c : ℕ) (before here : Bool) → n < length chars → c ≡ get_or chars n c → here ≡ is_printable_ascii c → (before ≡ true → All (λ c. is_printable_ascii c ≡ true) (take n chars))
+one_more : (chars : List ℕ) (n c : ℕ) (before here : Bool) → n < length chars → c ≡ get_or chars n c → here ≡ is_printable_ascii c
+    → (before ≡ true → All (λ c. is_printable_ascii c ≡ true) (take n chars))
     → before && here ≡ true → All (λ c. is_printable_ascii c ≡ true) (take (n + 1) chars)
 one_more chars n c before here fits is here_is h set =
     let parts = and_parts before here set in

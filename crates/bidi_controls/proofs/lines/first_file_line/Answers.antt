@@ -1,4 +1,5 @@
-use Rattle.bidi_base.proofs.Common.{◌≡◌, ℕ, ◌+◌, ◌-◌, ◌<◌, ◌≤◌, true, false, List, All, length, take, drop, get_or, ap, subst, sym, ◌∙◌, arith, length-drop, length-take-le, take_all, nat_tests, Source}
+use Rattle.bidi_base.proofs.Common.{◌≡◌, ℕ, ◌+◌, ◌-◌, ◌<◌, ◌≤◌, true, false, List, All, length, take, drop, get_or, ap, subst}
+use Rattle.bidi_base.proofs.Common.{sym, ◌∙◌, arith, length-drop, length-take-le, take_all, nat_tests, Source}
 use Rattle.std.proofs.lemmas.List.{get_or-drop, get_or-take}
 use Rattle.bidi_bytes.specs.FileLines.{ends_file_line}
 use Rattle.bidi_controls.specs.Lines.{is_printable_ascii}
@@ -16,7 +17,8 @@ no_end : (c : ℕ) → is_printable_ascii c ≡ true → (after : List ℕ) → 
 no_end c printable after = grind (arith, nat_tests)
 
 -- each of the characters of a block is printable ASCII
-in_block : (chars : List ℕ) (n k : ℕ) → n + k ≤ length chars → All (λ c. is_printable_ascii c ≡ true) (take k (drop n chars)) → (i : ℕ) → n ≤ i → i < n + k → is_printable_ascii (get_or chars i 0) ≡ true
+in_block : (chars : List ℕ) (n k : ℕ) → n + k ≤ length chars → All (λ c. is_printable_ascii c ≡ true) (take k (drop n chars)) → (i : ℕ)
+    → n ≤ i → i < n + k → is_printable_ascii (get_or chars i 0) ≡ true
 in_block chars n k fits printable i low high =
     let same : get_or (take k (drop n chars)) (i - n) 0 ≡ get_or chars i 0 =
     get_or-take k (drop n chars) (i - n) 0 (omega (arith, low, high)) ∙ get_or-drop n chars (i - n) 0 ∙ ap (λ j. get_or chars j 0) (omega (arith, low)) in

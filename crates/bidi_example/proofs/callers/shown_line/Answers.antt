@@ -1,4 +1,5 @@
-use Rattle.bidi_base.proofs.Common.{◌≡◌, ℕ, List, None, map, length-map, ap, ◌∙◌, IfOk-weaker, length, per_unit, per_char, chars, len_utf8, encode_utf8, line_text, stored_classes, stored_levels, paragraph_level, Source, arith, IsUtf8, IsLine}
+use Rattle.bidi_base.proofs.Common.{◌≡◌, ℕ, List, None, map, length-map, ap, ◌∙◌, IfOk-weaker, length, per_unit, per_char, chars, len_utf8}
+use Rattle.bidi_base.proofs.Common.{encode_utf8, line_text, stored_classes, stored_levels, paragraph_level, Source, arith, IsUtf8, IsLine}
 use Rattle.bidi_base.proofs.PerUnit.{per_char-per_unit}
 use Rattle.bidi_base.specs.declared.char_data.BidiClass.{BidiClass}
 use Rattle.bidi_base.specs.declared.char_data.BidiClass.TheVariants.{L}

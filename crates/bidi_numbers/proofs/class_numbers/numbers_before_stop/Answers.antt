@@ -7,7 +7,8 @@ use Rattle.bidi_numbers.specs.Numbers.{class_numbered}
 use Rattle.bidi_numbers.proofs.class_numbers.numbers_before_stop.Goals as goal
 
 -- the marks of sixteen numbers are those of their classes
-marks_of : (numbers : List ℕ) (index count : ℕ) → count ≡ 16 → map (λ n. cond (is_stop (class_numbered n)) 1 0) (take count (drop index numbers)) ≡ map (mark_of is_stop) (chunk index 16 (map class_numbered numbers))
+marks_of : (numbers : List ℕ) (index count : ℕ) → count ≡ 16
+    → map (λ n. cond (is_stop (class_numbered n)) 1 0) (take count (drop index numbers)) ≡ map (mark_of is_stop) (chunk index 16 (map class_numbered numbers))
 marks_of numbers index count e = simp (e, take-map, drop-map, map-map)
 
 pub returns-then-stops-eq0 : goal.returns-then-stops-eq0

@@ -15,10 +15,12 @@ classes_are g c = c.as_slice.ensures.value ∙ c.in_ok-classes.ensures
 brackets_are : (g : Over) (c : After-as_slice-3 g) → c.as_slice-2.result.now ≡ map (g.D.BidiDataSource.source c.args.data_source.now).bracket_of c.args.chars.now
 brackets_are g c = c.as_slice-2.ensures.value ∙ c.in_ok-brackets.ensures
 
-explicit_classes_are : (g : Over) (c : After-as_slice-3 g) → c.classes.result.now ≡ explicit_classes c.args.level (stored_classes (map (g.D.BidiDataSource.source c.args.data_source.now).class_of c.args.chars.now))
+explicit_classes_are : (g : Over) (c : After-as_slice-3 g)
+    → c.classes.result.now ≡ explicit_classes c.args.level (stored_classes (map (g.D.BidiDataSource.source c.args.data_source.now).class_of c.args.chars.now))
 explicit_classes_are g c = grind arith
 
-explicit_levels_are : (g : Over) (c : After-as_slice-3 g) → c.levels-2.result.now ≡ explicit_levels c.args.level (stored_classes (map (g.D.BidiDataSource.source c.args.data_source.now).class_of c.args.chars.now))
+explicit_levels_are : (g : Over) (c : After-as_slice-3 g)
+    → c.levels-2.result.now ≡ explicit_levels c.args.level (stored_classes (map (g.D.BidiDataSource.source c.args.data_source.now).class_of c.args.chars.now))
 explicit_levels_are g c = grind arith
 
 sequences_are : (g : Over) (c : After-as_slice-3 g) → c.as_slice-3.result.now

@@ -31,7 +31,8 @@ is_line : (g : Over) (c : In_ok-show g) → IsLine len_utf8 (chars c.args.paragr
 is_line g c = IsLine-from c.args.paragraph.now.text.now c.args.line.now c.requires.utf8 c.requires.range
 
 -- the levels of its units
-shown : (g : Over) (c : In_ok-show g) → AreLevelsOfLine (analysed_in c.args.paragraph.now.memory.now (chars c.args.paragraph.now.text.now)) c.args.paragraph.now.memory.now.level c.args.line.now (kept_levels c.show.new.self)
+shown : (g : Over) (c : In_ok-show g)
+    → AreLevelsOfLine (analysed_in c.args.paragraph.now.memory.now (chars c.args.paragraph.now.text.now)) c.args.paragraph.now.memory.now.level c.args.line.now (kept_levels c.show.new.self)
 shown g c =
     let a : AnalysedText = analysed_in c.args.paragraph.now.memory.now (chars c.args.paragraph.now.text.now) in
     let is : kept_levels c.show.new.self ≡ levels_of_line c.args.paragraph.now.memory.now.level a.classes a.levels c.args.line.now.start c.args.line.now.end = grind arith in

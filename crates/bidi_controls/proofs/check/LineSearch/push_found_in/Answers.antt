@@ -12,7 +12,8 @@ with_paragraph : (source : Source) (wanted : Wanted) (number from next : ℕ) (r
 with_paragraph source wanted number from next rest paragraph after old new all first next_is before here = grind (arith, append_assoc)
 
 -- behind the last paragraph nothing more is found
-at_end : (source : Source) (wanted : Wanted) (number from : ℕ) (rest : List ℕ) (old all : List Finding) → length rest ≡ 0 → old ++ findings_in_paragraphs source wanted number from (lines_of source rest) ≡ all → old ≡ all
+at_end : (source : Source) (wanted : Wanted) (number from : ℕ) (rest : List ℕ) (old all : List Finding) → length rest ≡ 0
+    → old ++ findings_in_paragraphs source wanted number from (lines_of source rest) ≡ all → old ≡ all
 at_end source wanted number from [] old all none found = sym (append-nil old) ∙ found
 at_end source wanted number from (c ∷ rest) old all none found = absurd (omega (arith, none))
 

@@ -2,7 +2,8 @@ use Rattle.bidi_base.proofs.Common.{arith}
 use Rattle.bidi_laws.proofs.InPlace.{IsRewritten-end}
 use Rattle.bidi_plain.proofs.Terminators.{step-filled, step-kept}
 use Rattle.bidi_plain.proofs.plain.weak_types.apply_w5.Goals as goal
-use Rattle.bidi_plain.proofs.plain.weak_types.apply_w5.Goals.{then-after_number, then-after_number-via-then-after_number, then-after_number-via-else-after_number+then-before_number, else-after_number+else-before_number}
+use Rattle.bidi_plain.proofs.plain.weak_types.apply_w5.Goals.{then-after_number, then-after_number-via-then-after_number}
+use Rattle.bidi_plain.proofs.plain.weak_types.apply_w5.Goals.{then-after_number-via-else-after_number+then-before_number, else-after_number+else-before_number}
 
 pub loop-start-preserved : goal.loop-start-preserved
 loop-start-preserved c =

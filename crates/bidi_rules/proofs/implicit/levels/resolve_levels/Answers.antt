@@ -1,4 +1,5 @@
-use Rattle.bidi_base.proofs.Common.{◌≡◌, ◌<◌, ◌≤◌, ℕ, List, map, get_or, length, arith, get_or-set_same, get_or-set_other, ext_get_or, get_or-map, get_or_default, length-map, take_more_set, fold_push, get_or-zip, length-zip, implicit_level, class_at}
+use Rattle.bidi_base.proofs.Common.{◌≡◌, ◌<◌, ◌≤◌, ℕ, List, map, get_or, length, arith, get_or-set_same, get_or-set_other, ext_get_or, get_or-map}
+use Rattle.bidi_base.proofs.Common.{get_or_default, length-map, take_more_set, fold_push, get_or-zip, length-zip, implicit_level, class_at}
 use Rattle.std.specs.List.{zip}
 use Rattle.bidi_base.specs.declared.char_data.BidiClass.{BidiClass}
 use Rattle.bidi_base.specs.declared.char_data.BidiClass.TheVariants.{L}
@@ -8,7 +9,8 @@ use Rattle.bidi_rules.proofs.implicit.levels.resolve_levels.Goals as goal
 read_is : (old now : List ℕ) (i level : ℕ) → i < length old → length now ≡ length old → ((k : ℕ) → i ≤ k → get_or now k 0 ≡ get_or old k 0) → level ≡ get_or now i level → level ≡ get_or old i 0
 read_is old now i level fits long rest is = grind (arith, get_or_default)
 
-all_are : (old : List ℕ) (classes : List BidiClass) (now : List ℕ) → length old ≡ length classes → length now ≡ length old → ((k : ℕ) → k < length old → get_or now k 0 ≡ implicit_level (get_or old k 0) (class_at classes k))
+all_are : (old : List ℕ) (classes : List BidiClass) (now : List ℕ) → length old ≡ length classes → length now ≡ length old
+    → ((k : ℕ) → k < length old → get_or now k 0 ≡ implicit_level (get_or old k 0) (class_at classes k))
     → now ≡ map (λ (e : ℕ × BidiClass). implicit_level e.0 e.1) (zip old classes)
 all_are old classes now same long each =
     let pairs : length (zip old classes) ≡ length old = omega (arith, length-zip old classes) in

@@ -1,4 +1,5 @@
-use Rattle.bidi_base.proofs.Common.{◌≡◌, ◌∙◌, ◌+◌, ◌-◌, ℕ, Some, length, length-append, ap, arith, len_utf8, CharIndices, char_indices_rest, char_indices_offset, char_indices_steps, IsUtf8-past_char, length-encode}
+use Rattle.bidi_base.proofs.Common.{◌≡◌, ◌∙◌, ◌+◌, ◌-◌, ℕ, Some, length, length-append, ap, arith, len_utf8, CharIndices}
+use Rattle.bidi_base.proofs.Common.{char_indices_rest, char_indices_offset, char_indices_steps, IsUtf8-past_char, length-encode}
 use Rattle.bidi_text.specs.declared.text.str_text.Utf8IndexLenIter.{Utf8IndexLenIter}
 use Rattle.std.specs.Char.{encode_utf8}
 use Rattle.bidi_text.proofs.StrLemmas.{lengths_left, lengths_end, lengths_step}
