@@ -1,11 +1,10 @@
 //! What `explain` reads and writes.
 use crate::files::{
-    STANDARD_INPUT, STANDARD_INPUT_NAME, end_without_memory, read_standard_input, refuse,
-    refuse_rest, write_out,
+    STANDARD_INPUT, end_without_memory, read_standard_input, refuse, refuse_rest, write_out,
 };
 use crate::input::{explain_input, explain_text};
-use crate::operands::Operands;
 use crate::status::Status;
+use bidi_arguments::operands::{Operands, STANDARD_INPUT_NAME};
 use bidi_stages::frame;
 use bidi_stages::view::{Form, StageView};
 use std::fs;

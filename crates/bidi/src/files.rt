@@ -1,7 +1,8 @@
 //! What is read and written: the files of `show`, help and versions.
 use crate::help::help;
-use crate::refusal::Subcommand;
 use crate::status::Status;
+use bidi_arguments::operands::STANDARD_INPUT_NAME;
+use bidi_arguments::refusal::Subcommand;
 use bidi_names::names::shown_name;
 use bidi_shown::stream::{Stream, StreamFault};
 use bidi_unicode::UNICODE_VERSION;
@@ -13,9 +14,6 @@ use unicode_bidi::VERSION;
 
 /// What standard input is called in a report.
 pub const STANDARD_INPUT: &str = "<stdin>";
-
-/// The name of a file that stands for standard input.
-pub const STANDARD_INPUT_NAME: &str = "-";
 
 // What a write to standard output means for the run. What fails ends it, quietly where nobody reads on.
 fn after_write(rt: &impl Eprint, written: io::Result<()>) -> Result<(), Status> {

@@ -1,5 +1,5 @@
 //! What `--help` writes.
-use crate::refusal::Subcommand;
+use bidi_arguments::refusal::Subcommand;
 
 const PROGRAM: &str = "bidi: the Unicode Bidirectional Algorithm for text in UTF-8\n\
     \n\

@@ -1,14 +1,13 @@
 //! The files that `check` searches: its arguments and its list name them, or they are below a directory. They
 //! are searched one after the other. A fault of one does not keep the next from being searched.
-use crate::check_options::CheckOptions;
 use crate::entries::{listed_names, names_in_order, path_below};
-use crate::files::{
-    STANDARD_INPUT, STANDARD_INPUT_NAME, end_without_memory, read_standard_input, refuse, write_out,
-};
+use crate::files::{STANDARD_INPUT, end_without_memory, read_standard_input, refuse, write_out};
 use crate::input::check_input;
 use crate::status::Status;
 use crate::told::push_lines_told;
 use bidi_allowed::allowed::{AllowList, ListFault};
+use bidi_arguments::check_options::CheckOptions;
+use bidi_arguments::operands::STANDARD_INPUT_NAME;
 use bidi_bytes::decode::{BINARY_PREFIX, is_binary, is_utf16};
 use bidi_bytes::pieces::read_piece;
 use bidi_names::names::{shown_bytes, shown_name};

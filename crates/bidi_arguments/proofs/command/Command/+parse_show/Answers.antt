@@ -1,6 +1,6 @@
 use Rattle.bidi_base.proofs.Common.{arith}
-use Rattle.bidi.proofs.OptionsLemmas.{show_of-plain, show_of-base, show_of-width}
-use Rattle.bidi.proofs.command.Command.+parse_show.Goals as goal
+use Rattle.bidi_arguments.proofs.OptionsLemmas.{show_of-plain, show_of-base, show_of-width}
+use Rattle.bidi_arguments.proofs.command.Command.+parse_show.Goals as goal
 
 pub returns-in-len1-up : goal.returns-in-len1-up
 returns-in-len1-up t c = grind (arith, show_of-plain)

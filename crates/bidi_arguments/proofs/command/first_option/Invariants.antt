@@ -1,7 +1,7 @@
 use Rattle.bidi_base.proofs.Common.{◌≡◌, map, drop, string_bytes}
 use Rattle.std.proofs.Common.{find}
-use Rattle.bidi.specs.Options.{is_option}
-use Rattle.bidi.proofs.command.first_option.Given as goal
+use Rattle.bidi_arguments.specs.Options.{is_option}
+use Rattle.bidi_arguments.proofs.command.first_option.Given as goal
 
 abbrev pub invariant-loop-word : goal.invariant-loop-word
 invariant-loop-word l = find is_option (map string_bytes l.words) ≡ find is_option (map string_bytes (drop l.word-index l.words))

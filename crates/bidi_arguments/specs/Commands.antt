@@ -6,17 +6,17 @@ use Rattle.bidi_terminal.specs.Numbers.{number_of}
 use Rattle.bidi_stages.specs.Explained.{first_stage_view}
 use Rattle.bidi_stages.specs.declared.view.Form.TheVariants.{Page}
 use Rattle.bidi_stages.specs.declared.view.StageView.{StageView}
-use Rattle.bidi.specs.Checks.{first_check, flag_named, reads_input_twice, setting_named, with_flag, with_setting}
-use Rattle.bidi.specs.Options.{is_option, is_help, is_version}
-use Rattle.bidi.specs.declared.check_options.CheckOptions.{CheckOptions}
-use Rattle.bidi.specs.declared.command.Command.{Command}
-use Rattle.bidi.specs.declared.command.Command.TheVariants.{Check, Show, Explain, Help, Version}
-use Rattle.bidi.specs.declared.operands.Operands.{Operands}
-use Rattle.bidi.specs.declared.operands.Operands.TheVariants.{Texts, Files}
-use Rattle.bidi.specs.declared.refusal.Refusal.{Refusal}
-use Rattle.bidi.specs.declared.refusal.Refusal.TheVariants.{NoSubcommand, NotASubcommand, NotAnOption, LateOption, NotAlone, NoValue, NotABase, NotAWidth, InputTwice}
-use Rattle.bidi.specs.declared.refusal.Subcommand.{Subcommand}
-use Rattle.bidi.specs.declared.refusal.Subcommand.TheVariants.{Checking, Showing, Explaining}
+use Rattle.bidi_arguments.specs.Checks.{first_check, flag_named, reads_input_twice, setting_named, with_flag, with_setting}
+use Rattle.bidi_arguments.specs.Options.{is_option, is_help, is_version}
+use Rattle.bidi_arguments.specs.declared.check_options.CheckOptions.{CheckOptions}
+use Rattle.bidi_arguments.specs.declared.command.Command.{Command}
+use Rattle.bidi_arguments.specs.declared.command.Command.TheVariants.{Check, Show, Explain, Help, Version}
+use Rattle.bidi_arguments.specs.declared.operands.Operands.{Operands}
+use Rattle.bidi_arguments.specs.declared.operands.Operands.TheVariants.{Texts, Files}
+use Rattle.bidi_arguments.specs.declared.refusal.Refusal.{Refusal}
+use Rattle.bidi_arguments.specs.declared.refusal.Refusal.TheVariants.{NoSubcommand, NotASubcommand, NotAnOption, LateOption, NotAlone, NoValue, NotABase, NotAWidth, InputTwice}
+use Rattle.bidi_arguments.specs.declared.refusal.Subcommand.{Subcommand}
+use Rattle.bidi_arguments.specs.declared.refusal.Subcommand.TheVariants.{Checking, Showing, Explaining}
 use Rattle.bidi_visual.specs.Views.{first_view}
 use Rattle.bidi_visual.specs.declared.view.View.{View}
 

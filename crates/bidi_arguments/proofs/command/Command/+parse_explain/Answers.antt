@@ -1,6 +1,6 @@
 use Rattle.bidi_base.proofs.Common.{arith}
-use Rattle.bidi.proofs.OptionsLemmas.{explain_of-html, explain_of-files, explain_of-base, explain_of-width}
-use Rattle.bidi.proofs.command.Command.+parse_explain.Goals as goal
+use Rattle.bidi_arguments.proofs.OptionsLemmas.{explain_of-html, explain_of-files, explain_of-base, explain_of-width}
+use Rattle.bidi_arguments.proofs.command.Command.+parse_explain.Goals as goal
 
 pub returns-in-len1-up : goal.returns-in-len1-up
 returns-in-len1-up t c = grind (arith, explain_of-html)

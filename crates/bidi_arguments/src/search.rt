@@ -14,7 +14,7 @@ pub struct Search<'w> {
 
 impl<'w> Default for Search<'w> {
     ghost use Rattle.std.specs.Prelude.{◌≡◌};
-    ghost use Rattle.bidi.specs.Checks.{first_search};
+    ghost use Rattle.bidi_arguments.specs.Checks.{first_search};
 
     /// Neither hidden nor binary files, and no list.
     fn default() -> Search<'w>

@@ -1,9 +1,9 @@
 //! What the options of `check` ask for.
 ghost use Rattle.std.specs.Prelude.{◌≡◌, map, string_bytes};
 ghost use Rattle.std.specs.List.{list_any};
-ghost use Rattle.bidi.specs.Checks.{is_input, is_input_list, searches_input, reads_input_twice, first_check, first_report, format_named, color_named, flag_named, setting_named, with_flag, with_setting, with_format, with_color, with_allow, with_list, form_of};
+ghost use Rattle.bidi_arguments.specs.Checks.{is_input, is_input_list, searches_input, reads_input_twice, first_check, first_report, format_named, color_named, flag_named, setting_named, with_flag, with_setting, with_format, with_color, with_allow, with_list, form_of};
 
-use crate::files::STANDARD_INPUT_NAME;
+use crate::operands::STANDARD_INPUT_NAME;
 use crate::refusal::{Refusal, Word};
 use crate::search::Search;
 use bidi_controls::finding::Wanted;

@@ -1,7 +1,7 @@
 //! What the words of a call ask for.
 ghost use Rattle.std.specs.Prelude.{◌≡◌, find, map, string_bytes};
-ghost use Rattle.bidi.specs.Commands.{asks_help, unknown_option, late_option};
-ghost use Rattle.bidi.specs.Options.{is_option};
+ghost use Rattle.bidi_arguments.specs.Commands.{asks_help, unknown_option, late_option};
+ghost use Rattle.bidi_arguments.specs.Options.{is_option};
 
 use crate::check_options::{CheckOptions, Flag, Setting};
 use crate::operands::Operands;
@@ -80,7 +80,7 @@ fn first_option<'w>(words: &'w [String]) -> Option<Word<'w>>
 }
 
 impl<'w> FileWords<'w> {
-    ghost use Rattle.bidi.specs.Commands.{file_words};
+    ghost use Rattle.bidi_arguments.specs.Commands.{file_words};
 
     /// What stands after the options of a subcommand. Refused where there is an option among the
     /// words, unless `--` is the first of them.
@@ -136,8 +136,8 @@ pub enum Command<'w> {
 }
 
 impl<'w> Command<'w> {
-    ghost use Rattle.bidi.specs.Commands.{command_of, check_of, check_over, explain_of, show_of, alone_of, file_words};
-    ghost use Rattle.bidi.specs.declared.refusal.Subcommand.TheVariants.{Checking};
+    ghost use Rattle.bidi_arguments.specs.Commands.{command_of, check_of, check_over, explain_of, show_of, alone_of, file_words};
+    ghost use Rattle.bidi_arguments.specs.declared.refusal.Subcommand.TheVariants.{Checking};
 
     /// What words after the options of `check` ask for. Refused if standard input would be read twice.
     fn over_files(

@@ -7,18 +7,18 @@ use Rattle.std.proofs.lemmas.List.{length-drop}
 use Rattle.bidi_terminal.specs.Bases.{base_named}
 use Rattle.bidi_terminal.specs.Numbers.{number_of}
 use Rattle.bidi_terminal.specs.declared.base.Base.{Base}
-use Rattle.bidi.specs.Checks.{flag_named, setting_named, with_flag, with_setting}
-use Rattle.bidi.specs.Commands.{by_options, check_of, check_over, explain_of, file_words, show_of}
+use Rattle.bidi_arguments.specs.Checks.{flag_named, setting_named, with_flag, with_setting}
+use Rattle.bidi_arguments.specs.Commands.{by_options, check_of, check_over, explain_of, file_words, show_of}
 use Rattle.bidi_stages.specs.declared.view.Form.TheVariants.{Page}
 use Rattle.bidi_stages.specs.declared.view.StageView.{StageView}
-use Rattle.bidi.specs.declared.check_options.CheckOptions.{CheckOptions}
-use Rattle.bidi.specs.declared.check_options.Flag.{Flag}
-use Rattle.bidi.specs.declared.check_options.Setting.{Setting}
-use Rattle.bidi.specs.declared.operands.Operands.{Operands}
-use Rattle.bidi.specs.declared.operands.Operands.TheVariants.{Files}
-use Rattle.bidi.specs.declared.refusal.Refusal.{Refusal}
-use Rattle.bidi.specs.declared.refusal.Refusal.TheVariants.{NoValue}
-use Rattle.bidi.specs.declared.refusal.Subcommand.TheVariants.{Checking}
+use Rattle.bidi_arguments.specs.declared.check_options.CheckOptions.{CheckOptions}
+use Rattle.bidi_arguments.specs.declared.check_options.Flag.{Flag}
+use Rattle.bidi_arguments.specs.declared.check_options.Setting.{Setting}
+use Rattle.bidi_arguments.specs.declared.operands.Operands.{Operands}
+use Rattle.bidi_arguments.specs.declared.operands.Operands.TheVariants.{Files}
+use Rattle.bidi_arguments.specs.declared.refusal.Refusal.{Refusal}
+use Rattle.bidi_arguments.specs.declared.refusal.Refusal.TheVariants.{NoValue}
+use Rattle.bidi_arguments.specs.declared.refusal.Subcommand.TheVariants.{Checking}
 use Rattle.bidi_visual.specs.declared.view.View.{View}
 
 module _ {Z : Type 0} where

@@ -39,7 +39,7 @@ impl<'w> Model for Word<'w> {
 
 impl<'w> Word<'w> {
     ghost use Rattle.std.specs.Prelude.{◌≡◌};
-    ghost use Rattle.bidi.specs.Options.{is_help, is_version};
+    ghost use Rattle.bidi_arguments.specs.Options.{is_help, is_version};
 
     /// A text as a word.
     pub fn new(text: &'w str) -> Word<'w>

@@ -8,3 +8,6 @@ pub enum Operands {
     /// Names of files.
     Files,
 }
+
+/// The name of a file that stands for standard input.
+pub const STANDARD_INPUT_NAME: &str = "-";

@@ -5,19 +5,19 @@ use Rattle.std.specs.Str.{bytes_eq}
 use Rattle.bidi_controls.specs.declared.finding.Wanted.TheVariants.{Unmatched, Misleading, Everything}
 use Rattle.bidi_reports.specs.declared.form.Form.{Form}
 use Rattle.bidi_reports.specs.declared.form.Form.TheVariants as form
-use Rattle.bidi.specs.declared.check_options.CheckOptions.{CheckOptions}
-use Rattle.bidi.specs.declared.check_options.Color.{Color}
-use Rattle.bidi.specs.declared.check_options.Color.TheVariants.{Auto, Always, Never}
-use Rattle.bidi.specs.declared.check_options.Flag.{Flag}
-use Rattle.bidi.specs.declared.check_options.Flag.TheVariants.{Any, Hidden, Quiet, Binary, OnlyUnmatched}
-use Rattle.bidi.specs.declared.check_options.Format.{Format}
-use Rattle.bidi.specs.declared.check_options.Format.TheVariants.{Text, Json, Sarif}
-use Rattle.bidi.specs.declared.check_options.ReportOptions.{ReportOptions}
-use Rattle.bidi.specs.declared.check_options.Setting.{Setting}
-use Rattle.bidi.specs.declared.check_options.Setting.TheVariants.{Allow, ColorOf, FilesFrom, FormatOf}
-use Rattle.bidi.specs.declared.refusal.Refusal.{Refusal}
-use Rattle.bidi.specs.declared.refusal.Refusal.TheVariants.{NotAFormat, NotAColor}
-use Rattle.bidi.specs.declared.search.Search.{Search}
+use Rattle.bidi_arguments.specs.declared.check_options.CheckOptions.{CheckOptions}
+use Rattle.bidi_arguments.specs.declared.check_options.Color.{Color}
+use Rattle.bidi_arguments.specs.declared.check_options.Color.TheVariants.{Auto, Always, Never}
+use Rattle.bidi_arguments.specs.declared.check_options.Flag.{Flag}
+use Rattle.bidi_arguments.specs.declared.check_options.Flag.TheVariants.{Any, Hidden, Quiet, Binary, OnlyUnmatched}
+use Rattle.bidi_arguments.specs.declared.check_options.Format.{Format}
+use Rattle.bidi_arguments.specs.declared.check_options.Format.TheVariants.{Text, Json, Sarif}
+use Rattle.bidi_arguments.specs.declared.check_options.ReportOptions.{ReportOptions}
+use Rattle.bidi_arguments.specs.declared.check_options.Setting.{Setting}
+use Rattle.bidi_arguments.specs.declared.check_options.Setting.TheVariants.{Allow, ColorOf, FilesFrom, FormatOf}
+use Rattle.bidi_arguments.specs.declared.refusal.Refusal.{Refusal}
+use Rattle.bidi_arguments.specs.declared.refusal.Refusal.TheVariants.{NotAFormat, NotAColor}
+use Rattle.bidi_arguments.specs.declared.search.Search.{Search}
 
 -- what `check` searches, how it reports and what it looks for without options
 abbrev pub first_search : Search
