@@ -225,8 +225,10 @@ fn next_met<D: BidiDataSource, T: TextSource>(
 
 // Returns up to where characters are read one by one, once a character of this class was read, up to `end`.
 fn near_end_after(near_end: usize, end: usize, class: BidiClass, reading: &Reading) -> usize {
-    let is_isolate_control = is_initiator(class) || is_pdi(class);
-    if is_isolate_control && !reading.is_decided() {
+    if reading.is_decided() {
+        return near_end;
+    }
+    if is_initiator(class) || is_pdi(class) {
         end.saturating_add(NEAR)
     } else {
         near_end
