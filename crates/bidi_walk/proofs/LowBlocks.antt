@@ -6,17 +6,17 @@ use Rattle.bidi_base.specs.declared.char_data.BidiClass.TheVariants.{L}
 use Rattle.bidi_walk.specs.declared.class_set.ClassSet.{ClassSet}
 use Rattle.bidi_walk.specs.ClassSet.{has}
 
--- the classes of the first i of sixteen characters are written from `start` on, and nothing depends on them
-pub record IsIdle (source : Source) (block : List ℕ) (start : ℕ) (minded : ClassSet) (old : List BidiClass) (i : ℕ) (new : List BidiClass) : Type 0 where
+-- the classes of the first i of sixteen characters are written from `start` on, and none of them is sought
+pub record IsIdle (source : Source) (block : List ℕ) (start : ℕ) (sought : ClassSet) (old : List BidiClass) (i : ℕ) (new : List BidiClass) : Type 0 where
   pub kept : take start new ≡ take start old
   pub written : (k : ℕ) → k < i → class_at new (start + k) ≡ source.class_of (get_or block k 0)
-  pub idle : (k : ℕ) → k < i → has minded (class_at new (start + k)) ≡ false
+  pub idle : (k : ℕ) → k < i → has sought (class_at new (start + k)) ≡ false
 
-module _ (source : Source) (block : List ℕ) (start : ℕ) (minded : ClassSet) (old : List BidiClass) where
-  pub IsIdle-none : IsIdle source block start minded old 0 old
+module _ (source : Source) (block : List ℕ) (start : ℕ) (sought : ClassSet) (old : List BidiClass) where
+  pub IsIdle-none : IsIdle source block start sought old 0 old
   IsIdle-none = record { kept = grind arith; written = λ k none. absurd (omega (arith, none)); idle = λ k none. absurd (omega (arith, none)) }
 
-  module _ (i : ℕ) (new : List BidiClass) (h : IsIdle source block start minded old i new) (within : start + i < length new) (class : BidiClass) (is : class ≡ source.class_of (get_or block i 0)) where
+  module _ (i : ℕ) (new : List BidiClass) (h : IsIdle source block start sought old i new) (within : start + i < length new) (class : BidiClass) (is : class ≡ source.class_of (get_or block i 0)) where
     there : (k : ℕ) → k < i → class_at (set new (start + i) class) (start + k) ≡ class_at new (start + k)
     there k below = get_or-set_other new (start + i) (start + k) class L (omega (arith, below))
 
@@ -30,12 +30,12 @@ module _ (source : Source) (block : List ℕ) (start : ℕ) (minded : ClassSet) 
       | inr other ↦ there k (omega (arith, le, other)) ∙ h.written k (omega (arith, le, other))
     ]
 
-    pub IsIdle-more : has minded class ≡ false → IsIdle source block start minded old (i + 1) (set new (start + i) class)
+    pub IsIdle-more : has sought class ≡ false → IsIdle source block start sought old (i + 1) (set new (start + i) class)
     IsIdle-more idle = record {
       kept = take-set-le start new (start + i) class (omega arith) ∙ h.kept;
       written = λ k below. written-more k (omega (arith, below));
       idle = λ k below. elim (cases_eq k i) [
         | inl same ↦ cc (own, same, idle)
-        | inr other ↦ ap (has minded) (there k (omega (arith, below, other))) ∙ h.idle k (omega (arith, below, other))
+        | inr other ↦ ap (has sought) (there k (omega (arith, below, other))) ∙ h.idle k (omega (arith, below, other))
       ];
     }

@@ -16,12 +16,11 @@ use Rattle.bidi_walk.specs.declared.first_walk.reading.Reading.{Reading}
 use Rattle.bidi_walk.specs.declared.first_walk.TextReading.{TextReading}
 use Rattle.bidi_walk.specs.declared.first_walk.reading.Undecided.{Undecided}
 use Rattle.bidi_walk.specs.declared.paragraph_info.ParagraphInfo.{ParagraphInfo}
-use Rattle.bidi_walk.specs.FirstWalk.{waiting, depth_after, undecided_after, deciding_after, classes_after, is_decided, minds, IsFresh, IsReadBy, StopsCounting, IsClosed}
+use Rattle.bidi_walk.specs.FirstWalk.{waiting, depth_after, undecided_after, deciding_after, classes_after, is_decided, minds, with_flags, IsFresh, IsReadBy, StopsCounting, IsClosed}
 use Rattle.bidi_walk.specs.ParagraphInfo.{ranges_of, levels_of}
 use Rattle.bidi_walk.specs.ParagraphFlags.{flags_of, paragraph_flags, with_class}
 use Rattle.bidi_walk.specs.SplitRule.{ends_by, ends_after, pieces_by}
 use Rattle.bidi_walk.specs.declared.split_rule.SplitRule.{SplitRule}
-use Rattle.bidi_walk.proofs.ClassSets.{with-same}
 use Rattle.bidi_walk.proofs.FlagsLemmas.{with_classes-push}
 use Rattle.bidi_walk.proofs.IdleClasses.{idle-classes, idle-initiator, idle-pdi, idle-strong}
 use Rattle.bidi_walk.proofs.PutUnits.{take-filled, filled-append}
@@ -41,7 +40,7 @@ pub record IsCountedOn (class : BidiClass) (range : Range ℕ) (k after : ℕ) (
 abbrev pub uncounted_after : BidiClass → ℕ → ℕ → ℕ
 uncounted_after class depth k = if is_pdi class && (depth == 0) then k - 1 else k
 
--- and after one on which nothing depends
+-- and after one on which nothing depends but the flags
 abbrev pub uncounted_idle : BidiClass → ℕ → ℕ
 uncounted_idle class k = depth_after class k
 
@@ -59,7 +58,7 @@ module _ (class : BidiClass) (range : Range ℕ) (k : ℕ) (old : Reading) where
   }
 
   pub IsCountedOn-idle : minds old class ≡ false → (0 < k → is_some old.deciding ≡ true) → All (λ (u : Undecided). 0 < u.depth) old.undecided.items → (old.depth ≡ 0 → old.undecided.items ≡ [])
-      → IsCountedOn class range k (uncounted_idle class k) old old
+      → IsCountedOn class range k (uncounted_idle class k) old (with_flags old (with_class old.flags class))
   IsCountedOn-idle idle decided counted empty = record {
     start = refl;
     decided = grind arith;
@@ -67,7 +66,7 @@ module _ (class : BidiClass) (range : Range ℕ) (k : ℕ) (old : Reading) where
     undecided = same_undecided old.undecided.items refl;
     counted = counted;
     deciding = grind (arith, deciding_after-deeper class k old.depth old.deciding decided);
-    turns = grind (arith, with-same);
+    turns = refl;
   }
     where
       -- if some isolate is undecided, all that come are counted
@@ -330,11 +329,12 @@ module _ (source : Source) (len_of : ℕ → ℕ) (chars : List ℕ) where
             (is_longer ∙ sym (classes_after-deeper class h.uncounted reading.depth reading.undecided.items drawn))
             same_length same_paragraphs same_flags (IsCountedOn-read class range h.uncounted reading new h.decided h.counted undecided-none read)
 
-        -- a character on whose class nothing depends
-        pub IsTextRead-idle : (longer : Seen) → minds reading class ≡ false → longer.units ≡ drawn → longer.paragraphs ≡ found.paragraphs → longer.flags ≡ found.flags → IsTextRead base (n + 1) done (current ++ c ∷ []) longer reading
+        -- a character on whose class nothing depends but the flags
+        pub IsTextRead-idle : (longer : Seen) → minds reading class ≡ false → longer.units ≡ drawn → longer.paragraphs ≡ found.paragraphs → longer.flags ≡ found.flags
+            → IsTextRead base (n + 1) done (current ++ c ∷ []) longer (with_flags reading (with_class reading.flags class))
         IsTextRead-idle longer idle is_longer same_paragraphs same_flags =
             let range : Range ℕ = char_units len_of chars n in
-            IsTextRead-on range longer reading (uncounted_idle class h.uncounted) refl
+            IsTextRead-on range longer (with_flags reading (with_class reading.flags class)) (uncounted_idle class h.uncounted) refl
             (is_longer ∙ idle-classes reading class range idle undecided-none drawn ∙ sym (classes_after-deeper class h.uncounted reading.depth reading.undecided.items drawn))
             (ap length is_longer ∙ drawn_long) same_paragraphs same_flags (IsCountedOn-idle class range h.uncounted reading idle h.decided h.counted undecided-none)
 

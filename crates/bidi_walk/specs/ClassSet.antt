@@ -1,5 +1,5 @@
 -- Sets of classes.
-use Rattle.std.specs.Prelude.{◌^◌, bit_or, Bool, ◌==◌, ◌&&◌, List, [], ◌∷◌}
+use Rattle.std.specs.Prelude.{◌^◌, bit_and, bit_or, Bool, ◌==◌, ◌&&◌, List, [], ◌∷◌}
 use Rattle.std.specs.Int.{bit_at}
 use Rattle.std.specs.List.{list_any}
 use Rattle.bidi_base.specs.declared.char_data.BidiClass.{BidiClass}
@@ -14,6 +14,13 @@ has set c = bit_at set.bits (class_number c) == 1
 -- the set with one more class
 abbrev pub with : ClassSet → BidiClass → ClassSet
 with set c = record { bits = bit_or set.bits (2 ^ class_number c) }
+
+-- the classes that are in one of the sets, and those that are in both
+abbrev pub either : ClassSet → ClassSet → ClassSet
+either a b = record { bits = bit_or a.bits b.bits }
+
+abbrev pub both : ClassSet → ClassSet → ClassSet
+both a b = record { bits = bit_and a.bits b.bits }
 
 abbrev pub every_class : List BidiClass
 every_class =

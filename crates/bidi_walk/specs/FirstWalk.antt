@@ -1,5 +1,5 @@
 -- What the walk over a text holds of the isolates that are open, and what one more character does to it.
-use Rattle.std.specs.Prelude.{◌≡◌, ℕ, ◌+◌, ◌-◌, Bool, false, not, ◌&&◌, ◌||◌, ◌==◌, nat_lt, if◌then◌else◌, List, [], ◌∷◌, ◌++◌, take, drop, map, All, Option, Some, None, unwrap_or, length, IsTrue, MatchOption}
+use Rattle.std.specs.Prelude.{◌≡◌, ℕ, ◌+◌, ◌-◌, Bool, false, not, ◌&&◌, ◌||◌, ◌==◌, nat_lt, zero, suc, get_or, if◌then◌else◌, List, [], ◌∷◌, ◌++◌, take, drop, map, All, Option, Some, None, unwrap_or, length, IsTrue, MatchOption}
 use Rattle.std.specs.Option.{is_some, is_none}
 use Rattle.std.specs.declared.ops.Range.{Range}
 use Rattle.bidi_base.specs.declared.char_data.BidiClass.{BidiClass}
@@ -8,10 +8,12 @@ use Rattle.bidi_base.specs.Isolates.{level_by, resolved_fsi}
 use Rattle.bidi_base.specs.Reading.{innermost, outer, is_fsi, filled}
 use Rattle.bidi_base.specs.Source.{Source}
 use Rattle.bidi_base.specs.Text.{text_len, char_index, is_boundary, per_unit}
-use Rattle.bidi_walk.specs.ClassSet.{has}
-use Rattle.bidi_walk.specs.ParagraphFlags.{is_counted, with_class, flags_of}
+use Rattle.bidi_walk.specs.ClassSet.{has, with}
+use Rattle.bidi_walk.specs.ParagraphFlags.{with_class, with_classes, flags_of}
 use Rattle.bidi_walk.specs.ParagraphInfo.{ranges_of, levels_of}
+use Rattle.bidi_walk.specs.declared.class_set.ClassSet.{ClassSet}
 use Rattle.bidi_walk.specs.declared.first_walk.met.Met.{Met}
+use Rattle.bidi_walk.specs.declared.first_walk.progress.Progress.{Progress}
 use Rattle.bidi_walk.specs.declared.first_walk.reading.Reading.{Reading}
 use Rattle.bidi_walk.specs.declared.first_walk.reading.Undecided.{Undecided}
 use Rattle.bidi_walk.specs.declared.paragraph_flags.ParagraphFlags.{ParagraphFlags}
@@ -55,11 +57,15 @@ is_decided r = is_some r.deciding && (length r.undecided.items == 0)
 abbrev pub wants_strong : Reading → Bool
 wants_strong r = is_some (waiting r.depth r.undecided.items) || (r.depth == 0 && is_none r.deciding)
 
--- a character of this class, if it came next, would change something
+-- a character of this class, if it came next, would change something other than the flags
 abbrev pub minds : Reading → BidiClass → Bool
 minds r c =
     (is_paragraph_separator c || (is_fsi c || (is_initiator c && not (is_decided r))))
-    || ((is_counted c && not (has r.flags.met c)) || ((is_strong c && wants_strong r) || (is_pdi c && nat_lt 0 r.depth)))
+    || ((is_strong c && wants_strong r) || (is_pdi c && nat_lt 0 r.depth))
+
+-- the paragraph with other flags
+abbrev pub with_flags : Reading → ParagraphFlags → Reading
+with_flags r flags = record { start = r.start; depth = r.depth; undecided = r.undecided; deciding = r.deciding; flags = flags }
 
 -- a paragraph of which nothing is read
 pub record IsFresh (r : Reading) (start : ℕ) : Type 0 where
@@ -96,7 +102,7 @@ pub record IsClosed (base : Option ℕ) (r : Reading) (end : ℕ) (old : List Pa
 abbrev pub ahead : (ℕ → ℕ) → List ℕ → ℕ → List ℕ
 ahead len_of chars u = drop (char_index len_of chars u) chars
 
--- on the class of none of these characters anything depends
+-- none of these characters has a class that is minded
 abbrev pub AreIdle : Source → (BidiClass → Bool) → List ℕ → Type 0
 AreIdle source minded cs = All (λ c. minded (source.class_of c) ≡ false) cs
 
@@ -106,18 +112,19 @@ pub record AreWritten (source : Source) (len_of : ℕ → ℕ) (read : List ℕ)
   pub long : to ≡ from + text_len len_of read
   pub classes : take to new ≡ take from old ++ per_unit len_of read (map source.class_of read)
 
--- the first of the characters that come were read, and nothing depends on them
+-- the first of the characters that come were read, and nothing but the flags depends on them
 pub record IsSkimmed (source : Source) (len_of : ℕ → ℕ) (minded : BidiClass → Bool) (coming : List ℕ) (from to : ℕ)
-    (old new : List BidiClass) : Type 0 where
+    (old new : List BidiClass) (was is : ParagraphFlags) : Type 0 where
   pub read : List ℕ
   pub rest : List ℕ
   pub joined : coming ≡ read ++ rest
   pub idle : AreIdle source minded read
   pub written : AreWritten source len_of read from to old new
+  pub turns : is ≡ with_classes was (map source.class_of read)
 
--- they were read up to one on whose class something may depend
+-- they were read up to one on whose class more may depend
 pub record IsMet (source : Source) (len_of : ℕ → ℕ) (minded : BidiClass → Bool) (coming : List ℕ) (from : ℕ) (met : Met)
-    (old new : List BidiClass) : Type 0 where
+    (old new : List BidiClass) (was is : ParagraphFlags) : Type 0 where
   pub read : List ℕ
   pub rest : List ℕ
   pub joined : coming ≡ read ++ met.c ∷ rest
@@ -125,14 +132,24 @@ pub record IsMet (source : Source) (len_of : ℕ → ℕ) (minded : BidiClass �
   pub begins : met.start ≡ from + text_len len_of read
   pub class : met.class ≡ source.class_of met.c
   pub written : AreWritten source len_of (read ++ met.c ∷ []) from (met.start + len_of met.c) old new
+  pub turns : is ≡ with_classes was (map source.class_of read)
 
 -- what a reader of a text requires of the index at which it begins, and of the classes that it writes to
 pub record CanReadOn (len_of : ℕ → ℕ) (chars : List ℕ) (from : ℕ) (classes : List BidiClass) : Type 0 where
   pub sized : length classes ≡ text_len len_of chars
   pub begins : IsTrue (is_boundary len_of chars from)
 
--- what it leaves: it has read up to a character whose class is minded, which it returns, or else up to `to`
-abbrev pub IsReadOn : Source → (ℕ → ℕ) → List ℕ → (BidiClass → Bool) → ℕ → Option Met → ℕ → List BidiClass → List BidiClass → Type 0
+-- a set has each class that would change the flags
+abbrev pub HasEachChange : ClassSet → ParagraphFlags → Type 0
+HasEachChange sought flags = (c : BidiClass) → has sought c ≡ false → with_class flags c ≡ flags
+
+-- what it leaves: it has read up to a character whose class is minded, which it returns, or else up to an index
+abbrev pub IsReadOn : Source → (ℕ → ℕ) → List ℕ → (BidiClass → Bool) → Progress → Option Met → Progress → List BidiClass → List BidiClass → Type 0
 IsReadOn source len_of chars minded from result to old new =
-    MatchOption result (IsSkimmed source len_of minded (ahead len_of chars from) from to old new)
-    (λ met. IsMet source len_of minded (ahead len_of chars from) from met old new)
+    MatchOption result (IsSkimmed source len_of minded (ahead len_of chars from.at) from.at to.at old new from.flags to.flags)
+    (λ met. IsMet source len_of minded (ahead len_of chars from.at) from.at met old new from.flags to.flags)
+
+-- the set of the classes of the first k of some characters
+abbrev pub set_of_first : Source → List ℕ → ℕ → ClassSet
+set_of_first source block zero = record { bits = 0 }
+set_of_first source block (suc k) = with (set_of_first source block k) (source.class_of (get_or block k 0))

@@ -1,9 +1,11 @@
 -- What the later steps ask of a paragraph's classes.
-use Rattle.std.specs.Prelude.{ℕ, Bool, true, false, if◌then◌else◌, List, [], ◌∷◌, map}
+use Rattle.std.specs.Prelude.{ℕ, ◌+◌, ◌-◌, ◌^◌, Bool, true, false, not, ◌&&◌, if◌then◌else◌, List, [], ◌∷◌, map}
 use Rattle.bidi_base.specs.declared.char_data.BidiClass.{BidiClass}
 use Rattle.bidi_base.specs.declared.char_data.BidiClass.TheVariants.{ES, ET, CS, NSM, B, S, WS, ON, PDI}
+use Rattle.bidi_base.specs.Classes.{class_number}
 use Rattle.bidi_base.specs.Source.{Source}
-use Rattle.bidi_walk.specs.ClassSet.{with}
+use Rattle.bidi_walk.specs.ClassSet.{has, with, both, either}
+use Rattle.bidi_walk.specs.declared.class_set.ClassSet.{ClassSet}
 use Rattle.bidi_walk.specs.declared.paragraph_flags.ParagraphFlags.{ParagraphFlags}
 
 -- the classes that the later steps tell apart in a paragraph
@@ -18,6 +20,20 @@ is_counted ON = false
 is_counted B = false
 is_counted PDI = false
 is_counted _ = true
+
+-- a counted class that is not in the flags
+abbrev pub is_missing : ParagraphFlags → BidiClass → Bool
+is_missing flags c = is_counted c && not (has flags.met c)
+
+-- the set of the counted classes
+abbrev pub counted_set : ClassSet
+counted_set =
+    let others = 2 ^ class_number ES + 2 ^ class_number ET + 2 ^ class_number CS + 2 ^ class_number NSM + 2 ^ class_number S + 2 ^ class_number WS + 2 ^ class_number ON + 2 ^ class_number B + 2 ^ class_number PDI in
+    record { bits = 2 ^ 23 - 1 - others }
+
+-- the flags with those of some more characters, given by the set of their classes
+abbrev pub with_set : ParagraphFlags → ClassSet → ParagraphFlags
+with_set flags classes = record { met = either flags.met (both classes counted_set) }
 
 -- the flags with those of one more character
 abbrev pub with_class : ParagraphFlags → BidiClass → ParagraphFlags

@@ -1,7 +1,7 @@
 //! Sets of classes.
 ghost use Rattle.std.specs.Prelude.{◌≡◌, ◌<◌, ◌^◌, true, false, not, ◌&&◌, ◌||◌};
 ghost use Rattle.bidi_base.specs.declared.char_data.BidiClass.{BidiClass};
-ghost use Rattle.bidi_walk.specs.ClassSet.{has, with, any_of};
+ghost use Rattle.bidi_walk.specs.ClassSet.{has, with, both, either, any_of};
 
 use bidi_base::char_data::BidiClass;
 
@@ -92,12 +92,22 @@ impl ClassSet {
         }
     }
 
-    /// The classes of both sets.
+    /// The classes that are in one of the sets.
     pub(crate) fn union(self, other: ClassSet) -> ClassSet
-        ensures { (c : BidiClass) → has result c ≡ (has self c || has other c) }
+        ensures has { (c : BidiClass) → has result c ≡ (has self c || has other c) }
+        ensures bits { result ≡ either self other }
     {
         ClassSet {
             bits: self.bits | other.bits,
+        }
+    }
+
+    /// The classes that are in both sets.
+    pub(crate) fn common(self, other: ClassSet) -> ClassSet
+        ensures { result ≡ both self other }
+    {
+        ClassSet {
+            bits: self.bits & other.bits,
         }
     }
 

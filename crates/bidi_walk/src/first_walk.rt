@@ -1,12 +1,12 @@
 //! A single pass over a text. It finds the class of each character, resolves each FSI (X5c), and finds the
 //! paragraphs (P1) and their levels (P2, P3).
-ghost use Rattle.std.specs.Prelude.{◌≡◌, ℕ, ◌<◌, ◌≤◌, true, false, [], length, drop, OnOk, IfOk, All};
+ghost use Rattle.std.specs.Prelude.{◌≡◌, ℕ, ◌<◌, ◌≤◌, true, false, None, [], length, drop, OnOk, IfOk, All};
 ghost use Rattle.bidi_base.specs.declared.char_data.BidiClass.{BidiClass};
 ghost use Rattle.bidi_base.specs.Paragraphs.{begins_with_line_feed, ranges_from};
 ghost use Rattle.bidi_base.specs.Stored.{text_classes, paragraph_levels};
 ghost use Rattle.bidi_base.specs.Text.{place as place_of, text_len, per_unit};
 ghost use Rattle.bidi_walk.specs.ClassSet.{has};
-ghost use Rattle.bidi_walk.specs.FirstWalk.{classes_after, minds, waiting, CanReadOn, IsClosed, IsFresh, IsReadBy, IsReadOn, StopsCounting};
+ghost use Rattle.bidi_walk.specs.FirstWalk.{classes_after, minds, waiting, with_flags, CanReadOn, IsClosed, IsFresh, IsReadBy, IsReadOn, StopsCounting};
 ghost use Rattle.bidi_walk.specs.declared.first_walk.reading.Reading.{Reading};
 ghost use Rattle.bidi_walk.specs.ParagraphInfo.{ranges_of, levels_of};
 ghost use Rattle.bidi_walk.specs.ParagraphFlags.{paragraph_flags};
@@ -28,12 +28,14 @@ use std::ops::Range;
 mod ascii_characters;
 mod met;
 mod other_characters;
+mod progress;
 mod reading;
 mod unit_classes;
 
 use ascii_characters::skim;
 use met::Met;
 use other_characters::{read_next, read_on};
+use progress::Progress;
 use reading::{Reading, level_of_class};
 use unit_classes::AT_ONCE;
 
@@ -105,6 +107,7 @@ impl TextReading {
 
     // Reads a character. Its class must be written to its code units already. `ends` tells whether the
     // paragraph ends with it.
+    #[inline(always)]
     fn meet(
         &mut self,
         classes: &mut [BidiClass],
@@ -141,26 +144,47 @@ impl TextReading {
     }
 }
 
-// Writes the classes of the characters from an index on, up to the first one whose class is in `minded`.
-// Returns that one, or `None` at the text's end.
+// Writes the classes of some characters, up to one whose class is in `minded`, or would change the flags.
+// Returns that one. If there is none, the index moves past them.
+fn read_some<D: BidiDataSource, T: TextSource>(
+    data_source: &D,
+    text: T,
+    classes: &mut [BidiClass],
+    progress: &mut Progress,
+    minded: ClassSet,
+) -> Option<Met>
+    requires { CanReadOn T.units (T.characters text) progress.old.at classes.old }
+    ensures met { IsReadOn (D.source data_source.now) T.units (T.characters text) (has minded) progress.old
+        result progress.new classes.old classes.new }
+    ensures passed { result ≡ None → progress.old.at < length classes.new → progress.old.at < progress.new.at }
+{
+    if let Some(met) = skim(data_source, text, classes, progress, minded) {
+        return Some(met);
+    }
+    read_on(data_source, text, classes, progress, minded)
+}
+
+// Writes the classes of the next characters, up to the first one whose class is in `minded`, and adds the
+// flags of those before it. Returns that one, or `None` at the text's end.
 fn seek_minded<D: BidiDataSource, T: TextSource>(
     data_source: &D,
     text: T,
     classes: &mut [BidiClass],
-    from: usize,
+    progress: &mut Progress,
     minded: ClassSet,
 ) -> Option<Met>
-    requires { CanReadOn T.units (T.characters text) from classes.old }
-    ensures { IsReadOn (D.source data_source.now) T.units (T.characters text) (has minded) from result
-        (text_len T.units (T.characters text)) classes.old classes.new }
+    requires { CanReadOn T.units (T.characters text) progress.old.at classes.old }
+    ensures met { IsReadOn (D.source data_source.now) T.units (T.characters text) (has minded) progress.old
+        result progress.new classes.old classes.new }
+    ensures end { result ≡ None → progress.new.at ≡ text_len T.units (T.characters text) }
 {
-    let mut at = from;
-    while at < classes.len() {
-        if let Some(met) = skim(data_source, text, classes, &mut at, minded) {
-            return Some(met);
-        }
-        if let Some(met) = read_on(data_source, text, classes, &mut at, minded) {
-            return Some(met);
+    while progress.at < classes.len() {
+        if let Some(met) = read_some(data_source, text, classes, progress, minded) {
+            if minded.has(met.class) {
+                return Some(met);
+            }
+            progress.at = met.start + T::char_len(met.c);
+            progress.flags = progress.flags.with(met.class);
         }
     }
     None
@@ -170,31 +194,41 @@ fn seek_minded<D: BidiDataSource, T: TextSource>(
 // state is decided. Often the next control is among them, and a search for it costs more.
 const NEAR: usize = 4;
 
-// Writes the classes of the characters from an index on, up to the first one that would change the state of
-// the paragraph. Returns that one, or `None` at the text's end. If `near`, returns the next character,
-// whatever it changes.
+// Writes the classes of the characters from an index on, up to the first one that would change more of the
+// paragraph's state than its flags. Returns that one, or `None` at the text's end. The flags of those before
+// it are added to the state. If `near`, returns the next character, whatever it changes.
 fn next_met<D: BidiDataSource, T: TextSource>(
     data_source: &D,
     text: T,
     classes: &mut [BidiClass],
     from: usize,
-    reading: &Reading,
+    reading: &mut Reading,
     near: bool,
 ) -> Option<Met>
     requires { CanReadOn T.units (T.characters text) from classes.old }
-    ensures { IsReadOn (D.source data_source.now) T.units (T.characters text) (minds reading.now) from result
-        (text_len T.units (T.characters text)) classes.old classes.new }
+    ensures met { IsReadOn (D.source data_source.now) T.units (T.characters text) (minds reading.old)
+        (record { at = from; flags = reading.old.flags }) result
+        (record { at = text_len T.units (T.characters text); flags = reading.new.flags }) classes.old classes.new }
+    ensures kept { reading.new ≡ with_flags reading.old reading.new.flags }
 {
     if near && T::READS_IN_PLACE && classes.len() - from >= AT_ONCE {
         return Some(read_next(data_source, text, classes, from));
     }
-    seek_minded(data_source, text, classes, from, reading.minded())
+    let mut progress = Progress {
+        at: from,
+        flags: reading.flags,
+    };
+    let met = seek_minded(data_source, text, classes, &mut progress, reading.minded());
+    reading.flags = progress.flags;
+    met
 }
 
 // Returns up to where characters are read one by one, once a character of this class was read, up to `end`.
 fn near_end_after(near_end: usize, end: usize, class: BidiClass, reading: &Reading) -> usize {
-    let is_isolate_control = is_initiator(class) || is_pdi(class);
-    if is_isolate_control && !reading.is_decided() {
+    if reading.is_decided() {
+        return near_end;
+    }
+    if is_initiator(class) || is_pdi(class) {
         end.saturating_add(NEAR)
     } else {
         near_end
@@ -270,7 +304,14 @@ pub fn walk<D: BidiDataSource, T: TextSource>(
     let mut walk = TextReading::new(alloc, base, memory);
     let mut at = 0;
     let mut near_end = 0;
-    while let Some(met) = next_met(data_source, text, classes, at, &walk.reading, at < near_end) {
+    while let Some(met) = next_met(
+        data_source,
+        text,
+        classes,
+        at,
+        &mut walk.reading,
+        at < near_end,
+    ) {
         at = met.start + T::char_len(met.c);
         let ends = ends_paragraph(data_source, text, split, met.c, met.class, at);
         walk.meet(classes, met.class, met.start..at, ends)?;

@@ -1,10 +1,11 @@
 //! What the later steps need to know of a paragraph's classes.
-ghost use Rattle.std.specs.Prelude.{◌≡◌, not};
+ghost use Rattle.std.specs.Prelude.{◌≡◌, ◌||◌, not};
 ghost use Rattle.bidi_base.specs.Classes.{is_initiator, is_opener, is_removed};
 ghost use Rattle.bidi_base.specs.Direction.{may_turn};
 ghost use Rattle.bidi_base.specs.Flat.{may_leave};
-ghost use Rattle.bidi_walk.specs.ClassSet.{any_of};
-ghost use Rattle.bidi_walk.specs.ParagraphFlags.{with_class};
+ghost use Rattle.bidi_base.specs.declared.char_data.BidiClass.{BidiClass};
+ghost use Rattle.bidi_walk.specs.ClassSet.{any_of, has};
+ghost use Rattle.bidi_walk.specs.ParagraphFlags.{is_missing, with_class, with_set};
 
 use crate::class_set::ClassSet;
 use bidi_base::char_data::BidiClass;
@@ -43,6 +44,22 @@ impl ParagraphFlags {
         } else {
             self
         }
+    }
+
+    /// Adds characters of these classes.
+    pub(crate) fn with_all(self, classes: ClassSet) -> ParagraphFlags
+        ensures { result ≡ with_set self classes }
+    {
+        ParagraphFlags {
+            met: self.met.union(classes.common(ClassSet::COUNTED)),
+        }
+    }
+
+    /// Returns the classes of a set, and with them those that would change the flags.
+    pub(crate) fn sought_with(self, minded: ClassSet) -> ClassSet
+        ensures { (c : BidiClass) → has result c ≡ (has minded c || is_missing self c) }
+    {
+        minded.union(ClassSet::COUNTED.without(self.met))
     }
 
     /// Returns whether no character can make the paragraph anything but left to right throughout, at level

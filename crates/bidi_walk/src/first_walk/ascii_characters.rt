@@ -1,33 +1,35 @@
 //! ASCII characters, read one by one or sixteen at a time.
-ghost use Rattle.std.specs.Prelude.{◌≡◌, ℕ, ◌+◌, ◌<◌, ◌≤◌, true, false, length, get_or, take};
+ghost use Rattle.std.specs.Prelude.{◌≡◌, ℕ, ◌+◌, ◌<◌, ◌≤◌, length, get_or, take};
 ghost use Rattle.bidi_base.specs.Places.{class_at};
 ghost use Rattle.bidi_walk.specs.ClassSet.{has};
-ghost use Rattle.bidi_walk.specs.FirstWalk.{ahead, CanReadOn, IsReadOn, IsSkimmed};
+ghost use Rattle.bidi_walk.specs.FirstWalk.{ahead, set_of_first, CanReadOn, HasEachChange, IsReadOn, IsSkimmed};
 ghost use Rattle.bidi_walk.specs.declared.first_walk.ascii_characters.TheConstants.{ASCII_BLOCK};
 
 use super::met::Met;
+use super::progress::Progress;
 use crate::class_set::ClassSet;
 use bidi_base::char_data::BidiClass;
 use bidi_base::data_source::BidiDataSource;
 use bidi_text::text::TextSource;
 
-// Writes the classes of consecutive ASCII characters, each one code unit long, from an index on and before
-// a limit, up to the first one whose class is in `minded`. Returns that one. If there is none, the index
-// moves to the first other character, or to the limit.
+// Writes the classes of consecutive ASCII characters, each one code unit long, before a limit, up to the
+// first one whose class is in `sought`. Returns that one. If there is none, the index moves to the first
+// other character, or to the limit.
 #[inline(never)]
 fn skim_each<D: BidiDataSource, T: TextSource>(
     data_source: &D,
     text: T,
     classes: &mut [BidiClass],
-    at: &mut usize,
+    progress: &mut Progress,
     limit: usize,
-    minded: ClassSet,
+    sought: ClassSet,
 ) -> Option<Met>
-    requires { CanReadOn T.units (T.characters text) at.old classes.old }
-    ensures { IsReadOn (D.source data_source.now) T.units (T.characters text) (has minded) at.old result at.new classes.old
-        classes.new }
+    requires place { CanReadOn T.units (T.characters text) progress.old.at classes.old }
+    requires sought { HasEachChange sought progress.old.flags }
+    ensures { IsReadOn (D.source data_source.now) T.units (T.characters text) (has sought) progress.old
+        result progress.new classes.old classes.new }
 {
-    let mut start = *at;
+    let mut start = progress.at;
     while start < limit {
         let Some(byte) = text.ascii_at(start) else {
             break;
@@ -35,12 +37,12 @@ fn skim_each<D: BidiDataSource, T: TextSource>(
         let c = char::from(byte);
         let class = data_source.bidi_class(c);
         classes[start] = class;
-        if minded.has(class) {
+        if sought.has(class) {
             return Some(Met { start, c, class });
         }
         start += 1;
     }
-    *at = start;
+    progress.at = start;
     None
 }
 
@@ -51,21 +53,18 @@ const ASCII_BLOCK: usize = 16;
 // is mostly shorter. A block that goes past its end would be read in vain.
 const ONE_BY_ONE: usize = 64;
 
-// Writes the classes of sixteen ASCII characters from an index on. Returns whether none of the classes is
-// in `minded`. If one is, the written classes do not count.
+// Writes the classes of sixteen ASCII characters from an index on. Returns the set of these classes.
 fn write_block<D: BidiDataSource>(
     data_source: &D,
     block: [u8; ASCII_BLOCK],
     classes: &mut [BidiClass],
     start: usize,
-    minded: ClassSet,
-) -> bool
+) -> ClassSet
     requires { start + ASCII_BLOCK ≤ length classes.old }
     ensures kept { take start classes.new ≡ take start classes.old }
-    ensures written { result ≡ true → (k : ℕ) → k < ASCII_BLOCK
+    ensures written { (k : ℕ) → k < ASCII_BLOCK
         → class_at classes.new (start + k) ≡ (D.source data_source.now).class_of (get_or block k 0) }
-    ensures idle { result ≡ true → (k : ℕ) → k < ASCII_BLOCK
-        → has minded ((D.source data_source.now).class_of (get_or block k 0)) ≡ false }
+    ensures found { result ≡ set_of_first (D.source data_source.now) block ASCII_BLOCK }
 {
     let mut found = ClassSet::NONE;
     for i in 0..ASCII_BLOCK {
@@ -73,40 +72,47 @@ fn write_block<D: BidiDataSource>(
         classes[start + i] = class;
         found = found.with(class);
     }
-    !minded.meets(found)
+    found
 }
 
-// Writes the classes of consecutive ASCII characters from an index on, sixteen at a time, as long as no
-// class is in `minded`. The index moves past them.
+// Writes the classes of consecutive ASCII characters, sixteen at a time, as long as no class is in `minded`.
+// The index moves past them.
 #[inline(never)]
 fn skim_blocks<D: BidiDataSource, T: TextSource>(
     data_source: &D,
     text: T,
     classes: &mut [BidiClass],
-    at: &mut usize,
+    progress: &mut Progress,
     minded: ClassSet,
 )
-    requires { CanReadOn T.units (T.characters text) at.old classes.old }
-    ensures read { IsSkimmed (D.source data_source.now) T.units (has minded) (ahead T.units (T.characters text) at.old)
-        at.old at.new classes.old classes.new }
-    ensures order { at.old ≤ at.new }
+    requires { CanReadOn T.units (T.characters text) progress.old.at classes.old }
+    ensures read { IsSkimmed (D.source data_source.now) T.units (has minded)
+        (ahead T.units (T.characters text) progress.old.at) progress.old.at progress.new.at classes.old classes.new
+        progress.old.flags progress.new.flags }
+    ensures order { progress.old.at ≤ progress.new.at }
 {
-    let mut start = *at;
+    let mut start = progress.at;
+    let mut sought = progress.flags.sought_with(minded);
     let mut next = text.ascii_block_at(start);
     while let Some(block) = next {
         // The next block is read before this one is written. On some processors a read waits for an earlier
         // write if the last twelve bits of their addresses are equal.
         next = text.ascii_block_at(start + ASCII_BLOCK);
-        if !write_block(data_source, block, classes, start, minded) {
-            break;
+        let found = write_block(data_source, block, classes, start);
+        if sought.meets(found) {
+            if minded.meets(found) {
+                break;
+            }
+            progress.flags = progress.flags.with_all(found);
+            sought = progress.flags.sought_with(minded);
         }
         start += ASCII_BLOCK;
     }
-    *at = start;
+    progress.at = start;
 }
 
-/// Writes the classes of consecutive ASCII characters, each one code unit long, from an index on, up to the
-/// first one whose class is in `minded`.
+/// Writes the classes of consecutive ASCII characters, each one code unit long, up to one whose class is in
+/// `minded`, or would change the flags.
 ///
 /// Returns that one. If there is none, the index moves to the first other character, or to the end. The
 /// characters are read sixteen at a time only after many were read one by one.
@@ -114,22 +120,23 @@ pub(super) fn skim<D: BidiDataSource, T: TextSource>(
     data_source: &D,
     text: T,
     classes: &mut [BidiClass],
-    at: &mut usize,
+    progress: &mut Progress,
     minded: ClassSet,
 ) -> Option<Met>
-    requires { CanReadOn T.units (T.characters text) at.old classes.old }
-    ensures { IsReadOn (D.source data_source.now) T.units (T.characters text) (has minded) at.old result at.new classes.old
-        classes.new }
+    requires { CanReadOn T.units (T.characters text) progress.old.at classes.old }
+    ensures { IsReadOn (D.source data_source.now) T.units (T.characters text) (has minded) progress.old
+        result progress.new classes.old classes.new }
 {
-    while *at < classes.len() {
-        let limit = *at + (classes.len() - *at).min(ONE_BY_ONE);
-        if let Some(met) = skim_each(data_source, text, classes, at, limit, minded) {
+    while progress.at < classes.len() {
+        let limit = progress.at + (classes.len() - progress.at).min(ONE_BY_ONE);
+        let sought = progress.flags.sought_with(minded);
+        if let Some(met) = skim_each(data_source, text, classes, progress, limit, sought) {
             return Some(met);
         }
-        if *at < limit {
+        if progress.at < limit {
             return None;
         }
-        skim_blocks(data_source, text, classes, at, minded);
+        skim_blocks(data_source, text, classes, progress, minded);
     }
     None
 }

@@ -5,11 +5,13 @@ ghost use Rattle.bidi_base.specs.declared.char_data.BidiClass.{BidiClass};
 ghost use Rattle.bidi_base.specs.Places.{class_at};
 ghost use Rattle.bidi_base.specs.Text.{text_len, is_boundary as is_boundary_of};
 ghost use Rattle.bidi_walk.specs.ClassSet.{has};
-ghost use Rattle.bidi_walk.specs.FirstWalk.{ahead, CanReadOn, IsMet, IsReadOn, IsSkimmed};
+ghost use Rattle.bidi_walk.specs.FirstWalk.{ahead, CanReadOn, HasEachChange, IsMet, IsReadOn, IsSkimmed};
 ghost use Rattle.bidi_walk.specs.declared.first_walk.unit_classes.TheConstants.{AT_ONCE};
+ghost use Rattle.bidi_walk.specs.declared.paragraph_flags.ParagraphFlags.{ParagraphFlags};
 ghost use Rattle.bidi_walk.specs.declared.first_walk.other_characters.TheConstants.{LOW_BLOCK, LOW_LIMIT};
 
 use super::met::Met;
+use super::progress::Progress;
 use super::unit_classes::{AT_ONCE, write, write_at_once};
 use crate::class_set::ClassSet;
 use bidi_base::char_data::BidiClass;
@@ -35,13 +37,13 @@ fn char_of_low(code: u16) -> char
 }
 
 // Writes the classes of sixteen characters below U+0800 from an index on, up to the first one whose class
-// is in `minded`. Returns how many come before that one, or sixteen if there is none.
+// is in `sought`. Returns how many come before that one, or sixteen if there is none.
 fn write_low_block<D: BidiDataSource>(
     data_source: &D,
     block: [u16; LOW_BLOCK],
     classes: &mut [BidiClass],
     start: usize,
-    minded: ClassSet,
+    sought: ClassSet,
 ) -> usize
     requires room { start + LOW_BLOCK ≤ length classes.old }
     requires low { (k : ℕ) → k < LOW_BLOCK → get_or block k 0 < LOW_LIMIT }
@@ -49,13 +51,13 @@ fn write_low_block<D: BidiDataSource>(
     ensures written { (k : ℕ) → k < LOW_BLOCK → k ≤ result
         → class_at classes.new (start + k) ≡ (D.source data_source.now).class_of (get_or block k 0) }
     ensures few { result ≤ LOW_BLOCK }
-    ensures idle { (k : ℕ) → k < result → has minded (class_at classes.new (start + k)) ≡ false }
-    ensures stops { result < LOW_BLOCK → has minded (class_at classes.new (start + result)) ≡ true }
+    ensures idle { (k : ℕ) → k < result → has sought (class_at classes.new (start + k)) ≡ false }
+    ensures stops { result < LOW_BLOCK → has sought (class_at classes.new (start + result)) ≡ true }
 {
     for i in 0..LOW_BLOCK {
         let class = data_source.bidi_class(char_of_low(block[i]));
         classes[start + i] = class;
-        if minded.has(class) {
+        if sought.has(class) {
             return i;
         }
     }
@@ -83,56 +85,58 @@ fn block_end<T: TextSource>(text: T, from: usize) -> usize
     end
 }
 
-// Writes the classes of a text's characters, up to the first one whose class is in `minded`. Returns that
+// Writes the classes of a text's characters, up to the first one whose class is in `sought`. Returns that
 // one.
 #[inline(never)]
-fn read_to_minded<D: BidiDataSource, T: TextSource>(
+fn read_to_sought<D: BidiDataSource, T: TextSource>(
     data_source: &D,
     block: T,
     classes: &mut [BidiClass],
-    minded: ClassSet,
+    sought: ClassSet,
 ) -> Option<Met>
     requires { text_len T.units (T.characters block) ≤ length classes.old }
-    ensures { MatchOption result
-        (IsSkimmed (D.source data_source.now) T.units (has minded) (T.characters block) 0
-        (text_len T.units (T.characters block)) classes.old classes.new)
-        (λ met. IsMet (D.source data_source.now) T.units (has minded) (T.characters block) 0 met classes.old classes.new) }
+    ensures { (flags : ParagraphFlags) → HasEachChange sought flags → MatchOption result
+        (IsSkimmed (D.source data_source.now) T.units (has sought) (T.characters block) 0
+        (text_len T.units (T.characters block)) classes.old classes.new flags flags)
+        (λ met. IsMet (D.source data_source.now) T.units (has sought) (T.characters block) 0 met classes.old classes.new
+        flags flags) }
 {
     for (start, c) in block.char_indices() {
         let class = data_source.bidi_class(c);
         write::<T>(classes, start, c, class);
-        if minded.has(class) {
+        if sought.has(class) {
             return Some(Met { start, c, class });
         }
     }
     None
 }
 
-// Writes the classes of the characters of the block that begins at an index, up to the first one whose
-// class is in `minded`. Returns that one. If there is none, the index moves to the block's end.
+// Writes the classes of the characters of the next block, up to the first one whose class is in `sought`.
+// Returns that one. If there is none, the index moves to the block's end.
 fn read_block<D: BidiDataSource, T: TextSource>(
     data_source: &D,
     text: T,
     classes: &mut [BidiClass],
-    at: &mut usize,
-    minded: ClassSet,
+    progress: &mut Progress,
+    sought: ClassSet,
 ) -> Option<Met>
-    requires { CanReadOn T.units (T.characters text) at.old classes.old }
-    ensures met { IsReadOn (D.source data_source.now) T.units (T.characters text) (has minded) at.old result at.new classes.old
-        classes.new }
-    ensures passed { result ≡ None → at.old < length classes.new → at.old < at.new }
+    requires place { CanReadOn T.units (T.characters text) progress.old.at classes.old }
+    requires sought { HasEachChange sought progress.old.flags }
+    ensures met { IsReadOn (D.source data_source.now) T.units (T.characters text) (has sought) progress.old
+        result progress.new classes.old classes.new }
+    ensures passed { result ≡ None → progress.old.at < length classes.new → progress.old.at < progress.new.at }
 {
-    let start = *at;
+    let start = progress.at;
     let end = block_end(text, start);
     let block = text.subrange(start..end);
-    if let Some(met) = read_to_minded(data_source, block, &mut classes[start..], minded) {
+    if let Some(met) = read_to_sought(data_source, block, &mut classes[start..], sought) {
         let place = start + met.start;
         return Some(Met {
             start: place,
             ..met
         });
     }
-    *at = end;
+    progress.at = end;
     None
 }
 
@@ -146,8 +150,8 @@ pub(super) fn read_next<D: BidiDataSource, T: TextSource>(
 ) -> Met
     requires place { CanReadOn T.units (T.characters text) start classes.old }
     requires room { start + AT_ONCE ≤ length classes.old }
-    ensures { (minded : BidiClass → Bool) → IsMet (D.source data_source.now) T.units minded
-        (ahead T.units (T.characters text) start) start result classes.old classes.new }
+    ensures { (minded : BidiClass → Bool) (flags : ParagraphFlags) → IsMet (D.source data_source.now) T.units minded
+        (ahead T.units (T.characters text) start) start result classes.old classes.new flags flags }
 {
     let (c, _) = text.next_at(start);
     let class = data_source.bidi_class(c);
@@ -156,61 +160,63 @@ pub(super) fn read_next<D: BidiDataSource, T: TextSource>(
 }
 
 // Writes the classes of the characters that begin before a limit, up to the first one whose class is in
-// `minded`. Reads the text by index.
+// `sought`. Reads the text by index.
 //
 // From each index before the limit on there must be at least `AT_ONCE` code units. Returns the character
-// whose class is in `minded`. If there is none, the index moves to the first character that begins at or
+// whose class is in `sought`. If there is none, the index moves to the first character that begins at or
 // after the limit.
 #[inline(never)]
 fn read_in_place<D: BidiDataSource, T: TextSource>(
     data_source: &D,
     text: T,
     classes: &mut [BidiClass],
-    at: &mut usize,
+    progress: &mut Progress,
     limit: usize,
-    minded: ClassSet,
+    sought: ClassSet,
 ) -> Option<Met>
-    requires place { CanReadOn T.units (T.characters text) at.old classes.old }
+    requires place { CanReadOn T.units (T.characters text) progress.old.at classes.old }
+    requires sought { HasEachChange sought progress.old.flags }
     requires room { limit + (AT_ONCE - 1) ≤ length classes.old }
-    ensures met { IsReadOn (D.source data_source.now) T.units (T.characters text) (has minded) at.old result at.new classes.old
-        classes.new }
-    ensures passed { result ≡ None → limit ≤ at.new }
+    ensures met { IsReadOn (D.source data_source.now) T.units (T.characters text) (has sought) progress.old
+        result progress.new classes.old classes.new }
+    ensures passed { result ≡ None → limit ≤ progress.new.at }
 {
-    let mut start = *at;
+    let mut start = progress.at;
     while start < limit {
         let (c, len) = text.next_at(start);
         let class = data_source.bidi_class(c);
         write_at_once::<T>(classes, start, c, class);
-        if minded.has(class) {
+        if sought.has(class) {
             return Some(Met { start, c, class });
         }
         start += len;
     }
-    *at = start;
+    progress.at = start;
     None
 }
 
-// Writes the classes of consecutive characters below U+0800, each one code unit long, sixteen at a time
-// from an index on, up to the first one whose class is in `minded`. Returns that one. If there is none, the
-// index moves to where the text gives no block of sixteen, or by `BLOCK` code units.
+// Writes the classes of consecutive characters below U+0800, each one code unit long, sixteen at a time, up
+// to the first one whose class is in `sought`. Returns that one. If there is none, the index moves to where
+// the text gives no block of sixteen, or by `BLOCK` code units.
 fn read_low_blocks<D: BidiDataSource, T: TextSource>(
     data_source: &D,
     text: T,
     classes: &mut [BidiClass],
-    at: &mut usize,
-    minded: ClassSet,
+    progress: &mut Progress,
+    sought: ClassSet,
 ) -> Option<Met>
-    requires { CanReadOn T.units (T.characters text) at.old classes.old }
-    ensures met { IsReadOn (D.source data_source.now) T.units (T.characters text) (has minded) at.old result at.new classes.old
-        classes.new }
+    requires place { CanReadOn T.units (T.characters text) progress.old.at classes.old }
+    requires sought { HasEachChange sought progress.old.flags }
+    ensures met { IsReadOn (D.source data_source.now) T.units (T.characters text) (has sought) progress.old
+        result progress.new classes.old classes.new }
 {
-    let mut start = *at;
+    let mut start = progress.at;
     let limit = start.saturating_add(BLOCK);
     while start < limit {
         let Some(block) = text.low_block_at(start) else {
             break;
         };
-        let idle = write_low_block(data_source, block, classes, start, minded);
+        let idle = write_low_block(data_source, block, classes, start, sought);
         start += idle;
         if idle < LOW_BLOCK {
             let c = char_of_low(block[idle]);
@@ -218,11 +224,11 @@ fn read_low_blocks<D: BidiDataSource, T: TextSource>(
             return Some(Met { start, c, class });
         }
     }
-    *at = start;
+    progress.at = start;
     None
 }
 
-/// Writes the classes of some characters from an index on, up to the first one whose class is in `minded`.
+/// Writes the classes of some characters, up to one whose class is in `minded`, or would change the flags.
 ///
 /// Returns that one. If there is none, the index moves past them. The characters are read sixteen at a time
 /// as long as the text gives such blocks, and then by index. The iterator reads texts that do not set
@@ -231,23 +237,25 @@ pub(super) fn read_on<D: BidiDataSource, T: TextSource>(
     data_source: &D,
     text: T,
     classes: &mut [BidiClass],
-    at: &mut usize,
+    progress: &mut Progress,
     minded: ClassSet,
 ) -> Option<Met>
-    requires { CanReadOn T.units (T.characters text) at.old classes.old }
-    ensures met { IsReadOn (D.source data_source.now) T.units (T.characters text) (has minded) at.old result at.new classes.old
-        classes.new }
-    ensures passed { result ≡ None → at.old < length classes.new → at.old < at.new }
+    requires { CanReadOn T.units (T.characters text) progress.old.at classes.old }
+    ensures met { IsReadOn (D.source data_source.now) T.units (T.characters text) (has minded) progress.old
+        result progress.new classes.old classes.new }
+    ensures passed { result ≡ None → progress.old.at < length classes.new → progress.old.at < progress.new.at }
 {
-    let end = at.saturating_add(BLOCK);
-    if let Some(met) = read_low_blocks(data_source, text, classes, at, minded) {
+    let end = progress.at.saturating_add(BLOCK);
+    let sought = progress.flags.sought_with(minded);
+    if let Some(met) = read_low_blocks(data_source, text, classes, progress, sought) {
         return Some(met);
     }
-    let left = classes.len() - *at;
+    let sought = progress.flags.sought_with(minded);
+    let left = classes.len() - progress.at;
     if T::READS_IN_PLACE && left >= AT_ONCE {
         let limit = end.min(classes.len() - (AT_ONCE - 1));
-        read_in_place(data_source, text, classes, at, limit, minded)
+        read_in_place(data_source, text, classes, progress, limit, sought)
     } else {
-        read_block(data_source, text, classes, at, minded)
+        read_block(data_source, text, classes, progress, sought)
     }
 }

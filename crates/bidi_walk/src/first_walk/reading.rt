@@ -128,19 +128,24 @@ impl Reading {
         self.is_waiting() || (self.depth == 0 && self.deciding.is_none())
     }
 
-    /// Returns the classes that would change this state if a character of one came next.
+    /// Returns the classes that would change more of this state than the flags if a character of one came
+    /// next.
     pub(super) fn minded(&self) -> ClassSet
         ensures { (c : BidiClass) → has result c ≡ minds self.now c }
     {
+        let closing = ClassSet::CLOSING.when(self.depth > 0);
+        if self.is_decided() {
+            return ClassSet::ALWAYS_MINDED.union(closing);
+        }
         ClassSet::ALWAYS_MINDED
-            .union(ClassSet::COUNTED.without(self.flags.met))
-            .union(ClassSet::INITIATORS.when(!self.is_decided()))
+            .union(ClassSet::INITIATORS)
             .union(ClassSet::STRONG.when(self.wants_strong()))
-            .union(ClassSet::CLOSING.when(self.depth > 0))
+            .union(closing)
     }
 
     /// Reads the next character, given its code units. `classes` has the classes of the code units before
     /// it.
+    #[inline(always)]
     pub(super) fn read(
         &mut self,
         classes: &mut [BidiClass],

@@ -6,5 +6,5 @@ use Rattle.bidi_walk.proofs.first_walk.next_met.Goals as goal
 pub overflow_sub-classes : goal.overflow_sub-classes
 overflow_sub-classes g c = omega (arith, c.requires.sized, is_boundary-le g.T.TextSource.units (g.T.TextSource.characters c.args.text) c.args.from c.requires.begins)
 
-pub returns-then-classes-from-ge-AT_ONCE : goal.returns-then-classes-from-ge-AT_ONCE
-returns-then-classes-from-ge-AT_ONCE g c = c.read_next.ensures (minds c.args.reading.now)
+pub returns-then-classes-from-ge-AT_ONCE-clause-met : goal.returns-then-classes-from-ge-AT_ONCE-clause-met
+returns-then-classes-from-ge-AT_ONCE-clause-met g c = c.read_next.ensures (minds c.args.reading.now) c.args.reading.now.flags

@@ -1,36 +1,46 @@
-use Rattle.bidi_base.proofs.Common.{refl, arith}
-use Rattle.bidi_walk.proofs.Skimmed.{IsSkimmed-start, is_boundary-skimmed, within-skimmed, IsSkimmed-on, IsMet-on}
+use Rattle.bidi_base.proofs.Common.{◌∙◌, ◌+◌, refl, sym, arith}
+use Rattle.bidi_walk.specs.ClassSet.{has}
+use Rattle.bidi_walk.specs.FirstWalk.{ahead, IsSkimmed}
+use Rattle.bidi_walk.specs.ParagraphFlags.{with_class}
+use Rattle.bidi_walk.proofs.Skimmed.{IsSkimmed-start, is_boundary-skimmed, within-skimmed, IsSkimmed-on, IsMet-on, IsSkimmed-met}
+use Rattle.bidi_walk.proofs.first_walk.seek_minded.Given.{Over}
 use Rattle.bidi_walk.proofs.first_walk.seek_minded.Goals as goal
+use Rattle.bidi_walk.proofs.first_walk.seek_minded.Goals.{After-char_len}
 
-pub loop-at-init : goal.loop-at-init
-loop-at-init g c = IsSkimmed-start _ _ _ _ _ _
+pub loop-progress-init : goal.loop-progress-init
+loop-progress-init g c = IsSkimmed-start _ _ _ _ _ _ _
 
-pub skim-requires : goal.skim-requires
-skim-requires g c = record {
+pub read_some-requires : goal.read_some-requires
+read_some-requires g c = record {
   sized = grind arith;
-  begins = is_boundary-skimmed _ _ _ _ _ _ _ _ c.loop-at.invariant g.met.T.TextSource.has_units (g.T.TextSource.characters c.args.text) c.requires.begins refl;
+  begins = is_boundary-skimmed _ _ _ _ _ _ _ _ _ _ c.loop-progress.invariant g.met.T.TextSource.has_units (g.T.TextSource.characters c.args.text) c.requires.begins refl;
 }
 
-pub returns-in-Some : goal.returns-in-Some
-returns-in-Some g c =
-    IsMet-on _ _ _ _ _ _ _ _ c.loop-at.invariant g.met.T.TextSource.has_units (g.T.TextSource.characters c.args.text) c.requires.begins refl c.in-Some.met c.skim.new.classes c.in-Some.ensures
+pub returns-then-has-clause-met : goal.returns-then-has-clause-met
+returns-then-has-clause-met g c =
+    IsMet-on _ _ _ _ _ _ _ _ _ _ c.loop-progress.invariant g.met.T.TextSource.has_units (g.T.TextSource.characters c.args.text) c.requires.begins refl c.in-Some.met c.read_some.new.classes _ c.in-Some.ensures.met
 
-pub read_on-requires : goal.read_on-requires
-read_on-requires g c = record {
-  sized = grind arith;
-  begins = let h = IsSkimmed-on _ _ _ _ _ _ _ _ c.loop-at.invariant g.met.T.TextSource.has_units (g.T.TextSource.characters c.args.text) c.requires.begins refl _ _ c.in_default.ensures in
-      is_boundary-skimmed _ _ _ _ _ _ _ _ h g.met.T.TextSource.has_units (g.T.TextSource.characters c.args.text) c.requires.begins refl;
-}
+-- a character that changes only the flags is read too
+passed : (g : Over) (c : After-char_len g)
+    → IsSkimmed (g.D.BidiDataSource.source c.args.data_source.now) g.T.TextSource.units (has c.args.minded) (ahead g.T.TextSource.units (g.T.TextSource.characters c.args.text) c.args.progress.now.at) c.args.progress.now.at (c.in-Some.met.start + c.char_len.result) c.args.classes.now c.read_some.new.classes
+    c.args.progress.now.flags (with_class c.read_some.new.progress.flags c.in-Some.met.class)
+passed g c =
+    let met = IsMet-on _ _ _ _ _ _ _ _ _ _ c.loop-progress.invariant g.met.T.TextSource.has_units (g.T.TextSource.characters c.args.text) c.requires.begins refl c.in-Some.met c.read_some.new.classes _ c.in-Some.ensures.met in
+    IsSkimmed-met _ _ (has c.args.minded) _ _ c.in-Some.met _ _ _ _ met (sym c.has.ensures ∙ c.if-has.false) _ (omega (arith, c.char_len.ensures))
 
-pub returns-in-Some-read_on : goal.returns-in-Some-read_on
-returns-in-Some-read_on g c =
-    let h = IsSkimmed-on _ _ _ _ _ _ _ _ c.loop-at.invariant g.met.T.TextSource.has_units (g.T.TextSource.characters c.args.text) c.requires.begins refl _ _ c.in_default.ensures in
-    IsMet-on _ _ _ _ _ _ _ _ h g.met.T.TextSource.has_units (g.T.TextSource.characters c.args.text) c.requires.begins refl _ _ c.in-Some-read_on.ensures.met
+pub overflow_add-progress : goal.overflow_add-progress
+overflow_add-progress g c =
+    let within = within-skimmed _ _ _ _ _ _ _ _ _ _ (passed g (goal.at.overflow_add-progress g c).After-char_len) g.met.T.TextSource.has_units (g.T.TextSource.characters c.args.text) c.requires.begins refl in
+    omega (arith, within, c.well_formed, c.requires.sized)
 
-pub loop-at-preserved : goal.loop-at-preserved
-loop-at-preserved g c =
-    let h = IsSkimmed-on _ _ _ _ _ _ _ _ c.loop-at.invariant g.met.T.TextSource.has_units (g.T.TextSource.characters c.args.text) c.requires.begins refl _ _ c.in_default.ensures in
-    IsSkimmed-on _ _ _ _ _ _ _ _ h g.met.T.TextSource.has_units (g.T.TextSource.characters c.args.text) c.requires.begins refl _ _ c.in_default-read_on.ensures.met
+pub loop-progress-preserved-in-Some : goal.loop-progress-preserved-in-Some
+loop-progress-preserved-in-Some g c = rw c.with-progress.ensures (passed g (goal.at.loop-progress-preserved-in-Some g c).After-char_len)
 
-pub returns : goal.returns
-returns g c = grind (arith, within-skimmed)
+pub loop-progress-preserved : goal.loop-progress-preserved
+loop-progress-preserved g c =
+    IsSkimmed-on _ _ _ _ _ _ _ _ _ _ c.loop-progress.invariant g.met.T.TextSource.has_units (g.T.TextSource.characters c.args.text) c.requires.begins refl _ _ _ c.in_default.ensures.met
+
+pub returns-clause-end : goal.returns-clause-end
+returns-clause-end g c none =
+    let within = within-skimmed _ _ _ _ _ _ _ _ _ _ c.loop-progress.invariant g.met.T.TextSource.has_units (g.T.TextSource.characters c.args.text) c.requires.begins refl in
+    omega (arith, within, c.loop-progress-test.false, c.loop-progress.auto.classes, c.requires.sized)

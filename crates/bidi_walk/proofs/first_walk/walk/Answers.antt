@@ -1,6 +1,7 @@
-use Rattle.bidi_base.proofs.Common.{not, ◌≡◌, ◌∙◌, ◌+◌, ℕ, ◌<◌, List, ◌⊎◌, inl, inr, length, true, refl, sym, ap, arith, common_steps, is_none, cases_Bool, place}
+use Rattle.bidi_base.proofs.Common.{not, ◌≡◌, ◌∙◌, ◌+◌, ℕ, ◌<◌, List, ◌⊎◌, inl, inr, length, true, refl, sym, ap, subst, arith, common_steps, is_none, cases_Bool, place}
 use Rattle.std.proofs.lemmas.List.{with_items_is}
 use Rattle.bidi_base.proofs.PlaceLemmas.{is_boundary-place, place-end}
+use Rattle.bidi_walk.specs.declared.first_walk.reading.Reading.{Reading}
 use Rattle.bidi_walk.proofs.TextRead.{seen, same_range, open_within, depth-le, drawn-is, IsTextRead-more, IsTextRead-stop_counting, IsTextDone-close, IsRead, IsRead-start, IsRead-on, IsRead-stop, IsRead-last, IsRead-none, IsTextDone-none, IsAnswer, IsTextDone-answer}
 use Rattle.bidi_walk.proofs.WalkSteps.{IsAt, IsAt-met, IsRead-end}
 use Rattle.bidi_walk.proofs.first_walk.walk.Goals as goal
@@ -26,9 +27,10 @@ next_met-requires g c = record {
 
 -- the character that was met
 met_at : (g : Over) (c : In-Some g)
-    → IsAt (g.D.BidiDataSource.source c.args.data_source.now) g.T.TextSource.units (g.T.TextSource.characters c.args.text) c.args.split c.args.base c.in-Some.met (seen c.next_met.new.classes c.loop-met.walk) c.loop-met.walk.reading
+    → IsAt (g.D.BidiDataSource.source c.args.data_source.now) g.T.TextSource.units (g.T.TextSource.characters c.args.text) c.args.split c.args.base c.in-Some.met (seen c.next_met.new.classes c.loop-met.walk) c.next_met.new.reading
 met_at g c =
-    IsAt-met _ _ _ g.met.T.TextSource.has_units _ _ _ _ _ _ c.loop-met.invariant.0 c.next_met.auto.classes c.in-Some.met c.in-Some.ensures
+    subst (λ (r : Reading). IsAt (g.D.BidiDataSource.source c.args.data_source.now) g.T.TextSource.units (g.T.TextSource.characters c.args.text) c.args.split c.args.base c.in-Some.met (seen c.next_met.new.classes c.loop-met.walk) r) (sym c.next_met.ensures.kept)
+    (IsAt-met _ _ _ g.met.T.TextSource.has_units _ _ _ _ _ _ c.loop-met.invariant.0 c.next_met.auto.classes c.in-Some.met c.next_met.new.reading.flags c.in-Some.ensures.met)
 
 pub overflow_add-at : goal.overflow_add-at
 overflow_add-at g c = omega (arith, (met_at g (goal.at.overflow_add-at g c).In-Some).turn.fits, c.well_formed, c.requires, c.char_len.ensures)
@@ -46,7 +48,7 @@ meet-requires g c =
 pub loop-met-smaller : goal.loop-met-smaller
 loop-met-smaller g c =
     let w = (met_at g (goal.at.loop-met-smaller g c).In-Some).turn in
-    omega (arith, w.fits, g.met.T.TextSource.has_units c.in-Some.met.c, c.char_len.ensures, c.in-Some.ensures.begins, c.loop-met.invariant.0.read.read.sized, c.loop-met.auto.classes)
+    omega (arith, w.fits, g.met.T.TextSource.has_units c.in-Some.met.c, c.char_len.ensures, c.in-Some.ensures.met.begins, c.loop-met.invariant.0.read.read.sized, c.loop-met.auto.classes)
 
 pub loop-met-preserved : goal.loop-met-preserved
 loop-met-preserved g c =
@@ -88,11 +90,12 @@ answered g c =
     let old = seen c.next_met.new.classes c.loop-met.walk in
     let cs : List ℕ = g.T.TextSource.characters c.args.text in
     let n : ℕ = length cs in
-    let h = IsRead-end _ _ _ g.met.T.TextSource.has_units _ _ _ _ _ _ c.loop-met.invariant.0 c.next_met.auto.classes c.in_default.ensures in
+    let kept = IsRead-end _ _ _ g.met.T.TextSource.has_units _ _ _ _ _ _ c.loop-met.invariant.0 c.next_met.auto.classes c.next_met.new.reading.flags c.in_default.ensures.met in
+    let h = subst (λ (r : Reading). IsRead (g.D.BidiDataSource.source c.args.data_source.now) g.T.TextSource.units cs split c.args.base n old r) (sym c.next_met.ensures.kept) kept in
     let end : c.len-end.result ≡ place g.T.TextSource.units cs n = c.len-end.ensures ∙ sym (place-end _ cs n (omega arith)) in
     elim c.if-is_none.branch [
       | then-is_none+in_ok-close w ↦
-          let rest : (is_none split ≡ true) ⊎ (c.loop-met.walk.reading.start < place g.T.TextSource.units cs n) = elim w.then-is_none.branch [
+          let rest : (is_none split ≡ true) ⊎ (c.next_met.new.reading.start < place g.T.TextSource.units cs n) = elim w.then-is_none.branch [
             | then-is_none-via-then-is_none v ↦ inl (ap not (c.is_none.ensures ∙ ap not v.if-is_none.true))
             | then-is_none-via-else-is_none+then-walk-end v ↦ inr (omega (arith, v.if-walk-end.true, end))
           ] in

@@ -2,13 +2,15 @@ use Rattle.bidi_base.proofs.Common.{◌≡◌, ℕ, ◌+◌, ◌<◌, ◌≤◌,
 use Rattle.std.specs.Prelude.{IfSome}
 use Rattle.bidi_walk.specs.ClassSet.{has}
 use Rattle.bidi_walk.specs.FirstWalk.{ahead, IsSkimmed}
+use Rattle.bidi_walk.proofs.FlagsLemmas.{AreSought}
 use Rattle.bidi_walk.proofs.first_walk.ascii_characters.skim_blocks.Given as goal
 
 abbrev pub invariant-loop-next : goal.invariant-loop-next
 invariant-loop-next g l =
-    (l.fn.at ≤ l.start)
+    (l.fn.progress.at ≤ l.start)
     × IfSome l.next (λ block. (k : ℕ) → k < 16 → Some (get_or block k 0) ≡ ascii_at g.T.TextSource.units (g.T.TextSource.characters l.text) (l.start + k))
-    × IsSkimmed (g.D.BidiDataSource.source l.data_source) g.T.TextSource.units (has l.minded) (ahead g.T.TextSource.units (g.T.TextSource.characters l.text) l.fn.at) l.fn.at l.start l.fn.classes l.classes
+    × AreSought l.sought l.minded l.progress.flags
+    × IsSkimmed (g.D.BidiDataSource.source l.data_source) g.T.TextSource.units (has l.minded) (ahead g.T.TextSource.units (g.T.TextSource.characters l.text) l.fn.progress.at) l.fn.progress.at l.start l.fn.classes l.classes l.fn.progress.flags l.progress.flags
 
 abbrev pub decreases-loop-next : goal.decreases-loop-next
 decreases-loop-next g l = length l.initial.classes - l.start

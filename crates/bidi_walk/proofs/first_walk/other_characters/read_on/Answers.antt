@@ -1,27 +1,58 @@
 use Rattle.bidi_base.proofs.Common.{refl, arith}
 use Rattle.bidi_base.proofs.TextLemmas.{is_boundary-le}
-use Rattle.bidi_walk.proofs.Skimmed.{is_boundary-skimmed, met-on}
+use Rattle.bidi_walk.specs.ClassSet.{has}
+use Rattle.bidi_walk.specs.FirstWalk.{IsReadOn}
+use Rattle.bidi_walk.proofs.FlagsLemmas.{other-idle, other-same}
+use Rattle.bidi_walk.proofs.Skimmed.{is_boundary-skimmed, met-on-fewer, fewer}
+use Rattle.bidi_walk.proofs.first_walk.other_characters.read_on.Given.{Over}
 use Rattle.bidi_walk.proofs.first_walk.other_characters.read_on.Goals as goal
+use Rattle.bidi_walk.proofs.first_walk.other_characters.read_on.Goals.{After-read_low_blocks}
+
+pub read_low_blocks-requires-clause-sought : goal.read_low_blocks-requires-clause-sought
+read_low_blocks-requires-clause-sought g c = other-same _ _ _ c.sought_with-sought.ensures
+
+-- what the blocks gave was read
+blocks : (g : Over) (c : After-read_low_blocks g)
+    → IsReadOn (g.D.BidiDataSource.source c.args.data_source.now) g.T.TextSource.units (g.T.TextSource.characters c.args.text) (has c.args.minded) c.args.progress.now c.read_low_blocks.result c.read_low_blocks.new.progress c.args.classes.now c.read_low_blocks.new.classes
+blocks g c = fewer _ _ _ _ (other-idle _ _ _ c.sought_with-sought.ensures) _ _ _ _ _ _ _ c.read_low_blocks.result c.read_low_blocks.ensures.met
+
+pub returns-in-Some-clause-met : goal.returns-in-Some-clause-met
+returns-in-Some-clause-met g c = rw c.in-Some.is at (blocks g (goal.at.returns-in-Some-clause-met g c).After-read_low_blocks)
 
 pub overflow_sub-left : goal.overflow_sub-left
 overflow_sub-left g c =
-    let begins = is_boundary-skimmed _ _ _ _ _ _ _ _ c.in_default.ensures.met g.met.T.TextSource.has_units (g.T.TextSource.characters c.args.text) c.requires.begins refl in
-    omega (arith, c.requires.sized, c.read_low_blocks.auto.classes, is_boundary-le g.T.TextSource.units (g.T.TextSource.characters c.args.text) c.read_low_blocks.new.at begins)
+    let h = rw c.in_default.is at (blocks g (goal.at.overflow_sub-left g c).After-read_low_blocks) in
+    let begins = is_boundary-skimmed _ _ _ _ _ _ _ _ _ _ h g.met.T.TextSource.has_units (g.T.TextSource.characters c.args.text) c.requires.begins refl in
+    omega (arith, c.requires.sized, c.read_low_blocks.auto.classes, is_boundary-le g.T.TextSource.units (g.T.TextSource.characters c.args.text) c.read_low_blocks.new.progress.at begins)
 
 pub read_in_place-requires-clause-place : goal.read_in_place-requires-clause-place
 read_in_place-requires-clause-place g c = record {
   sized = grind arith;
-  begins = is_boundary-skimmed _ _ _ _ _ _ _ _ c.in_default.ensures.met g.met.T.TextSource.has_units (g.T.TextSource.characters c.args.text) c.requires.begins refl;
+  begins = let h = rw c.in_default.is at (blocks g (goal.at.read_in_place-requires-clause-place g c).After-read_low_blocks) in
+      is_boundary-skimmed _ _ _ _ _ _ _ _ _ _ h g.met.T.TextSource.has_units (g.T.TextSource.characters c.args.text) c.requires.begins refl;
 }
 
+pub read_in_place-requires-clause-sought : goal.read_in_place-requires-clause-sought
+read_in_place-requires-clause-sought g c = other-same _ _ _ c.sought_with-sought-2.ensures
+
 pub returns-then-left-ge-AT_ONCE-clause-met : goal.returns-then-left-ge-AT_ONCE-clause-met
-returns-then-left-ge-AT_ONCE-clause-met g c = met-on _ _ _ _ _ _ _ _ c.in_default.ensures.met g.met.T.TextSource.has_units (g.T.TextSource.characters c.args.text) c.requires.begins refl c.read_in_place.result c.read_in_place.new.at c.read_in_place.new.classes c.read_in_place.ensures.met
+returns-then-left-ge-AT_ONCE-clause-met g c =
+    let h = rw c.in_default.is at (blocks g (goal.at.returns-then-left-ge-AT_ONCE-clause-met g c).After-read_low_blocks) in
+    met-on-fewer _ _ _ _ _ _ _ _ _ _ h g.met.T.TextSource.has_units (g.T.TextSource.characters c.args.text) c.requires.begins refl (has c.sought_with-sought-2.result) (other-idle _ _ _ c.sought_with-sought-2.ensures)
+    c.read_in_place.result c.read_in_place.new.progress.at c.read_in_place.new.classes c.read_in_place.new.progress.flags c.read_in_place.ensures.met
 
 pub read_block-requires : goal.read_block-requires
 read_block-requires g c = record {
-  sized = grind arith;
-  begins = is_boundary-skimmed _ _ _ _ _ _ _ _ c.in_default.ensures.met g.met.T.TextSource.has_units (g.T.TextSource.characters c.args.text) c.requires.begins refl;
+  place = record {
+    sized = grind arith;
+    begins = let h = rw c.in_default.is at (blocks g (goal.at.read_block-requires g c).After-read_low_blocks) in
+        is_boundary-skimmed _ _ _ _ _ _ _ _ _ _ h g.met.T.TextSource.has_units (g.T.TextSource.characters c.args.text) c.requires.begins refl;
+  };
+  sought = other-same _ _ _ c.sought_with-sought-2.ensures;
 }
 
 pub returns-else-READS_IN_PLACE-clause-met : goal.returns-else-READS_IN_PLACE-clause-met
-returns-else-READS_IN_PLACE-clause-met g c = met-on _ _ _ _ _ _ _ _ c.in_default.ensures.met g.met.T.TextSource.has_units (g.T.TextSource.characters c.args.text) c.requires.begins refl c.read_block.result c.read_block.new.at c.read_block.new.classes c.read_block.ensures.met
+returns-else-READS_IN_PLACE-clause-met g c =
+    let h = rw c.in_default.is at (blocks g (goal.at.returns-else-READS_IN_PLACE-clause-met g c).After-read_low_blocks) in
+    met-on-fewer _ _ _ _ _ _ _ _ _ _ h g.met.T.TextSource.has_units (g.T.TextSource.characters c.args.text) c.requires.begins refl (has c.sought_with-sought-2.result) (other-idle _ _ _ c.sought_with-sought-2.ensures)
+    c.read_block.result c.read_block.new.progress.at c.read_block.new.classes c.read_block.new.progress.flags c.read_block.ensures.met

@@ -1,9 +1,9 @@
-use Rattle.bidi_base.proofs.Common.{◌≡◌, ℕ, ◌+◌, ◌-◌, ◌^◌, ◌||◌, ◌&&◌, Bool, not, nat_lt, arith, class_number, is_strong, is_initiator, is_pdi, is_fsi, is_paragraph_separator}
+use Rattle.bidi_base.proofs.Common.{◌≡◌, ◌∙◌, ◌+◌, ◌^◌, true, false, [], None, sym, ap, nil_from_length, ◌||◌, ◌&&◌, Bool, nat_lt, arith, class_number, is_strong, is_initiator, is_pdi, is_fsi, is_paragraph_separator}
 use Rattle.bidi_base.specs.declared.char_data.BidiClass.{BidiClass}
-use Rattle.bidi_base.specs.declared.char_data.BidiClass.TheVariants.{L, R, AL, B, ES, ET, CS, NSM, S, WS, ON, LRI, RLI, FSI, PDI}
+use Rattle.bidi_base.specs.declared.char_data.BidiClass.TheVariants.{L, R, AL, B, LRI, RLI, FSI, PDI}
+use Rattle.bidi_walk.specs.declared.first_walk.reading.Reading.{Reading}
 use Rattle.bidi_walk.specs.ClassSet.{has}
-use Rattle.bidi_walk.specs.FirstWalk.{is_decided, wants_strong}
-use Rattle.bidi_walk.specs.ParagraphFlags.{is_counted}
+use Rattle.bidi_walk.specs.FirstWalk.{waiting, is_decided, wants_strong}
 use Rattle.bidi_walk.proofs.first_walk.reading.Reading.minded.Goals as goal
 
 -- what is in each set
@@ -19,35 +19,40 @@ strong k = grind arith
 closing : (k : BidiClass) → has (record { bits = 2 ^ class_number PDI }) k ≡ is_pdi k
 closing k = grind arith
 
--- all but PDI, the neutrals, and the weak types that are neither numbers nor removed
-abbrev others : ℕ
-others = 2 ^ class_number ES + 2 ^ class_number ET + 2 ^ class_number CS + 2 ^ class_number NSM + 2 ^ class_number S + 2 ^ class_number WS + 2 ^ class_number ON + 2 ^ class_number B + 2 ^ class_number PDI
-
-counted : (k : BidiClass) → has (record { bits = 2 ^ 23 - 1 - others }) k ≡ is_counted k
-counted k = grind arith
+-- where the state is decided, no strong character decides anything
+quiet : (r : Reading) → is_decided r ≡ true → wants_strong r ≡ false
+quiet r decided =
+    let none : r.undecided.items ≡ [] = nil_from_length r.undecided.items (grind arith) in
+    let waits : waiting r.depth r.undecided.items ≡ None = ap (waiting r.depth) none in
+    grind (arith, waits)
 
 -- the sets, joined in the order of the code and in that of the definition
-joined : (sep fsi first decided opens wants turns deep closes : Bool) → ((((sep || fsi) || first) || (not decided && opens)) || (wants && turns)) || (deep && closes)
-    ≡ (sep || (fsi || (opens && not decided))) || (first || ((turns && wants) || (closes && deep)))
-joined sep fsi first decided opens wants turns deep closes = grind arith
+joined : (sep fsi opens wants turns deep closes : Bool) → (((sep || fsi) || opens) || (wants && turns)) || (deep && closes)
+    ≡ (sep || (fsi || (opens && true))) || ((turns && wants) || (closes && deep))
+joined sep fsi opens wants turns deep closes = grind arith
+
+joined_decided : (sep fsi opens turns deep closes : Bool) → (sep || fsi) || (deep && closes) ≡ (sep || (fsi || (opens && false))) || ((turns && false) || (closes && deep))
+joined_decided sep fsi opens turns deep closes = grind arith
+
+pub returns-then-is_decided : goal.returns-then-is_decided
+returns-then-is_decided c = λ k.
+    let decided = sym c.is_decided.ensures ∙ c.if-is_decided.true in
+    simp (c.union.ensures.has k, c.when-closing.ensures k, decided, quiet c.args.self.now decided, bounds k, closing k)
+    (joined_decided (is_paragraph_separator k) (is_fsi k) (is_initiator k) (is_strong k) (nat_lt 0 c.args.self.now.depth) (is_pdi k))
 
 pub returns : goal.returns
 returns c = λ k.
+    let decided = sym c.is_decided.ensures ∙ c.if-is_decided.false in
     simp (
-      c.union-4.ensures k,
-      c.union-3.ensures k,
-      c.union-2.ensures k,
-      c.union.ensures k,
-      c.without.ensures k,
+      c.union-4.ensures.has k,
+      c.union-3.ensures.has k,
+      c.union-2.ensures.has k,
       c.when.ensures k,
-      c.when-2.ensures k,
-      c.when-3.ensures k,
-      c.is_decided.ensures,
+      c.when-closing.ensures k,
+      decided,
       c.wants_strong.ensures,
       bounds k,
-      counted k,
       initiators k,
       strong k,
       closing k,
-    ) (joined (is_paragraph_separator k) (is_fsi k) (is_counted k && not (has c.args.self.now.flags.met k)) (is_decided c.args.self.now) (is_initiator k)
-    (wants_strong c.args.self.now) (is_strong k) (nat_lt 0 c.args.self.now.depth) (is_pdi k))
+    ) (joined (is_paragraph_separator k) (is_fsi k) (is_initiator k) (wants_strong c.args.self.now) (is_strong k) (nat_lt 0 c.args.self.now.depth) (is_pdi k))
