@@ -1,8 +1,8 @@
 -- The explicit pass by stretches between controls: what it has written of the units below one.
-use Rattle.std.specs.Prelude.{◌≡◌, ℕ, ◌<◌, ◌≤◌, Bool, ◌||◌, if◌then◌else◌, List, length, get_or, Option, Some, None}
+use Rattle.std.specs.Prelude.{◌≡◌, ℕ, ◌<◌, ◌≤◌, if◌then◌else◌, List, length, get_or, Option, Some, None}
 use Rattle.bidi_base.specs.declared.char_data.BidiClass.{BidiClass}
 use Rattle.bidi_base.specs.declared.char_data.BidiClass.TheVariants.{L}
-use Rattle.bidi_base.specs.Classes.{is_kept_in_place, is_opener, is_paragraph_separator, is_pdf, is_pdi}
+use Rattle.bidi_base.specs.Classes.{is_kept_in_place}
 use Rattle.bidi_base.specs.Explicit.{explicit_levels, processing_classes}
 use Rattle.bidi_base.specs.Places.{class_at}
 use Rattle.bidi_base.specs.StatusMachine.{State, state_at}
@@ -10,10 +10,6 @@ use Rattle.bidi_base.specs.Text.{place, text_len, per_char, per_unit, IsPerChar}
 use Rattle.bidi_runs.specs.ExplicitPass.{runs_before, run_start, IsCutTo}
 use Rattle.bidi_explicit.specs.declared.explicit.stretches.OpenRun.{OpenRun}
 use Rattle.bidi_explicit.specs.declared.explicit.stretches.Progress.{Progress}
-
--- a class that changes the status, or whose level is not that of the status (X1 to X8)
-abbrev pub is_control : BidiClass → Bool
-is_control c = is_paragraph_separator c || (is_opener c || (is_pdi c || is_pdf c))
 
 -- what an override that puts a class makes of another, where there is no control (X6)
 abbrev pub put_over : BidiClass → BidiClass → BidiClass

@@ -3,25 +3,24 @@
 //!
 //! The pass goes through a stretch from character to character, or from code unit to code unit.
 
-ghost use Rattle.std.specs.Prelude.{◌≡◌, ℕ, ◌+◌, ◌*◌, ◌-◌, ◌<◌, ◌≤◌, false, List, None, Some, length, map, IsTrue, OnOk};
+ghost use Rattle.std.specs.Prelude.{◌≡◌, ℕ, ◌+◌, ◌*◌, ◌-◌, ◌<◌, ◌≤◌, true, false, List, None, Some, length, map, IsTrue, OnOk};
 ghost use Rattle.bidi_base.specs.Places.{class_at};
 ghost use Rattle.bidi_base.specs.Search.{IsFirst};
 ghost use Rattle.bidi_base.specs.StatusMachine.{State};
 ghost use Rattle.bidi_base.specs.Text.{char_index, is_boundary, is_per_char, place, text_len};
 ghost use Rattle.bidi_base.specs.Units.{bounds};
-ghost use Rattle.bidi_explicit.specs.ExplicitStretches.{is_control, paragraph_of, run_met, runs_met, IsOverridden, IsReadTo, ReadsOn};
+ghost use Rattle.bidi_explicit.specs.Control.{is_control};
+ghost use Rattle.bidi_explicit.specs.ExplicitStretches.{paragraph_of, run_met, runs_met, IsOverridden, IsReadTo, ReadsOn};
 ghost use Rattle.bidi_explicit.specs.Status.{entry_count, seen};
 ghost use Rattle.bidi_explicit.specs.Stride.{count_to};
 
 use super::status::{StatusEntry, StatusStack};
-use super::{
-    Stride, cut_run, own_class, own_level, units, write_class, write_control, write_level,
-};
+use super::{Stride, cut_run, units, write_class, write_control, write_level};
 use bidi_base::char_data::BidiClass::{self, B, BN, FSI, LRE, LRI, LRO, PDF, PDI, RLE, RLI, RLO};
 use bidi_base::level::Level;
 use bidi_base::search::ClassTest;
 use bidi_runs::characters::end_within;
-use bidi_runs::prepare::{LevelRunVec, Steps, not_removed_by_x9};
+use bidi_runs::prepare::{LevelRunVec, Steps};
 use bidi_text::text::TextSource;
 use std::alloc::AllocError;
 use std::sync::ledger::Ledger;
@@ -363,6 +362,7 @@ impl<'p, T: TextSource> Paragraph<'p, T> {
         steps: &mut Steps<S>,
     ) -> Progress
         requires inside { start < length self.now.original_classes.now }
+        requires control { is_control (class_at self.now.original_classes.now start) ≡ true }
         requires read { (runs : List (ℕ × ℕ)) × (run : OpenRun)
             × IsReadTo
             (paragraph_of T.units (T.characters self.now.text) self.now.level self.now.original_classes.now) start
@@ -377,15 +377,13 @@ impl<'p, T: TextSource> Paragraph<'p, T> {
         ensures at_most { steps.new + entry_count stack.new ≤ steps.old + entry_count stack.old + 1 }
     {
         let class = self.original_classes[start];
-        let status = stack.read(class, steps);
-        let level = own_level(self.level, class, status.level);
+        let answer = stack.read(self.level, class, steps);
         let end = self.end_of(start);
-        let put = own_class(class, status.override_class);
-        write_control(levels, classes, start..end, level, put);
+        write_control(levels, classes, start..end, answer.level, answer.class);
         Progress {
             end,
-            level,
-            first_kept: not_removed_by_x9(&class).then_some(start),
+            level: answer.level,
+            first_kept: answer.is_kept.then_some(start),
         }
     }
 }

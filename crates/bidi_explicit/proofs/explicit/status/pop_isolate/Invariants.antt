@@ -1,13 +1,13 @@
-use Rattle.bidi_base.proofs.Common.{◌≡◌, ◌+◌, ◌≤◌, length, map, reverse, drop_isolate}
+use Rattle.bidi_base.proofs.Common.{◌≡◌, ◌∷◌, ◌+◌, ◌≤◌, length, map, reverse, drop_isolate}
 use Rattle.bidi_explicit.specs.Status.{seen}
 use Rattle.bidi_explicit.proofs.explicit.status.pop_isolate.Given as goal
 
 abbrev pub invariant-loop-entry : goal.invariant-loop-entry
 invariant-loop-entry g l = record {
-  stack : drop_isolate (map seen (reverse l.stack.items)) ≡ drop_isolate (map seen (reverse l.fn.stack.items));
+  stack : drop_isolate (seen l.top ∷ map seen (reverse l.below.items)) ≡ drop_isolate (seen l.fn.top ∷ map seen (reverse l.fn.below.items));
   at_least : l.fn.steps ≤ l.steps;
-  popped : l.steps + length l.stack.items ≡ l.fn.steps + length l.fn.stack.items;
+  popped : l.steps + length l.below.items ≡ l.fn.steps + length l.fn.below.items;
 }
 
 abbrev pub decreases-loop-entry : goal.decreases-loop-entry
-decreases-loop-entry g l = length l.stack.items
+decreases-loop-entry g l = length l.below.items

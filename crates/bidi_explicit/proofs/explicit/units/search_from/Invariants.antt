@@ -1,6 +1,6 @@
 -- None of the first code units passes, and each was a step.
 use Rattle.bidi_base.proofs.Common.{◌≡◌, ℕ, ◌+◌, ◌<◌, ◌≤◌, false, class_at}
-use Rattle.bidi_explicit.proofs.explicit.units.next_passing.Given as goal
+use Rattle.bidi_explicit.proofs.explicit.units.search_from.Given as goal
 
 abbrev pub invariant-loop-at : goal.invariant-loop-at
 invariant-loop-at g l =
