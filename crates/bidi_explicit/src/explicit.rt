@@ -59,7 +59,9 @@ fn write_level(levels: &mut [Level], from: usize, to: usize, level: Level)
     requires within { to ≤ length levels.old }
     ensures { levels.new ≡ filled from (to - from) level levels.old }
 {
-    if to - from <= 3 {
+    if to - from == 1 {
+        levels[from] = level;
+    } else if to - from <= 3 {
         fill_few(levels, from, to - from, level);
     } else {
         levels[from..to].fill(level);

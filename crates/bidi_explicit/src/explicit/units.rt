@@ -29,10 +29,13 @@ pub fn next_passing<C: ClassTest, S: Ledger>(
     ensures first { IsFirst (C.test test) classes.now from to result }
     ensures steps { steps.new + from ≡ steps.old + result }
 {
-    if from == to || test.passes(classes[from]) {
-        return from;
+    if from < to {
+        if test.passes(classes[from]) {
+            return from;
+        }
+        return next_after(test, classes, from, to, steps);
     }
-    next_after(test, classes, from, to, steps)
+    to
 }
 
 /// Like [`next_passing`], if the class at `from` is known not to pass.
