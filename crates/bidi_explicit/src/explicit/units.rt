@@ -12,11 +12,11 @@ use std::sync::ledger::Ledger;
 
 // In a text with many controls, the next one is mostly among this many code units. They are tested one by
 // one before the search by blocks begins.
-const NEAR: usize = 3;
+const NEAR: usize = 4;
 
 /// Returns the first index in `from..to` with a class that passes a test, or else `to`. Counts one step for
 /// each code unit passed over.
-#[inline]
+#[inline(always)]
 pub fn next_passing<C: ClassTest, S: Ledger>(
     test: C,
     classes: &[BidiClass],
@@ -29,17 +29,21 @@ pub fn next_passing<C: ClassTest, S: Ledger>(
     ensures first { IsFirst (C.test test) classes.now from to result }
     ensures steps { steps.new + from ≡ steps.old + result }
 {
-    if from < to {
-        if test.passes(classes[from]) {
-            return from;
+    for near in 0..NEAR {
+        let at = from + near;
+        if at == to || test.passes(classes[at]) {
+            return at;
         }
-        return next_after(test, classes, from, to, steps);
+        steps.tick();
     }
-    to
+    let far = from + NEAR;
+    let found = first_passing(test, classes, far, to);
+    steps.tick_by(found - far);
+    found
 }
 
 /// Like [`next_passing`], if the class at `from` is known not to pass.
-#[inline]
+#[inline(always)]
 pub fn next_after<C: ClassTest, S: Ledger>(
     test: C,
     classes: &[BidiClass],
@@ -54,38 +58,7 @@ pub fn next_after<C: ClassTest, S: Ledger>(
     ensures steps { steps.new + from ≡ steps.old + result }
 {
     steps.tick();
-    let next = from + 1;
-    // Between two controls there is often one code unit, which needs no search.
-    if next == to || test.passes(classes[next]) {
-        return next;
-    }
-    search_from(test, classes, next, to, steps)
-}
-
-// Like `next_passing`.
-#[inline(never)]
-fn search_from<C: ClassTest, S: Ledger>(
-    test: C,
-    classes: &[BidiClass],
-    from: usize,
-    to: usize,
-    steps: &mut Steps<S>,
-) -> usize
-    requires ordered { from ≤ to }
-    requires within { to ≤ length classes.now }
-    ensures first { IsFirst (C.test test) classes.now from to result }
-    ensures steps { steps.new + from ≡ steps.old + result }
-{
-    let near = from + NEAR.min(to - from);
-    for at in from..near {
-        if test.passes(classes[at]) {
-            return at;
-        }
-        steps.tick();
-    }
-    let found = first_passing(test, classes, near, to);
-    steps.tick_by(found - near);
-    found
+    next_passing(test, classes, from + 1, to, steps)
 }
 
 // The class that an override puts in place of another, which is no control's (X6). BN stays.
