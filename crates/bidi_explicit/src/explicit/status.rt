@@ -1,13 +1,13 @@
 //! The directional status stack with its three counts (X1 to X8).
 
-ghost use Rattle.std.specs.Prelude.{◌≡◌, ℕ, ◌<◌, ◌≤◌, ◌+◌, ◌^◌, ◌∷◌, true, false, length, map, reverse, Option, Some, None, unwrap_or, if◌then◌else◌};
+ghost use Rattle.std.specs.Prelude.{◌≡◌, ℕ, ◌<◌, ◌≤◌, ◌+◌, ◌^◌, ◌∷◌, true, false, length, reverse, Option, Some, None, unwrap_or, if◌then◌else◌};
 ghost use Rattle.std.specs.Result.{OkIff};
 ghost use Rattle.bidi_base.specs.declared.char_data.BidiClass.TheVariants.{BN};
 ghost use Rattle.bidi_base.specs.Classes.{is_initiator, is_kept, is_removed};
 ghost use Rattle.bidi_base.specs.Explicit.{asked_level, override_of};
 ghost use Rattle.bidi_base.specs.StatusMachine.{State, start, answer_class, answer_level, entered, closed, step, fits_in, close_isolate, close_embedding, drop_isolate, counted, IsWithinDepth, IsPoppable};
 ghost use Rattle.bidi_explicit.specs.Control.{is_control};
-ghost use Rattle.bidi_explicit.specs.Status.{entry_count, seen, state_by};
+ghost use Rattle.bidi_explicit.specs.Status.{entries, entry_count, seen, state_by};
 
 use arrayvec::ArrayVec;
 use bidi_base::char_data::{BidiClass, is_rtl};
@@ -117,9 +117,8 @@ fn pop_isolate<S: Ledger>(
     below: &mut ArrayVec<StatusEntry, 125>,
     steps: &mut Steps<S>,
 )
-    requires poppable { (t : State) × (drop_isolate (seen top.old ∷ map seen (reverse below.old.items)) ≡ t.top ∷ t.below) }
-    ensures stack { drop_isolate (seen top.old ∷ map seen (reverse below.old.items))
-        ≡ seen top.new ∷ map seen (reverse below.new.items) }
+    requires poppable { (t : State) × (drop_isolate (entries top.old below.old.items) ≡ t.top ∷ t.below) }
+    ensures stack { drop_isolate (entries top.old below.old.items) ≡ entries top.new below.new.items }
     ensures at_least { steps.old ≤ steps.new }
     ensures popped { steps.new + length below.new.items ≡ steps.old + length below.old.items }
 {
