@@ -7,10 +7,10 @@ ghost use Rattle.std.specs.Prelude.{◌≡◌, ℕ, ◌+◌, ◌*◌, ◌-◌, �
 ghost use Rattle.bidi_base.specs.Places.{class_at};
 ghost use Rattle.bidi_base.specs.Search.{IsFirst};
 ghost use Rattle.bidi_base.specs.StatusMachine.{State};
-ghost use Rattle.bidi_base.specs.Text.{char_index, is_boundary, is_per_char, place, text_len};
+ghost use Rattle.bidi_base.specs.Text.{char_index, is_per_char, place, text_len};
 ghost use Rattle.bidi_base.specs.Units.{bounds};
 ghost use Rattle.bidi_explicit.specs.Control.{is_control};
-ghost use Rattle.bidi_explicit.specs.ExplicitStretches.{paragraph_of, run_met, runs_met, IsOverridden, IsReadTo, ReadsOn};
+ghost use Rattle.bidi_explicit.specs.ExplicitStretches.{paragraph_of, run_met, runs_met, IsOverridden, IsReadTo, IsStart, IsUnread, ReadsOn};
 ghost use Rattle.bidi_explicit.specs.Status.{entry_count, seen};
 ghost use Rattle.bidi_explicit.specs.Stride.{count_to};
 
@@ -146,7 +146,7 @@ impl<'p, T: TextSource> Paragraph<'p, T> {
 
     // The index after the character that begins at `start`.
     fn end_of(&self, start: usize) -> usize
-        requires begins { IsTrue (is_boundary T.units (T.characters self.now.text) start) }
+        requires begins { IsStart T.units (T.characters self.now.text) start }
         requires inside { start < length self.now.original_classes.now }
         ensures { (k : ℕ) → k < length (T.characters self.now.text)
             → start ≡ place T.units (T.characters self.now.text) k
@@ -157,7 +157,7 @@ impl<'p, T: TextSource> Paragraph<'p, T> {
 
     // Like `end_of`, and counts one step.
     fn step_over<S: Ledger>(&self, start: usize, steps: &mut Steps<S>) -> usize
-        requires begins { IsTrue (is_boundary T.units (T.characters self.now.text) start) }
+        requires begins { IsStart T.units (T.characters self.now.text) start }
         requires inside { start < length self.now.original_classes.now }
         ensures end { (k : ℕ) → k < length (T.characters self.now.text)
             → start ≡ place T.units (T.characters self.now.text) k
@@ -177,12 +177,12 @@ impl<'p, T: TextSource> Paragraph<'p, T> {
         to: usize,
         steps: &mut Steps<S>,
     ) -> usize
-        requires begins { IsTrue (is_boundary T.units (T.characters self.now.text) from) }
-        requires ends { IsTrue (is_boundary T.units (T.characters self.now.text) to) }
+        requires begins { IsStart T.units (T.characters self.now.text) from }
+        requires ends { IsStart T.units (T.characters self.now.text) to }
         requires ordered { from ≤ to }
         requires within { to ≤ length self.now.original_classes.now }
         ensures first { IsFirst (C.test test) self.now.original_classes.now from to result }
-        ensures begins { IsTrue (is_boundary T.units (T.characters self.now.text) result) }
+        ensures begins { IsStart T.units (T.characters self.now.text) result }
         ensures steps { steps.new + char_index T.units (T.characters self.now.text) from
             ≡ steps.old + char_index T.units (T.characters self.now.text) result }
     {
@@ -204,11 +204,11 @@ impl<'p, T: TextSource> Paragraph<'p, T> {
         steps: &mut Steps<S>,
     )
         requires classes { length classes.old ≡ length self.now.original_classes.now }
-        requires begins { IsTrue (is_boundary T.units (T.characters self.now.text) from) }
-        requires ends { IsTrue (is_boundary T.units (T.characters self.now.text) to) }
+        requires begins { IsStart T.units (T.characters self.now.text) from }
+        requires ends { IsStart T.units (T.characters self.now.text) to }
         requires ordered { from ≤ to }
         requires within { to ≤ length self.now.original_classes.now }
-        requires unread { (u : ℕ) → from ≤ u → class_at classes.old u ≡ class_at self.now.original_classes.now u }
+        requires unread { IsUnread self.now.original_classes.now classes.old from }
         ensures put { IsOverridden (Some put) from to classes.old classes.new }
         ensures steps { steps.new + char_index T.units (T.characters self.now.text) from
             ≡ steps.old + char_index T.units (T.characters self.now.text) to }
@@ -226,11 +226,11 @@ impl<'p, T: TextSource> Paragraph<'p, T> {
     // The end of the stretch without controls that begins at `from`. Counts one step for each of its
     // characters or code units.
     fn stretch_end<S: Ledger>(&self, from: usize, steps: &mut Steps<S>) -> usize
-        requires begins { IsTrue (is_boundary T.units (T.characters self.now.text) from) }
+        requires begins { IsStart T.units (T.characters self.now.text) from }
         requires inside { from < length self.now.original_classes.now }
         requires plain { is_control (class_at self.now.original_classes.now from) ≡ false }
         ensures first { IsFirst is_control self.now.original_classes.now from (length self.now.original_classes.now) result }
-        ensures begins { IsTrue (is_boundary T.units (T.characters self.now.text) result) }
+        ensures begins { IsStart T.units (T.characters self.now.text) result }
         ensures steps { steps.new + count_to self.now.stride T.units (T.characters self.now.text) from
             ≡ steps.old + count_to self.now.stride T.units (T.characters self.now.text) result }
     {
@@ -250,12 +250,12 @@ impl<'p, T: TextSource> Paragraph<'p, T> {
         to: usize,
         steps: &mut Steps<S>,
     ) -> usize
-        requires begins { IsTrue (is_boundary T.units (T.characters self.now.text) from) }
-        requires ends { IsTrue (is_boundary T.units (T.characters self.now.text) to) }
+        requires begins { IsStart T.units (T.characters self.now.text) from }
+        requires ends { IsStart T.units (T.characters self.now.text) to }
         requires ordered { from ≤ to }
         requires within { to ≤ length self.now.original_classes.now }
         ensures first { IsFirst (C.test test) self.now.original_classes.now from to result }
-        ensures begins { IsTrue (is_boundary T.units (T.characters self.now.text) result) }
+        ensures begins { IsStart T.units (T.characters self.now.text) result }
         ensures steps { steps.new + count_to self.now.stride T.units (T.characters self.now.text) from
             ≡ steps.old + count_to self.now.stride T.units (T.characters self.now.text) result }
     {
@@ -276,11 +276,11 @@ impl<'p, T: TextSource> Paragraph<'p, T> {
         steps: &mut Steps<S>,
     )
         requires classes { length classes.old ≡ length self.now.original_classes.now }
-        requires begins { IsTrue (is_boundary T.units (T.characters self.now.text) from) }
-        requires ends { IsTrue (is_boundary T.units (T.characters self.now.text) to) }
+        requires begins { IsStart T.units (T.characters self.now.text) from }
+        requires ends { IsStart T.units (T.characters self.now.text) to }
         requires ordered { from ≤ to }
         requires within { to ≤ length self.now.original_classes.now }
-        requires unread { (u : ℕ) → from ≤ u → class_at classes.old u ≡ class_at self.now.original_classes.now u }
+        requires unread { IsUnread self.now.original_classes.now classes.old from }
         ensures put { IsOverridden (Some put) from to classes.old classes.new }
         ensures steps { steps.new + count_to self.now.stride T.units (T.characters self.now.text) from
             ≡ steps.old + count_to self.now.stride T.units (T.characters self.now.text) to }
@@ -301,11 +301,11 @@ impl<'p, T: TextSource> Paragraph<'p, T> {
         steps: &mut Steps<S>,
     )
         requires classes { length classes.old ≡ length self.now.original_classes.now }
-        requires begins { IsTrue (is_boundary T.units (T.characters self.now.text) from) }
-        requires ends { IsTrue (is_boundary T.units (T.characters self.now.text) to) }
+        requires begins { IsStart T.units (T.characters self.now.text) from }
+        requires ends { IsStart T.units (T.characters self.now.text) to }
         requires ordered { from ≤ to }
         requires within { to ≤ length self.now.original_classes.now }
-        requires unread { (u : ℕ) → from ≤ u → class_at classes.old u ≡ class_at self.now.original_classes.now u }
+        requires unread { IsUnread self.now.original_classes.now classes.old from }
         ensures put { IsOverridden override_class from to classes.old classes.new }
         ensures at_least { steps.old ≤ steps.new }
         ensures at_most { steps.new
@@ -329,10 +329,10 @@ impl<'p, T: TextSource> Paragraph<'p, T> {
     ) -> Progress
         requires inside { from < length self.now.original_classes.now }
         requires plain { is_control (class_at self.now.original_classes.now from) ≡ false }
-        requires begins { IsTrue (is_boundary T.units (T.characters self.now.text) from) }
+        requires begins { IsStart T.units (T.characters self.now.text) from }
         requires levels { length levels.old ≡ length self.now.original_classes.now }
         requires classes { length classes.old ≡ length self.now.original_classes.now }
-        requires unread { (u : ℕ) → from ≤ u → class_at classes.old u ≡ class_at self.now.original_classes.now u }
+        requires unread { IsUnread self.now.original_classes.now classes.old from }
         ensures read { (stack : State) → seen status ≡ stack.top
             → ReadsOn (paragraph_of T.units (T.characters self.now.text) self.now.level self.now.original_classes.now)
             from stack levels.old classes.old result stack levels.new classes.new }
