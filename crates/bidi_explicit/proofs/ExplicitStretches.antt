@@ -14,7 +14,9 @@ use Rattle.bidi_base.proofs.UnitsLemmas.{length-from_IsPerChar, per_unit-from_Is
 use Rattle.bidi_text.proofs.PerCharTests.{class_test}
 use Rattle.bidi_base.specs.contracts.char_data.BidiClassPartialEq.TheImpl.{ghosts}
 use Rattle.bidi_runs.specs.ExplicitPass.{IsCutTo, filled, differs, runs_before, run_start}
-use Rattle.bidi_explicit.specs.ExplicitStretches.{is_control, overridden, put_over, run_met, runs_met, IsOverridden, Paragraph, stored, levels_of, classes_of, IsReadTo}
+use Rattle.bidi_base.specs.StatusMachine.{answer_class, answer_level}
+use Rattle.bidi_explicit.specs.Control.{is_control}
+use Rattle.bidi_explicit.specs.ExplicitStretches.{overridden, put_over, run_met, runs_met, IsOverridden, Paragraph, stored, levels_of, classes_of, IsReadTo}
 use Rattle.bidi_explicit.specs.Stride.{count_to, count_of}
 use Rattle.bidi_explicit.specs.declared.explicit.Stride.{Stride}
 use Rattle.bidi_explicit.specs.declared.explicit.Stride.TheVariants.{Character, CodeUnit}
@@ -331,18 +333,18 @@ module _ (p : Paragraph) (at : ℕ) (stack : State) (levels : List ℕ) (classes
   pub control-some : (next : ℕ) → Ends next → at < next
   control-some next ends = grind (arith, control-fits, place-lt) steps 400000
 
-  module _ (next : ℕ) (ends : Ends next) (now : State) (status : Entry) (level : ℕ) (put : BidiClass) (now_is : now ≡ step (class_at p.original at) stack) (status_is : status ≡ (closed (class_at p.original at) stack).top)
-      (level_is : level ≡ (if is_paragraph_separator (class_at p.original at) then p.level else status.status.level))
-      (put_is : put ≡ (if is_removed (class_at p.original at) then BN else if is_paragraph_separator (class_at p.original at) || is_removed (class_at p.original at) then class_at p.original at else unwrap_or status.status.override (class_at p.original at)))
+  module _ (next : ℕ) (ends : Ends next) (now : State) (level : ℕ) (put : BidiClass) (now_is : now ≡ step (class_at p.original at) stack)
+      (level_is : level ≡ answer_level p.level (class_at p.original at) stack)
+      (put_is : put ≡ (if is_removed (class_at p.original at) then BN else answer_class (class_at p.original at) stack))
       (now_levels : List ℕ) (now_classes : List BidiClass) (levels_are : now_levels ≡ filled at (next - at) level levels) (classes_are : now_classes ≡ filled at (next - at) put classes) where
     within : h.index < length (stored p)
     within = omega (arith, control-fits, stored_long p h.has_units h.per_char)
 
     level-at_control : level ≡ get_or (levels_of p) h.index 0
-    level-at_control = level_of_next p.len_of p.chars p.level (stored p) h.index within (class_at p.original at) control-class stack now status level put now_is status_is level_is put_is h.machine
+    level-at_control = level_of_next p.len_of p.chars p.level (stored p) h.index within (class_at p.original at) control-class stack now level put now_is level_is put_is h.machine
 
     put-at_control : put ≡ class_at (classes_of p) h.index
-    put-at_control = put_at p.len_of p.chars p.level (stored p) h.index within (class_at p.original at) control-class stack now status level put now_is status_is level_is put_is h.machine
+    put-at_control = put_at p.len_of p.chars p.level (stored p) h.index within (class_at p.original at) control-class stack now level put now_is level_is put_is h.machine
 
     control-read : (now_runs : List (ℕ × ℕ)) (now_run : OpenRun) → IsCutTo p.len_of p.chars (stored p) (levels_of p) (h.index + 1) now_runs now_run.start now_run.last_level → IsReadTo p next now now_levels now_classes now_runs now_run
     control-read now_runs now_run cut =
@@ -350,7 +352,7 @@ module _ (p : Paragraph) (at : ℕ) (stack : State) (levels : List ℕ) (classes
         let room : at + (next - at) ≤ length classes = omega (arith, there, h.classes_long, control-some next ends, place-le p.len_of p.chars (h.index + 1)) in
         let one = λ (k : ℕ) (above : h.index ≤ k) (below : k < h.index + 1). let same : k ≡ h.index = omega arith in same in
         read-more p at stack levels classes runs run h next (h.index + 1) there (omega arith) (omega (arith, control-fits)) now level now_levels now_classes now_runs now_run
-        (next_at p.len_of p.chars p.level (stored p) h.index within (class_at p.original at) control-class stack now status level put now_is status_is level_is put_is h.machine)
+        (next_at p.len_of p.chars p.level (stored p) h.index within (class_at p.original at) control-class stack now level put now_is level_is put_is h.machine)
         levels_are (λ k above below. cc (one k above below, level-at_control))
         (grind (arith, length-filled)) (λ v below. grind (arith, filled-below)) (λ v above. grind (
           arith,

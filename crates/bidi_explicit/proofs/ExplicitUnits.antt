@@ -1,8 +1,9 @@
 -- The pass over units that gives explicit levels, classes and level runs: what it has written once it read some characters.
 use native.Mathlib.Numerals.{unary_clauses}
-use Rattle.bidi_base.proofs.Common.{◌≡◌, ℕ, zero, suc, ◌+◌, ◌<◌, ◌≤◌, ◌^◌, true, List, [], ◌∷◌, length, get_or, set, unwrap_or, refl, sym, ap, ◌∙◌, arith, length-append, common_steps, take-append-drop, length-replicate, is_paragraph_separator, is_removed, class_at, text_len, per_unit, per_char, is_per_char, explicit_levels, processing_class, processing_classes, Entry, State, closed, step, state_at, counted, IsWithinDepth, IsPoppable, suc-add}
+use Rattle.bidi_base.proofs.Common.{◌≡◌, ℕ, zero, suc, ◌+◌, ◌<◌, ◌≤◌, ◌^◌, true, List, [], ◌∷◌, length, get_or, set, unwrap_or, refl, sym, ap, ◌∙◌, arith, length-append, common_steps, take-append-drop, length-replicate, is_paragraph_separator, is_removed, class_at, text_len, per_unit, per_char, is_per_char, explicit_levels, processing_class, processing_classes, State, closed, step, state_at, counted, IsWithinDepth, IsPoppable, suc-add}
 use Rattle.std.specs.Prelude.{◌||◌, if◌then◌else◌}
 use Rattle.std.proofs.lemmas.List.{length-take, length-drop}
+use Rattle.bidi_base.specs.StatusMachine.{answer_class, answer_level}
 use Rattle.bidi_base.specs.declared.char_data.BidiClass.{BidiClass}
 use Rattle.bidi_base.specs.declared.char_data.BidiClass.TheVariants.{L, BN}
 use Rattle.bidi_laws.proofs.ExplicitLemmas.{length-explicit_levels, level_at-explicit_levels, class_at-processing_classes}
@@ -48,9 +49,8 @@ module _ (len_of : ℕ → ℕ) (chars : List ℕ) (paragraph : ℕ) (stored : L
   can_read k stack class low within few is machine = grind (arith, closed-counted, state_at-IsPoppable, closed-IsWithinDepth) steps 400000
 
   -- one character more
-  module _ (k : ℕ) (within : k < length stored) (class : BidiClass) (class_is : class ≡ class_at stored k) (stack next : State) (status : Entry) (level : ℕ) (put : BidiClass) (next_is : next ≡ step class stack)
-      (status_is : status ≡ (closed class stack).top) (level_is : level ≡ (if is_paragraph_separator class then paragraph else status.status.level))
-      (put_is : put ≡ (if is_removed class then BN else if is_paragraph_separator class || is_removed class then class else unwrap_or status.status.override class)) where
+  module _ (k : ℕ) (within : k < length stored) (class : BidiClass) (class_is : class ≡ class_at stored k) (stack next : State) (level : ℕ) (put : BidiClass) (next_is : next ≡ step class stack)
+      (level_is : level ≡ answer_level paragraph class stack) (put_is : put ≡ (if is_removed class then BN else answer_class class stack)) where
     pub level_at : stack ≡ state_at paragraph stored k → level ≡ get_or (explicit_levels paragraph stored) k 0
     level_at machine = grind (arith, answer_level-explicit_level, level_at-explicit_levels)
 

@@ -1,19 +1,23 @@
 -- The explicit pass by stretches between controls: what it has written of the units below one.
-use Rattle.std.specs.Prelude.{◌≡◌, ℕ, ◌<◌, ◌≤◌, Bool, ◌||◌, if◌then◌else◌, List, length, get_or, Option, Some, None}
+use Rattle.std.specs.Prelude.{◌≡◌, ℕ, ◌<◌, ◌≤◌, IsTrue, if◌then◌else◌, List, length, get_or, Option, Some, None}
 use Rattle.bidi_base.specs.declared.char_data.BidiClass.{BidiClass}
 use Rattle.bidi_base.specs.declared.char_data.BidiClass.TheVariants.{L}
-use Rattle.bidi_base.specs.Classes.{is_kept_in_place, is_opener, is_paragraph_separator, is_pdf, is_pdi}
+use Rattle.bidi_base.specs.Classes.{is_kept_in_place}
 use Rattle.bidi_base.specs.Explicit.{explicit_levels, processing_classes}
 use Rattle.bidi_base.specs.Places.{class_at}
 use Rattle.bidi_base.specs.StatusMachine.{State, state_at}
-use Rattle.bidi_base.specs.Text.{place, text_len, per_char, per_unit, IsPerChar}
+use Rattle.bidi_base.specs.Text.{is_boundary, place, text_len, per_char, per_unit, IsPerChar}
 use Rattle.bidi_runs.specs.ExplicitPass.{runs_before, run_start, IsCutTo}
 use Rattle.bidi_explicit.specs.declared.explicit.stretches.OpenRun.{OpenRun}
 use Rattle.bidi_explicit.specs.declared.explicit.stretches.Progress.{Progress}
 
--- a class that changes the status, or whose level is not that of the status (X1 to X8)
-abbrev pub is_control : BidiClass → Bool
-is_control c = is_paragraph_separator c || (is_opener c || (is_pdi c || is_pdf c))
+-- a character begins at a code unit, or the text ends there
+abbrev pub IsStart : (ℕ → ℕ) → List ℕ → ℕ → Type 0
+IsStart len_of chars u = IsTrue (is_boundary len_of chars u)
+
+-- from a code unit on the classes are still the stored ones
+abbrev pub IsUnread : List BidiClass → List BidiClass → ℕ → Type 0
+IsUnread original classes from = (u : ℕ) → from ≤ u → class_at classes u ≡ class_at original u
 
 -- what an override that puts a class makes of another, where there is no control (X6)
 abbrev pub put_over : BidiClass → BidiClass → BidiClass
@@ -65,7 +69,7 @@ pub record IsReadTo (p : Paragraph) (u : ℕ) (stack : State) (levels : List ℕ
   pub classes_long : length classes ≡ text_len p.len_of p.chars
   pub levels_written : (v : ℕ) → v < u → get_or levels v 0 ≡ get_or (per_unit p.len_of p.chars (levels_of p)) v 0
   pub classes_written : (v : ℕ) → v < u → class_at classes v ≡ class_at (per_unit p.len_of p.chars (classes_of p)) v
-  pub unread : (v : ℕ) → u ≤ v → class_at classes v ≡ class_at p.original v
+  pub unread : IsUnread p.original classes u
   pub cut : IsCutTo p.len_of p.chars (stored p) (levels_of p) index runs run.start run.last_level
 
 -- the level runs that have ended once the first kept unit of what was read, if there is one, met the run that

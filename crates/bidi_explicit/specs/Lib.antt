@@ -1,3 +1,4 @@
+pub mod Control
 pub mod ExplicitStretches
 pub mod Status
 pub mod Stride

@@ -1,9 +1,7 @@
 //! Explicit levels and directions (X1 to X8), and level runs (BD7), in place over the code units of one
 //! paragraph.
 
-ghost use Rattle.std.specs.Prelude.{◌≡◌, ℕ, ◌+◌, ◌*◌, ◌-◌, ◌≤◌, ◌||◌, if◌then◌else◌, length, map, unwrap_or, OnOk, IfOk};
-ghost use Rattle.bidi_base.specs.declared.char_data.BidiClass.TheVariants.{BN};
-ghost use Rattle.bidi_base.specs.Classes.{is_paragraph_separator, is_removed};
+ghost use Rattle.std.specs.Prelude.{◌≡◌, ℕ, ◌+◌, ◌*◌, ◌-◌, ◌≤◌, length, map, OnOk, IfOk};
 ghost use Rattle.bidi_base.specs.InPlace.{AreExplicitLevels, CanFindExplicitLevels};
 ghost use Rattle.bidi_base.specs.Units.{bounds};
 ghost use Rattle.bidi_explicit.specs.Stride.{count_of};
@@ -14,7 +12,6 @@ mod stretches;
 mod units;
 
 use bidi_base::char_data::BidiClass;
-use bidi_base::classes::is_removed;
 use bidi_base::level::Level;
 use bidi_runs::prepare::{LevelRunVec, Steps};
 use bidi_text::text::TextSource;
@@ -33,29 +30,6 @@ pub(crate) enum Stride {
     Character,
     /// From code unit to code unit.
     CodeUnit,
-}
-
-// The level of a character: the paragraph level for a paragraph separator, otherwise `level` (X8).
-fn own_level(para_level: Level, class: BidiClass, level: Level) -> Level
-    ensures { result ≡ (if is_paragraph_separator class then para_level else level) }
-{
-    match class {
-        BidiClass::B => para_level,
-        _ => level,
-    }
-}
-
-// The class of a character under an override (X6), or BN if X9 removes it.
-fn own_class(class: BidiClass, override_class: Option<BidiClass>) -> BidiClass
-    ensures { result
-        ≡ (if is_removed class then BN
-        else if is_paragraph_separator class || is_removed class then class else unwrap_or override_class class) }
-{
-    match class {
-        BidiClass::B => class,
-        _ if is_removed(class) => BidiClass::BN,
-        _ => override_class.unwrap_or(class),
-    }
 }
 
 // Writes a value to `len` code units from `start` on. `len` is at most three.
@@ -85,7 +59,9 @@ fn write_level(levels: &mut [Level], from: usize, to: usize, level: Level)
     requires within { to ≤ length levels.old }
     ensures { levels.new ≡ filled from (to - from) level levels.old }
 {
-    if to - from <= 3 {
+    if to - from == 1 {
+        levels[from] = level;
+    } else if to - from <= 3 {
         fill_few(levels, from, to - from, level);
     } else {
         levels[from..to].fill(level);

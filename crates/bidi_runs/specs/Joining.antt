@@ -3,7 +3,7 @@ use Rattle.std.specs.Prelude.{◌≡◌, ℕ, ◌+◌, ◌-◌, ◌<◌, ◌≤�
 use Rattle.std.specs.List.{fold}
 use Rattle.bidi_base.specs.declared.char_data.BidiClass.{BidiClass}
 use Rattle.bidi_base.specs.declared.char_data.BidiClass.TheVariants.{L}
-use Rattle.bidi_base.specs.Classes.{is_initiator, is_pdi}
+use Rattle.bidi_base.specs.Classes.{is_initiator, is_kept, is_pdi}
 use Rattle.bidi_base.specs.Places.{between, class_at}
 use Rattle.bidi_base.specs.Sequences.{RunSequence, is_kept_at, level_at}
 use Rattle.bidi_base.specs.SequencePass.{read_class}
@@ -26,6 +26,10 @@ pub record IsKeptEnd (classes : List BidiClass) (start end kept_end : ℕ) : Typ
   pub to : kept_end ≤ end
   pub gone : (u : ℕ) → kept_end ≤ u → u < end → is_kept_at classes u ≡ false
   pub kept : start < kept_end → is_kept_at classes (kept_end - 1) ≡ true
+
+-- one of the classes is kept
+abbrev pub is_kept_in : List BidiClass → Bool
+is_kept_in classes = fold (λ found class. found || is_kept class) false classes
 
 -- a class that opens or closes an isolate
 abbrev pub is_isolate_control : BidiClass → Bool

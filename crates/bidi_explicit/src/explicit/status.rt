@@ -1,11 +1,13 @@
 //! The directional status stack with its three counts (X1 to X8).
 
-ghost use Rattle.std.specs.Prelude.{◌≡◌, ℕ, ◌<◌, ◌≤◌, ◌+◌, ◌^◌, length, map, reverse, Option, Some, None, if◌then◌else◌};
+ghost use Rattle.std.specs.Prelude.{◌≡◌, ℕ, ◌<◌, ◌≤◌, ◌+◌, ◌^◌, ◌∷◌, true, false, length, reverse, Option, Some, None, unwrap_or, if◌then◌else◌};
 ghost use Rattle.std.specs.Result.{OkIff};
-ghost use Rattle.bidi_base.specs.Classes.{is_initiator};
+ghost use Rattle.bidi_base.specs.declared.char_data.BidiClass.TheVariants.{BN};
+ghost use Rattle.bidi_base.specs.Classes.{is_initiator, is_kept, is_removed};
 ghost use Rattle.bidi_base.specs.Explicit.{asked_level, override_of};
-ghost use Rattle.bidi_base.specs.StatusMachine.{State, start, entered, closed, opened, step, fits_in, close_isolate, close_embedding, drop_isolate, counted, IsWithinDepth, IsPoppable};
-ghost use Rattle.bidi_explicit.specs.Status.{entry_count, seen, state_by};
+ghost use Rattle.bidi_base.specs.StatusMachine.{State, start, answer_class, answer_level, entered, closed, step, fits_in, close_isolate, close_embedding, drop_isolate, counted, IsWithinDepth, IsPoppable};
+ghost use Rattle.bidi_explicit.specs.Control.{is_control};
+ghost use Rattle.bidi_explicit.specs.Status.{entries, entry_count, seen, state_by};
 
 use arrayvec::ArrayVec;
 use bidi_base::char_data::{BidiClass, is_rtl};
@@ -32,11 +34,50 @@ impl Default for StatusEntry {
     }
 }
 
+/// What the pass writes for a control, and whether X9 keeps it.
+#[derive(Clone, Copy)]
+pub struct Answer {
+    pub level: Level,
+    pub class: BidiClass,
+    pub is_kept: bool,
+}
+
+impl StatusEntry {
+    // The answer for an isolate control, which takes the override (X5a to X6a).
+    fn answer_kept(self, class: BidiClass) -> Answer
+        ensures level { result.level ≡ self.level }
+        ensures class { result.class ≡ unwrap_or self.override_class class }
+        ensures is_kept { result.is_kept ≡ true }
+    {
+        Answer {
+            level: self.level,
+            class: self.override_class.unwrap_or(class),
+            is_kept: true,
+        }
+    }
+
+    // The answer for a control that X9 removes.
+    fn answer_removed(self) -> Answer
+        ensures level { result.level ≡ self.level }
+        ensures class { result.class ≡ BN }
+        ensures is_kept { result.is_kept ≡ false }
+    {
+        Answer {
+            level: self.level,
+            class: BidiClass::BN,
+            is_kept: false,
+        }
+    }
+}
+
 /// The directional status stack, with the overflow isolate, overflow embedding and valid isolate counts.
-/// The levels on the stack ascend up to 125, so it has at most 126 entries.
+/// The levels on the stack ascend up to 125, so at most 125 entries are below the one on top.
 #[derive(Drop)]
 pub struct StatusStack {
-    stack: ArrayVec<StatusEntry, 126>,
+    /// The entry on top. Each character reads it, so it is not in the list.
+    top: StatusEntry,
+    /// The entries below it, outermost first.
+    below: ArrayVec<StatusEntry, 125>,
     overflow_isolates: usize,
     overflow_embeddings: usize,
     valid_isolates: usize,
@@ -45,9 +86,7 @@ pub struct StatusStack {
 impl Model for StatusStack {
     ghost Value = { State };
 
-    ghost view = { λ s. state_by (reverse s.stack.items) s.overflow_isolates s.overflow_embeddings s.valid_isolates };
-
-    ghost invariant = { λ s. 0 < length s.stack.items };
+    ghost view = { λ s. state_by s.top (reverse s.below.items) s.overflow_isolates s.overflow_embeddings s.valid_isolates };
 }
 
 // The class that an initiator gives to the characters inside it, if it is an override.
@@ -73,14 +112,21 @@ fn asked(class: BidiClass, level: Level) -> Result<Level, Error>
 }
 
 // Pops the entries above the innermost isolate, and the isolate itself. Counts one step for each entry.
-fn pop_isolate<S: Ledger>(stack: &mut ArrayVec<StatusEntry, 126>, steps: &mut Steps<S>)
-    ensures stack { map seen (reverse stack.new.items) ≡ drop_isolate (map seen (reverse stack.old.items)) }
+fn pop_isolate<S: Ledger>(
+    top: &mut StatusEntry,
+    below: &mut ArrayVec<StatusEntry, 125>,
+    steps: &mut Steps<S>,
+)
+    requires poppable { (t : State) × (drop_isolate (entries top.old below.old.items) ≡ t.top ∷ t.below) }
+    ensures stack { drop_isolate (entries top.old below.old.items) ≡ entries top.new below.new.items }
     ensures at_least { steps.old ≤ steps.new }
-    ensures popped { steps.new + length stack.new.items ≡ steps.old + length stack.old.items }
+    ensures popped { steps.new + length below.new.items ≡ steps.old + length below.old.items }
 {
-    while let Some(entry) = stack.pop() {
+    while let Some(entry) = below.pop() {
         steps.tick();
-        if entry.is_isolate {
+        let popped = *top;
+        *top = entry;
+        if popped.is_isolate {
             break;
         }
     }
@@ -91,46 +137,67 @@ impl StatusStack {
     pub fn new(paragraph: Level) -> Self
         ensures { result ≡ start paragraph }
     {
-        let mut stack = ArrayVec::new();
-        stack.push(StatusEntry {
-            level: paragraph,
-            override_class: None,
-            is_isolate: false,
-        });
         StatusStack {
-            stack,
+            top: StatusEntry {
+                level: paragraph,
+                override_class: None,
+                is_isolate: false,
+            },
+            below: ArrayVec::new(),
             overflow_isolates: 0,
             overflow_embeddings: 0,
             valid_isolates: 0,
         }
     }
 
-    /// Reads a character: closes what it closes, returns the status at it, and opens what it opens. The
-    /// steps that pop the stack are charged to the popped entries.
+    /// Reads a control: closes what it closes, answers by the status at it, and opens what it opens. The steps that
+    /// pop the stack are charged to the popped entries.
+    ///
+    /// One test of the class decides all of that.
+    #[inline(always)]
     #[tactic(auto, using(crate::proofs::StackLemmas::entry_counts))]
-    pub fn read<S: Ledger>(&mut self, class: BidiClass, steps: &mut Steps<S>) -> StatusEntry
+    pub fn read<S: Ledger>(
+        &mut self,
+        paragraph: Level,
+        class: BidiClass,
+        steps: &mut Steps<S>,
+    ) -> Answer
+        requires control { is_control class ≡ true }
         requires poppable { IsPoppable self.old }
         requires depth { (paragraph : ℕ) × IsWithinDepth paragraph (closed class self.old) }
         requires counts { counted (closed class self.old) + 1 < 2 ^ 64 }
-        ensures status { seen result ≡ (closed class self.old).top }
+        ensures level { result.level ≡ answer_level paragraph class self.old }
+        ensures class { result.class ≡ (if is_removed class then BN else answer_class class self.old) }
+        ensures is_kept { result.is_kept ≡ is_kept class }
         ensures state { self.new ≡ step class self.old }
         ensures at_least { steps.old ≤ steps.new }
         ensures at_most { steps.new + entry_count self.new ≤ steps.old + entry_count self.old + 1 }
     {
         match class {
+            BidiClass::LRI | BidiClass::RLI | BidiClass::FSI => {
+                let outer = self.top;
+                self.enter(class, true);
+                outer.answer_kept(class)
+            }
+            BidiClass::LRE | BidiClass::LRO | BidiClass::RLE | BidiClass::RLO => {
+                let outer = self.top;
+                self.enter(class, false);
+                outer.answer_removed()
+            }
             BidiClass::PDI => {
                 self.close_isolate(steps);
-                self.top()
+                self.top.answer_kept(class)
             }
             BidiClass::PDF => {
                 self.close_embedding();
-                self.top()
+                self.top.answer_removed()
             }
-            _ => {
-                let status = self.top();
-                self.open(class);
-                status
-            }
+            // A paragraph separator has the paragraph level, and no override changes it (X8).
+            _ => Answer {
+                level: paragraph,
+                class,
+                is_kept: true,
+            },
         }
     }
 
@@ -138,8 +205,7 @@ impl StatusStack {
     pub fn top(&self) -> StatusEntry
         ensures { seen result ≡ self.now.top }
     {
-        let stack = self.stack.as_slice();
-        stack[stack.len() - 1]
+        self.top
     }
 
     // Closes the innermost isolate at a PDI (X6a).
@@ -154,7 +220,7 @@ impl StatusStack {
         } else if self.valid_isolates > 0 {
             self.overflow_embeddings = 0;
             self.valid_isolates -= 1;
-            pop_isolate(&mut self.stack, steps);
+            pop_isolate(&mut self.top, &mut self.below, steps);
         }
     }
 
@@ -162,7 +228,6 @@ impl StatusStack {
     fn close_embedding(&mut self)
         ensures { self.new ≡ close_embedding self.old }
     {
-        let top = self.top();
         if self.overflow_isolates > 0 {
             return;
         }
@@ -170,9 +235,9 @@ impl StatusStack {
             self.overflow_embeddings -= 1;
             return;
         }
-        if self.stack.len() > 1 {
-            if !top.is_isolate {
-                self.stack.pop();
+        if !self.top.is_isolate {
+            if let Some(entry) = self.below.pop() {
+                self.top = entry;
             }
         }
     }
@@ -182,9 +247,8 @@ impl StatusStack {
     fn taken_level(&self, class: BidiClass) -> Option<Level>
         ensures { result ≡ (if fits_in class self.now then Some (asked_level class self.now.top.status.level) else None) }
     {
-        let top = self.top();
         if self.overflow_isolates == 0 && self.overflow_embeddings == 0 {
-            asked(class, top.level).ok()
+            asked(class, self.top.level).ok()
         } else {
             None
         }
@@ -198,11 +262,12 @@ impl StatusStack {
         ensures { self.new ≡ entered class self.old }
     {
         if let Some(level) = self.taken_level(class) {
-            self.stack.push(StatusEntry {
+            self.below.push(self.top);
+            self.top = StatusEntry {
                 level,
                 override_class: override_class(class),
                 is_isolate,
-            });
+            };
             if is_isolate {
                 self.valid_isolates += 1;
             }
@@ -210,21 +275,6 @@ impl StatusStack {
             self.overflow_isolates += 1;
         } else if self.overflow_isolates == 0 {
             self.overflow_embeddings += 1;
-        }
-    }
-
-    // Opens what a character of this class opens (X2 to X5c).
-    fn open(&mut self, class: BidiClass)
-        requires depth { (paragraph : ℕ) × IsWithinDepth paragraph self.old }
-        requires counts { counted self.old + 1 < 2 ^ 64 }
-        ensures { self.new ≡ opened class self.old }
-    {
-        match class {
-            BidiClass::LRI | BidiClass::RLI | BidiClass::FSI => self.enter(class, true),
-            BidiClass::LRE | BidiClass::LRO | BidiClass::RLE | BidiClass::RLO => self.enter(
-                class, false,
-            ),
-            _ => {}
         }
     }
 }

@@ -3,25 +3,24 @@
 //!
 //! The pass goes through a stretch from character to character, or from code unit to code unit.
 
-ghost use Rattle.std.specs.Prelude.{◌≡◌, ℕ, ◌+◌, ◌*◌, ◌-◌, ◌<◌, ◌≤◌, false, List, None, Some, length, map, IsTrue, OnOk};
+ghost use Rattle.std.specs.Prelude.{◌≡◌, ℕ, ◌+◌, ◌*◌, ◌-◌, ◌<◌, ◌≤◌, true, false, List, None, Some, length, map, IsTrue, OnOk};
 ghost use Rattle.bidi_base.specs.Places.{class_at};
 ghost use Rattle.bidi_base.specs.Search.{IsFirst};
 ghost use Rattle.bidi_base.specs.StatusMachine.{State};
-ghost use Rattle.bidi_base.specs.Text.{char_index, is_boundary, is_per_char, place, text_len};
+ghost use Rattle.bidi_base.specs.Text.{char_index, is_per_char, place, text_len};
 ghost use Rattle.bidi_base.specs.Units.{bounds};
-ghost use Rattle.bidi_explicit.specs.ExplicitStretches.{is_control, paragraph_of, run_met, runs_met, IsOverridden, IsReadTo, ReadsOn};
+ghost use Rattle.bidi_explicit.specs.Control.{is_control};
+ghost use Rattle.bidi_explicit.specs.ExplicitStretches.{paragraph_of, run_met, runs_met, IsOverridden, IsReadTo, IsStart, IsUnread, ReadsOn};
 ghost use Rattle.bidi_explicit.specs.Status.{entry_count, seen};
 ghost use Rattle.bidi_explicit.specs.Stride.{count_to};
 
 use super::status::{StatusEntry, StatusStack};
-use super::{
-    Stride, cut_run, own_class, own_level, units, write_class, write_control, write_level,
-};
+use super::{Stride, cut_run, units, write_class, write_control, write_level};
 use bidi_base::char_data::BidiClass::{self, B, BN, FSI, LRE, LRI, LRO, PDF, PDI, RLE, RLI, RLO};
 use bidi_base::level::Level;
 use bidi_base::search::ClassTest;
 use bidi_runs::characters::end_within;
-use bidi_runs::prepare::{LevelRunVec, Steps, not_removed_by_x9};
+use bidi_runs::prepare::{LevelRunVec, Steps};
 use bidi_text::text::TextSource;
 use std::alloc::AllocError;
 use std::sync::ledger::Ledger;
@@ -30,12 +29,13 @@ use std::sync::ledger::Ledger;
 pub fn is_control(class: BidiClass) -> bool
     ensures { result ≡ is_control class }
 {
-    let embedding = (class == LRE) | (class == RLE) | (class == LRO) | (class == RLO);
-    let isolate = (class == LRI) | (class == RLI) | (class == FSI);
-    (class == B) | embedding | isolate | (class == PDI) | (class == PDF)
+    matches!(
+        class,
+        B | LRE | RLE | LRO | RLO | LRI | RLI | FSI | PDI | PDF
+    )
 }
 
-/// Classes of controls.
+/// Classes of controls. The test has no branch, so that many units are tested at once.
 #[derive(Clone, Copy, Debug)]
 struct Control;
 
@@ -43,7 +43,9 @@ impl ClassTest for Control {
     ghost test = { λ _. is_control };
 
     fn passes(self, class: BidiClass) -> bool {
-        is_control(class)
+        let embedding = (class == LRE) | (class == RLE) | (class == LRO) | (class == RLO);
+        let isolate = (class == LRI) | (class == RLI) | (class == FSI);
+        (class == B) | embedding | isolate | (class == PDI) | (class == PDF)
     }
 }
 
@@ -144,7 +146,7 @@ impl<'p, T: TextSource> Paragraph<'p, T> {
 
     // The index after the character that begins at `start`.
     fn end_of(&self, start: usize) -> usize
-        requires begins { IsTrue (is_boundary T.units (T.characters self.now.text) start) }
+        requires begins { IsStart T.units (T.characters self.now.text) start }
         requires inside { start < length self.now.original_classes.now }
         ensures { (k : ℕ) → k < length (T.characters self.now.text)
             → start ≡ place T.units (T.characters self.now.text) k
@@ -155,7 +157,7 @@ impl<'p, T: TextSource> Paragraph<'p, T> {
 
     // Like `end_of`, and counts one step.
     fn step_over<S: Ledger>(&self, start: usize, steps: &mut Steps<S>) -> usize
-        requires begins { IsTrue (is_boundary T.units (T.characters self.now.text) start) }
+        requires begins { IsStart T.units (T.characters self.now.text) start }
         requires inside { start < length self.now.original_classes.now }
         ensures end { (k : ℕ) → k < length (T.characters self.now.text)
             → start ≡ place T.units (T.characters self.now.text) k
@@ -175,12 +177,12 @@ impl<'p, T: TextSource> Paragraph<'p, T> {
         to: usize,
         steps: &mut Steps<S>,
     ) -> usize
-        requires begins { IsTrue (is_boundary T.units (T.characters self.now.text) from) }
-        requires ends { IsTrue (is_boundary T.units (T.characters self.now.text) to) }
+        requires begins { IsStart T.units (T.characters self.now.text) from }
+        requires ends { IsStart T.units (T.characters self.now.text) to }
         requires ordered { from ≤ to }
         requires within { to ≤ length self.now.original_classes.now }
         ensures first { IsFirst (C.test test) self.now.original_classes.now from to result }
-        ensures begins { IsTrue (is_boundary T.units (T.characters self.now.text) result) }
+        ensures begins { IsStart T.units (T.characters self.now.text) result }
         ensures steps { steps.new + char_index T.units (T.characters self.now.text) from
             ≡ steps.old + char_index T.units (T.characters self.now.text) result }
     {
@@ -202,11 +204,11 @@ impl<'p, T: TextSource> Paragraph<'p, T> {
         steps: &mut Steps<S>,
     )
         requires classes { length classes.old ≡ length self.now.original_classes.now }
-        requires begins { IsTrue (is_boundary T.units (T.characters self.now.text) from) }
-        requires ends { IsTrue (is_boundary T.units (T.characters self.now.text) to) }
+        requires begins { IsStart T.units (T.characters self.now.text) from }
+        requires ends { IsStart T.units (T.characters self.now.text) to }
         requires ordered { from ≤ to }
         requires within { to ≤ length self.now.original_classes.now }
-        requires unread { (u : ℕ) → from ≤ u → class_at classes.old u ≡ class_at self.now.original_classes.now u }
+        requires unread { IsUnread self.now.original_classes.now classes.old from }
         ensures put { IsOverridden (Some put) from to classes.old classes.new }
         ensures steps { steps.new + char_index T.units (T.characters self.now.text) from
             ≡ steps.old + char_index T.units (T.characters self.now.text) to }
@@ -224,11 +226,11 @@ impl<'p, T: TextSource> Paragraph<'p, T> {
     // The end of the stretch without controls that begins at `from`. Counts one step for each of its
     // characters or code units.
     fn stretch_end<S: Ledger>(&self, from: usize, steps: &mut Steps<S>) -> usize
-        requires begins { IsTrue (is_boundary T.units (T.characters self.now.text) from) }
+        requires begins { IsStart T.units (T.characters self.now.text) from }
         requires inside { from < length self.now.original_classes.now }
         requires plain { is_control (class_at self.now.original_classes.now from) ≡ false }
         ensures first { IsFirst is_control self.now.original_classes.now from (length self.now.original_classes.now) result }
-        ensures begins { IsTrue (is_boundary T.units (T.characters self.now.text) result) }
+        ensures begins { IsStart T.units (T.characters self.now.text) result }
         ensures steps { steps.new + count_to self.now.stride T.units (T.characters self.now.text) from
             ≡ steps.old + count_to self.now.stride T.units (T.characters self.now.text) result }
     {
@@ -248,12 +250,12 @@ impl<'p, T: TextSource> Paragraph<'p, T> {
         to: usize,
         steps: &mut Steps<S>,
     ) -> usize
-        requires begins { IsTrue (is_boundary T.units (T.characters self.now.text) from) }
-        requires ends { IsTrue (is_boundary T.units (T.characters self.now.text) to) }
+        requires begins { IsStart T.units (T.characters self.now.text) from }
+        requires ends { IsStart T.units (T.characters self.now.text) to }
         requires ordered { from ≤ to }
         requires within { to ≤ length self.now.original_classes.now }
         ensures first { IsFirst (C.test test) self.now.original_classes.now from to result }
-        ensures begins { IsTrue (is_boundary T.units (T.characters self.now.text) result) }
+        ensures begins { IsStart T.units (T.characters self.now.text) result }
         ensures steps { steps.new + count_to self.now.stride T.units (T.characters self.now.text) from
             ≡ steps.old + count_to self.now.stride T.units (T.characters self.now.text) result }
     {
@@ -274,11 +276,11 @@ impl<'p, T: TextSource> Paragraph<'p, T> {
         steps: &mut Steps<S>,
     )
         requires classes { length classes.old ≡ length self.now.original_classes.now }
-        requires begins { IsTrue (is_boundary T.units (T.characters self.now.text) from) }
-        requires ends { IsTrue (is_boundary T.units (T.characters self.now.text) to) }
+        requires begins { IsStart T.units (T.characters self.now.text) from }
+        requires ends { IsStart T.units (T.characters self.now.text) to }
         requires ordered { from ≤ to }
         requires within { to ≤ length self.now.original_classes.now }
-        requires unread { (u : ℕ) → from ≤ u → class_at classes.old u ≡ class_at self.now.original_classes.now u }
+        requires unread { IsUnread self.now.original_classes.now classes.old from }
         ensures put { IsOverridden (Some put) from to classes.old classes.new }
         ensures steps { steps.new + count_to self.now.stride T.units (T.characters self.now.text) from
             ≡ steps.old + count_to self.now.stride T.units (T.characters self.now.text) to }
@@ -299,11 +301,11 @@ impl<'p, T: TextSource> Paragraph<'p, T> {
         steps: &mut Steps<S>,
     )
         requires classes { length classes.old ≡ length self.now.original_classes.now }
-        requires begins { IsTrue (is_boundary T.units (T.characters self.now.text) from) }
-        requires ends { IsTrue (is_boundary T.units (T.characters self.now.text) to) }
+        requires begins { IsStart T.units (T.characters self.now.text) from }
+        requires ends { IsStart T.units (T.characters self.now.text) to }
         requires ordered { from ≤ to }
         requires within { to ≤ length self.now.original_classes.now }
-        requires unread { (u : ℕ) → from ≤ u → class_at classes.old u ≡ class_at self.now.original_classes.now u }
+        requires unread { IsUnread self.now.original_classes.now classes.old from }
         ensures put { IsOverridden override_class from to classes.old classes.new }
         ensures at_least { steps.old ≤ steps.new }
         ensures at_most { steps.new
@@ -327,10 +329,10 @@ impl<'p, T: TextSource> Paragraph<'p, T> {
     ) -> Progress
         requires inside { from < length self.now.original_classes.now }
         requires plain { is_control (class_at self.now.original_classes.now from) ≡ false }
-        requires begins { IsTrue (is_boundary T.units (T.characters self.now.text) from) }
+        requires begins { IsStart T.units (T.characters self.now.text) from }
         requires levels { length levels.old ≡ length self.now.original_classes.now }
         requires classes { length classes.old ≡ length self.now.original_classes.now }
-        requires unread { (u : ℕ) → from ≤ u → class_at classes.old u ≡ class_at self.now.original_classes.now u }
+        requires unread { IsUnread self.now.original_classes.now classes.old from }
         ensures read { (stack : State) → seen status ≡ stack.top
             → ReadsOn (paragraph_of T.units (T.characters self.now.text) self.now.level self.now.original_classes.now)
             from stack levels.old classes.old result stack levels.new classes.new }
@@ -363,6 +365,7 @@ impl<'p, T: TextSource> Paragraph<'p, T> {
         steps: &mut Steps<S>,
     ) -> Progress
         requires inside { start < length self.now.original_classes.now }
+        requires control { is_control (class_at self.now.original_classes.now start) ≡ true }
         requires read { (runs : List (ℕ × ℕ)) × (run : OpenRun)
             × IsReadTo
             (paragraph_of T.units (T.characters self.now.text) self.now.level self.now.original_classes.now) start
@@ -377,15 +380,13 @@ impl<'p, T: TextSource> Paragraph<'p, T> {
         ensures at_most { steps.new + entry_count stack.new ≤ steps.old + entry_count stack.old + 1 }
     {
         let class = self.original_classes[start];
-        let status = stack.read(class, steps);
-        let level = own_level(self.level, class, status.level);
+        let answer = stack.read(self.level, class, steps);
         let end = self.end_of(start);
-        let put = own_class(class, status.override_class);
-        write_control(levels, classes, start..end, level, put);
+        write_control(levels, classes, start..end, answer.level, answer.class);
         Progress {
             end,
-            level,
-            first_kept: not_removed_by_x9(&class).then_some(start),
+            level: answer.level,
+            first_kept: answer.is_kept.then_some(start),
         }
     }
 }

@@ -16,6 +16,7 @@ const NEAR: usize = 4;
 
 /// Returns the first index in `from..to` with a class that passes a test, or else `to`. Counts one step for
 /// each code unit passed over.
+#[inline(always)]
 pub fn next_passing<C: ClassTest, S: Ledger>(
     test: C,
     classes: &[BidiClass],
@@ -28,19 +29,21 @@ pub fn next_passing<C: ClassTest, S: Ledger>(
     ensures first { IsFirst (C.test test) classes.now from to result }
     ensures steps { steps.new + from ≡ steps.old + result }
 {
-    let near = from + NEAR.min(to - from);
-    for at in from..near {
-        if test.passes(classes[at]) {
+    for near in 0..NEAR {
+        let at = from + near;
+        if at == to || test.passes(classes[at]) {
             return at;
         }
         steps.tick();
     }
-    let found = first_passing(test, classes, near, to);
-    steps.tick_by(found - near);
+    let far = from + NEAR;
+    let found = first_passing(test, classes, far, to);
+    steps.tick_by(found - far);
     found
 }
 
 /// Like [`next_passing`], if the class at `from` is known not to pass.
+#[inline(always)]
 pub fn next_after<C: ClassTest, S: Ledger>(
     test: C,
     classes: &[BidiClass],

@@ -1,16 +1,16 @@
 //! Joins level runs into isolating run sequences (BD13, X10).
 
-ghost use Rattle.std.specs.Prelude.{◌≡◌, ◌≤◌, max, [], length, map, flat_map, All, IsPermutation, IsTrue, OnOk};
+ghost use Rattle.std.specs.Prelude.{◌≡◌, ℕ, ◌<◌, ◌≤◌, false, max, [], length, map, flat_map, All, IsPermutation, IsTrue, OnOk};
 ghost use Rattle.std.specs.List.{list_any};
 ghost use Rattle.bidi_base.specs.declared.char_data.BidiClass.TheVariants.{L};
 ghost use Rattle.bidi_base.specs.Classes.{is_initiator};
 ghost use Rattle.bidi_base.specs.Explicit.{explicit_levels};
 ghost use Rattle.bidi_base.specs.Levels.{direction_of};
 ghost use Rattle.bidi_base.specs.Search.{IsFirst};
-ghost use Rattle.bidi_base.specs.Sequences.{sequences, HasExplicitLevels};
+ghost use Rattle.bidi_base.specs.Sequences.{is_kept_at, sequences, HasExplicitLevels};
 ghost use Rattle.bidi_base.specs.Text.{IsLine, is_boundary, is_per_char, per_char};
 ghost use Rattle.bidi_base.specs.Units.{bounds, level_run_ranges, AreLines};
-ghost use Rattle.bidi_runs.specs.Joining.{level_after_run, is_isolate_control, IsKeptEnd, read_units};
+ghost use Rattle.bidi_runs.specs.Joining.{level_after_run, is_isolate_control, is_kept_in, IsKeptEnd, read_units};
 ghost use Rattle.bidi_runs.specs.RunSequence.{run_bounds, sequences_in};
 
 use super::waiting::Waiting;
@@ -36,8 +36,56 @@ pub(super) fn kept_end(classes: &[BidiClass], run: &LevelRun) -> usize
         if not_removed_by_x9(&classes[unit]) {
             return unit + 1;
         }
+        if run.end - unit == NEAR {
+            return kept_end_by_blocks(classes, run.start, unit);
+        }
     }
     run.start
+}
+
+// The end of the last code unit in `start..end` whose class X9 keeps, or `start` if there is none. Suits a range
+// that ends with many code units that X9 removes.
+#[inline(never)]
+fn kept_end_by_blocks(classes: &[BidiClass], start: usize, end: usize) -> usize
+    requires ordered { start ≤ end }
+    requires inside { end ≤ length classes.now }
+    ensures { IsKeptEnd classes.now start end result }
+{
+    let begin = before_removed_blocks(classes, start, end);
+    for at in (start..begin).rev() {
+        if not_removed_by_x9(&classes[at]) {
+            return at + 1;
+        }
+    }
+    start
+}
+
+// How many code units are tested at once.
+const BLOCK: usize = 16;
+
+// Goes back from `end` to `start`, by blocks of which X9 removes all code units. Returns where the last of these
+// blocks begins.
+fn before_removed_blocks(classes: &[BidiClass], start: usize, end: usize) -> usize
+    requires ordered { start ≤ end }
+    requires inside { end ≤ length classes.now }
+    ensures from { start ≤ result }
+    ensures to { result ≤ end }
+    ensures gone { (u : ℕ) → result ≤ u → u < end → is_kept_at classes.now u ≡ false }
+{
+    let mut at = end;
+    while at - start >= BLOCK && !is_kept_in(&classes[at - BLOCK..at]) {
+        at -= BLOCK;
+    }
+    at
+}
+
+// Whether X9 keeps one of the classes. Tests all of them, many at once.
+fn is_kept_in(classes: &[BidiClass]) -> bool
+    ensures { result ≡ is_kept_in classes.now }
+{
+    classes
+        .iter()
+        .fold(false, |found, class| found | not_removed_by_x9(class))
 }
 
 // The class at an end of a sequence, between characters of these levels (X10).
@@ -130,11 +178,12 @@ impl ClassTest for IsolateControl {
     }
 }
 
-// In a text with many isolates, the next control is mostly among this many code units. They are tested one
-// by one before the search by blocks begins.
+// What a search looks for is mostly among this many code units. They are tested one by one before the search by
+// blocks begins.
 const NEAR: usize = 4;
 
 // The first index in `from..to` with a class that opens or closes an isolate, or else `to`.
+#[inline(always)]
 fn next_control(classes: &[BidiClass], from: usize, to: usize) -> usize
     requires ordered { from ≤ to }
     requires within { to ≤ length classes.now }

@@ -1,4 +1,4 @@
-use Rattle.bidi_base.proofs.Common.{arith, length-reverse}
+use Rattle.bidi_base.proofs.Common.{arith}
 use Rattle.bidi_explicit.proofs.StackLemmas.{close_isolate-inside, close_isolate-unmatched, close_isolate-pops}
 use Rattle.bidi_explicit.proofs.explicit.status.StatusStack.close_isolate.Goals as goal
 
@@ -6,7 +6,7 @@ pub returns-then-self-gt0-clause-state : goal.returns-then-self-gt0-clause-state
 returns-then-self-gt0-clause-state g c = grind (arith, close_isolate-inside)
 
 pub returns-then-self-gt0-2-clause-state : goal.returns-then-self-gt0-2-clause-state
-returns-then-self-gt0-2-clause-state g c = grind (arith, close_isolate-pops, length-reverse)
+returns-then-self-gt0-2-clause-state g c = grind (arith, close_isolate-pops)
 
 pub returns-else-self-gt0-2-clause-state : goal.returns-else-self-gt0-2-clause-state
 returns-else-self-gt0-2-clause-state g c = grind (arith, close_isolate-unmatched)

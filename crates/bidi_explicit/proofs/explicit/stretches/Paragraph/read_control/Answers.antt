@@ -2,10 +2,10 @@ use Rattle.bidi_base.proofs.Common.{arith}
 use Rattle.bidi_explicit.proofs.ExplicitStretches.{control-can, control-index, control-met, control-some, read-begins}
 use Rattle.bidi_explicit.proofs.explicit.stretches.Paragraph.read_control.Goals as goal
 
-pub read-status-requires : goal.read-status-requires
-read-status-requires g c =
+pub read-answer-requires : goal.read-answer-requires
+read-answer-requires g c =
     let can = control-can _ _ _ _ _ _ _ c.requires.read.2 c.requires.inside c.args.self.now.low (omega arith) in
-    record { poppable = can.poppable; depth = (c.args.self.now.level, can.depth); counts = can.counts }
+    record { control = c.requires.control; poppable = can.poppable; depth = (c.args.self.now.level, can.depth); counts = can.counts }
 
 pub end_of-end-requires-clause-begins : goal.end_of-end-requires-clause-begins
 end_of-end-requires-clause-begins g c = read-begins _ _ _ _ _ _ _ c.requires.read.2
@@ -16,9 +16,11 @@ write_control-requires-clause-ordered g c = omega (arith, control-some _ _ _ _ _
 pub returns : goal.returns
 returns g c =
     record {
-      read = λ runs run h. grind (arith, control-met _ _ _ _ _ runs run h);
+      read =
+          λ runs run h. control-met _ _ _ _ _ runs run h c.requires.inside c.end_of-end.result c.end_of-end.ensures _ _ _ c.read-answer.ensures.state c.read-answer.ensures.level c.read-answer.ensures.class
+          _ _ c.write_control.ensures.levels c.write_control.ensures.classes _ (grind (arith, c.then_some.ensures));
       some = control-some _ _ _ _ _ _ _ c.requires.read.2 c.requires.inside c.end_of-end.result c.end_of-end.ensures;
       one = control-index _ _ _ _ _ _ _ c.requires.read.2 c.requires.inside c.end_of-end.result c.end_of-end.ensures;
-      at_least = omega (arith, c.read-status.ensures.at_least);
-      at_most = omega (arith, c.read-status.ensures.at_most);
+      at_least = omega (arith, c.read-answer.ensures.at_least);
+      at_most = omega (arith, c.read-answer.ensures.at_most);
     }
