@@ -12,12 +12,12 @@ use Rattle.bidi_neutral.proofs.neutral.pairs.resolve_pairs.Goals.{In-loop-pair, 
 pub loop-pair-init : goal.loop-pair-init
 loop-pair-init g c = (
   λ h ready side long found nested is.
-      IsWalkedTo-start g.T.TextSource.units h (g.T.TextSource.characters c.args.text) c.args.original_classes.now c.args.runs.now c.args.directions.sos c.args.classes.now ready c.args.directions.embedding side long found nested c.new-walk.result c.new-walk.ensures,
-  rw c.new-row.ensures (IsRow-none g.T.TextSource.units (g.T.TextSource.characters c.args.text) (map bounds c.args.runs.now) c.args.original_classes.now c.args.classes.now c.args.directions.embedding),
+      IsWalkedTo-start g.T.TextSource.units h (g.T.TextSource.characters c.args.text) c.args.sequence.original_classes.now c.args.sequence.runs.now c.args.directions.sos c.args.classes.now ready c.args.directions.embedding side long found nested c.new-walk.result c.new-walk.ensures,
+  rw c.new-row.ensures (IsRow-none g.T.TextSource.units (g.T.TextSource.characters c.args.text) (map bounds c.args.sequence.runs.now) c.args.sequence.original_classes.now c.args.classes.now c.args.directions.embedding),
 )
 
 -- where the pair stands
-here : (g : Over) (c : In-loop-pair g) → Stands g.T.TextSource.units g.met.T.TextSource.has_units (g.T.TextSource.characters c.args.text) c.args.original_classes.now c.args.runs.now c.args.directions.sos c.args.classes.now c.requires.ready c.args.directions.embedding c.requires.side c.requires.original c.requires.pairs.0 c.requires.pairs.1 (get_or c.args.pairs.now c.loop-pair.pair-index (0, 0)) c.loop-pair.pair-index
+here : (g : Over) (c : In-loop-pair g) → Stands g.T.TextSource.units g.met.T.TextSource.has_units (g.T.TextSource.characters c.args.text) c.args.sequence.original_classes.now c.args.sequence.runs.now c.args.directions.sos c.args.classes.now c.requires.ready c.args.directions.embedding c.requires.side c.requires.original c.requires.pairs.0 c.requires.pairs.1 (get_or c.args.pairs.now c.loop-pair.pair-index (0, 0)) c.loop-pair.pair-index
 here g c = search (arith, stands)
 
 long : (g : Over) (c : In-loop-pair g) → length c.args.classes.now ≡ text_len g.T.TextSource.units (g.T.TextSource.characters c.args.text)
@@ -42,7 +42,7 @@ bounds-original_classes-opening g c =
 
 pub pair_direction-taken-requires-clause-runs : goal.pair_direction-taken-requires-clause-runs
 pair_direction-taken-requires-clause-runs g c =
-    rw c.loop-pair.auto.classes (runs-within g.T.TextSource.units g.met.T.TextSource.has_units (g.T.TextSource.characters c.args.text) c.args.runs.now c.args.directions.sos c.args.classes.now c.requires.ready)
+    rw c.loop-pair.auto.classes (runs-within g.T.TextSource.units g.met.T.TextSource.has_units (g.T.TextSource.characters c.args.text) c.args.sequence.runs.now c.args.directions.sos c.args.classes.now c.requires.ready)
 
 pub pair_direction-taken-requires-clause-inside : goal.pair_direction-taken-requires-clause-inside
 pair_direction-taken-requires-clause-inside g c =
@@ -83,8 +83,8 @@ loop-pair-preserved g c = (
       let e = a.directions.embedding in
       let sos = a.directions.sos in
       let old = a.classes.now in
-      let original = a.original_classes.now in
-      let runs = a.runs.now in
+      let original = a.sequence.original_classes.now in
+      let runs = a.sequence.runs.now in
       let ks = kept_in_place len_of chars old (map bounds runs) in
       let i = (pair_at found k).0 in
       let j = (pair_at found k).1 in
@@ -117,7 +117,7 @@ returns g c = λ found nested is.
     let len_of = g.T.TextSource.units in
     let chars : List ℕ = g.T.TextSource.characters c.args.text in
     let a = c.args in
-    let ks = kept_in_place len_of chars a.classes.now (map bounds a.runs.now) in
+    let ks = kept_in_place len_of chars a.classes.now (map bounds a.sequence.runs.now) in
     let w = c.loop-pair.invariant.0 g.met.T.TextSource.has_units c.requires.ready c.requires.side c.requires.original found nested is in
     let all : length found ≤ c.loop-pair.pair-index = omega (arith, ap length is, length-map found (λ (p : ℕ × ℕ). let q : ℕ × ℕ = (spot len_of chars ks p.0, spot len_of chars ks p.1) in q), c.loop-pair-test.false) in
     simp (take_all c.loop-pair.pair-index found all) at w.done
