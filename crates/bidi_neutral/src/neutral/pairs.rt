@@ -184,6 +184,7 @@ impl PairWalk {
     /// Returns the direction that a pair takes. This is the embedding direction if it is inside (N0 b).
     /// Otherwise, if the opposite one is inside, it is that of the context before the pair (N0 c). If
     /// neither is inside, returns `None` (N0 d). The opening bracket is in the run at `run`, or in none.
+    #[inline(always)]
     fn pair_direction(
         &mut self,
         sos: BidiClass,
