@@ -1,5 +1,5 @@
 -- The weak passes over units in place: what each has done once it read some units of a slice.
-use Rattle.std.specs.Prelude.{◌≡◌, ℕ, ◌+◌, ◌-◌, ◌*◌, ◌/◌, ◌<◌, ◌≤◌, Bool, true, false, ◌||◌, if◌then◌else◌, List, ◌++◌, length, map, get_or, min, slice_range}
+use Rattle.std.specs.Prelude.{◌≡◌, ℕ, ◌+◌, ◌-◌, ◌*◌, ◌/◌, ◌<◌, ◌≤◌, Bool, true, false, ◌||◌, if◌then◌else◌, List, ◌++◌, length, map, get_or, min, nat_lt, slice_range}
 use Rattle.std.specs.List.{fold, list_any}
 use Rattle.std.specs.Option.{option_map_or}
 use Rattle.std.specs.declared.ops.Range.{Range}
@@ -26,12 +26,12 @@ is_any_of test classes = fold (λ found class. found || test class) false classe
 abbrev pub is_any : (BidiClass → Bool) → List (Range ℕ) → List BidiClass → Bool
 is_any test runs units = list_any (λ run. is_any_of test (part_of units (bounds run))) runs
 
--- the classes of a range, and of the units behind it up to a multiple of 32 in all
+-- the classes of a range; where it has 32 or more, those of the units behind it too, up to a multiple of 32 in all
 abbrev pub wide_part_of : List BidiClass → ℕ × ℕ → List BidiClass
 wide_part_of units r =
     let end = min r.1 (length units) in
     let start = min r.0 end in
-    slice_range units start (min (start + (end - start + 31) / 32 * 32) (length units))
+    slice_range units start (if nat_lt (end - start) 32 then end else min (start + (end - start + 31) / 32 * 32) (length units))
 
 abbrev pub is_any_wide : (BidiClass → Bool) → List (Range ℕ) → List BidiClass → Bool
 is_any_wide test runs units = list_any (λ run. is_any_of test (wide_part_of units (bounds run))) runs
@@ -143,3 +143,9 @@ pub record IsWalked (len : ℕ → ℕ) (runs : List (ℕ × ℕ)) (sos : BidiCl
       ≡ walked (class_at old) len sos Other 0 0 (seen_units runs old)
   pub unseen : (k : ℕ) → is_seen runs old k ≡ false → class_at new k ≡ class_at old k
   pub long : length new ≡ length old
+
+-- W3 and W6 have changed the units from `start` up to `end`, and no others
+pub record AreChanged (start end : ℕ) (old new : List BidiClass) : Type 0 where
+  pub changed : (u : ℕ) → start ≤ u → u < end → class_at new u ≡ left_over (class_at old u)
+  pub below : (u : ℕ) → u < start → class_at new u ≡ class_at old u
+  pub above : (u : ℕ) → end ≤ u → class_at new u ≡ class_at old u

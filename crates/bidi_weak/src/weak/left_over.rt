@@ -1,10 +1,12 @@
 //! W3 and W6, which are left once W1, W2, W4, W5 and W7 are done. They change each class by itself.
 
-ghost use Rattle.std.specs.Prelude.{◌≡◌, ℕ, ◌+◌, ◌-◌, ◌*◌, ◌<◌, ◌≤◌, true, false, length, map, All, IsTrue};
+ghost use Rattle.std.specs.Prelude.{◌≡◌, ◌≢◌, ℕ, ◌+◌, ◌-◌, ◌*◌, ◌<◌, ◌≤◌, true, false, length, map, All, IsTrue};
 ghost use Rattle.bidi_base.specs.Places.{class_at};
 ghost use Rattle.bidi_base.specs.Units.{bounds, are_ordered, in_runs, units_in_runs};
 ghost use Rattle.bidi_weak.specs.WeakPass.{left_over};
+ghost use Rattle.bidi_weak.specs.WeakWalk.{AreChanged};
 
+use super::MANY;
 use bidi_base::char_data::BidiClass::{self, AL, CS, ES, ET, ON, R};
 use bidi_runs::prepare::{LevelRun, Steps};
 use std::sync::ledger::Ledger;
@@ -29,15 +31,56 @@ pub fn change<S: Ledger>(runs: &[LevelRun], classes: &mut [BidiClass], steps: &m
 /// Changes each class in a run by itself.
 fn change_run<S: Ledger>(run: &LevelRun, classes: &mut [BidiClass], steps: &mut Steps<S>)
     requires { run.now.end ≤ length classes.old }
-    ensures changed { (u : ℕ) → run.now.start ≤ u → u < run.now.end → class_at classes.new u ≡ left_over (class_at classes.old u) }
-    ensures below { (u : ℕ) → u < run.now.start → class_at classes.new u ≡ class_at classes.old u }
-    ensures above { (u : ℕ) → run.now.end ≤ u → class_at classes.new u ≡ class_at classes.old u }
+    ensures changed { AreChanged run.now.start run.now.end classes.old classes.new }
     ensures steps { steps.new ≡ steps.old + (run.now.end - run.now.start) }
 {
-    for unit in run.start..run.end {
+    if run.end.saturating_sub(run.start) < MANY {
+        change_few(run.start, run.end, classes, steps);
+    } else {
+        change_many(run.start, run.end, classes, steps);
+    }
+}
+
+/// Changes a few classes one by one. Writes only those that become others.
+fn change_few<S: Ledger>(start: usize, end: usize, classes: &mut [BidiClass], steps: &mut Steps<S>)
+    requires { end ≤ length classes.old }
+    ensures changed { AreChanged start end classes.old classes.new }
+    ensures steps { steps.new ≡ steps.old + (end - start) }
+{
+    for unit in start..end {
+        steps.tick();
+        change_at(classes, unit);
+    }
+}
+
+/// Changes many classes. The loop has no branch, so that it changes many code units at once.
+fn change_many<S: Ledger>(start: usize, end: usize, classes: &mut [BidiClass], steps: &mut Steps<S>)
+    requires { end ≤ length classes.old }
+    ensures changed { AreChanged start end classes.old classes.new }
+    ensures steps { steps.new ≡ steps.old + (end - start) }
+{
+    for unit in start..end {
         steps.tick();
         classes[unit] = left_over(classes[unit]);
     }
+}
+
+/// Changes the class of one code unit, if it becomes another.
+fn change_at(classes: &mut [BidiClass], unit: usize)
+    requires { unit < length classes.old }
+    ensures changed { class_at classes.new unit ≡ left_over (class_at classes.old unit) }
+    ensures others { (u : ℕ) → u ≢ unit → class_at classes.new u ≡ class_at classes.old u }
+{
+    if !stays(classes[unit]) {
+        classes[unit] = left_over(classes[unit]);
+    }
+}
+
+/// Whether W3 and W6 leave a class as it is.
+fn stays(class: BidiClass) -> bool
+    ensures { IsTrue result → left_over class ≡ class }
+{
+    !matches!(class, ES | ET | CS | AL)
 }
 
 /// Returns what W3 and W6 make of a class. It has no branch, so that a loop changes many code units at
