@@ -8,7 +8,7 @@ use Rattle.bidi_base.specs.declared.char_data.BidiClass.TheVariants.{L}
 use Rattle.bidi_base.specs.Classes.{is_kept_in_place}
 use Rattle.bidi_base.specs.Places.{at_places, class_at}
 use Rattle.bidi_base.specs.Text.{char_at}
-use Rattle.bidi_base.specs.Units.{bounds}
+use Rattle.bidi_base.specs.Units.{bounds, units_in_runs}
 use Rattle.bidi_weak.specs.declared.weak.numbers.Walk.{Walk}
 use Rattle.bidi_weak.specs.declared.weak.steps.Before.TheVariants.{Other}
 use Rattle.bidi_runs.specs.Written.{is_seen, seen_from, seen_units}
@@ -72,6 +72,14 @@ seen p k = is_seen p.runs p.old k
 abbrev pub units : Pass → ℕ → ℕ → List ℕ
 units p low high = seen_from p.runs p.old low high
 
+-- the units from one up to another have the class of the first
+abbrev pub AreAlike : List BidiClass → ℕ → ℕ → Type 0
+AreAlike units from to = (k : ℕ) → from ≤ k → k < to → class_at units k ≡ class_at units from
+
+-- two for each unit of some runs, which is how many turns a loop over the runs and their units takes at most
+abbrev pub two_a_unit : List (Range ℕ) → ℕ
+two_a_unit runs = 2 * length (units_in_runs (map bounds runs))
+
 -- what waits begins at `from`, in the run that the walk names
 pub record AreHeld (p : Pass) (w : Walk) (from : ℕ) : Type 0 where
   pub first : w.first ≡ from
@@ -99,7 +107,7 @@ pub record IsStretch (p : Pass) (w : Walk) (runs : List (ℕ × ℕ)) (run from 
   pub some : from < to
   pub inside : to ≤ length p.old
   pub kept : is_kept_in_place (class_at p.old from) ≡ true
-  pub alike : (k : ℕ) → from ≤ k → k < to → class_at p.old k ≡ class_at p.old from
+  pub alike : AreAlike p.old from to
   pub single : let next = next_before (strengthened w.strong (class_at p.old from)) w.before in
       still_to_come next (p.len from) ≡ still_to_come next (to - from)
   pub run_fits : run < length runs
@@ -125,7 +133,7 @@ ReadsTo len runs from to before after old new =
 pub record IsWhole (len : ℕ → ℕ) (classes : List BidiClass) (end u : ℕ) : Type 0 where
   pub some : 1 ≤ len u
   pub within : u + len u ≤ end
-  pub alike : (k : ℕ) → u ≤ k → k < u + len u → class_at classes k ≡ class_at classes u
+  pub alike : AreAlike classes u (u + len u)
 
 -- what waits, if something does, begins below u, in the run that the walk names or before
 pub record WaitsBelow (runs : List (ℕ × ℕ)) (w : Walk) (u : ℕ) : Type 0 where

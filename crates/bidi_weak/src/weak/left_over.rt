@@ -1,17 +1,19 @@
 //! W3 and W6, which are left once W1, W2, W4, W5 and W7 are done. They change each class by itself.
 
-ghost use Rattle.std.specs.Prelude.{◌≡◌, ◌≢◌, ℕ, ◌+◌, ◌-◌, ◌*◌, ◌<◌, ◌≤◌, true, false, length, map, All, IsTrue};
+ghost use Rattle.std.specs.Prelude.{◌≡◌, ◌≢◌, ℕ, ◌+◌, ◌-◌, ◌<◌, ◌≤◌, true, false, length, map, All, IsTrue};
 ghost use Rattle.bidi_base.specs.Places.{class_at};
 ghost use Rattle.bidi_base.specs.Units.{bounds, are_ordered, in_runs, units_in_runs};
 ghost use Rattle.bidi_weak.specs.WeakPass.{left_over};
-ghost use Rattle.bidi_weak.specs.WeakWalk.{AreChanged};
+ghost use Rattle.bidi_weak.specs.WeakWalk.{two_a_unit, AreChanged};
 
 use super::MANY;
 use bidi_base::char_data::BidiClass::{self, AL, CS, ES, ET, ON, R};
 use bidi_runs::prepare::{LevelRun, Steps};
 use std::sync::ledger::Ledger;
 
-/// Changes each class in the runs by itself.
+/// Changes each class in the runs by itself. A function of its own, since the loops over numbers would
+/// otherwise lose registers to these.
+#[inline(never)]
 pub fn change<S: Ledger>(runs: &[LevelRun], classes: &mut [BidiClass], steps: &mut Steps<S>)
     requires ordered { IsTrue (are_ordered (map bounds runs.now)) }
     requires within { All (λ r. r.1 ≤ length classes.old) (map bounds runs.now) }
@@ -20,7 +22,7 @@ pub fn change<S: Ledger>(runs: &[LevelRun], classes: &mut [BidiClass], steps: &m
     ensures same { (u : ℕ) → in_runs (map bounds runs.now) u ≡ false → class_at classes.new u ≡ class_at classes.old u }
     ensures long { length classes.new ≡ length classes.old }
     ensures at_least { steps.old + length (units_in_runs (map bounds runs.now)) ≤ steps.new }
-    ensures at_most { steps.new ≤ steps.old + 2 * length (units_in_runs (map bounds runs.now)) }
+    ensures at_most { steps.new ≤ steps.old + two_a_unit runs.now }
 {
     for run in runs {
         steps.tick();

@@ -10,7 +10,7 @@ ghost use Rattle.bidi_base.specs.Text.{text_len, IsPerChar};
 ghost use Rattle.bidi_base.specs.Units.{bounds, are_ordered, units_in_runs, AreLines};
 ghost use Rattle.bidi_runs.specs.ExplicitPass.{filled};
 ghost use Rattle.bidi_weak.specs.WeakPass.{is_asked, is_number, is_other, next_before, still_to_come, strengthened, waits};
-ghost use Rattle.bidi_weak.specs.WeakWalk.{is_any, is_any_of, len_at, settled_to, IsWalked, IsWhole, Passes, Reads, ReadsTo, WaitsBelow};
+ghost use Rattle.bidi_weak.specs.WeakWalk.{is_any, is_any_of, len_at, settled_to, AreAlike, IsWalked, IsWhole, Passes, Reads, ReadsTo, WaitsBelow};
 ghost use Rattle.bidi_runs.specs.Written.{count_below, is_seen, IsWrittenOver};
 
 use super::left_over::left_over;
@@ -177,7 +177,7 @@ impl Walk {
         requires whole { IsWhole (len_at T.units (T.characters text)) classes.now end at }
         ensures some { at < result }
         ensures within { result ≤ end }
-        ensures alike { (k : ℕ) → at ≤ k → k < result → class_at classes.now k ≡ class_at classes.now at }
+        ensures alike { AreAlike classes.now at result }
         ensures single { let next = next_before (strengthened self.now.strong (class_at classes.now at))
             self.now.before in
             still_to_come next (len_at T.units (T.characters text) at) ≡ still_to_come next (result - at) }
@@ -344,7 +344,7 @@ fn alike_end<S: Ledger>(classes: &[BidiClass], at: usize, end: usize, steps: &mu
     requires inside { end ≤ length classes.now }
     ensures some { at < result }
     ensures within { result ≤ end }
-    ensures alike { (k : ℕ) → at ≤ k → k < result → class_at classes.now k ≡ class_at classes.now at }
+    ensures alike { AreAlike classes.now at result }
     ensures steps { steps.new ≡ steps.old + min (result - at) (end - (at + 1)) }
 {
     let class = classes[at];
