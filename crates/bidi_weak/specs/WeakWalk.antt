@@ -31,7 +31,8 @@ abbrev pub wide_part_of : List BidiClass → ℕ × ℕ → List BidiClass
 wide_part_of units r =
     let end = min r.1 (length units) in
     let start = min r.0 end in
-    slice_range units start (if nat_lt (end - start) 32 then end else min (start + (end - start + 31) / 32 * 32) (length units))
+    let wide = min (start + (end - start + 31) / 32 * 32) (length units) in
+    slice_range units start (if nat_lt (end - start) 32 then end else wide)
 
 abbrev pub is_any_wide : (BidiClass → Bool) → List (Range ℕ) → List BidiClass → Bool
 is_any_wide test runs units = list_any (λ run. is_any_of test (wide_part_of units (bounds run))) runs

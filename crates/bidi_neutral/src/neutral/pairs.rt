@@ -7,7 +7,8 @@ ghost use Rattle.bidi_base.specs.Places.{class_at};
 ghost use Rattle.bidi_base.specs.Text.{is_boundary, place, text_len};
 ghost use Rattle.bidi_base.specs.Units.{bounds, are_ordered, kept_in_place, AreLines};
 ghost use Rattle.bidi_neutral.specs.NeutralPass.{IsPaired, IsReady};
-ghost use Rattle.bidi_neutral.specs.PairWalk.{at_spots, opposite_of, IsAsked, IsMarksEnd, IsPlace, IsRow, IsRunOf, IsSet};
+ghost use Rattle.bidi_neutral.specs.PairWalk.{at_spots, opposite_of, IsAsked, IsBracket, IsBracketAfter, IsMarksEnd};
+ghost use Rattle.bidi_neutral.specs.PairWalk.{IsPlace, IsRow, IsRunOf, IsSet};
 ghost use Rattle.bidi_neutral.specs.PairWalk.{IsSetUpTo, IsTaken, IsUnmarked};
 ghost use Rattle.bidi_runs.specs.Written.{is_seen, IsWrittenOver};
 
@@ -50,17 +51,19 @@ pub fn resolve_pairs<T: TextSource>(
     requires long { length classes.old ≡ text_len T.units (T.characters text) }
     requires original { length sequence.original_classes.now ≡ length classes.old }
     requires pairs { (found : List (ℕ × ℕ))
-        × AreNestedPairs (length (kept_in_place T.units (T.characters text) classes.old (map bounds sequence.runs.now))) found
+        × AreNestedPairs
+        (length (kept_in_place T.units (T.characters text) classes.old (map bounds sequence.runs.now))) found
         × (pairs.now
         ≡ at_spots T.units (T.characters text)
         (kept_in_place T.units (T.characters text) classes.old (map bounds sequence.runs.now)) found) }
     ensures { (found : List (ℕ × ℕ))
-        → AreNestedPairs (length (kept_in_place T.units (T.characters text) classes.old (map bounds sequence.entry.runs.now))) found
+        → AreNestedPairs
+        (length (kept_in_place T.units (T.characters text) classes.old (map bounds sequence.entry.runs.now))) found
         → pairs.now
         ≡ at_spots T.units (T.characters text)
         (kept_in_place T.units (T.characters text) classes.old (map bounds sequence.entry.runs.now)) found
-        → IsPaired T.units (T.characters text) sequence.entry.original_classes.now classes.old classes.new sequence.entry.runs.now
-        directions.embedding directions.sos found }
+        → IsPaired T.units (T.characters text) sequence.entry.original_classes.now classes.old classes.new
+        sequence.entry.runs.now directions.embedding directions.sos found }
 {
     let StoredRuns {
         runs,
@@ -246,18 +249,13 @@ impl Row {
         bracket: Place,
         direction: BidiClass,
     )
-        requires lines { AreLines T.units (T.characters text) (map bounds sequence.runs.now) }
-        requires ordered { IsTrue (are_ordered (map bounds sequence.runs.now)) }
-        requires long { length classes.old ≡ text_len T.units (T.characters text) }
-        requires original { length sequence.original_classes.now ≡ length classes.old }
-        requires begins { IsTrue (is_boundary T.units (T.characters text) bracket.unit) }
-        requires inside { bracket.unit < text_len T.units (T.characters text) }
-        requires place { IsPlace T.units (T.characters text) (map bounds sequence.runs.now) bracket }
-        requires row { IsRow T.units (T.characters text) (map bounds sequence.runs.now) sequence.original_classes.now classes.old self.old }
+        requires { IsBracketAfter T.units (T.characters text) (map bounds sequence.runs.now) sequence.original_classes.now
+            classes.old self.old bracket }
         ensures set { (k : ℕ) → k < length (T.characters text) → bracket.unit ≡ place T.units (T.characters text) k
-            → IsSet T.units (T.characters text) (map bounds sequence.entry.runs.now) sequence.entry.original_classes.now direction bracket.unit (k + 1)
-            classes.old classes.new }
-        ensures row { IsRow T.units (T.characters text) (map bounds sequence.entry.runs.now) sequence.entry.original_classes.now classes.new self.new }
+            → IsSet T.units (T.characters text) (map bounds sequence.entry.runs.now)
+            sequence.entry.original_classes.now direction bracket.unit (k + 1) classes.old classes.new }
+        ensures row { IsRow T.units (T.characters text) (map bounds sequence.entry.runs.now)
+            sequence.entry.original_classes.now classes.new self.new }
     {
         if self.from <= bracket.unit && bracket.unit < self.end && self.direction == direction {
             return;
@@ -281,16 +279,11 @@ fn set_direction<T: TextSource>(
     bracket: Place,
     direction: BidiClass,
 ) -> usize
-    requires lines { AreLines T.units (T.characters text) (map bounds sequence.runs.now) }
-    requires ordered { IsTrue (are_ordered (map bounds sequence.runs.now)) }
-    requires long { length classes.old ≡ text_len T.units (T.characters text) }
-    requires original { length sequence.original_classes.now ≡ length classes.old }
-    requires begins { IsTrue (is_boundary T.units (T.characters text) bracket.unit) }
-    requires inside { bracket.unit < text_len T.units (T.characters text) }
-    requires place { IsPlace T.units (T.characters text) (map bounds sequence.runs.now) bracket }
+    requires { IsBracket T.units (T.characters text) (map bounds sequence.runs.now) sequence.original_classes.now
+        classes.old bracket }
     ensures { (k : ℕ) → k < length (T.characters text) → bracket.unit ≡ place T.units (T.characters text) k
-        → IsSetUpTo T.units (T.characters text) (map bounds sequence.entry.runs.now) sequence.entry.original_classes.now direction bracket.unit (k + 1)
-        result classes.old classes.new }
+        → IsSetUpTo T.units (T.characters text) (map bounds sequence.entry.runs.now)
+        sequence.entry.original_classes.now direction bracket.unit (k + 1) result classes.old classes.new }
 {
     let StoredRuns {
         runs,

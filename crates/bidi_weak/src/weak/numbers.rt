@@ -10,7 +10,8 @@ ghost use Rattle.bidi_base.specs.Text.{text_len, IsPerChar};
 ghost use Rattle.bidi_base.specs.Units.{bounds, are_ordered, units_in_runs, AreLines};
 ghost use Rattle.bidi_runs.specs.ExplicitPass.{filled};
 ghost use Rattle.bidi_weak.specs.WeakPass.{is_asked, is_number, is_other, next_before, still_to_come, strengthened, waits};
-ghost use Rattle.bidi_weak.specs.WeakWalk.{is_any, is_any_of, len_at, settled_to, AreAlike, IsWalked, IsWhole, Passes, Reads, ReadsTo, WaitsBelow};
+ghost use Rattle.bidi_weak.specs.WeakWalk.{is_any, is_any_of, len_at, settled_to, AreAlike, IsWalked, IsWhole};
+ghost use Rattle.bidi_weak.specs.WeakWalk.{Passes, Reads, ReadsTo, WaitsBelow};
 ghost use Rattle.bidi_runs.specs.Written.{count_below, is_seen, IsWrittenOver};
 
 use super::left_over::left_over;
@@ -209,7 +210,8 @@ impl Walk {
         ensures waiting { WaitsBelow (map bounds runs.now) self.new stretch.end }
         ensures rest { (k : ℕ) → stretch.end ≤ k → class_at classes.new k ≡ class_at classes.old k }
         ensures long { length classes.new ≡ length classes.old }
-        ensures reads { Reads (map bounds runs.now) run stretch.start stretch.end self.old self.new classes.old classes.new }
+        ensures reads { Reads (map bounds runs.now) run stretch.start stretch.end self.old self.new classes.old
+            classes.new }
         ensures at_least { steps.old ≤ steps.new }
         ensures at_most { steps.new + 2 * count_below (map bounds runs.now) (settled_to self.old stretch.start)
             ≤ steps.old + 2 * count_below (map bounds runs.now) (settled_to self.new stretch.end) }

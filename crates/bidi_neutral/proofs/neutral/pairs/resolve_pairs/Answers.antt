@@ -54,23 +54,37 @@ pair_direction-taken-requires-clause-closing g c =
     let loop = (goal.at.pair_direction-taken-requires-clause-closing g c).In-loop-pair in
     omega (arith, (here g loop).last_inside, long g loop, c.loop-pair.auto.classes)
 
-pub set_direction-requires-clause-long : goal.set_direction-requires-clause-long
-set_direction-requires-clause-long g c = grind arith steps 400000
+pub set_direction-requires : goal.set_direction-requires
+set_direction-requires g c =
+    let st = here g (goal.at.set_direction-requires g c).In-loop-pair in
+    record {
+      fits = record {
+        lines = c.requires.ready.lines;
+        ordered = c.requires.ready.ordered;
+        long = grind arith steps 400000;
+        stored = grind arith steps 400000;
+        begins = rw c.place_of-first.ensures.unit st.first_begins;
+        inside = rw c.place_of-first.ensures.unit st.first_inside;
+        place = c.place_of-first.ensures.is;
+      };
+      last = c.loop-pair.invariant.1;
+    }
 
-pub set_direction-requires-clause-begins : goal.set_direction-requires-clause-begins
-set_direction-requires-clause-begins g c = rw c.place_of-first.ensures.unit (here g (goal.at.set_direction-requires-clause-begins g c).In-loop-pair).first_begins
-
-pub set_direction-requires-clause-inside : goal.set_direction-requires-clause-inside
-set_direction-requires-clause-inside g c = rw c.place_of-first.ensures.unit (here g (goal.at.set_direction-requires-clause-inside g c).In-loop-pair).first_inside
-
-pub set_direction-requires-in-Some-clause-long : goal.set_direction-requires-in-Some-clause-long
-set_direction-requires-in-Some-clause-long g c = grind arith steps 400000
-
-pub set_direction-requires-in-Some-clause-begins : goal.set_direction-requires-in-Some-clause-begins
-set_direction-requires-in-Some-clause-begins g c = rw c.place_of-last.ensures.unit (here g (goal.at.set_direction-requires-in-Some-clause-begins g c).In-loop-pair).last_begins
-
-pub set_direction-requires-in-Some-clause-inside : goal.set_direction-requires-in-Some-clause-inside
-set_direction-requires-in-Some-clause-inside g c = rw c.place_of-last.ensures.unit (here g (goal.at.set_direction-requires-in-Some-clause-inside g c).In-loop-pair).last_inside
+pub set_direction-requires-in-Some : goal.set_direction-requires-in-Some
+set_direction-requires-in-Some g c =
+    let st = here g (goal.at.set_direction-requires-in-Some g c).In-loop-pair in
+    record {
+      fits = record {
+        lines = c.requires.ready.lines;
+        ordered = c.requires.ready.ordered;
+        long = grind arith steps 400000;
+        stored = grind arith steps 400000;
+        begins = rw c.place_of-last.ensures.unit st.last_begins;
+        inside = rw c.place_of-last.ensures.unit st.last_inside;
+        place = c.place_of-last.ensures.is;
+      };
+      last = c.set_direction.ensures.row;
+    }
 
 pub loop-pair-preserved : goal.loop-pair-preserved
 loop-pair-preserved g c = (
