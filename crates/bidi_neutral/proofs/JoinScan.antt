@@ -183,12 +183,12 @@ module _ (s : Unjoined) where
       ) in
       grind (arith, own-after mark against done at s.old now new w j.own)
 
-  -- a stretch of the opposite direction
-  pub IsJoined-stretch : (now : List BidiClass) (waits : Bool) (at to : ℕ) → at < to → to ≤ size → in_runs s.runs at ≡ true → ((k : ℕ) → at ≤ k → k < to → stands_for against (class_at s.old k) ≡ true)
-      → IsJoined s now waits at at → IsJoined s now true to to
-  IsJoined-stretch now waits at to some fits inside all j =
-      let parts : at_old at to ≡ class_at s.old at ∷ at_old (at + 1) to = grind (arith, seen-directed at against inside, opposite-directed e (class_at s.old at), all at) in
-      let each = simp parts at (at_marked-each mark (stands_for against) s.old at to (λ k from below is'. all k from below)) in
+  -- a stretch of the opposite direction; among its units some may be none of the sequence
+  pub IsJoined-stretch : (now : List BidiClass) (waits : Bool) (at to : ℕ) → at < to → to ≤ size → in_runs s.runs at ≡ true → stands_for against (class_at s.old at) ≡ true
+      → ((k : ℕ) → at ≤ k → k < to → mark k ≡ true → stands_for against (class_at s.old k) ≡ true) → IsJoined s now waits at at → IsJoined s now true to to
+  IsJoined-stretch now waits at to some fits inside here all j =
+      let parts : at_old at to ≡ class_at s.old at ∷ at_old (at + 1) to = grind (arith, seen-directed at against inside, opposite-directed e (class_at s.old at) here) in
+      let each = simp parts at (at_marked-each mark (stands_for against) s.old at to all) in
       let row = stretch e s.eos s.side (side_before s waits) (class_at s.old at) (at_old (at + 1) to)
       (at_old to size) each in
       read now waits true at at to (omega arith) fits j (simp (split s.old at to size (omega arith) fits, parts, row))

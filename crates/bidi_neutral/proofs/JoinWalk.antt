@@ -1,5 +1,5 @@
 -- The walk for N1 over the runs of a sequence.
-use Rattle.bidi_base.proofs.Common.{◌≡◌, ℕ, ◌+◌, ◌<◌, ◌≤◌, Bool, true, false, List, length, map, get_or, drop, Some, arith, add-one, inl, inr, ◌⊎◌, cases_Bool, as_direction, has_direction, is_l_or_r, stands_for, n1_n2, n2_rule, at_places, class_at, in_runs}
+use Rattle.bidi_base.proofs.Common.{◌≡◌, ℕ, ◌+◌, ◌<◌, ◌≤◌, Bool, true, false, List, length, map, get_or, drop, Some, arith, add-one, inl, inr, ◌⊎◌, cases_Bool, as_direction, has_direction, is_kept_in_place, is_l_or_r, stands_for, n1_n2, n2_rule, at_places, class_at, in_runs}
 use Rattle.bidi_base.specs.declared.char_data.BidiClass.{BidiClass}
 use Rattle.bidi_base.specs.declared.char_data.BidiClass.TheVariants.{L}
 use Rattle.bidi_neutral.specs.JoinPass.{side_before, units_of, Unjoined, IsAtOpposite, IsJoined, IsUnderWay}
@@ -56,11 +56,14 @@ IsAtOpposite-quiet s now w done from next end j idle low high fits none is = gri
   j.unwritten,
 )
 
--- a stretch of it
+-- a stretch of it, with BN among it
 pub IsUnderWay-stretch : (s : Unjoined) (now : List BidiClass) (w : Join) (waits : Bool) (run at next : ℕ) → w.waits ≡ true → w.first ≡ next → w.first_run ≡ run → run < length s.runs → (get_or s.runs run (0, 0)).0 ≤ at → next ≤ (get_or s.runs run (0, 0)).1
-    → next ≤ length s.old → at < next → ((k : ℕ) → at ≤ k → k < next → stands_for (opposite_of s.e) (class_at now k) ≡ true) → IsJoined s now waits at at → IsUnderWay s now w next
-IsUnderWay-stretch s now w waits run at next waiting first_is run_is fits from upto within some all j =
-    grind (arith, in_runs-drop, IsJoined-stretch s now waits at next, in_runs-at run s.runs at)
+    → next ≤ length s.old → at < next → stands_for (opposite_of s.e) (class_at now at) ≡ true
+    → ((k : ℕ) → at ≤ k → k < next → is_kept_in_place (class_at now k) ≡ true → stands_for (opposite_of s.e) (class_at now k) ≡ true) → IsJoined s now waits at at → IsUnderWay s now w next
+IsUnderWay-stretch s now w waits run at next waiting first_is run_is fits from upto within some here all j =
+    let seen : (k : ℕ) → at ≤ k → k < next → is_seen s.runs s.old k ≡ true → stands_for (opposite_of s.e) (class_at s.old k) ≡ true =
+    λ k a b is. grind (arith, j.unwritten k a, all k a b) in
+    grind (arith, in_runs-drop, IsJoined-stretch s now waits at next, in_runs-at run s.runs at, j.unwritten at, seen)
 
 -- ---- between runs
 

@@ -1,12 +1,12 @@
 -- N0 over the units of a sequence: what is found around a bracket, what is asked of a pair, and what it writes.
-use Rattle.std.specs.Prelude.{◌≡◌, ◌⊎◌, ◌<◌, ◌≤◌, true, false, ℕ, ◌+◌, nat_lt, Bool, if◌then◌else◌, List, length, map, get_or, drop, take, Option, Some, None}
+use Rattle.std.specs.Prelude.{◌≡◌, ◌⊎◌, ◌<◌, ◌≤◌, true, false, ℕ, ◌+◌, nat_lt, Bool, if◌then◌else◌, List, length, map, get_or, drop, take, Option, Some, None, IsTrue}
 use Rattle.bidi_base.specs.declared.char_data.BidiClass.{BidiClass}
 use Rattle.bidi_base.specs.declared.char_data.BidiClass.TheVariants.{L, R}
 use Rattle.bidi_base.specs.Classes.{as_direction, is_kept_in_place, is_nsm, stands_for}
-use Rattle.bidi_base.specs.Text.{place, text_len}
+use Rattle.bidi_base.specs.Text.{is_boundary, place, text_len}
 use Rattle.bidi_runs.specs.Written.{is_seen, IsWrittenOver}
 use Rattle.bidi_base.specs.Places.{class_at}
-use Rattle.bidi_base.specs.Units.{in_runs}
+use Rattle.bidi_base.specs.Units.{are_ordered, in_runs, AreLines}
 use Rattle.bidi_neutral.specs.declared.neutral.pairs.Pair.{Pair}
 use Rattle.bidi_neutral.specs.declared.neutral.pairs.Place.{Place}
 use Rattle.bidi_neutral.specs.declared.neutral.pairs.PairWalk.{PairWalk}
@@ -116,3 +116,20 @@ pub record IsRow (len_of : ℕ → ℕ) (chars : List ℕ) (runs : List (ℕ × 
       → (k : ℕ) × (row.end ≡ place len_of chars k) × (is_seen runs units row.end ≡ true)
       × (is_nsm (class_at original row.end) ≡ false)
   pub within : row.end ≤ length units
+
+-- a bracket is in the text, and the runs and the classes fit the text
+pub record IsBracket (len_of : ℕ → ℕ) (chars : List ℕ) (runs : List (ℕ × ℕ)) (original units : List BidiClass)
+    (bracket : Place) : Type 0 where
+  pub lines : AreLines len_of chars runs
+  pub ordered : IsTrue (are_ordered runs)
+  pub long : length units ≡ text_len len_of chars
+  pub stored : length original ≡ length units
+  pub begins : IsTrue (is_boundary len_of chars bracket.unit)
+  pub inside : bracket.unit < text_len len_of chars
+  pub place : IsPlace len_of chars runs bracket
+
+-- and this row was written last
+pub record IsBracketAfter (len_of : ℕ → ℕ) (chars : List ℕ) (runs : List (ℕ × ℕ)) (original units : List BidiClass)
+    (row : Row) (bracket : Place) : Type 0 where
+  pub fits : IsBracket len_of chars runs original units bracket
+  pub last : IsRow len_of chars runs original units row

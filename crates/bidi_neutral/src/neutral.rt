@@ -32,7 +32,7 @@ use class_tests::OtherNeutral;
 use directions::{Directions, resolve_opposite, settle_rest};
 use nearest::first_kept;
 use one_direction::stands_alone;
-use pairs::resolve_pairs;
+use pairs::{StoredRuns, resolve_pairs};
 use std::alloc::{AllocError, Global};
 
 /// Resolves the neutrals of one sequence after another, and reuses its memory for each.
@@ -148,14 +148,11 @@ impl NeutralResolver {
         if stands_alone(directions, runs, processing_classes) {
             return Ok(());
         }
-        self.resolve_brackets(
-            text,
-            data_source,
-            directions,
+        let stored = StoredRuns {
             runs,
             original_classes,
-            processing_classes,
-        )?;
+        };
+        self.resolve_brackets(text, data_source, stored, directions, processing_classes)?;
         resolve_opposite(directions, runs, processing_classes);
         Ok(())
     }
@@ -165,22 +162,21 @@ impl NeutralResolver {
         &mut self,
         text: T,
         data_source: &D,
+        sequence: StoredRuns<'_>,
         directions: Directions,
-        runs: &[LevelRun],
-        original_classes: &[BidiClass],
         classes: &mut [BidiClass],
     ) -> Result<(), AllocError>
-        requires ready { IsReady T.units (T.characters text) runs.now directions.sos classes.old }
+        requires ready { IsReady T.units (T.characters text) sequence.runs.now directions.sos classes.old }
         requires side { IsTrue (is_l_or_r directions.embedding) }
-        requires original { length original_classes.now ≡ length classes.old }
-        ensures paired { OnOk result (IsPaired T.units (T.characters text) original_classes.now classes.old
-            classes.new runs.now directions.embedding directions.sos
-            (pairs_in T.units (T.characters text) (D.source data_source.now) classes.old runs.now)) }
+        requires original { length sequence.original_classes.now ≡ length classes.old }
+        ensures paired { OnOk result (IsPaired T.units (T.characters text) sequence.entry.original_classes.now classes.old
+            classes.new sequence.entry.runs.now directions.embedding directions.sos
+            (pairs_in T.units (T.characters text) (D.source data_source.now) classes.old sequence.entry.runs.now)) }
         ensures refused { OnErr result (classes.new ≡ classes.old) }
     {
-        self.gather(text, data_source, runs, classes)?;
+        self.gather(text, data_source, sequence.runs, classes)?;
         let pairs = self.search.finish();
-        resolve_pairs(text, directions, runs, original_classes, pairs, classes);
+        resolve_pairs(text, sequence, directions, pairs, classes);
         Ok(())
     }
 

@@ -1,5 +1,5 @@
 -- The weak passes over units in place: what each has done once it read some units of a slice.
-use Rattle.std.specs.Prelude.{◌≡◌, ℕ, ◌+◌, ◌-◌, ◌*◌, ◌/◌, ◌<◌, ◌≤◌, Bool, true, false, ◌||◌, if◌then◌else◌, List, ◌++◌, length, map, get_or, min, slice_range}
+use Rattle.std.specs.Prelude.{◌≡◌, ℕ, ◌+◌, ◌-◌, ◌*◌, ◌/◌, ◌<◌, ◌≤◌, Bool, true, false, ◌||◌, if◌then◌else◌, List, ◌++◌, length, map, get_or, min, nat_lt, slice_range}
 use Rattle.std.specs.List.{fold, list_any}
 use Rattle.std.specs.Option.{option_map_or}
 use Rattle.std.specs.declared.ops.Range.{Range}
@@ -8,7 +8,7 @@ use Rattle.bidi_base.specs.declared.char_data.BidiClass.TheVariants.{L}
 use Rattle.bidi_base.specs.Classes.{is_kept_in_place}
 use Rattle.bidi_base.specs.Places.{at_places, class_at}
 use Rattle.bidi_base.specs.Text.{char_at}
-use Rattle.bidi_base.specs.Units.{bounds}
+use Rattle.bidi_base.specs.Units.{bounds, units_in_runs}
 use Rattle.bidi_weak.specs.declared.weak.numbers.Walk.{Walk}
 use Rattle.bidi_weak.specs.declared.weak.steps.Before.TheVariants.{Other}
 use Rattle.bidi_runs.specs.Written.{is_seen, seen_from, seen_units}
@@ -26,12 +26,13 @@ is_any_of test classes = fold (λ found class. found || test class) false classe
 abbrev pub is_any : (BidiClass → Bool) → List (Range ℕ) → List BidiClass → Bool
 is_any test runs units = list_any (λ run. is_any_of test (part_of units (bounds run))) runs
 
--- the classes of a range, and of the units behind it up to a multiple of 32 in all
+-- the classes of a range; where it has 32 or more, those of the units behind it too, up to a multiple of 32 in all
 abbrev pub wide_part_of : List BidiClass → ℕ × ℕ → List BidiClass
 wide_part_of units r =
     let end = min r.1 (length units) in
     let start = min r.0 end in
-    slice_range units start (min (start + (end - start + 31) / 32 * 32) (length units))
+    let wide = min (start + (end - start + 31) / 32 * 32) (length units) in
+    slice_range units start (if nat_lt (end - start) 32 then end else wide)
 
 abbrev pub is_any_wide : (BidiClass → Bool) → List (Range ℕ) → List BidiClass → Bool
 is_any_wide test runs units = list_any (λ run. is_any_of test (wide_part_of units (bounds run))) runs
@@ -72,6 +73,14 @@ seen p k = is_seen p.runs p.old k
 abbrev pub units : Pass → ℕ → ℕ → List ℕ
 units p low high = seen_from p.runs p.old low high
 
+-- the units from one up to another have the class of the first
+abbrev pub AreAlike : List BidiClass → ℕ → ℕ → Type 0
+AreAlike units from to = (k : ℕ) → from ≤ k → k < to → class_at units k ≡ class_at units from
+
+-- two for each unit of some runs, which is how many turns a loop over the runs and their units takes at most
+abbrev pub two_a_unit : List (Range ℕ) → ℕ
+two_a_unit runs = 2 * length (units_in_runs (map bounds runs))
+
 -- what waits begins at `from`, in the run that the walk names
 pub record AreHeld (p : Pass) (w : Walk) (from : ℕ) : Type 0 where
   pub first : w.first ≡ from
@@ -99,7 +108,7 @@ pub record IsStretch (p : Pass) (w : Walk) (runs : List (ℕ × ℕ)) (run from 
   pub some : from < to
   pub inside : to ≤ length p.old
   pub kept : is_kept_in_place (class_at p.old from) ≡ true
-  pub alike : (k : ℕ) → from ≤ k → k < to → class_at p.old k ≡ class_at p.old from
+  pub alike : AreAlike p.old from to
   pub single : let next = next_before (strengthened w.strong (class_at p.old from)) w.before in
       still_to_come next (p.len from) ≡ still_to_come next (to - from)
   pub run_fits : run < length runs
@@ -125,7 +134,7 @@ ReadsTo len runs from to before after old new =
 pub record IsWhole (len : ℕ → ℕ) (classes : List BidiClass) (end u : ℕ) : Type 0 where
   pub some : 1 ≤ len u
   pub within : u + len u ≤ end
-  pub alike : (k : ℕ) → u ≤ k → k < u + len u → class_at classes k ≡ class_at classes u
+  pub alike : AreAlike classes u (u + len u)
 
 -- what waits, if something does, begins below u, in the run that the walk names or before
 pub record WaitsBelow (runs : List (ℕ × ℕ)) (w : Walk) (u : ℕ) : Type 0 where
@@ -143,3 +152,9 @@ pub record IsWalked (len : ℕ → ℕ) (runs : List (ℕ × ℕ)) (sos : BidiCl
       ≡ walked (class_at old) len sos Other 0 0 (seen_units runs old)
   pub unseen : (k : ℕ) → is_seen runs old k ≡ false → class_at new k ≡ class_at old k
   pub long : length new ≡ length old
+
+-- W3 and W6 have changed the units from `start` up to `end`, and no others
+pub record AreChanged (start end : ℕ) (old new : List BidiClass) : Type 0 where
+  pub changed : (u : ℕ) → start ≤ u → u < end → class_at new u ≡ left_over (class_at old u)
+  pub below : (u : ℕ) → u < start → class_at new u ≡ class_at old u
+  pub above : (u : ℕ) → end ≤ u → class_at new u ≡ class_at old u

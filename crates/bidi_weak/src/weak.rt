@@ -1,6 +1,7 @@
 //! The weak types in place (W1 to W7).
 
 ghost use Rattle.std.specs.Prelude.{◌≡◌, ℕ, ◌+◌, ◌-◌, ◌*◌, ◌<◌, ◌≤◌, false, List, length, map, IsTrue};
+ghost use Rattle.std.specs.List.{list_any};
 ghost use Rattle.bidi_base.specs.Classes.{is_l_or_r};
 ghost use Rattle.bidi_base.specs.InPlace.{AreWeakTypesResolved, CanResolveWeakTypes};
 ghost use Rattle.bidi_base.specs.Text.{IsPerChar};
@@ -152,27 +153,51 @@ fn resolve_marks_and_numbers<T: TextSource, S: Ledger>(
     }
 }
 
-/// Whether the runs have a nonspacing mark or a number. May also find one shortly after a run.
+/// Whether the runs have a nonspacing mark or a number. May also find one shortly after a long run.
 fn has_marks_or_numbers(runs: &[LevelRun], classes: &[BidiClass]) -> bool
     ensures { result ≡ is_any_wide is_mark_or_number runs.now classes.now }
 {
     runs.iter()
-        .any(|run| is_mark_or_number_in(wide_part_of(classes, run)))
+        .any(|run| is_mark_or_number_among(wide_part_of(classes, run)))
 }
 
 /// How many code units are tested together.
 const WIDE: usize = 32;
 
-/// The classes of a run's code units, as far as there are any. Classes after the run are added up to the
-/// next multiple of [`WIDE`], so that no code unit is tested by itself.
+/// Fewer code units than this are tested one by one.
+const MANY: usize = 8;
+
+/// The classes of a run's code units, as far as there are any. If the run has [`WIDE`] code units or more,
+/// classes after it are added up to the next multiple of [`WIDE`], so that none is tested by itself. A
+/// shorter run is often next to a number of another sequence, which must not be found.
 fn wide_part_of<'c>(classes: &'c [BidiClass], run: &LevelRun) -> &'c [BidiClass]
     ensures { result.now ≡ wide_part_of classes.now (bounds run.now) }
 {
-    let end = run.end.min(classes.len());
-    let start = run.start.min(end);
-    let units = (end - start + (WIDE - 1)) / WIDE * WIDE;
-    let wide_end = (start + units).min(classes.len());
-    &classes[start..wide_end]
+    let part = part_of(classes, run);
+    if part.len() < WIDE {
+        return part;
+    }
+    let units = (part.len() + (WIDE - 1)) / WIDE * WIDE;
+    let wide_end = (run.start + units).min(classes.len());
+    &classes[run.start..wide_end]
+}
+
+/// Whether one of the classes is that of a nonspacing mark or a number. Few classes are tested one by one.
+#[tactic(auto, using(crate::proofs::FoldAny::fold_any))]
+fn is_mark_or_number_among(classes: &[BidiClass]) -> bool
+    ensures { result ≡ is_any_of is_mark_or_number classes.now }
+{
+    if classes.len() < MANY {
+        return is_mark_or_number_near(classes);
+    }
+    is_mark_or_number_in(classes)
+}
+
+/// Whether one of the classes is that of a nonspacing mark or a number. Tests them up to the first such.
+fn is_mark_or_number_near(classes: &[BidiClass]) -> bool
+    ensures { result ≡ list_any is_mark_or_number classes.now }
+{
+    classes.iter().any(|class| is_mark_or_number(*class))
 }
 
 /// Whether one of the classes is that of a nonspacing mark or a number. Tests all of them, many at once.

@@ -1,12 +1,13 @@
 //! The tests that searches use on the classes of a sequence. They have no branch, so that many code units
 //! are tested at once.
 
-ghost use Rattle.std.specs.Prelude.{◌≡◌, not};
-ghost use Rattle.bidi_base.specs.Classes.{has_direction, same_class, stands_for};
+ghost use Rattle.std.specs.Prelude.{◌≡◌, ◌&&◌, not};
+ghost use Rattle.bidi_base.specs.Classes.{has_direction, is_kept_in_place, same_class, stands_for};
 ghost use Rattle.bidi_base.specs.declared.char_data.BidiClass.TheVariants.{ON};
 
 use bidi_base::char_data::BidiClass::{self, AN, EN, L, R};
 use bidi_base::search::ClassTest;
+use bidi_runs::written::is_kept_in_place;
 
 /// The class that brackets have, among others: ON.
 #[derive(Clone, Copy, Debug)]
@@ -53,14 +54,14 @@ impl ClassTest for For {
     }
 }
 
-/// Classes that don't stand for this direction.
+/// Classes but BN that don't stand for this direction. A stretch of the direction goes on over BN.
 #[derive(Clone, Copy, Debug)]
-pub struct NotFor(pub BidiClass);
+pub struct KeptNotFor(pub BidiClass);
 
-impl ClassTest for NotFor {
-    ghost test = { λ d c. not (stands_for d.0 c) };
+impl ClassTest for KeptNotFor {
+    ghost test = { λ d c. not (stands_for d.0 c) && is_kept_in_place c };
 
     fn passes(self, class: BidiClass) -> bool {
-        !is_for(self.0, class)
+        !is_for(self.0, class) & is_kept_in_place(class)
     }
 }

@@ -11,7 +11,7 @@ ghost use Rattle.bidi_runs.specs.Written.{seen_units};
 ghost use Rattle.bidi_neutral.specs.PairWalk.{opposite_of};
 ghost use Rattle.bidi_runs.specs.Written.{is_seen, IsWrittenOver};
 
-use super::class_tests::{AnyDirection, For, NotFor};
+use super::class_tests::{AnyDirection, For, KeptNotFor};
 use bidi_base::char_data::BidiClass::{self, L, R};
 use bidi_base::classes::{is_neutral, stands_for};
 use bidi_base::search::first_passing;
@@ -152,7 +152,8 @@ impl Join {
     }
 
     /// Passes over a stretch of the opposite direction, in the run at the index `run`. Returns where it
-    /// ends, at most `end`.
+    /// ends, at most `end`. BN does not end it, so two stretches with BN alone between them are one, and
+    /// nothing waits between them.
     fn pass(&mut self, run: usize, classes: &[BidiClass], at: usize, end: usize) -> usize
         requires some { at < end }
         requires inside { end ≤ length classes.now }
@@ -165,7 +166,7 @@ impl Join {
             → (get_or s.runs run (0, 0)).0 ≤ at → end ≤ (get_or s.runs run (0, 0)).1
             → IsJoined s classes.now self.old.waits at at → IsUnderWay s classes.now self.new result }
     {
-        let next = first_passing(NotFor(self.opposite), classes, at + 1, end);
+        let next = first_passing(KeptNotFor(self.opposite), classes, at + 1, end);
         self.waits = true;
         self.first = next;
         self.first_run = run;

@@ -7,7 +7,8 @@ ghost use Rattle.bidi_base.specs.Places.{class_at};
 ghost use Rattle.bidi_base.specs.Text.{is_boundary, place, text_len};
 ghost use Rattle.bidi_base.specs.Units.{bounds, are_ordered, kept_in_place, AreLines};
 ghost use Rattle.bidi_neutral.specs.NeutralPass.{IsPaired, IsReady};
-ghost use Rattle.bidi_neutral.specs.PairWalk.{at_spots, opposite_of, IsAsked, IsMarksEnd, IsPlace, IsRow, IsRunOf, IsSet};
+ghost use Rattle.bidi_neutral.specs.PairWalk.{at_spots, opposite_of, IsAsked, IsBracket, IsBracketAfter, IsMarksEnd};
+ghost use Rattle.bidi_neutral.specs.PairWalk.{IsPlace, IsRow, IsRunOf, IsSet};
 ghost use Rattle.bidi_neutral.specs.PairWalk.{IsSetUpTo, IsTaken, IsUnmarked};
 ghost use Rattle.bidi_runs.specs.Written.{is_seen, IsWrittenOver};
 
@@ -21,10 +22,16 @@ use bidi_runs::prepare::LevelRun;
 use bidi_runs::written::{is_kept_in_place, write_over_runs};
 use bidi_text::text::TextSource;
 
+/// The runs of a sequence, and the stored class of each code unit of their text.
+#[derive(Clone, Copy, Debug)]
+pub struct StoredRuns<'a> {
+    pub runs: &'a [LevelRun],
+    pub original_classes: &'a [BidiClass],
+}
+
 /// Applies N0 to the bracket pairs one by one, in the order of their opening brackets.
 ///
-/// Each pair is given by the indices at which its brackets begin. `original_classes` has the stored
-/// classes, and `classes` those after W7.
+/// Each pair is given by the indices at which its brackets begin. `classes` has the classes after W7.
 ///
 /// The context of a pair is searched backwards from its opening bracket, and only if the opposite direction
 /// is inside. The opening bracket then takes a direction, and no later search goes past it. Two positions
@@ -34,29 +41,34 @@ use bidi_text::text::TextSource;
 /// again. So a series of marks is not passed over for each bracket in it.
 pub fn resolve_pairs<T: TextSource>(
     text: T,
+    sequence: StoredRuns<'_>,
     directions: Directions,
-    runs: &[LevelRun],
-    original_classes: &[BidiClass],
     pairs: &[(usize, usize)],
     classes: &mut [BidiClass],
 )
-    requires ready { IsReady T.units (T.characters text) runs.now directions.sos classes.old }
+    requires ready { IsReady T.units (T.characters text) sequence.runs.now directions.sos classes.old }
     requires side { IsTrue (is_l_or_r directions.embedding) }
     requires long { length classes.old ≡ text_len T.units (T.characters text) }
-    requires original { length original_classes.now ≡ length classes.old }
+    requires original { length sequence.original_classes.now ≡ length classes.old }
     requires pairs { (found : List (ℕ × ℕ))
-        × AreNestedPairs (length (kept_in_place T.units (T.characters text) classes.old (map bounds runs.now))) found
+        × AreNestedPairs
+        (length (kept_in_place T.units (T.characters text) classes.old (map bounds sequence.runs.now))) found
         × (pairs.now
         ≡ at_spots T.units (T.characters text)
-        (kept_in_place T.units (T.characters text) classes.old (map bounds runs.now)) found) }
+        (kept_in_place T.units (T.characters text) classes.old (map bounds sequence.runs.now)) found) }
     ensures { (found : List (ℕ × ℕ))
-        → AreNestedPairs (length (kept_in_place T.units (T.characters text) classes.old (map bounds runs.now))) found
+        → AreNestedPairs
+        (length (kept_in_place T.units (T.characters text) classes.old (map bounds sequence.entry.runs.now))) found
         → pairs.now
         ≡ at_spots T.units (T.characters text)
-        (kept_in_place T.units (T.characters text) classes.old (map bounds runs.now)) found
-        → IsPaired T.units (T.characters text) original_classes.now classes.old classes.new runs.now
-        directions.embedding directions.sos found }
+        (kept_in_place T.units (T.characters text) classes.old (map bounds sequence.entry.runs.now)) found
+        → IsPaired T.units (T.characters text) sequence.entry.original_classes.now classes.old classes.new
+        sequence.entry.runs.now directions.embedding directions.sos found }
 {
+    let StoredRuns {
+        runs,
+        original_classes,
+    } = sequence;
     let mut walk = PairWalk::new(directions.embedding);
     let mut row = Row::new(directions.embedding);
     for pair in pairs {
@@ -70,9 +82,9 @@ pub fn resolve_pairs<T: TextSource>(
         };
         let taken = walk.pair_direction(directions.sos, runs, first.run, classes, pair);
         if let Some(direction) = taken {
-            row.set_direction(text, runs, original_classes, classes, first, direction);
+            row.set_direction(text, sequence, classes, first, direction);
             let last = place_of(text, runs, closing);
-            row.set_direction(text, runs, original_classes, classes, last, direction);
+            row.set_direction(text, sequence, classes, last, direction);
         }
     }
 }
@@ -175,6 +187,7 @@ impl PairWalk {
     /// Returns the direction that a pair takes. This is the embedding direction if it is inside (N0 b).
     /// Otherwise, if the opposite one is inside, it is that of the context before the pair (N0 c). If
     /// neither is inside, returns `None` (N0 d). The opening bracket is in the run at `run`, or in none.
+    #[inline(always)]
     fn pair_direction(
         &mut self,
         sos: BidiClass,
@@ -231,29 +244,23 @@ impl Row {
     fn set_direction<T: TextSource>(
         &mut self,
         text: T,
-        runs: &[LevelRun],
-        original_classes: &[BidiClass],
+        sequence: StoredRuns<'_>,
         classes: &mut [BidiClass],
         bracket: Place,
         direction: BidiClass,
     )
-        requires lines { AreLines T.units (T.characters text) (map bounds runs.now) }
-        requires ordered { IsTrue (are_ordered (map bounds runs.now)) }
-        requires long { length classes.old ≡ text_len T.units (T.characters text) }
-        requires original { length original_classes.now ≡ length classes.old }
-        requires begins { IsTrue (is_boundary T.units (T.characters text) bracket.unit) }
-        requires inside { bracket.unit < text_len T.units (T.characters text) }
-        requires place { IsPlace T.units (T.characters text) (map bounds runs.now) bracket }
-        requires row { IsRow T.units (T.characters text) (map bounds runs.now) original_classes.now classes.old self.old }
+        requires { IsBracketAfter T.units (T.characters text) (map bounds sequence.runs.now) sequence.original_classes.now
+            classes.old self.old bracket }
         ensures set { (k : ℕ) → k < length (T.characters text) → bracket.unit ≡ place T.units (T.characters text) k
-            → IsSet T.units (T.characters text) (map bounds runs.now) original_classes.now direction bracket.unit (k + 1)
-            classes.old classes.new }
-        ensures row { IsRow T.units (T.characters text) (map bounds runs.now) original_classes.now classes.new self.new }
+            → IsSet T.units (T.characters text) (map bounds sequence.entry.runs.now)
+            sequence.entry.original_classes.now direction bracket.unit (k + 1) classes.old classes.new }
+        ensures row { IsRow T.units (T.characters text) (map bounds sequence.entry.runs.now)
+            sequence.entry.original_classes.now classes.new self.new }
     {
         if self.from <= bracket.unit && bracket.unit < self.end && self.direction == direction {
             return;
         }
-        let end = set_direction(text, runs, original_classes, classes, bracket, direction);
+        let end = set_direction(text, sequence, classes, bracket, direction);
         *self = Row {
             from: bracket.unit,
             end,
@@ -267,23 +274,21 @@ impl Row {
 #[inline(always)]
 fn set_direction<T: TextSource>(
     text: T,
-    runs: &[LevelRun],
-    original_classes: &[BidiClass],
+    sequence: StoredRuns<'_>,
     classes: &mut [BidiClass],
     bracket: Place,
     direction: BidiClass,
 ) -> usize
-    requires lines { AreLines T.units (T.characters text) (map bounds runs.now) }
-    requires ordered { IsTrue (are_ordered (map bounds runs.now)) }
-    requires long { length classes.old ≡ text_len T.units (T.characters text) }
-    requires original { length original_classes.now ≡ length classes.old }
-    requires begins { IsTrue (is_boundary T.units (T.characters text) bracket.unit) }
-    requires inside { bracket.unit < text_len T.units (T.characters text) }
-    requires place { IsPlace T.units (T.characters text) (map bounds runs.now) bracket }
+    requires { IsBracket T.units (T.characters text) (map bounds sequence.runs.now) sequence.original_classes.now
+        classes.old bracket }
     ensures { (k : ℕ) → k < length (T.characters text) → bracket.unit ≡ place T.units (T.characters text) k
-        → IsSetUpTo T.units (T.characters text) (map bounds runs.now) original_classes.now direction bracket.unit (k + 1)
-        result classes.old classes.new }
+        → IsSetUpTo T.units (T.characters text) (map bounds sequence.entry.runs.now)
+        sequence.entry.original_classes.now direction bracket.unit (k + 1) result classes.old classes.new }
 {
+    let StoredRuns {
+        runs,
+        original_classes,
+    } = sequence;
     let later = &runs[bracket.run..];
     if no_mark_follows(later, original_classes, classes, bracket) {
         write_bracket(classes, bracket, direction);

@@ -1,12 +1,12 @@
 //! W1: a nonspacing mark takes the class of the character before it.
 
-ghost use Rattle.std.specs.Prelude.{◌≡◌, ℕ, ◌+◌, ◌-◌, ◌*◌, ◌<◌, ◌≤◌, true, List, length, map, All, IsTrue};
+ghost use Rattle.std.specs.Prelude.{◌≡◌, ℕ, ◌+◌, ◌-◌, ◌<◌, ◌≤◌, true, List, length, map, All, IsTrue};
 ghost use Rattle.bidi_base.specs.declared.char_data.BidiClass.{BidiClass};
 ghost use Rattle.bidi_base.specs.Classes.{is_kept_in_place, is_l_or_r, is_nsm};
 ghost use Rattle.bidi_base.specs.Places.{class_at};
-ghost use Rattle.bidi_base.specs.Units.{bounds, are_ordered, in_runs, units_in_runs};
+ghost use Rattle.bidi_base.specs.Units.{bounds, are_ordered, in_runs};
 ghost use Rattle.bidi_base.specs.Weak.{carried};
-ghost use Rattle.bidi_weak.specs.WeakWalk.{is_any, is_any_of, AreMarked, IsMarked};
+ghost use Rattle.bidi_weak.specs.WeakWalk.{is_any, is_any_of, two_a_unit, AreMarked, IsMarked};
 ghost use Rattle.bidi_runs.specs.Written.{is_seen};
 
 use super::part_of;
@@ -28,7 +28,7 @@ pub fn resolve_marks<S: Ledger>(
     requires sos { IsTrue (is_l_or_r sos) }
     ensures marked { IsMarked (map bounds runs.now) (carried sos) classes.old classes.new }
     ensures at_least { steps.old ≤ steps.new }
-    ensures at_most { steps.new ≤ steps.old + 2 * length (units_in_runs (map bounds runs.now)) }
+    ensures at_most { steps.new ≤ steps.old + two_a_unit runs.now }
 {
     if !has_marks(runs, classes) {
         return;

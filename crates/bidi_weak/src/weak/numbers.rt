@@ -10,7 +10,8 @@ ghost use Rattle.bidi_base.specs.Text.{text_len, IsPerChar};
 ghost use Rattle.bidi_base.specs.Units.{bounds, are_ordered, units_in_runs, AreLines};
 ghost use Rattle.bidi_runs.specs.ExplicitPass.{filled};
 ghost use Rattle.bidi_weak.specs.WeakPass.{is_asked, is_number, is_other, next_before, still_to_come, strengthened, waits};
-ghost use Rattle.bidi_weak.specs.WeakWalk.{is_any, is_any_of, len_at, settled_to, IsWalked, IsWhole, Passes, Reads, ReadsTo, WaitsBelow};
+ghost use Rattle.bidi_weak.specs.WeakWalk.{is_any, is_any_of, len_at, settled_to, AreAlike, IsWalked, IsWhole};
+ghost use Rattle.bidi_weak.specs.WeakWalk.{Passes, Reads, ReadsTo, WaitsBelow};
 ghost use Rattle.bidi_runs.specs.Written.{count_below, is_seen, IsWrittenOver};
 
 use super::left_over::left_over;
@@ -21,6 +22,7 @@ use bidi_base::classes::is_strong;
 use bidi_runs::prepare::{LevelRun, Steps};
 use bidi_runs::written::{is_kept_in_place, write_over_runs_counted};
 use bidi_text::text::TextSource;
+use std::ops::Range;
 use std::sync::ledger::Ledger;
 
 /// What a pass over a sequence knows of the code units that it has read.
@@ -129,7 +131,7 @@ impl Walk {
             }
             let next = self.stretch_end(text, classes, at, end, steps);
             if is_kept_in_place(classes[at]) {
-                self.read(runs, run, classes, at, next, steps);
+                self.read(runs, run, classes, at..next, steps);
             }
             at = next;
         }
@@ -176,7 +178,7 @@ impl Walk {
         requires whole { IsWhole (len_at T.units (T.characters text)) classes.now end at }
         ensures some { at < result }
         ensures within { result ≤ end }
-        ensures alike { (k : ℕ) → at ≤ k → k < result → class_at classes.now k ≡ class_at classes.now at }
+        ensures alike { AreAlike classes.now at result }
         ensures single { let next = next_before (strengthened self.now.strong (class_at classes.now at))
             self.now.before in
             still_to_come next (len_at T.units (T.characters text) at) ≡ still_to_come next (result - at) }
@@ -191,30 +193,30 @@ impl Walk {
         }
     }
 
-    /// Reads the code units from `start` up to `end` in the run at the index `run`. They are a stretch that
-    /// is not BN.
+    /// Reads a stretch that is not BN, in the run at the index `run`.
     fn read<S: Ledger>(
         &mut self,
         runs: &[LevelRun],
         run: usize,
         classes: &mut [BidiClass],
-        start: usize,
-        end: usize,
+        stretch: Range<usize>,
         steps: &mut Steps<S>,
     )
         requires ordered { IsTrue (are_ordered (map bounds runs.now)) }
-        requires waiting { WaitsBelow (map bounds runs.now) self.old start }
-        requires run { start < (get_or (map bounds runs.now) run (0, 0)).1 }
-        requires some { start < end }
-        requires inside { end ≤ length classes.old }
-        ensures waiting { WaitsBelow (map bounds runs.now) self.new end }
-        ensures rest { (k : ℕ) → end ≤ k → class_at classes.new k ≡ class_at classes.old k }
+        requires waiting { WaitsBelow (map bounds runs.now) self.old stretch.start }
+        requires run { stretch.start < (get_or (map bounds runs.now) run (0, 0)).1 }
+        requires some { stretch.start < stretch.end }
+        requires inside { stretch.end ≤ length classes.old }
+        ensures waiting { WaitsBelow (map bounds runs.now) self.new stretch.end }
+        ensures rest { (k : ℕ) → stretch.end ≤ k → class_at classes.new k ≡ class_at classes.old k }
         ensures long { length classes.new ≡ length classes.old }
-        ensures reads { Reads (map bounds runs.now) run start end self.old self.new classes.old classes.new }
+        ensures reads { Reads (map bounds runs.now) run stretch.start stretch.end self.old self.new classes.old
+            classes.new }
         ensures at_least { steps.old ≤ steps.new }
-        ensures at_most { steps.new + 2 * count_below (map bounds runs.now) (settled_to self.old start)
-            ≤ steps.old + 2 * count_below (map bounds runs.now) (settled_to self.new end) }
+        ensures at_most { steps.new + 2 * count_below (map bounds runs.now) (settled_to self.old stretch.start)
+            ≤ steps.old + 2 * count_below (map bounds runs.now) (settled_to self.new stretch.end) }
     {
+        let Range { start, end } = stretch;
         let class = classes[start];
         let strong = strengthened(self.strong, class);
         let next = self.before.after(strong);
@@ -344,7 +346,7 @@ fn alike_end<S: Ledger>(classes: &[BidiClass], at: usize, end: usize, steps: &mu
     requires inside { end ≤ length classes.now }
     ensures some { at < result }
     ensures within { result ≤ end }
-    ensures alike { (k : ℕ) → at ≤ k → k < result → class_at classes.now k ≡ class_at classes.now at }
+    ensures alike { AreAlike classes.now at result }
     ensures steps { steps.new ≡ steps.old + min (result - at) (end - (at + 1)) }
 {
     let class = classes[at];

@@ -12,12 +12,12 @@ use Rattle.bidi_neutral.proofs.neutral.pairs.resolve_pairs.Goals.{In-loop-pair, 
 pub loop-pair-init : goal.loop-pair-init
 loop-pair-init g c = (
   λ h ready side long found nested is.
-      IsWalkedTo-start g.T.TextSource.units h (g.T.TextSource.characters c.args.text) c.args.original_classes.now c.args.runs.now c.args.directions.sos c.args.classes.now ready c.args.directions.embedding side long found nested c.new-walk.result c.new-walk.ensures,
-  rw c.new-row.ensures (IsRow-none g.T.TextSource.units (g.T.TextSource.characters c.args.text) (map bounds c.args.runs.now) c.args.original_classes.now c.args.classes.now c.args.directions.embedding),
+      IsWalkedTo-start g.T.TextSource.units h (g.T.TextSource.characters c.args.text) c.args.sequence.original_classes.now c.args.sequence.runs.now c.args.directions.sos c.args.classes.now ready c.args.directions.embedding side long found nested c.new-walk.result c.new-walk.ensures,
+  rw c.new-row.ensures (IsRow-none g.T.TextSource.units (g.T.TextSource.characters c.args.text) (map bounds c.args.sequence.runs.now) c.args.sequence.original_classes.now c.args.classes.now c.args.directions.embedding),
 )
 
 -- where the pair stands
-here : (g : Over) (c : In-loop-pair g) → Stands g.T.TextSource.units g.met.T.TextSource.has_units (g.T.TextSource.characters c.args.text) c.args.original_classes.now c.args.runs.now c.args.directions.sos c.args.classes.now c.requires.ready c.args.directions.embedding c.requires.side c.requires.original c.requires.pairs.0 c.requires.pairs.1 (get_or c.args.pairs.now c.loop-pair.pair-index (0, 0)) c.loop-pair.pair-index
+here : (g : Over) (c : In-loop-pair g) → Stands g.T.TextSource.units g.met.T.TextSource.has_units (g.T.TextSource.characters c.args.text) c.args.sequence.original_classes.now c.args.sequence.runs.now c.args.directions.sos c.args.classes.now c.requires.ready c.args.directions.embedding c.requires.side c.requires.original c.requires.pairs.0 c.requires.pairs.1 (get_or c.args.pairs.now c.loop-pair.pair-index (0, 0)) c.loop-pair.pair-index
 here g c = search (arith, stands)
 
 long : (g : Over) (c : In-loop-pair g) → length c.args.classes.now ≡ text_len g.T.TextSource.units (g.T.TextSource.characters c.args.text)
@@ -42,7 +42,7 @@ bounds-original_classes-opening g c =
 
 pub pair_direction-taken-requires-clause-runs : goal.pair_direction-taken-requires-clause-runs
 pair_direction-taken-requires-clause-runs g c =
-    rw c.loop-pair.auto.classes (runs-within g.T.TextSource.units g.met.T.TextSource.has_units (g.T.TextSource.characters c.args.text) c.args.runs.now c.args.directions.sos c.args.classes.now c.requires.ready)
+    rw c.loop-pair.auto.classes (runs-within g.T.TextSource.units g.met.T.TextSource.has_units (g.T.TextSource.characters c.args.text) c.args.sequence.runs.now c.args.directions.sos c.args.classes.now c.requires.ready)
 
 pub pair_direction-taken-requires-clause-inside : goal.pair_direction-taken-requires-clause-inside
 pair_direction-taken-requires-clause-inside g c =
@@ -54,23 +54,37 @@ pair_direction-taken-requires-clause-closing g c =
     let loop = (goal.at.pair_direction-taken-requires-clause-closing g c).In-loop-pair in
     omega (arith, (here g loop).last_inside, long g loop, c.loop-pair.auto.classes)
 
-pub set_direction-requires-clause-long : goal.set_direction-requires-clause-long
-set_direction-requires-clause-long g c = grind arith steps 400000
+pub set_direction-requires : goal.set_direction-requires
+set_direction-requires g c =
+    let st = here g (goal.at.set_direction-requires g c).In-loop-pair in
+    record {
+      fits = record {
+        lines = c.requires.ready.lines;
+        ordered = c.requires.ready.ordered;
+        long = grind arith steps 400000;
+        stored = grind arith steps 400000;
+        begins = rw c.place_of-first.ensures.unit st.first_begins;
+        inside = rw c.place_of-first.ensures.unit st.first_inside;
+        place = c.place_of-first.ensures.is;
+      };
+      last = c.loop-pair.invariant.1;
+    }
 
-pub set_direction-requires-clause-begins : goal.set_direction-requires-clause-begins
-set_direction-requires-clause-begins g c = rw c.place_of-first.ensures.unit (here g (goal.at.set_direction-requires-clause-begins g c).In-loop-pair).first_begins
-
-pub set_direction-requires-clause-inside : goal.set_direction-requires-clause-inside
-set_direction-requires-clause-inside g c = rw c.place_of-first.ensures.unit (here g (goal.at.set_direction-requires-clause-inside g c).In-loop-pair).first_inside
-
-pub set_direction-requires-in-Some-clause-long : goal.set_direction-requires-in-Some-clause-long
-set_direction-requires-in-Some-clause-long g c = grind arith steps 400000
-
-pub set_direction-requires-in-Some-clause-begins : goal.set_direction-requires-in-Some-clause-begins
-set_direction-requires-in-Some-clause-begins g c = rw c.place_of-last.ensures.unit (here g (goal.at.set_direction-requires-in-Some-clause-begins g c).In-loop-pair).last_begins
-
-pub set_direction-requires-in-Some-clause-inside : goal.set_direction-requires-in-Some-clause-inside
-set_direction-requires-in-Some-clause-inside g c = rw c.place_of-last.ensures.unit (here g (goal.at.set_direction-requires-in-Some-clause-inside g c).In-loop-pair).last_inside
+pub set_direction-requires-in-Some : goal.set_direction-requires-in-Some
+set_direction-requires-in-Some g c =
+    let st = here g (goal.at.set_direction-requires-in-Some g c).In-loop-pair in
+    record {
+      fits = record {
+        lines = c.requires.ready.lines;
+        ordered = c.requires.ready.ordered;
+        long = grind arith steps 400000;
+        stored = grind arith steps 400000;
+        begins = rw c.place_of-last.ensures.unit st.last_begins;
+        inside = rw c.place_of-last.ensures.unit st.last_inside;
+        place = c.place_of-last.ensures.is;
+      };
+      last = c.set_direction.ensures.row;
+    }
 
 pub loop-pair-preserved : goal.loop-pair-preserved
 loop-pair-preserved g c = (
@@ -83,8 +97,8 @@ loop-pair-preserved g c = (
       let e = a.directions.embedding in
       let sos = a.directions.sos in
       let old = a.classes.now in
-      let original = a.original_classes.now in
-      let runs = a.runs.now in
+      let original = a.sequence.original_classes.now in
+      let runs = a.sequence.runs.now in
       let ks = kept_in_place len_of chars old (map bounds runs) in
       let i = (pair_at found k).0 in
       let j = (pair_at found k).1 in
@@ -117,7 +131,7 @@ returns g c = λ found nested is.
     let len_of = g.T.TextSource.units in
     let chars : List ℕ = g.T.TextSource.characters c.args.text in
     let a = c.args in
-    let ks = kept_in_place len_of chars a.classes.now (map bounds a.runs.now) in
+    let ks = kept_in_place len_of chars a.classes.now (map bounds a.sequence.runs.now) in
     let w = c.loop-pair.invariant.0 g.met.T.TextSource.has_units c.requires.ready c.requires.side c.requires.original found nested is in
     let all : length found ≤ c.loop-pair.pair-index = omega (arith, ap length is, length-map found (λ (p : ℕ × ℕ). let q : ℕ × ℕ = (spot len_of chars ks p.0, spot len_of chars ks p.1) in q), c.loop-pair-test.false) in
     simp (take_all c.loop-pair.pair-index found all) at w.done

@@ -38,8 +38,8 @@ ends-within len_of chars runs n long lines = grind (arith, is_boundary-le)
 pub no_mark_follows-requires-clause-inside : goal.no_mark_follows-requires-clause-inside
 no_mark_follows-requires-clause-inside g c =
     let a = c.args in
-    subst (λ (rs : List (ℕ × ℕ)). All (λ (r : ℕ × ℕ). r.1 ≤ length a.classes.now) rs) (sym (part_after a.runs.now a.runs.now a.bracket.run refl))
-    (All-drop (λ (r : ℕ × ℕ). r.1 ≤ length a.classes.now) a.bracket.run (map bounds a.runs.now) (ends-within g.T.TextSource.units (g.T.TextSource.characters a.text) (map bounds a.runs.now) (length a.classes.now) c.requires.long c.requires.lines))
+    subst (λ (rs : List (ℕ × ℕ)). All (λ (r : ℕ × ℕ). r.1 ≤ length a.classes.now) rs) (sym (part_after a.sequence.runs.now a.sequence.runs.now a.bracket.run refl))
+    (All-drop (λ (r : ℕ × ℕ). r.1 ≤ length a.classes.now) a.bracket.run (map bounds a.sequence.runs.now) (ends-within g.T.TextSource.units (g.T.TextSource.characters a.text) (map bounds a.sequence.runs.now) (length a.classes.now) c.requires.long c.requires.lines))
 
 pub write_bracket-requires : goal.write_bracket-requires
 write_bracket-requires g c = omega (arith, (c.no_mark_follows.ensures c.if-no_mark_follows.true).inside)
@@ -48,8 +48,8 @@ pub returns-then-no_mark_follows : goal.returns-then-no_mark_follows
 returns-then-no_mark_follows g c = λ k within there.
     let len_of = g.T.TextSource.units in
     let chars : List ℕ = g.T.TextSource.characters c.args.text in
-    let rs = map bounds c.args.runs.now in
-    let same = part_after c.args.runs.now c.args.runs.now c.args.bracket.run refl in
+    let rs = map bounds c.args.sequence.runs.now in
+    let same = part_after c.args.sequence.runs.now c.args.sequence.runs.now c.args.bracket.run refl in
     let p = c.requires.place in
     let ends = p.ends k within there in
     let order : c.args.bracket.unit ≤ c.args.bracket.end = omega (arith, there, ends, place-mono len_of chars k (k + 1) (omega arith)) in
@@ -71,8 +71,8 @@ set_with_marks-requires-clause-ends g c =
 
 pub returns : goal.returns
 returns g c = λ k within there.
-    let rs = map bounds c.args.runs.now in
-    let same = part_after c.args.runs.now c.args.runs.now c.args.bracket.run refl in
+    let rs = map bounds c.args.sequence.runs.now in
+    let same = part_after c.args.sequence.runs.now c.args.sequence.runs.now c.args.bracket.run refl in
     let p = c.requires.place in
     let inside = p.ends k within there in
     IsSet-later _ _ (drop c.args.bracket.run rs) rs _ _ c.args.bracket.unit _ _ _ _ p.run.later (omega (arith, there, place-mono g.T.TextSource.units (g.T.TextSource.characters c.args.text) k (k + 1) (omega arith)))

@@ -30,7 +30,7 @@ loop-run-preserved g c =
     let to_is = ap (λ (r : ℕ × ℕ). r.1) here in
     let turns = units_more (map bounds runs) i _ _ c.requires.ordered (omega arith) from_is to_is in
     let done = changed-more left_over left_over-twice (map bounds runs) i c.args.classes.now c.loop-run.classes c.change_run.new.classes (omega arith) c.loop-run.invariant.changed c.loop-run.invariant.same
-    (λ u from to. c.change_run.ensures.changed u (omega (arith, from_is)) (omega (arith, to_is))) (λ u out. grind (arith, common_steps)) in
+    (λ u from to. c.change_run.ensures.changed.changed u (omega (arith, from_is)) (omega (arith, to_is))) (λ u out. grind (arith, common_steps)) in
     grind (arith, done, turns, c.change_run.ensures.steps)
 
 pub returns-clause-changed : goal.returns-clause-changed

@@ -31,13 +31,13 @@ above_settled w runs held i k now now1 order some none = grind arith
 pub returns-clause-rest : goal.returns-clause-rest
 returns-clause-rest g c =
     let w = c.args.self.now in
-    let i = c.args.start in
+    let i = c.args.stretch.start in
     let now = c.args.classes.now in
     let runs = map bounds c.args.runs.now in
     λ k order. let past : i ≤ k = omega (arith, c.requires.some) in
     elim c.if-not-is_joined_by.branch [
       | then-not-is_joined_by+then-waits b ↦ grind arith
-      | then-not-is_joined_by+else-waits+then-ne b ↦ ap (λ (cs : List BidiClass). class_at cs k) b.classes-is ∙ (filled_over c.args.end b.numbered-own.result i b.settle.new.classes b.fill.new.classes b.fill.ensures (omega (arith, c.requires.some)) (omega (arith, c.requires.inside, b.settle.auto.classes))).above k order ∙ above_settled w runs _ i k now b.settle.new.classes past b.settle.ensures.held b.settle.ensures.idle
+      | then-not-is_joined_by+else-waits+then-ne b ↦ ap (λ (cs : List BidiClass). class_at cs k) b.classes-is ∙ (filled_over c.args.stretch.end b.numbered-own.result i b.settle.new.classes b.fill.new.classes b.fill.ensures (omega (arith, c.requires.some)) (omega (arith, c.requires.inside, b.settle.auto.classes))).above k order ∙ above_settled w runs _ i k now b.settle.new.classes past b.settle.ensures.held b.settle.ensures.idle
       | then-not-is_joined_by+else-waits+else-ne b ↦ ap (λ (cs : List BidiClass). class_at cs k) b.classes-is ∙ above_settled w runs _ i k now b.settle.new.classes past b.settle.ensures.held b.settle.ensures.idle
       | else-not-is_joined_by b ↦ ap (λ (cs : List BidiClass). class_at cs k) b.classes-is
     ]
@@ -46,8 +46,8 @@ pub returns-clause-reads : goal.returns-clause-reads
 returns-clause-reads g c =
     λ p s h.
     let w = c.args.self.now in
-    let i = c.args.start in
-    let j = c.args.end in
+    let i = c.args.stretch.start in
+    let j = c.args.stretch.end in
     let now = c.args.classes.now in
     let runs = map bounds c.args.runs.now in
     let x = class_at p.old i in
@@ -83,5 +83,5 @@ pub returns-clause-at_most : goal.returns-clause-at_most
 returns-clause-at_most g c =
     grind (
       arith,
-      paid_idle (map bounds c.args.runs.now) (waits c.after-next.result) c.if-not-is_joined_by.self.first c.args.start c.args.end (c.if-not-is_joined_by.steps + 2 * count_below (map bounds c.args.runs.now) (settled_to c.args.self.now c.args.start)) c.args.steps.now c.requires.ordered,
+      paid_idle (map bounds c.args.runs.now) (waits c.after-next.result) c.if-not-is_joined_by.self.first c.args.stretch.start c.args.stretch.end (c.if-not-is_joined_by.steps + 2 * count_below (map bounds c.args.runs.now) (settled_to c.args.self.now c.args.stretch.start)) c.args.steps.now c.requires.ordered,
     )

@@ -1,6 +1,6 @@
 use Rattle.bidi_base.proofs.Common.{◌≢◌, ◌<◌, length, ◌∙◌, inl, inr, arith, get_or-set_same, get_or-set_other, cases_eq}
 use Rattle.bidi_base.specs.declared.char_data.BidiClass.TheVariants.{L}
-use Rattle.bidi_weak.proofs.weak.left_over.change_run.Goals as goal
+use Rattle.bidi_weak.proofs.weak.left_over.change_many.Goals as goal
 
 pub loop-unit-preserved : goal.loop-unit-preserved
 loop-unit-preserved g c =
