@@ -57,7 +57,9 @@ fn are_blanks<C: ClassList>(classes: C, from: usize) -> bool
     all
 }
 
-// Returns the start of the blocks of 16 blanks that end the range from `from` to `to`, or `to` if there are none.
+// Returns the start of the blocks of 16 blanks that end the range from `from` to `to`, or `to` if there are none. Few
+// lines come here, so their callers are to hold no code of it.
+#[inline(never)]
 fn blank_blocks_start<C: ClassList>(classes: C, from: usize, to: usize) -> usize
     requires begins { from ≤ to }
     requires ends { to ≤ length (C.classes classes) }
