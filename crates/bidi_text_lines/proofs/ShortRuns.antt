@@ -1,6 +1,5 @@
 -- The characters of a short text, turned round one by one.
-use Rattle.bidi_base.proofs.Common.{◌≡◌, ◌≢◌, ℕ, zero, suc, ◌+◌, ◌-◌, ◌<◌, ◌≤◌, true, nat_lt, List, [], ◌∷◌, length, get_or, set, refl, sym, ap, ◌∙◌, arith, inl, inr, cases_lt, list_all, get_or_default, get_or-set_other, get_or-set_same}
-use Rattle.std.proofs.Common.{length-set, All}
+use Rattle.bidi_base.proofs.Common.{◌≡◌, ◌≢◌, ℕ, zero, suc, ◌+◌, ◌-◌, ◌<◌, ◌≤◌, true, List, [], ◌∷◌, length, get_or, set, refl, sym, ◌∙◌, arith, get_or_default, get_or-set_other, get_or-set_same}
 use Rattle.bidi_text_lines.specs.Turned.{turned_at, behind_two, IsEnded}
 use Rattle.bidi_text_lines.proofs.TurnedText.{all_short, first_of_three, first_of_two, last_of_two, second_of_three, last_of_three, only_one}
 

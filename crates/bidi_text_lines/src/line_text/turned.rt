@@ -1,5 +1,5 @@
-// Reverses the characters of UTF-8 by a loop that handles many bytes at once. It decodes no character: each byte's
-// neighbours tell which byte goes to its mirrored place.
+// Reverses the characters of UTF-8: a short run character by character, and a long one by a loop that handles many bytes
+// at once. That loop decodes no character: each byte's neighbours tell which byte goes to its mirrored place.
 ghost use Rattle.std.specs.Prelude.{◌≡◌, ℕ, ◌+◌, ◌-◌, ◌<◌, ◌≤◌, IsTrue, nat_lt, length, slice_index, slice_index_or, if◌then◌else◌};
 ghost use Rattle.std.specs.List.{list_all};
 ghost use Rattle.bidi_text_lines.specs.Turned.{turned_byte, turned_at, behind_two, IsEnded};
