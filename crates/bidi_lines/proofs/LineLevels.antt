@@ -1,10 +1,11 @@
 -- L1 along a line: the level that each place takes, and what a pass over the line keeps true.
-use Rattle.bidi_base.proofs.Common.{◌≡◌, ℕ, zero, suc, ◌+◌, ◌-◌, ◌<◌, ◌≤◌, if◌then◌else◌, ◌&&◌, ◌||◌, Bool, true, false, not, nat_lt, List, [], ◌∷◌, length, get_or, drop, set, refl, sym, ap, ◌∙◌, arith, inl, inr, drop-cons, get_or-set_other, get_or-set_same, add-zero, common_steps, same_number_lists, cases_lt, cases_Bool, get_or_default, list_any_at, list_any_none, is_removed, is_odd, has_rtl, is_reset, line_levels_after, line_levels, class_at}
+use Rattle.bidi_base.proofs.Common.{◌≡◌, ℕ, zero, suc, ◌+◌, ◌-◌, ◌<◌, ◌≤◌, ◌≢◌, if◌then◌else◌, ◌&&◌, ◌||◌, Bool, true, false, not, nat_lt, List, [], ◌∷◌, length, get_or, drop, set, refl, sym, ap, ◌∙◌, arith, inl, inr, drop-cons, get_or-set_other, get_or-set_same, add-zero, common_steps, same_number_lists, cases_lt, cases_Bool, get_or_default, list_any_at, list_any_none, is_removed, is_odd, has_rtl, is_reset, line_levels_after, line_levels, class_at}
 use Rattle.std.proofs.Common.{length-set}
 use Rattle.bidi_base.specs.declared.char_data.BidiClass.{BidiClass}
 use Rattle.bidi_base.specs.declared.char_data.BidiClass.TheVariants.{L}
 use Rattle.bidi_base.specs.Classes.{is_separator}
 use Rattle.bidi_base.specs.Line.{is_blank}
+use Rattle.bidi_lines.specs.Stops.{is_stop, IsSteadyAt}
 
 -- ---- classes
 
@@ -111,23 +112,19 @@ line_levels-is level classes old new e f h = same_number_lists new (line_levels 
 
 -- ---- a pass over the line
 
--- The levels up to i are looked at. Those before `blank_start` are done. From there to i stand blanks, whose
--- levels are those that stay if what follows is not reset. `before` is the level before i.
-pub record IsResetTo (level : ℕ) (classes : List BidiClass) (old new : List ℕ) (blank_start before i : ℕ) : Type 0 where
-  pub ordered : blank_start ≤ i
+-- The levels up to i are looked at. Those before `start` are done. From there to i stands no separator, and the levels
+-- are those that stay if what follows is not reset. `before` is the level before i.
+pub record IsSweptTo (level : ℕ) (classes : List BidiClass) (old new : List ℕ) (start before i : ℕ) : Type 0 where
+  pub ordered : start ≤ i
   pub long : length new ≡ length old
-  pub done : (k : ℕ) → k < blank_start → HasLineLevel level level classes old new k
-  pub blank : (k : ℕ) → blank_start ≤ k → k < i → is_blank (class_at classes k) ≡ true
-  pub pending : (k : ℕ) → blank_start ≤ k → k < i → get_or new k 0 ≡ kept_level level classes old new k
+  pub done : (k : ℕ) → k < start → HasLineLevel level level classes old new k
+  pub apart : (k : ℕ) → start ≤ k → k < i → is_separator (class_at classes k) ≡ false
+  pub pending : (k : ℕ) → start ≤ k → k < i → get_or new k 0 ≡ kept_level level classes old new k
   pub rest : (k : ℕ) → i ≤ k → get_or new k 0 ≡ get_or old k 0
   pub last : before ≡ level_before level new i
 
-pub IsResetTo-start : (level : ℕ) (classes : List BidiClass) (levels : List ℕ) → IsResetTo level classes levels levels 0 level 0
-IsResetTo-start level classes levels = grind arith
-
--- one more place
-up_to : (P : ℕ → Type 0) (from i : ℕ) → ((k : ℕ) → from ≤ k → k < i → P k) → P i → (k : ℕ) → from ≤ k → k < i + 1 → P k
-up_to P from i h here k a b = grind arith
+pub IsSweptTo-start : (level : ℕ) (classes : List BidiClass) (levels : List ℕ) → IsSweptTo level classes levels levels 0 level 0
+IsSweptTo-start level classes levels = grind arith
 
 -- what stays where the entries below k stay
 stays : (level : ℕ) (classes : List BidiClass) (old xs ys : List ℕ) (k : ℕ) → ((j : ℕ) → j < k → get_or xs j 0 ≡ get_or ys j 0) → kept_level level classes old xs k ≡ kept_level level classes old ys k
@@ -143,48 +140,57 @@ pub record IsFilled (old new : List ℕ) (from to level : ℕ) : Type 0 where
   pub inside : (k : ℕ) → from ≤ k → k < to → get_or new k 0 ≡ level
   pub after : (k : ℕ) → to ≤ k → get_or new k 0 ≡ get_or old k 0
 
--- one more entry
-pub IsFilled-more : (old new : List ℕ) (from at level : ℕ) → from ≤ at → at < length old → IsFilled old new from at level → IsFilled old (set new at level) from (at + 1) level
-IsFilled-more old new from at level order fits h = record {
-  long = length-set new at level ∙ h.long;
-  before = λ k below. get_or-set_other new at k level 0 (omega arith) ∙ h.before k below;
-  inside = λ k a b. elim (cases_lt k at) [
-    | inl under ↦ get_or-set_other new at k level 0 (omega arith) ∙ h.inside k a under
-    | inr same ↦ let e : k ≡ at = omega arith in simp e (get_or-set_same new at level 0 (omega (arith, h.long)))
-  ];
-  after = λ k above. get_or-set_other new at k level 0 (omega arith) ∙ h.after k (omega arith);
-}
-
-module _ (level : ℕ) (classes : List BidiClass) (old new next : List ℕ) (blank_start before i to : ℕ) (order : i ≤ to) (f : IsFilled new next i to before) (h : IsResetTo level classes old new blank_start before i) where
-  -- what stands before `to`, from i on
-  filled_before : (k : ℕ) → i ≤ k → k ≤ to → level_before level next k ≡ before
-  filled_before k from upto = elim (cases_lt i k) [
-    | inl past ↦ inside_before k past upto
-    | inr same ↦ let e : k ≡ i = omega arith in simp e (level_before-same level next new i (λ j below. f.before j below) ∙ sym h.last)
-  ]
-    where
-      inside_before : (k : ℕ) → i < k → k ≤ to → level_before level next k ≡ before
-      inside_before zero some upto = absurd (omega arith)
-      inside_before (suc k) some upto = f.inside k (omega arith) (omega arith)
-
-  -- removed characters take the level before them
-  pub IsResetTo-removed : ((k : ℕ) → i ≤ k → k < to → is_removed (class_at classes k) ≡ true) → IsResetTo level classes old next blank_start before to
-  IsResetTo-removed removed = record {
+module _ (level : ℕ) (classes : List BidiClass) (old new : List ℕ) (start before i to : ℕ) where
+  -- a stretch whose levels are those that stay
+  swept : i ≤ to → ((k : ℕ) → i ≤ k → k < to → is_separator (class_at classes k) ≡ false)
+      → ((k : ℕ) → i ≤ k → k < to → get_or new k 0 ≡ kept_level level classes old new k)
+      → IsSweptTo level classes old new start before i → IsSweptTo level classes old new start (level_before level new to) to
+  swept order plain same h = record {
     ordered = omega (arith, h.ordered);
-    long = f.long ∙ h.long;
-    done = λ k below. done_stays level classes old new next k (λ j under. sym (f.before j (omega (arith, h.ordered)))) (h.done k below);
-    blank = λ k from below. elim (cases_lt k i) [ inl under ↦ h.blank k from under | inr past ↦ is_blank-removed (class_at classes k) (removed k (omega arith) below) ];
-    pending = λ k from below. elim (cases_lt k i) [
-      | inl under ↦ f.before k under ∙ h.pending k from under ∙ stays level classes old new next k (λ j lower. sym (f.before j (omega arith)))
-      | inr past ↦ simp (removed k (omega arith) below) (f.inside k (omega arith) below ∙ sym (filled_before k (omega arith) (omega arith)))
-    ];
-    rest = λ k from. f.after k from ∙ h.rest k (omega arith);
-    last = sym (filled_before to order (omega arith));
+    long = h.long;
+    done = h.done;
+    apart = λ k from below. elim (cases_lt k i) [ inl under ↦ h.apart k from under | inr past ↦ plain k past below ];
+    pending = λ k from below. elim (cases_lt k i) [ inl under ↦ h.pending k from under | inr past ↦ same k past below ];
+    rest = λ k from. h.rest k (omega arith);
+    last = refl;
   }
 
--- the units from `from` up to `to` are neither separators nor removed
-abbrev pub ArePlain : List BidiClass → ℕ → ℕ → Type 0
-ArePlain classes from to = (k : ℕ) → from ≤ k → k < to → (is_separator (class_at classes k) || is_removed (class_at classes k)) ≡ false
+  -- one of units that are neither separators nor removed
+  pub IsSweptTo-plain : i ≤ to → ((k : ℕ) → i ≤ k → k < to → is_stop (class_at classes k) ≡ false)
+      → IsSweptTo level classes old new start before i → IsSweptTo level classes old new start (level_before level new to) to
+  IsSweptTo-plain order plain h = swept order (λ k a b. grind (arith, plain k a b)) (λ k a b. grind (arith, plain k a b, h.rest k a)) h
+
+  steady_level : (k : ℕ) → 0 < k → IsSteadyAt classes new k → get_or new k 0 ≡ get_or old k 0 → get_or new k 0 ≡ kept_level level classes old new k
+  steady_level zero some s same = absurd (omega arith)
+  steady_level (suc k) some s same = grind (arith, s.follows)
+
+  -- one of units that keep the level that they have, or that of the unit before
+  pub IsSweptTo-steady : 0 < i → i ≤ to → ((k : ℕ) → i ≤ k → k < to → IsSteadyAt classes new k)
+      → IsSweptTo level classes old new start before i → IsSweptTo level classes old new start (level_before level new to) to
+  IsSweptTo-steady some order steady h =
+      swept order (λ k a b. (steady k a b).apart) (λ k a b. steady_level k (omega arith) (steady k a b) (h.rest k a)) h
+
+module _ (level : ℕ) (classes : List BidiClass) (old new : List ℕ) (start before i : ℕ) where
+  -- a removed unit takes the level before it
+  pub IsSweptTo-removed : i < length new → is_removed (class_at classes i) ≡ true → IsSweptTo level classes old new start before i → IsSweptTo level classes old (set new i before) start before (i + 1)
+  IsSweptTo-removed fits removed h = record {
+    ordered = omega (arith, h.ordered);
+    long = length-set new i before ∙ h.long;
+    done = λ k below. done_stays level classes old new (set new i before) k (λ j under. sym (other j (omega (arith, h.ordered)))) (h.done k below);
+    apart = λ k from below. elim (cases_lt k i) [
+      | inl under ↦ h.apart k from under
+      | inr past ↦ let e : k ≡ i = omega arith in simp e (is_separator-blank (class_at classes i) (is_blank-removed (class_at classes i) removed))
+    ];
+    pending = λ k from below. elim (cases_lt k i) [
+      | inl under ↦ other k (omega arith) ∙ h.pending k from under ∙ stays level classes old new (set new i before) k (λ j lower. sym (other j (omega arith)))
+      | inr past ↦ let e : k ≡ i = omega arith in simp (e, removed) (get_or-set_same new i before 0 fits ∙ h.last ∙ level_before-same level new (set new i before) i (λ j lower. sym (other j (omega arith))))
+    ];
+    rest = λ k from. other k (omega arith) ∙ h.rest k (omega arith);
+    last = sym (level_before-more level (set new i before) i ∙ get_or-set_same new i before 0 fits);
+  }
+    where
+      other : (k : ℕ) → k ≢ i → get_or (set new i before) k 0 ≡ get_or new k 0
+      other k apart = get_or-set_other new i k before 0 apart
 
 -- `start` is where the blanks before `to` begin, or `from`
 pub record AreLastBlanks (classes : List BidiClass) (from to start : ℕ) : Type 0 where
@@ -193,68 +199,40 @@ pub record AreLastBlanks (classes : List BidiClass) (from to start : ℕ) : Type
   pub blank : (k : ℕ) → start ≤ k → k < to → is_blank (class_at classes k) ≡ true
   pub stops : (k : ℕ) → from < start → k + 1 ≡ start → is_blank (class_at classes k) ≡ false
 
-module _ (level : ℕ) (classes : List BidiClass) (old new : List ℕ) (blank_start before i to start : ℕ) where
-  -- a stretch of such units keeps its levels
-  kept : ArePlain classes i to → IsResetTo level classes old new blank_start before i → (k : ℕ) → blank_start ≤ k → k < to → get_or new k 0 ≡ kept_level level classes old new k
-  kept plain h k from below = grind arith
+module _ (level : ℕ) (classes : List BidiClass) (old new next : List ℕ) (start before i blanks : ℕ) (b : AreLastBlanks classes start i blanks) (h : IsSweptTo level classes old new start before i) where
+  -- in front of the last unit that is no blank nothing is reset
+  not_reset : i ≤ length classes → (k : ℕ) → start ≤ k → k < blanks → is_reset (drop k classes) ≡ false
+  not_reset fits k from below = is_reset-before classes k (blanks - 1) (omega arith, omega (arith, b.ends))
+      (λ j low high. h.apart j (omega arith) (omega (arith, b.ends)))
+      (b.stops (blanks - 1) (omega arith) (omega arith))
 
-  -- in front of the stretch's last character that is no blank nothing is reset
-  not_reset : to ≤ length classes → ArePlain classes i to → AreLastBlanks classes i to start → IsResetTo level classes old new blank_start before i → i < start → (k : ℕ) → blank_start ≤ k → k < start → is_reset (drop k classes) ≡ false
-  not_reset fits plain b h some k from below = is_reset-before classes k (start - 1) (omega arith, omega (arith, b.ends))
-      (λ j low high. elim (cases_lt j i) [ inl under ↦ is_separator-blank (class_at classes j) (h.blank j (omega arith) under) | inr past ↦ grind arith ])
-      (b.stops (start - 1) some (omega arith))
-
-  -- one of blanks alone
-  pub IsResetTo-blanks : to ≤ length classes → i < to → ArePlain classes i to → AreLastBlanks classes i to start → IsResetTo level classes old new blank_start before i → start ≤ i
-      → IsResetTo level classes old new blank_start (level_before level new to) to
-  IsResetTo-blanks fits some plain b h none = record {
-    ordered = omega (arith, h.ordered);
-    long = h.long;
-    done = h.done;
-    blank = λ k from below. elim (cases_lt k i) [ inl under ↦ h.blank k from under | inr past ↦ b.blank k (omega arith) below ];
-    pending = kept plain h;
-    rest = λ k from. h.rest k (omega arith);
-    last = refl;
-  }
-
-  -- one in which some character is no blank
-  pub IsResetTo-others : to ≤ length classes → i < to → ArePlain classes i to → AreLastBlanks classes i to start → IsResetTo level classes old new blank_start before i → i < start
-      → IsResetTo level classes old new start (level_before level new to) to
-  IsResetTo-others fits some plain b h other = record {
-    ordered = b.ends;
-    long = h.long;
-    done = λ k below. elim (cases_lt k blank_start) [
-      | inl under ↦ h.done k under
-      | inr past ↦ simp (not_reset fits plain b h other k past below) (kept plain h k past (omega (arith, b.ends)))
-    ];
-    blank = b.blank;
-    pending = λ k from below. kept plain h k (omega (arith, h.ordered)) below;
-    rest = λ k from. h.rest k (omega arith);
-    last = refl;
-  }
-
-module _ (level : ℕ) (classes : List BidiClass) (old new next : List ℕ) (blank_start before i : ℕ) where
   -- what is before `to` is done, where the blanks are reset
-  all_done : (to : ℕ) → i ≤ to → ((k : ℕ) → blank_start ≤ k → k < to → is_reset (drop k classes) ≡ true) → IsFilled new next blank_start to level → IsResetTo level classes old new blank_start before i
+  all_done : (to : ℕ) → i ≤ length classes → ((k : ℕ) → blanks ≤ k → k < to → is_reset (drop k classes) ≡ true) → IsFilled new next blanks to level
       → (k : ℕ) → k < to → HasLineLevel level level classes old next k
-  all_done to past reset f h k below = grind arith
+  all_done to fits reset f k below = elim (cases_lt k start) [
+    | inl under ↦ done_stays level classes old new next k (λ j lower. sym (f.before j (omega (arith, b.begins)))) (h.done k under)
+    | inr past ↦ elim (cases_lt k blanks) [
+      | inl under ↦ simp (not_reset fits k past under) (f.before k under ∙ h.pending k past (omega (arith, b.ends)) ∙ stays level classes old new next k (λ j lower. sym (f.before j (omega arith))))
+      | inr later ↦ simp (reset k later below) (f.inside k later below)
+    ]
+  ]
 
   -- a separator is reset, with the blanks before it
-  pub IsResetTo-separator : i < length classes → is_separator (class_at classes i) ≡ true → IsFilled new next blank_start (i + 1) level → IsResetTo level classes old new blank_start before i → IsResetTo level classes old next (i + 1) level (i + 1)
-  IsResetTo-separator fits apart f h = record {
+  pub IsSweptTo-separator : i < length classes → is_separator (class_at classes i) ≡ true → IsFilled new next blanks (i + 1) level → IsSweptTo level classes old next (i + 1) level (i + 1)
+  IsSweptTo-separator fits apart f = record {
     ordered = omega arith;
     long = f.long ∙ h.long;
-    done = all_done (i + 1) (omega arith) (λ k from below. is_reset-to classes k i (omega arith, omega arith) (λ j low high. h.blank j (omega arith) high) ∙ is_reset-at_separator classes i fits apart) f h;
-    blank = λ k from below. absurd (omega arith);
+    done = all_done (i + 1) (omega arith) (λ k from below. is_reset-to classes k i (omega arith, omega arith) (λ j low high. b.blank j (omega arith) high) ∙ is_reset-at_separator classes i fits apart) f;
+    apart = λ k from below. absurd (omega arith);
     pending = λ k from below. absurd (omega arith);
     rest = λ k from. f.after k from ∙ h.rest k (omega arith);
-    last = sym (level_before-more level next i ∙ f.inside i h.ordered (omega arith));
+    last = sym (level_before-more level next i ∙ f.inside i b.ends (omega arith));
   }
 
   -- at the line's end the blanks are reset
-  pub IsResetTo-end : i ≡ length classes → length old ≡ length classes → IsFilled new next blank_start (length classes) level → IsResetTo level classes old new blank_start before i → next ≡ line_levels level classes old
-  IsResetTo-end e same f h = line_levels-is level classes old next same (f.long ∙ h.long ∙ same) (all_done (length classes) (omega arith)
-      (λ k from below. is_reset-to classes k (length classes) (omega arith, omega arith) (λ j low high. h.blank j (omega arith) (omega arith)) ∙ is_reset-end classes) f h)
+  pub IsSweptTo-end : i ≡ length classes → length old ≡ length classes → IsFilled new next blanks i level → next ≡ line_levels level classes old
+  IsSweptTo-end e same f = line_levels-is level classes old next same (f.long ∙ h.long ∙ same) (λ k below. all_done i (omega arith)
+      (λ k from below. is_reset-to classes k (length classes) (omega arith, omega arith) (λ j low high. b.blank j (omega arith) (omega arith)) ∙ is_reset-end classes) f k (omega arith))
 
 -- ---- whether some level is odd
 

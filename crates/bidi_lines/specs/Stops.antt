@@ -1,8 +1,18 @@
 -- Where a pass over a line's classes has to look closer (L1).
-use Rattle.std.specs.Prelude.{Bool, ◌||◌}
+use Rattle.std.specs.Prelude.{◌≡◌, ℕ, ◌-◌, Bool, true, false, ◌||◌, List, slice_index}
 use Rattle.bidi_base.specs.declared.char_data.BidiClass.{BidiClass}
 use Rattle.bidi_base.specs.Classes.{is_removed, is_separator}
+use Rattle.bidi_base.specs.Places.{class_at}
 
 -- a separator, or what X9 removes
 abbrev pub is_stop : BidiClass → Bool
 is_stop c = is_separator c || is_removed c
+
+-- a unit of this class and level is no separator, and has the level before it if X9 removes it
+pub record IsSteady (c : BidiClass) (before own : ℕ) : Type 0 where
+  pub apart : is_separator c ≡ false
+  pub follows : is_removed c ≡ true → own ≡ before
+
+-- the unit at an index, which is not the first one
+abbrev pub IsSteadyAt : List BidiClass → List ℕ → ℕ → Type 0
+IsSteadyAt classes levels k = IsSteady (class_at classes k) (slice_index levels (k - 1)) (slice_index levels k)

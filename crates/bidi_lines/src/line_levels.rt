@@ -7,15 +7,19 @@ ghost use Rattle.bidi_base.specs.Line.{is_blank, line_levels, levels_of_line, le
 ghost use Rattle.bidi_base.specs.Places.{class_at};
 ghost use Rattle.bidi_base.specs.Search.{IsFirst};
 ghost use Rattle.bidi_base.specs.Text.{text_len, per_char};
-ghost use Rattle.bidi_lines.specs.Stops.{is_stop};
+ghost use Rattle.bidi_lines.specs.Stops.{is_stop, IsSteady, IsSteadyAt};
 
 use crate::stored::ClassList;
+use crate::visual_order::first_other;
 use bidi_base::char_data::BidiClass;
 use bidi_base::classes::{is_blank, is_removed, is_separator};
 use bidi_base::level::{Level, has_rtl};
 use bidi_text::text::TextSource;
 use std::alloc::{AllocError, Global};
 use std::ops::Range;
+
+// A line mostly ends with fewer blanks than this. More of them are read by blocks.
+const FEW_BLANKS: usize = 8;
 
 // Sets the levels with indexes from `from` up to `to`.
 fn write_level(levels: &mut [Level], from: usize, to: usize, level: Level)
@@ -26,6 +30,48 @@ fn write_level(levels: &mut [Level], from: usize, to: usize, level: Level)
     ensures after { (k : ℕ) → to ≤ k → slice_index levels.new k ≡ slice_index levels.old k }
 {
     levels[from..to].fill(level);
+}
+
+// Returns whether a class is a blank. It has no branch, so a loop tests many units at once.
+fn is_blank_unit(class: BidiClass) -> bool
+    ensures { result ≡ is_blank class }
+{
+    (class == BidiClass::WS)
+        | (class == BidiClass::LRI)
+        | (class == BidiClass::RLI)
+        | (class == BidiClass::FSI)
+        | (class == BidiClass::PDI)
+        | is_removed(class)
+}
+
+// Returns whether the 16 units from `from` on are blanks.
+fn are_blanks<C: ClassList>(classes: C, from: usize) -> bool
+    requires within { from + 16 ≤ length (C.classes classes) }
+    requires fits { from + 16 ≤ usize.MAX }
+    ensures { result ≡ true → (k : ℕ) → from ≤ k → k < from + 16 → is_blank (class_at (C.classes classes) k) ≡ true }
+{
+    let mut all = true;
+    for j in 0..16 {
+        all = all & is_blank_unit(classes.class_at(from + j));
+    }
+    all
+}
+
+// Returns the start of the blocks of 16 blanks that end the range from `from` to `to`, or `to` if there are none. Few
+// lines come here, so their callers are to hold no code of it.
+#[inline(never)]
+fn blank_blocks_start<C: ClassList>(classes: C, from: usize, to: usize) -> usize
+    requires begins { from ≤ to }
+    requires ends { to ≤ length (C.classes classes) }
+    ensures begins { from ≤ result }
+    ensures ends { result ≤ to }
+    ensures blank { (k : ℕ) → result ≤ k → k < to → is_blank (class_at (C.classes classes) k) ≡ true }
+{
+    let mut start = to;
+    while start - from >= 16 && are_blanks(classes, start - 16) {
+        start -= 16;
+    }
+    start
 }
 
 // Returns the start of the blanks that end the range from `from` to `to`, or `to` if there are none.
@@ -40,30 +86,65 @@ fn blanks_start<C: ClassList>(classes: C, from: usize, to: usize) -> usize
     let mut start = to;
     while start > from && is_blank(classes.class_at(start - 1)) {
         start -= 1;
+        if to - start == FEW_BLANKS {
+            start = blank_blocks_start(classes, from, start);
+        }
     }
     start
 }
 
-// Gives the level `before` to the stretch of removed units (X9) that begins at `from`. Returns its end.
-fn write_removed<C: ClassList>(
-    classes: C,
-    levels: &mut [Level],
-    from: usize,
-    before: Level,
-) -> usize
-    requires same_len { length levels.old ≡ length (C.classes classes) }
-    requires inside { from < length (C.classes classes) }
-    requires removed { is_removed (class_at (C.classes classes) from) ≡ true }
-    ensures begins { from < result }
-    ensures ends { result ≤ length (C.classes classes) }
-    ensures removed { (k : ℕ) → from ≤ k → k < result → is_removed (class_at (C.classes classes) k) ≡ true }
-    ensures before { (k : ℕ) → k < from → slice_index levels.new k ≡ slice_index levels.old k }
-    ensures inside { (k : ℕ) → from ≤ k → k < result → slice_index levels.new k ≡ before }
-    ensures after { (k : ℕ) → result ≤ k → slice_index levels.new k ≡ slice_index levels.old k }
+// Returns whether the pass of L1 stops at a unit that comes after another one: at a separator, and at a unit that X9
+// removes, unless it has the level of the unit before it. It has no branch, so a loop tests many units at once.
+fn is_break(class: BidiClass, before: Level, own: Level) -> bool
+    ensures { result ≡ false → IsSteady class before own }
+{
+    is_separator(class) | (is_removed(class) & (before.number() != own.number()))
+}
+
+// Writes 1 for each unit from `from` on at which the pass of L1 stops, and 0 for the others.
+fn mark_breaks<C: ClassList>(classes: C, levels: &[Level], from: usize, marks: &mut [u8])
+    requires same_len { length levels.now ≡ length (C.classes classes) }
+    requires begins { 0 < from }
+    requires ends { from + length marks.old ≤ length levels.now }
+    ensures { (j : ℕ) → j < length marks.old → slice_index marks.new j ≡ 0 → IsSteadyAt (C.classes classes) levels.now (from + j) }
+{
+    for j in 0..marks.len() {
+        let at = from + j;
+        marks[j] = u8::from(is_break(classes.class_at(at), levels[at - 1], levels[at]));
+    }
+}
+
+// Returns how many of the 16 units from `from` on come before the first one at which the pass of L1 stops.
+fn first_break<C: ClassList>(classes: C, levels: &[Level], from: usize) -> usize
+    requires same_len { length levels.now ≡ length (C.classes classes) }
+    requires begins { 0 < from }
+    requires ends { from + 16 ≤ length levels.now }
+    ensures within { result ≤ 16 }
+    ensures steady { (k : ℕ) → from ≤ k → k < from + result → IsSteadyAt (C.classes classes) levels.now k }
+{
+    let mut marks = [0u8; 16];
+    mark_breaks(classes, levels, from, &mut marks);
+    first_other(marks.as_slice(), 0, 0)
+}
+
+// Returns the first index from `from` on at which the pass of L1 stops, or the number of units if there is none.
+fn steady_end<C: ClassList>(classes: C, levels: &[Level], from: usize) -> usize
+    requires same_len { length levels.now ≡ length (C.classes classes) }
+    requires begins { 0 < from }
+    requires ends { from ≤ length levels.now }
+    ensures begins { from ≤ result }
+    ensures ends { result ≤ length levels.now }
+    ensures steady { (k : ℕ) → from ≤ k → k < result → IsSteadyAt (C.classes classes) levels.now k }
 {
     let mut at = from;
-    while at < levels.len() && is_removed(classes.class_at(at)) {
-        levels[at] = before;
+    while levels.len() - at >= 16 {
+        let count = first_break(classes, levels, at);
+        at += count;
+        if count < 16 {
+            return at;
+        }
+    }
+    while at < levels.len() && !is_break(classes.class_at(at), levels[at - 1], levels[at]) {
         at += 1;
     }
     at
@@ -79,29 +160,30 @@ pub fn reset_levels<C: ClassList>(level: Level, classes: C, levels: &mut [Level]
     ensures { levels.new ≡ line_levels level (C.classes classes) levels.old }
 {
     let mut before = level;
-    let mut blank_start = 0;
+    // No separator stands from here to `at`.
+    let mut start = 0;
     let mut at = 0;
-    // Each iteration reads one separator, a stretch of removed units, or a stretch of other units.
+    // Each iteration reads one separator, a removed unit with the units after it that keep their levels, or a stretch
+    // of other units.
     while at < classes.len() {
         let class = classes.class_at(at);
         if is_separator(class) {
-            write_level(levels, blank_start, at + 1, level);
+            let blanks = blanks_start(classes, start, at);
+            write_level(levels, blanks, at + 1, level);
             before = level;
             at += 1;
-            blank_start = at;
+            start = at;
         } else if is_removed(class) {
-            at = write_removed(classes, levels, at, before);
+            levels[at] = before;
+            at = steady_end(classes, levels, at + 1);
+            before = levels[at - 1];
         } else {
-            let next = classes.next_stop(at);
-            let start = blanks_start(classes, at, next);
-            if start > at {
-                blank_start = start;
-            }
-            before = levels[next - 1];
-            at = next;
+            at = classes.next_stop(at);
+            before = levels[at - 1];
         }
     }
-    write_level(levels, blank_start, classes.len(), level);
+    let blanks = blanks_start(classes, start, at);
+    write_level(levels, blanks, at, level);
 }
 
 // Returns whether L1 resets a unit. `is_next_reset` says whether it resets the next unit, or the line ends there.

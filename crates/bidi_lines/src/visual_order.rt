@@ -39,7 +39,7 @@ fn lanes_before(bits: u64) -> usize
 }
 
 // Returns how many of the 16 items from `at` on come before the first one at another level than `level`.
-fn first_other<L: LevelList>(levels: L, at: usize, level: u8) -> usize
+pub(crate) fn first_other<L: LevelList>(levels: L, at: usize, level: u8) -> usize
     requires { at + 16 ≤ length (L.numbers levels) }
     ensures within { result ≤ 16 }
     ensures same { (p : ℕ) → at ≤ p → p < at + result → slice_index (L.numbers levels) p ≡ level }

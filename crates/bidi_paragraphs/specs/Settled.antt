@@ -1,5 +1,5 @@
 -- Sequences that W1 to N1 leave as they are.
-use Rattle.std.specs.Prelude.{◌≡◌, ℕ, Bool, true, not, ◌||◌, List, map, get_or}
+use Rattle.std.specs.Prelude.{◌≡◌, ℕ, ◌≤◌, Bool, true, not, ◌||◌, List, All, length, map, get_or}
 use Rattle.bidi_base.specs.declared.char_data.BidiClass.{BidiClass}
 use Rattle.bidi_base.specs.Classes.{is_kept_in_place, is_l_or_r, is_neutral, same_class}
 use Rattle.bidi_base.specs.Levels.{direction_of}
@@ -16,6 +16,10 @@ goes_along direction c = same_class direction c || not (is_kept_in_place c) || i
 -- a class of a sequence without neutrals: L, R or BN
 unfoldable pub is_directed : BidiClass → Bool
 is_directed c = is_l_or_r c || not (is_kept_in_place c)
+
+-- the runs of a sequence are inside a list
+abbrev pub AreInside : LentSequence → List BidiClass → Type 0
+AreInside s classes = All (λ r. r.1 ≤ length classes) (map bounds (lent_runs s))
 
 -- the first unit of a sequence
 abbrev pub first_unit : LentSequence → ℕ

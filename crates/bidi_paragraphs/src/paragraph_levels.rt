@@ -2,11 +2,11 @@
 //! that X9 removes get levels too.
 ghost use Rattle.std.specs.Prelude.{◌≡◌, ℕ, ◌+◌, ◌<◌, ◌≤◌, true, false, length, map, slice_index, All, IsTrue, OnOk};
 ghost use Rattle.bidi_base.specs.declared.char_data.BidiClass.TheVariants.{L};
-ghost use Rattle.bidi_base.specs.Explicit.{explicit_levels, explicit_classes, processing_classes};
+ghost use Rattle.bidi_base.specs.Explicit.{explicit_levels, processing_classes};
 ghost use Rattle.bidi_base.specs.Flat.{is_flat, hidden};
 ghost use Rattle.bidi_base.specs.Isolates.{stored_classes};
 ghost use Rattle.bidi_base.specs.Sequences.{is_kept_at, sequences};
-ghost use Rattle.bidi_base.specs.Stored.{AreResolved, levels_in};
+ghost use Rattle.bidi_base.specs.Stored.{levels_in};
 ghost use Rattle.bidi_base.specs.Text.{text_len, is_per_char, per_unit, per_char};
 ghost use Rattle.bidi_base.specs.Units.{AreLines};
 ghost use Rattle.bidi_runs.specs.Links.{linked_runs, linked_sequences, sequences_of, AreLinked};
@@ -66,6 +66,8 @@ pub struct LevelResolver {
 }
 
 impl LevelResolver {
+    ghost use Rattle.bidi_paragraphs.specs.Paragraph.{IsOneAUnit, ArePerChar, AreOfRules};
+
     /// Creates a resolver. Does not allocate.
     pub fn new(alloc: Global) -> LevelResolver {
         LevelResolver {
@@ -151,19 +153,11 @@ impl LevelResolver {
         paragraph: &ClassifiedParagraph<D, T>,
         levels: &mut [Level],
     ) -> Result<(), AllocError>
-        requires long { length levels.old ≡ text_len T.units (T.characters paragraph.now.text) }
+        requires long { IsOneAUnit paragraph.now levels.old }
         requires some { 0 < length levels.old }
         requires flat { is_flat (map (D.source paragraph.now.data_source.now).class_of (T.characters paragraph.now.text)) ≡ true }
-        ensures per_char { OnOk result
-            (IsTrue (is_per_char ⟦<Level as PartialEq>⟧.eq T.units (T.characters paragraph.now.text) levels.new)) }
-        ensures resolved { let source = D.source paragraph.now.data_source.now in
-            let classes = map source.class_of (T.characters paragraph.now.text) in
-            let stored = stored_classes classes in
-            let level = paragraph.now.level in
-            OnOk result (AreResolved classes (map source.bracket_of (T.characters paragraph.now.text))
-            (explicit_levels level stored) (explicit_classes level stored)
-            (per_char 0 T.units (T.characters paragraph.now.text) levels.new)
-            (sequences level stored (explicit_levels level stored))) }
+        ensures per_char { OnOk result (ArePerChar paragraph.now ⟦<Level as PartialEq>⟧.eq levels.new) }
+        ensures resolved { OnOk result (AreOfRules paragraph.now levels.new) }
     {
         levels.fill(paragraph.level);
         self.copy_flat(paragraph)?;
@@ -191,17 +185,9 @@ impl LevelResolver {
         paragraph: &ClassifiedParagraph<D, T>,
         levels: &mut [Level],
     ) -> Result<(), AllocError>
-        requires { length levels.old ≡ text_len T.units (T.characters paragraph.now.text) }
-        ensures per_char { OnOk result
-            (IsTrue (is_per_char ⟦<Level as PartialEq>⟧.eq T.units (T.characters paragraph.now.text) levels.new)) }
-        ensures resolved { let source = D.source paragraph.now.data_source.now in
-            let classes = map source.class_of (T.characters paragraph.now.text) in
-            let stored = stored_classes classes in
-            let level = paragraph.now.level in
-            OnOk result (AreResolved classes (map source.bracket_of (T.characters paragraph.now.text))
-            (explicit_levels level stored) (explicit_classes level stored)
-            (per_char 0 T.units (T.characters paragraph.now.text) levels.new)
-            (sequences level stored (explicit_levels level stored))) }
+        requires { IsOneAUnit paragraph.now levels.old }
+        ensures per_char { OnOk result (ArePerChar paragraph.now ⟦<Level as PartialEq>⟧.eq levels.new) }
+        ensures resolved { OnOk result (AreOfRules paragraph.now levels.new) }
     {
         self.prepare(alloc, paragraph, levels)?;
         let links = &self.links;
@@ -235,18 +221,10 @@ impl LevelResolver {
         paragraph: &ClassifiedParagraph<D, T>,
         levels: &mut [Level],
     ) -> Result<(), AllocError>
-        requires long { length levels.old ≡ text_len T.units (T.characters paragraph.now.text) }
+        requires long { IsOneAUnit paragraph.now levels.old }
         requires some { 0 < length levels.old }
-        ensures per_char { OnOk result
-            (IsTrue (is_per_char ⟦<Level as PartialEq>⟧.eq T.units (T.characters paragraph.now.text) levels.new)) }
-        ensures resolved { let source = D.source paragraph.now.data_source.now in
-            let classes = map source.class_of (T.characters paragraph.now.text) in
-            let stored = stored_classes classes in
-            let level = paragraph.now.level in
-            OnOk result (AreResolved classes (map source.bracket_of (T.characters paragraph.now.text))
-            (explicit_levels level stored) (explicit_classes level stored)
-            (per_char 0 T.units (T.characters paragraph.now.text) levels.new)
-            (sequences level stored (explicit_levels level stored))) }
+        ensures per_char { OnOk result (ArePerChar paragraph.now ⟦<Level as PartialEq>⟧.eq levels.new) }
+        ensures resolved { OnOk result (AreOfRules paragraph.now levels.new) }
     {
         if paragraph.flags.is_flat() {
             self.resolve_flat(paragraph, levels)

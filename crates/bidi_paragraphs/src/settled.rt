@@ -3,7 +3,7 @@
 ghost use Rattle.std.specs.Prelude.{◌≡◌, ◌⊎◌, ℕ, ◌<◌, ◌≤◌, true, length, map, All, IsTrue};
 ghost use Rattle.bidi_base.specs.Places.{class_at};
 ghost use Rattle.bidi_base.specs.Units.{bounds, in_runs};
-ghost use Rattle.bidi_paragraphs.specs.Settled.{HasOneDirection, HasNoNeutral};
+ghost use Rattle.bidi_paragraphs.specs.Settled.{AreInside, HasOneDirection, HasNoNeutral};
 ghost use Rattle.bidi_runs.specs.RunSequence.{lent_runs};
 
 use bidi_base::char_data::BidiClass::{self, BN, L, R};
@@ -21,7 +21,7 @@ const SHORT: usize = 32;
 /// Most isolates and embeddings are such sequences: a name, or a few words of one language. The look takes
 /// the place of two passes.
 pub fn is_settled(sequence: LentSequence<'_>, levels: &[Level], classes: &[BidiClass]) -> bool
-    requires inside { All (λ r. r.1 ≤ length classes.now) (map bounds (lent_runs sequence)) }
+    requires inside { AreInside sequence classes.now }
     requires levels { length levels.now ≡ length classes.now }
     ensures { IsTrue result → HasOneDirection sequence.entry levels.now classes.now ⊎ HasNoNeutral sequence.entry classes.now }
 {
@@ -30,7 +30,7 @@ pub fn is_settled(sequence: LentSequence<'_>, levels: &[Level], classes: &[BidiC
 
 /// Whether the level, sos, eos and all classes of a sequence have one direction. Neutrals do not count.
 fn has_one_direction(sequence: LentSequence<'_>, levels: &[Level], classes: &[BidiClass]) -> bool
-    requires inside { All (λ r. r.1 ≤ length classes.now) (map bounds (lent_runs sequence)) }
+    requires inside { AreInside sequence classes.now }
     requires levels { length levels.now ≡ length classes.now }
     ensures { IsTrue result → HasOneDirection sequence.entry levels.now classes.now }
 {
@@ -45,7 +45,7 @@ fn has_one_direction(sequence: LentSequence<'_>, levels: &[Level], classes: &[Bi
 
 /// Whether all classes of a sequence are L or R.
 fn has_no_neutral(sequence: LentSequence<'_>, classes: &[BidiClass]) -> bool
-    requires { All (λ r. r.1 ≤ length classes.now) (map bounds (lent_runs sequence)) }
+    requires { AreInside sequence classes.now }
     ensures { IsTrue result → HasNoNeutral sequence.entry classes.now }
 {
     all_pass(Directed, sequence.runs(), classes)

@@ -1,5 +1,5 @@
 -- The units of a text whose characters stand last first, each with its units in their own order.
-use Rattle.std.specs.Prelude.{ℕ, ◌+◌, ◌&&◌, nat_le, nat_lt, if◌then◌else◌, List, ◌∷◌, slice_index_or}
+use Rattle.std.specs.Prelude.{ℕ, ◌<◌, ◌+◌, ◌&&◌, nat_le, nat_lt, if◌then◌else◌, List, ◌∷◌, slice_index_or}
 
 -- what stands in the place of a byte when the list is turned round: the byte itself, or the one with which it changes
 -- places, which is one or two before or behind it. `far` and `near` stand before it, `next` and `later` behind it
@@ -19,3 +19,9 @@ turned_at bytes j =
 -- the bytes of a text, before which two others stand
 abbrev pub behind_two : List ℕ → List ℕ
 behind_two bytes = 0 ∷ 0 ∷ bytes
+
+-- no character of two or three bytes reaches beyond an index of a text: of the two bytes before it, which stand at the
+-- index and behind it in the list with two more in front, none begins one
+pub record IsEnded (bytes : List ℕ) (at : ℕ) : Type 0 where
+  pub low : slice_index_or bytes at 0 < 0xE0
+  pub inside : slice_index_or bytes (at + 1) 0 < 0xC0

@@ -1,53 +1,53 @@
-use Rattle.bidi_base.proofs.Common.{ℕ, ◌-◌, ◌<◌, ◌≡◌, true, false, get_or, sym, ◌∙◌, arith, inl, inr, cases_lt, get_or_default, class_at}
+use Rattle.bidi_base.proofs.Common.{◌≡◌, ℕ, ◌-◌, ◌<◌, ◌≤◌, true, false, List, length, get_or, set, sym, ◌∙◌, arith, inl, inr, cases_lt, get_or_default, class_at}
+use Rattle.std.proofs.Common.{length-set}
 use Rattle.bidi_base.specs.Classes.{is_separator}
 use Rattle.bidi_lines.specs.Stops.{is_stop}
-use Rattle.bidi_lines.proofs.LineLevels.{IsResetTo-start, IsResetTo-removed, IsResetTo-blanks, IsResetTo-others, IsResetTo-separator, IsResetTo-end, AreLastBlanks, ArePlain, level_before}
+use Rattle.bidi_lines.proofs.LineLevels.{IsSweptTo-start, IsSweptTo-removed, IsSweptTo-plain, IsSweptTo-steady, IsSweptTo-separator, IsSweptTo-end, AreLastBlanks, level_before}
 use Rattle.bidi_lines.proofs.line_levels.reset_levels.Goals as goal
-use Rattle.bidi_lines.proofs.line_levels.reset_levels.Goals.{then-start-at, else-start-at}
 
 pub loop-at-init : goal.loop-at-init
-loop-at-init g c = record { reset = IsResetTo-start c.args.level (g.C.ClassList.classes c.args.classes) c.args.levels.now; ends = omega arith }
+loop-at-init g c = record { swept = IsSweptTo-start c.args.level (g.C.ClassList.classes c.args.classes) c.args.levels.now; ends = omega arith }
 
 pub loop-at-preserved-then-is_separator : goal.loop-at-preserved-then-is_separator
 loop-at-preserved-then-is_separator g c =
     let apart : is_separator (class_at (g.C.ClassList.classes c.args.classes) c.loop-at.at) ≡ true = grind arith in
+    let b : AreLastBlanks (g.C.ClassList.classes c.args.classes) c.loop-at.start c.loop-at.at c.blanks_start-blanks.result = grind arith in
     record {
-      reset = IsResetTo-separator _ _ _ c.loop-at.levels _ _ c.loop-at.before _ (omega (arith, c.loop-at-test.true)) apart (grind arith) c.loop-at.invariant.reset;
+      swept = IsSweptTo-separator _ _ _ c.loop-at.levels _ _ c.loop-at.before _ _ b c.loop-at.invariant.swept (omega (arith, c.loop-at-test.true)) apart (grind arith);
       ends = omega (arith, c.loop-at-test.true);
     }
 
+-- the level before an index that is not the first
+level_before-at : (level : ℕ) (levels : List ℕ) (i d read : ℕ) → 0 < i → i ≤ length levels → read ≡ get_or levels (i - 1) d → read ≡ level_before level levels i
+level_before-at level levels i d read some fits e = grind (arith, get_or_default levels (i - 1) d 0)
+
 pub loop-at-preserved-then-is_removed : goal.loop-at-preserved-then-is_removed
 loop-at-preserved-then-is_removed g c =
-    let w = c.write_removed-at.ensures in
+    let f = c.steady_end-at.ensures in
+    let at = c.loop-at.at in
+    let long = length-set c.loop-at.levels at c.loop-at.before in
+    let read = level_before-at c.args.level (set c.loop-at.levels at c.loop-at.before) c.steady_end-at.result c.index-levels-at.result c.index-levels-at.result (omega (arith, f.begins)) (omega (arith, f.ends, long)) c.index-levels-at.is in
+    let one = IsSweptTo-removed c.args.level (g.C.ClassList.classes c.args.classes) c.args.levels.now c.loop-at.levels c.loop-at.start c.loop-at.before at (grind arith) (grind arith) c.loop-at.invariant.swept in
     record {
-      reset = IsResetTo-removed _ _ _ _ _ _ _ _ _ (omega (arith, w.begins)) (grind arith) c.loop-at.invariant.reset w.removed;
-      ends = w.ends;
+      swept = rw read (IsSweptTo-steady _ _ _ _ _ c.loop-at.before _ _ (omega arith) f.begins f.steady one);
+      ends = grind arith;
     }
-
--- the level before a place that is not the first
-level_before-at : (level : ℕ) (levels : _) (i read : ℕ) → 0 < i → read ≡ get_or levels (i - 1) 0 → read ≡ level_before level levels i
-level_before-at level levels i read some e = grind arith
 
 pub loop-at-preserved : goal.loop-at-preserved
 loop-at-preserved g c =
-    let inv = c.loop-at.invariant.reset in
-    let f = c.next_stop-next.ensures in
-    let b : AreLastBlanks (g.C.ClassList.classes c.args.classes) c.loop-at.at c.next_stop-next.result c.blanks_start-start.result = grind arith in
+    let f = c.next_stop-at.ensures in
     let here : is_stop (class_at (g.C.ClassList.classes c.args.classes) c.loop-at.at) ≡ false =
     rw (← c.class_at-class.ensures) (simp (sym c.is_separator.ensures ∙ c.if-is_separator.false, sym c.is_removed.ensures ∙ c.if-is_removed.false)) in
-    let plain : ArePlain (g.C.ClassList.classes c.args.classes) c.loop-at.at c.next_stop-next.result = λ k from below. elim (cases_lt c.loop-at.at k) [
-      | inl past ↦ f.before k (omega arith) below
-      | inr same ↦ let e : k ≡ c.loop-at.at = omega arith in simp (e, here)
-    ] in
-    let read = level_before-at c.args.level c.loop-at.levels c.next_stop-next.result c.index-levels-next.result (omega (arith, f.begins))
-    (c.index-levels-next.is ∙ get_or_default c.loop-at.levels (c.next_stop-next.result - 1) c.index-levels-next.result 0 (omega (arith, f.begins, f.ends, c.requires, c.loop-at.auto.levels))) in
+    let read = level_before-at c.args.level c.loop-at.levels c.next_stop-at.result c.index-levels-at-else-is_removed.result c.index-levels-at-else-is_removed.result (omega (arith, f.begins)) (omega (arith, f.ends, c.requires, c.loop-at.auto.levels)) c.index-levels-at-else-is_removed.is in
     record {
-      reset = elim c.if-start-at.branch [
-        | then-start-at w ↦ rw (w.blank_start-is, read) (IsResetTo-others _ _ _ _ _ _ _ _ _ f.ends (omega (arith, f.begins)) plain b inv w.if-start-at.true)
-        | else-start-at w ↦ rw (w.blank_start-is, read) (IsResetTo-blanks _ _ _ _ _ _ _ _ _ f.ends (omega (arith, f.begins)) plain b inv (omega (arith, w.if-start-at.false)))
-      ];
+      swept = rw read (IsSweptTo-plain _ _ _ _ _ c.loop-at.before _ _ (omega (arith, f.begins)) (λ k from below. elim (cases_lt c.loop-at.at k) [
+        | inl past ↦ f.before k (omega arith) below
+        | inr same ↦ let e : k ≡ c.loop-at.at = omega arith in simp (e, here)
+      ]) c.loop-at.invariant.swept);
       ends = f.ends;
     }
 
 pub returns : goal.returns
-returns g c = IsResetTo-end _ _ _ c.loop-at.levels _ _ c.loop-at.before _ (omega (arith, c.loop-at-test.false, c.loop-at.invariant.ends)) c.requires (grind arith) c.loop-at.invariant.reset
+returns g c =
+    let b : AreLastBlanks (g.C.ClassList.classes c.args.classes) c.loop-at.start c.loop-at.at c.blanks_start-blanks-2.result = grind arith in
+    IsSweptTo-end _ _ _ c.loop-at.levels _ _ c.loop-at.before _ _ b c.loop-at.invariant.swept (omega (arith, c.loop-at-test.false, c.loop-at.invariant.ends)) c.requires (grind arith)

@@ -1,10 +1,10 @@
 use Rattle.bidi_base.proofs.Common.{◌≤◌, ◌-◌, length}
-use Rattle.bidi_lines.proofs.LineLevels.{IsResetTo}
+use Rattle.bidi_lines.proofs.LineLevels.{IsSweptTo}
 use Rattle.bidi_lines.proofs.line_levels.reset_levels.Given as goal
 
 abbrev pub invariant-loop-at : goal.invariant-loop-at
 invariant-loop-at g l = record {
-  reset : IsResetTo l.level (g.C.ClassList.classes l.classes) l.initial.levels l.levels l.blank_start l.before l.at;
+  swept : IsSweptTo l.level (g.C.ClassList.classes l.classes) l.initial.levels l.levels l.start l.before l.at;
   ends : l.at ≤ length (g.C.ClassList.classes l.classes);
 }
 

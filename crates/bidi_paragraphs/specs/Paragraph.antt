@@ -1,0 +1,27 @@
+-- What the passes of a paragraph read, and what they leave.
+use Rattle.std.specs.Prelude.{◌≡◌, ℕ, Bool, List, length, map, IsTrue}
+use Rattle.bidi_base.specs.Explicit.{explicit_levels, explicit_classes}
+use Rattle.bidi_base.specs.Isolates.{stored_classes}
+use Rattle.bidi_base.specs.Sequences.{sequences}
+use Rattle.bidi_base.specs.Stored.{AreResolved}
+use Rattle.bidi_base.specs.Text.{text_len, is_per_char, per_char}
+use Rattle.bidi_paragraphs.specs.declared.paragraph_levels.ClassifiedParagraph.{ClassifiedParagraph}
+
+module _ {D T C I L : Type 0} {d : _} {t : _} {c : _} {i : _} {l : _} (paragraph : ClassifiedParagraph D T C I L d t c i l) where
+  -- there is one level for each code unit of the paragraph
+  abbrev pub IsOneAUnit : List ℕ → Type 0
+  IsOneAUnit levels = length levels ≡ text_len t.units (t.characters paragraph.text)
+
+  -- the levels are equal within each character by this test of levels
+  abbrev pub ArePerChar : (ℕ → ℕ → Bool) → List ℕ → Type 0
+  ArePerChar eq levels = IsTrue (is_per_char eq t.units (t.characters paragraph.text) levels)
+
+  -- the levels of the characters that X9 keeps are those of the rules
+  abbrev pub AreOfRules : List ℕ → Type 0
+  AreOfRules levels =
+      let source = d.source paragraph.data_source.now in
+      let classes = map source.class_of (t.characters paragraph.text) in
+      let stored = stored_classes classes in
+      let level = paragraph.level in
+      AreResolved classes (map source.bracket_of (t.characters paragraph.text)) (explicit_levels level stored) (explicit_classes level stored)
+      (per_char 0 t.units (t.characters paragraph.text) levels) (sequences level stored (explicit_levels level stored))
