@@ -85,7 +85,7 @@ pub fewer : (source : Source) (len_of : ℕ → ℕ) (more minded : BidiClass �
 fewer source len_of more minded less coming from to old new was is None h =
     record { read = h.read; rest = h.rest; joined = h.joined; idle = λ i d within. less _ (h.idle i d within); written = h.written; turns = h.turns }
 fewer source len_of more minded less coming from to old new was is (Some met) h =
-    record { read = h.read; rest = h.rest; joined = h.joined; idle = λ i d within. less _ (h.idle i d within); begins = h.begins; class = h.class; written = h.written; turns = h.turns }
+    record { read = h.read; rest = h.rest; joined = h.joined; idle = λ i d within. less _ (h.idle i d within); begins = h.begins; long = h.long; class = h.class; written = h.written; turns = h.turns }
 
 module _ (source : Source) (len_of : ℕ → ℕ) (minded : BidiClass → Bool) where
   -- ---- one character, and some characters, more
@@ -117,13 +117,13 @@ module _ (source : Source) (len_of : ℕ → ℕ) (minded : BidiClass → Bool) 
 
   -- what was met is not minded, and is read too
   pub IsSkimmed-met : (coming : List ℕ) (from : ℕ) (met : Met) (old new : List BidiClass) (was is : ParagraphFlags) → IsMet source len_of minded coming from met old new was is → minded met.class ≡ false
-      → (to : ℕ) → to ≡ met.start + len_of met.c → IsSkimmed source len_of minded coming from to old new was (with_class is met.class)
-  IsSkimmed-met coming from met old new was is h idle to end = record {
+      → IsSkimmed source len_of minded coming from (met.start + met.len) old new was (with_class is met.class)
+  IsSkimmed-met coming from met old new was is h idle = record {
     read = h.read ++ met.c ∷ [];
     rest = h.rest;
     joined = h.joined ∙ sym (append_assoc h.read (met.c ∷ []) h.rest);
     idle = All-push (λ c. minded (source.class_of c) ≡ false) h.read met.c h.idle (rw h.class at idle);
-    written = rw (sym end) at h.written;
+    written = rw (sym h.long) at h.written;
     turns = ap (with_class is) h.class ∙ turns-push was is h.read met.c h.turns;
   }
 
@@ -141,12 +141,12 @@ module _ (source : Source) (len_of : ℕ → ℕ) (minded : BidiClass → Bool) 
         let written = AreWritten-push h.read from at c old new after h.written (rw end at is) in
         record { read = h.read ++ c ∷ []; rest = rest; joined = joined; idle = idle; written = rw end written; turns = sym more ∙ turns-push was now h.read c h.turns }
 
-    pub IsMet-next : (met : Met) (rest : List ℕ) (after : List BidiClass) → h.rest ≡ met.c ∷ rest → met.start ≡ at → met.class ≡ source.class_of met.c
+    pub IsMet-next : (met : Met) (rest : List ℕ) (after : List BidiClass) → h.rest ≡ met.c ∷ rest → met.start ≡ at → met.class ≡ source.class_of met.c → met.len ≡ len_of met.c
         → take (met.start + len_of met.c) after ≡ take met.start new ++ replicate (len_of met.c) met.class → IsMet source len_of minded coming from met old after was now
-    IsMet-next met rest after next start class is =
+    IsMet-next met rest after next start class long is =
         let joined = h.joined ∙ ap (λ cs. h.read ++ cs) next in
         let written = AreWritten-push h.read from at met.c old new after h.written (simp (start, class) at is) in
-        record { read = h.read; rest = rest; joined = joined; idle = h.idle; begins = cc start; class = class; written = rw start written; turns = h.turns }
+        record { read = h.read; rest = rest; joined = joined; idle = h.idle; begins = cc start; long = long; class = class; written = rw start written; turns = h.turns }
 
     -- what stands from there on does not count
     pub IsSkimmed-kept : (after : List BidiClass) → take at after ≡ take at new → IsSkimmed source len_of minded coming from at old after was now
@@ -172,7 +172,7 @@ module _ (source : Source) (len_of : ℕ → ℕ) (minded : BidiClass → Bool) 
           sum_by-append len_of h.read k.read,
         ) in
         let written = AreWritten-join h.read (k.read ++ met.c ∷ []) from at (met.start + len_of met.c) old new after h.written k.written in
-        record { read = h.read ++ k.read; rest = k.rest; joined = joined; idle = idle; begins = begins; class = k.class; written = rw append_assoc written; turns = turns-join was now later h.read k.read h.turns k.turns }
+        record { read = h.read ++ k.read; rest = k.rest; joined = joined; idle = idle; begins = begins; long = k.long; class = k.class; written = rw append_assoc written; turns = turns-join was now later h.read k.read h.turns k.turns }
 
     -- what has not come yet is ahead
     module _ (units : HasUnits len_of) (chars : List ℕ) (begins : is_boundary len_of chars from ≡ true) (is_ahead : coming ≡ ahead len_of chars from) where
@@ -230,10 +230,10 @@ module _ (source : Source) (len_of : ℕ → ℕ) (minded : BidiClass → Bool) 
             let w = ascii-skimmed c is in
             IsSkimmed-more c w.tail (at + 1) (set new at class) later w.next (cc (is_class, idle)) (cc w.one) (simp (w.one, ← is_class) one_more) (rw is_class at more)
 
-        pub IsMet-ascii : IsMet source len_of minded coming from (record { start = at; c = c; class = class }) old (set new at class) was now
+        pub IsMet-ascii : IsMet source len_of minded coming from (record { start = at; c = c; len = 1; class = class }) old (set new at class) was now
         IsMet-ascii =
             let w = ascii-skimmed c is in
-            IsMet-next (record { start = at; c = c; class = class }) w.tail (set new at class) w.next refl is_class (simp w.one one_more)
+            IsMet-next (record { start = at; c = c; len = 1; class = class }) w.tail (set new at class) w.next refl is_class (sym w.one) (simp w.one one_more)
 
       -- any character that comes
       module _ (c n : ℕ) (is : Some (c, n) ≡ char_at len_of chars at) where
@@ -253,8 +253,8 @@ module _ (source : Source) (len_of : ℕ → ℕ) (minded : BidiClass → Bool) 
               let w = char-skimmed in
               IsSkimmed-more c w.tail (at + n) after later w.next (cc (is_class, idle)) (omega (arith, w.long)) (simp (w.long, ← is_class) written) (rw is_class at more)
 
-          pub IsMet-char : IsMet source len_of minded coming from (record { start = at; c = c; class = class }) old after was now
-          IsMet-char = IsMet-next (record { start = at; c = c; class = class }) char-skimmed.tail after char-skimmed.next refl is_class written
+          pub IsMet-char : IsMet source len_of minded coming from (record { start = at; c = c; len = n; class = class }) old after was now
+          IsMet-char = IsMet-next (record { start = at; c = c; len = n; class = class }) char-skimmed.tail after char-skimmed.next refl is_class char-skimmed.long written
 
         -- one unit long, and its class is there already
         pub IsSkimmed-char_there : (later : ParagraphFlags) → n ≡ 1 → at < length new → class_at new at ≡ source.class_of c → minded (class_at new at) ≡ false → with_class now (source.class_of c) ≡ later
@@ -264,11 +264,11 @@ module _ (source : Source) (len_of : ℕ → ℕ) (minded : BidiClass → Bool) 
             let long : len_of c ≡ 1 = omega (arith, w.long, one) in
             IsSkimmed-more c w.tail (at + 1) new later w.next (rw is_class at idle) (omega (arith, long)) (simp (long, ← is_class) (take_more new at L within)) more
 
-        pub IsMet-char_there : n ≡ 1 → at < length new → class_at new at ≡ source.class_of c → IsMet source len_of minded coming from (record { start = at; c = c; class = class_at new at }) old new was now
+        pub IsMet-char_there : n ≡ 1 → at < length new → class_at new at ≡ source.class_of c → IsMet source len_of minded coming from (record { start = at; c = c; len = 1; class = class_at new at }) old new was now
         IsMet-char_there one within is_class =
             let w = char-skimmed in
             let long : len_of c ≡ 1 = omega (arith, w.long, one) in
-            IsMet-next (record { start = at; c = c; class = class_at new at }) w.tail new w.next refl is_class (simp long (take_more new at L within))
+            IsMet-next (record { start = at; c = c; len = 1; class = class_at new at }) w.tail new w.next refl is_class (sym long) (simp long (take_more new at L within))
 
       pub within-skimmed : at ≤ text_len len_of chars
       within-skimmed = omega (arith, fits-skimmed)
@@ -289,7 +289,7 @@ module _ (source : Source) (len_of : ℕ → ℕ) (minded : BidiClass → Bool) 
       subst (λ to. IsSkimmed source len_of minded (ahead len_of chars from) from to old new was later) (omega arith) one
 
   pub IsMet-part : (n : ℕ) → n < 16 → ((k : ℕ) → k < 16 → k ≤ n → class_at new (at + k) ≡ source.class_of (get_or block k 0)) → ((k : ℕ) → k < n → minded (class_at new (at + k)) ≡ false)
-      → IsMet source len_of minded (ahead len_of chars from) from (record { start = at + n; c = get_or block n 0; class = class_at new (at + n) }) old new was (flags_to source block now n)
+      → IsMet source len_of minded (ahead len_of chars from) from (record { start = at + n; c = get_or block n 0; len = 1; class = class_at new (at + n) }) old new was (flags_to source block now n)
   IsMet-part n here classes idle =
       let before = IsSkimmed-part n (omega (arith, here)) classes idle in
       IsMet-char_there source len_of minded _ from (at + n) old new was _ before units chars begins refl (get_or block n 0) 1 (there n here) refl (omega (arith, fits, here)) (classes n here (omega arith))
@@ -341,7 +341,7 @@ module _ (len_of : ℕ → ℕ) (units : HasUnits len_of) (chars : List ℕ) (st
         }
 
         pub IsMet-block : (met : Met) → IsMet source len_of minded block 0 met part written was is
-            → IsMet source len_of minded (ahead len_of chars start) start (record { start = start + met.start; c = met.c; class = met.class }) classes (take start classes ++ (written ++ tail)) was is
+            → IsMet source len_of minded (ahead len_of chars start) start (record { start = start + met.start; c = met.c; len = met.len; class = met.class }) classes (take start classes ++ (written ++ tail)) was is
         IsMet-block met k =
             let fits : met.start + len_of met.c ≤ length written = grind (
               arith,
@@ -357,6 +357,7 @@ module _ (len_of : ℕ → ℕ) (units : HasUnits len_of) (chars : List ℕ) (st
               joined = cc (block_first, append_assoc k.read (met.c ∷ k.rest) behind, k.joined);
               idle = k.idle;
               begins = omega (arith, k.begins);
+              long = k.long;
               class = k.class;
               written = rw (add_assoc start met.start (len_of met.c)) (AreWritten-part source len_of minded (k.read ++ met.c ∷ []) start (met.start + len_of met.c) classes part written tail inside fits k.written);
               turns = k.turns;

@@ -130,6 +130,7 @@ pub record IsMet (source : Source) (len_of : ℕ → ℕ) (minded : BidiClass �
   pub joined : coming ≡ read ++ met.c ∷ rest
   pub idle : AreIdle source minded read
   pub begins : met.start ≡ from + text_len len_of read
+  pub long : met.len ≡ len_of met.c
   pub class : met.class ≡ source.class_of met.c
   pub written : AreWritten source len_of (read ++ met.c ∷ []) from (met.start + len_of met.c) old new
   pub turns : is ≡ with_classes was (map source.class_of read)

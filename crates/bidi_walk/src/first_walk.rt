@@ -183,7 +183,7 @@ fn seek_minded<D: BidiDataSource, T: TextSource>(
             if minded.has(met.class) {
                 return Some(met);
             }
-            progress.at = met.start + T::char_len(met.c);
+            progress.at = met.start + met.len;
             progress.flags = progress.flags.with(met.class);
         }
     }
@@ -312,7 +312,7 @@ pub fn walk<D: BidiDataSource, T: TextSource>(
         &mut walk.reading,
         at < near_end,
     ) {
-        at = met.start + T::char_len(met.c);
+        at = met.start + met.len;
         let ends = ends_paragraph(data_source, text, split, met.c, met.class, at);
         walk.meet(classes, met.class, met.start..at, ends)?;
         near_end = near_end_after(near_end, at, met.class, &walk.reading);

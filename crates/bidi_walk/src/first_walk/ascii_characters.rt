@@ -38,7 +38,13 @@ fn skim_each<D: BidiDataSource, T: TextSource>(
         let class = data_source.bidi_class(c);
         classes[start] = class;
         if sought.has(class) {
-            return Some(Met { start, c, class });
+            let len = 1;
+            return Some(Met {
+                start,
+                c,
+                len,
+                class,
+            });
         }
         start += 1;
     }

@@ -7,5 +7,7 @@ use bidi_base::char_data::BidiClass;
 pub(super) struct Met {
     pub(super) start: usize,
     pub(super) c: char,
+    /// How many code units it has.
+    pub(super) len: usize,
     pub(super) class: BidiClass,
 }

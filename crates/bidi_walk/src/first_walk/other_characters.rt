@@ -105,7 +105,13 @@ fn read_to_sought<D: BidiDataSource, T: TextSource>(
         let class = data_source.bidi_class(c);
         write::<T>(classes, start, c, class);
         if sought.has(class) {
-            return Some(Met { start, c, class });
+            let len = T::char_len(c);
+            return Some(Met {
+                start,
+                c,
+                len,
+                class,
+            });
         }
     }
     None
@@ -153,10 +159,15 @@ pub(super) fn read_next<D: BidiDataSource, T: TextSource>(
     ensures { (minded : BidiClass → Bool) (flags : ParagraphFlags) → IsMet (D.source data_source.now) T.units minded
         (ahead T.units (T.characters text) start) start result classes.old classes.new flags flags }
 {
-    let (c, _) = text.next_at(start);
+    let (c, len) = text.next_at(start);
     let class = data_source.bidi_class(c);
     write_at_once::<T>(classes, start, c, class);
-    Met { start, c, class }
+    Met {
+        start,
+        c,
+        len,
+        class,
+    }
 }
 
 // Writes the classes of the characters that begin before a limit, up to the first one whose class is in
@@ -187,7 +198,12 @@ fn read_in_place<D: BidiDataSource, T: TextSource>(
         let class = data_source.bidi_class(c);
         write_at_once::<T>(classes, start, c, class);
         if sought.has(class) {
-            return Some(Met { start, c, class });
+            return Some(Met {
+                start,
+                c,
+                len,
+                class,
+            });
         }
         start += len;
     }
@@ -220,8 +236,14 @@ fn read_low_blocks<D: BidiDataSource, T: TextSource>(
         start += idle;
         if idle < LOW_BLOCK {
             let c = char_of_low(block[idle]);
+            let len = 1;
             let class = classes[start];
-            return Some(Met { start, c, class });
+            return Some(Met {
+                start,
+                c,
+                len,
+                class,
+            });
         }
     }
     progress.at = start;

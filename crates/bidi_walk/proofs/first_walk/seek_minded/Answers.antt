@@ -5,7 +5,7 @@ use Rattle.bidi_walk.specs.ParagraphFlags.{with_class}
 use Rattle.bidi_walk.proofs.Skimmed.{IsSkimmed-start, is_boundary-skimmed, within-skimmed, IsSkimmed-on, IsMet-on, IsSkimmed-met}
 use Rattle.bidi_walk.proofs.first_walk.seek_minded.Given.{Over}
 use Rattle.bidi_walk.proofs.first_walk.seek_minded.Goals as goal
-use Rattle.bidi_walk.proofs.first_walk.seek_minded.Goals.{After-char_len}
+use Rattle.bidi_walk.proofs.first_walk.seek_minded.Goals.{Else-has}
 
 pub loop-progress-init : goal.loop-progress-init
 loop-progress-init g c = IsSkimmed-start _ _ _ _ _ _ _
@@ -21,20 +21,20 @@ returns-then-has-clause-met g c =
     IsMet-on _ _ _ _ _ _ _ _ _ _ c.loop-progress.invariant g.met.T.TextSource.has_units (g.T.TextSource.characters c.args.text) c.requires.begins refl c.in-Some.met c.read_some.new.classes _ c.in-Some.ensures.met
 
 -- a character that changes only the flags is read too
-passed : (g : Over) (c : After-char_len g)
-    → IsSkimmed (g.D.BidiDataSource.source c.args.data_source.now) g.T.TextSource.units (has c.args.minded) (ahead g.T.TextSource.units (g.T.TextSource.characters c.args.text) c.args.progress.now.at) c.args.progress.now.at (c.in-Some.met.start + c.char_len.result) c.args.classes.now c.read_some.new.classes
+passed : (g : Over) (c : Else-has g)
+    → IsSkimmed (g.D.BidiDataSource.source c.args.data_source.now) g.T.TextSource.units (has c.args.minded) (ahead g.T.TextSource.units (g.T.TextSource.characters c.args.text) c.args.progress.now.at) c.args.progress.now.at (c.in-Some.met.start + c.in-Some.met.len) c.args.classes.now c.read_some.new.classes
     c.args.progress.now.flags (with_class c.read_some.new.progress.flags c.in-Some.met.class)
 passed g c =
     let met = IsMet-on _ _ _ _ _ _ _ _ _ _ c.loop-progress.invariant g.met.T.TextSource.has_units (g.T.TextSource.characters c.args.text) c.requires.begins refl c.in-Some.met c.read_some.new.classes _ c.in-Some.ensures.met in
-    IsSkimmed-met _ _ (has c.args.minded) _ _ c.in-Some.met _ _ _ _ met (sym c.has.ensures ∙ c.if-has.false) _ (omega (arith, c.char_len.ensures))
+    IsSkimmed-met _ _ (has c.args.minded) _ _ c.in-Some.met _ _ _ _ met (sym c.has.ensures ∙ c.if-has.false)
 
 pub overflow_add-progress : goal.overflow_add-progress
 overflow_add-progress g c =
-    let within = within-skimmed _ _ _ _ _ _ _ _ _ _ (passed g (goal.at.overflow_add-progress g c).After-char_len) g.met.T.TextSource.has_units (g.T.TextSource.characters c.args.text) c.requires.begins refl in
+    let within = within-skimmed _ _ _ _ _ _ _ _ _ _ (passed g (goal.at.overflow_add-progress g c).Else-has) g.met.T.TextSource.has_units (g.T.TextSource.characters c.args.text) c.requires.begins refl in
     omega (arith, within, c.well_formed, c.requires.sized)
 
 pub loop-progress-preserved-in-Some : goal.loop-progress-preserved-in-Some
-loop-progress-preserved-in-Some g c = rw c.with-progress.ensures (passed g (goal.at.loop-progress-preserved-in-Some g c).After-char_len)
+loop-progress-preserved-in-Some g c = rw c.with-progress.ensures (passed g (goal.at.loop-progress-preserved-in-Some g c).Else-has)
 
 pub loop-progress-preserved : goal.loop-progress-preserved
 loop-progress-preserved g c =

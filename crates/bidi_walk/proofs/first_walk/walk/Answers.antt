@@ -33,7 +33,7 @@ met_at g c =
     (IsAt-met _ _ _ g.met.T.TextSource.has_units _ _ _ _ _ _ c.loop-met.invariant.0 c.next_met.auto.classes c.in-Some.met c.next_met.new.reading.flags c.in-Some.ensures.met)
 
 pub overflow_add-at : goal.overflow_add-at
-overflow_add-at g c = omega (arith, (met_at g (goal.at.overflow_add-at g c).In-Some).turn.fits, c.well_formed, c.requires, c.char_len.ensures)
+overflow_add-at g c = omega (arith, (met_at g (goal.at.overflow_add-at g c).In-Some).turn.fits, c.well_formed, c.requires, c.in-Some.ensures.met.long)
 
 pub meet-requires : goal.meet-requires
 meet-requires g c =
@@ -48,7 +48,7 @@ meet-requires g c =
 pub loop-met-smaller : goal.loop-met-smaller
 loop-met-smaller g c =
     let w = (met_at g (goal.at.loop-met-smaller g c).In-Some).turn in
-    omega (arith, w.fits, g.met.T.TextSource.has_units c.in-Some.met.c, c.char_len.ensures, c.in-Some.ensures.met.begins, c.loop-met.invariant.0.read.read.sized, c.loop-met.auto.classes)
+    omega (arith, w.fits, g.met.T.TextSource.has_units c.in-Some.met.c, c.in-Some.ensures.met.long, c.in-Some.ensures.met.begins, c.loop-met.invariant.0.read.read.sized, c.loop-met.auto.classes)
 
 pub loop-met-preserved : goal.loop-met-preserved
 loop-met-preserved g c =
@@ -56,8 +56,8 @@ loop-met-preserved g c =
     let w = m.turn in
     let n : ℕ = m.index in
     let start = c.in-Some.met.start in
-    let to : ℕ = start + c.char_len.result in
-    let end : to ≡ place g.T.TextSource.units (g.T.TextSource.characters c.args.text) (n + 1) = omega (arith, w.after, c.char_len.ensures) in
+    let to : ℕ = start + c.in-Some.met.len in
+    let end : to ≡ place g.T.TextSource.units (g.T.TextSource.characters c.args.text) (n + 1) = omega (arith, w.after, c.in-Some.ensures.met.long) in
     let drawn = drawn-is _ _ _ g.met.T.TextSource.has_units _ n _ _ _ _ w.within m.read.read _ w.is_char _ m.class _ start w.at_place m.written in
     let more = IsTextRead-more _ _ _ g.met.T.TextSource.has_units _ n _ _ _ _ w.within m.read.read _ w.is_char _ m.class _ drawn refl (record { start = start; end = to }) in
     let range_is = same_range start _ to _ w.at_place end in

@@ -24,7 +24,7 @@ pub returns-then-has : goal.returns-then-has
 returns-then-has g c flags each =
     let w = turn_of g (goal.at.returns-then-has g c).In-Some in
     let h = c.loop-start.invariant.2 flags each in
-    IsMet-next _ _ _ _ _ _ _ _ _ _ h.0 _ (drop (length c.loop-start.yielded + 1) (g.T.TextSource.characters c.args.block)) c.write.new.classes (h.1 ∙ w.next) w.at_place c.bidi_class-class.ensures c.write.ensures
+    IsMet-next _ _ _ _ _ _ _ _ _ _ h.0 _ (drop (length c.loop-start.yielded + 1) (g.T.TextSource.characters c.args.block)) c.write.new.classes (h.1 ∙ w.next) w.at_place c.bidi_class-class.ensures c.char_len-len.ensures c.write.ensures
 
 pub loop-start-preserved : goal.loop-start-preserved
 unfolding IsSkimmed-more
