@@ -1,5 +1,5 @@
 -- The explicit pass by stretches: where no control comes the status stands still, so the characters there have one level and are under one override.
-use Rattle.bidi_base.proofs.Common.{◌≡◌, ℕ, zero, suc, ◌+◌, ◌-◌, ◌<◌, ◌≤◌, ◌^◌, Bool, true, false, not, ◌||◌, List, [], ◌∷◌, ◌++◌, length, get_or, set, Option, Some, None, unwrap_or, refl, sym, ap, subst, ◌∙◌, arith, inl, inr, length-take, eq-eqb, common_steps, cases_Bool, cases_lt, cases_eq, ext_get_or, length-replicate, get_or-append_right, is_kept, is_kept_in_place, is_paragraph_separator, is_removed, then_some, class_at, IsFirst, is_kept_at, level_at, Entry, State, start, closed, step, state_at, char_index, is_boundary, place, text_len, is_per_char, per_unit, IsPerChar, level_run_ranges, add-zero}
+use Rattle.bidi_base.proofs.Common.{◌≡◌, ℕ, zero, suc, ◌+◌, ◌-◌, ◌<◌, ◌≤◌, ◌^◌, Bool, true, false, not, List, [], ◌∷◌, ◌++◌, length, get_or, set, Option, Some, None, refl, sym, ap, subst, ◌∙◌, arith, inl, inr, length-take, eq-eqb, common_steps, cases_Bool, cases_lt, cases_eq, ext_get_or, length-replicate, get_or-append_right, is_kept, is_kept_in_place, is_removed, then_some, class_at, IsFirst, is_kept_at, level_at, State, start, closed, step, state_at, char_index, is_boundary, place, text_len, is_per_char, per_unit, IsPerChar, level_run_ranges, add-zero}
 use Rattle.std.specs.Prelude.{if◌then◌else◌}
 use Rattle.std.proofs.lemmas.List.{get_or-drop}
 use Rattle.bidi_base.specs.declared.char_data.BidiClass.{BidiClass}

@@ -1,6 +1,5 @@
 -- What the operations of the machine do to a stack of entries.
-use Rattle.bidi_base.proofs.Common.{◌≡◌, ℕ, ◌+◌, ◌-◌, ◌<◌, ◌≤◌, true, false, cond, List, [], ◌∷◌, ◌++◌, length, map, reverse, ◌∙◌, arith, Option, common_steps, option_to_list, cond-true, cond-false, reverse-append, length-reverse, length-map, is_initiator, is_opener, is_pdi, is_pdf, State, entry_of, taken, refused, entered, fits_in, drop_isolate, close_isolate, close_embedding, closed, opened, asked_level, override_of, IsPoppable, IsWithinDepth}
-use Rattle.std.specs.Prelude.{IsSome}
+use Rattle.bidi_base.proofs.Common.{◌≡◌, ℕ, ◌+◌, ◌-◌, ◌<◌, ◌≤◌, true, false, cond, List, [], ◌∷◌, ◌++◌, length, map, reverse, ◌∙◌, arith, common_steps, cond-true, cond-false, reverse-append, length-reverse, length-map, is_initiator, is_opener, is_pdi, is_pdf, State, entry_of, taken, refused, entered, fits_in, drop_isolate, close_isolate, close_embedding, closed, opened, asked_level, override_of, IsWithinDepth}
 use Rattle.bidi_base.specs.declared.char_data.BidiClass.{BidiClass}
 use Rattle.bidi_laws.proofs.StatusBounds.{IsTaken-room}
 use Rattle.bidi_explicit.specs.declared.explicit.status.StatusEntry.{StatusEntry}
@@ -19,7 +18,8 @@ pub close_embedding-isolate_top : (x : StatusEntry) (xs : List StatusEntry) (i e
 unfolding close_embedding
 close_embedding-isolate_top x xs i e v none zero_e top = grind arith
 
-pub close_embedding-alone : (x : StatusEntry) (below : List StatusEntry) (i e v : ℕ) → i ≡ 0 → e ≡ 0 → length below ≡ 0 → state_by x (reverse below) i e v ≡ close_embedding (state_by x (reverse below) i e v)
+pub close_embedding-alone : (x : StatusEntry) (below : List StatusEntry) (i e v : ℕ) → i ≡ 0 → e ≡ 0 → length below ≡ 0
+    → state_by x (reverse below) i e v ≡ close_embedding (state_by x (reverse below) i e v)
 unfolding close_embedding
 close_embedding-alone x [] i e v none zero_e few = grind (arith, common_steps)
 close_embedding-alone x (y ∷ below) i e v none zero_e few = absurd (omega arith)
@@ -47,26 +47,31 @@ unfolding close_isolate
 close_isolate-pops x z xs zs i e v none some drops = grind arith
 
 -- an opener
-pub entered_pushed : (c : BidiClass) (s : State) (x y : StatusEntry) (below new : List StatusEntry) (i e v w : ℕ) → state_by x (reverse below) i e v ≡ s → new ≡ below ++ x ∷ [] → fits_in c s ≡ true → seen y ≡ entry_of c s → w ≡ v + cond (is_initiator c) 1 0
+pub entered_pushed : (c : BidiClass) (s : State) (x y : StatusEntry) (below new : List StatusEntry) (i e v w : ℕ) → state_by x (reverse below) i e v ≡ s → new ≡ below ++ x ∷ []
+    → fits_in c s ≡ true → seen y ≡ entry_of c s → w ≡ v + cond (is_initiator c) 1 0
     → state_by y (reverse new) i e w ≡ entered c s
 unfolding entered
 entered_pushed c s x y below new i e v w is pushed fits same more = simp (pushed, reverse-append, ← is) (grind (arith, common_steps))
 
 -- the entry that it pushes
-pub entry-is : (c : BidiClass) (s : State) (entry : StatusEntry) → entry.level ≡ asked_level c s.top.status.level → entry.override_class ≡ override_of c → entry.is_isolate ≡ is_initiator c → seen entry ≡ entry_of c s
+pub entry-is : (c : BidiClass) (s : State) (entry : StatusEntry) → entry.level ≡ asked_level c s.top.status.level → entry.override_class ≡ override_of c → entry.is_isolate ≡ is_initiator c
+    → seen entry ≡ entry_of c s
 entry-is c s entry level override isolate = grind arith
 
 entered_refused : (c : BidiClass) (s : State) → fits_in c s ≡ false → entered c s ≡ refused c s
 unfolding entered
 entered_refused c s e = cond-false (fits_in c s) (taken c s) (refused c s) e
 
-pub entered_overflow_isolate : (c : BidiClass) (s : State) (x : StatusEntry) (xs : List StatusEntry) (i e v : ℕ) → state_by x xs i e v ≡ s → fits_in c s ≡ false → is_initiator c ≡ true → state_by x xs (i + 1) e v ≡ entered c s
+pub entered_overflow_isolate : (c : BidiClass) (s : State) (x : StatusEntry) (xs : List StatusEntry) (i e v : ℕ) → state_by x xs i e v ≡ s → fits_in c s ≡ false → is_initiator c ≡ true
+    → state_by x xs (i + 1) e v ≡ entered c s
 entered_overflow_isolate c s x xs i e v is fails initiator = grind (arith, entered_refused)
 
-pub entered_overflow_embedding : (c : BidiClass) (s : State) (x : StatusEntry) (xs : List StatusEntry) (i e v : ℕ) → state_by x xs i e v ≡ s → fits_in c s ≡ false → is_initiator c ≡ false → i ≡ 0 → state_by x xs i (e + 1) v ≡ entered c s
+pub entered_overflow_embedding : (c : BidiClass) (s : State) (x : StatusEntry) (xs : List StatusEntry) (i e v : ℕ) → state_by x xs i e v ≡ s → fits_in c s ≡ false → is_initiator c ≡ false
+    → i ≡ 0 → state_by x xs i (e + 1) v ≡ entered c s
 entered_overflow_embedding c s x xs i e v is fails other none = grind (arith, entered_refused)
 
-pub entered_inside : (c : BidiClass) (s : State) (x : StatusEntry) (xs : List StatusEntry) (i e v : ℕ) → state_by x xs i e v ≡ s → fits_in c s ≡ false → is_initiator c ≡ false → 0 < i → s ≡ entered c s
+pub entered_inside : (c : BidiClass) (s : State) (x : StatusEntry) (xs : List StatusEntry) (i e v : ℕ) → state_by x xs i e v ≡ s → fits_in c s ≡ false → is_initiator c ≡ false → 0 < i
+    → s ≡ entered c s
 entered_inside c s x xs i e v is fails other some = grind (arith, entered_refused)
 
 -- how many entries there are
@@ -102,6 +107,7 @@ unfolding opened
 opened-other c s e = cond-false (is_opener c) _ _ e
 
 -- it finds room
-pub fits_in-room : (paragraph : ℕ) (c : BidiClass) (s : State) (x : StatusEntry) (below : List StatusEntry) (i e v : ℕ) → state_by x (reverse below) i e v ≡ s → IsWithinDepth paragraph s → fits_in c s ≡ true → length below < 125
+pub fits_in-room : (paragraph : ℕ) (c : BidiClass) (s : State) (x : StatusEntry) (below : List StatusEntry) (i e v : ℕ) → state_by x (reverse below) i e v ≡ s → IsWithinDepth paragraph s
+    → fits_in c s ≡ true → length below < 125
 fits_in-room paragraph c s x below i e v is depth fits =
     grind (arith, length-map, length-reverse, IsTaken-room paragraph c s depth)

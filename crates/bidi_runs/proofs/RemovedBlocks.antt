@@ -1,5 +1,5 @@
 -- Blocks of code units of which X9 keeps none.
-use Rattle.bidi_base.proofs.Common.{◌≡◌, ℕ, ◌+◌, ◌-◌, ◌<◌, ◌≤◌, Bool, true, false, ◌||◌, List, [], ◌∷◌, length, get_or, take, drop, sym, ◌∙◌, arith, inl, inr, cases_Bool, get_or-take, length-take, length-drop, both_ways, is_kept, is_kept_at, class_at}
+use Rattle.bidi_base.proofs.Common.{◌≡◌, ℕ, ◌+◌, ◌-◌, ◌<◌, ◌≤◌, Bool, false, ◌||◌, List, [], ◌∷◌, length, get_or, take, drop, sym, ◌∙◌, arith, inl, inr, cases_Bool, get_or-take, length-take, length-drop, both_ways, is_kept, is_kept_at}
 use Rattle.std.proofs.lemmas.List.{get_or-drop}
 use Rattle.std.proofs.lemmas.List.Folds.{list_any_at}
 use Rattle.std.specs.List.{fold, list_any}
@@ -18,7 +18,8 @@ none-kept classes k none within = elim (cases_Bool (is_kept (get_or classes k L)
 ]
 
 -- a block of which none is kept
-pub removed-block : (classes : List BidiClass) (from to : ℕ) → from ≤ to → to ≤ length classes → is_kept_in (take (to - from) (drop from classes)) ≡ false → (u : ℕ) → from ≤ u → u < to → is_kept_at classes u ≡ false
+pub removed-block : (classes : List BidiClass) (from to : ℕ) → from ≤ to → to ≤ length classes → is_kept_in (take (to - from) (drop from classes)) ≡ false → (u : ℕ) → from ≤ u → u < to
+    → is_kept_at classes u ≡ false
 removed-block classes from to order within none u above below =
     let k : ℕ = u - from in
     let here = get_or-take (to - from) (drop from classes) k L (omega arith) ∙ get_or-drop from classes k L in

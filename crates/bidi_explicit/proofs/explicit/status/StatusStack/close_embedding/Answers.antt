@@ -1,4 +1,4 @@
-use Rattle.bidi_base.proofs.Common.{arith, rules, length-reverse}
+use Rattle.bidi_base.proofs.Common.{arith, rules}
 use Rattle.bidi_explicit.proofs.StackLemmas.{close_embedding-inside, close_embedding-overflowed, close_embedding-alone, close_embedding-isolate_top, close_embedding-popped}
 use Rattle.bidi_explicit.proofs.explicit.status.StatusStack.close_embedding.Goals as goal
 
@@ -12,7 +12,8 @@ pub returns-in-Some : goal.returns-in-Some
 returns-in-Some c =
     let s = c.self.inside in
     rw (← c.self.view_is)
-    (close_embedding-popped s.top c.in-Some.entry s.below.items c.pop.new.self.items s.overflow_isolates s.overflow_embeddings s.valid_isolates (omega arith) (omega arith) c.in-Some.ensures.items (search rules))
+    (close_embedding-popped s.top c.in-Some.entry s.below.items c.pop.new.self.items
+    s.overflow_isolates s.overflow_embeddings s.valid_isolates (omega arith) (omega arith) c.in-Some.ensures.items (search rules))
 
 pub returns-in_default : goal.returns-in_default
 returns-in_default c =

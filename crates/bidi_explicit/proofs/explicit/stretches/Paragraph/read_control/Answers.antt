@@ -17,7 +17,8 @@ pub returns : goal.returns
 returns g c =
     record {
       read =
-          λ runs run h. control-met _ _ _ _ _ runs run h c.requires.inside c.end_of-end.result c.end_of-end.ensures _ _ _ c.read-answer.ensures.state c.read-answer.ensures.level c.read-answer.ensures.class
+          λ runs run h. control-met _ _ _ _ _ runs run h c.requires.inside c.end_of-end.result c.end_of-end.ensures _ _ _ c.read-answer.ensures.state c.read-answer.ensures.level
+          c.read-answer.ensures.class
           _ _ c.write_control.ensures.levels c.write_control.ensures.classes _ (grind (arith, c.then_some.ensures));
       some = control-some _ _ _ _ _ _ _ c.requires.read.2 c.requires.inside c.end_of-end.result c.end_of-end.ensures;
       one = control-index _ _ _ _ _ _ _ c.requires.read.2 c.requires.inside c.end_of-end.result c.end_of-end.ensures;
