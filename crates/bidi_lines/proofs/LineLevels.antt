@@ -183,7 +183,8 @@ module _ (level : ℕ) (classes : List BidiClass) (old new : List ℕ) (start be
     ];
     pending = λ k from below. elim (cases_lt k i) [
       | inl under ↦ other k (omega arith) ∙ h.pending k from under ∙ stays level classes old new (set new i before) k (λ j lower. sym (other j (omega arith)))
-      | inr past ↦ let e : k ≡ i = omega arith in simp (e, removed) (get_or-set_same new i before 0 fits ∙ h.last ∙ level_before-same level new (set new i before) i (λ j lower. sym (other j (omega arith))))
+      | inr past ↦ let e : k ≡ i = omega arith in simp (e, removed)
+          (get_or-set_same new i before 0 fits ∙ h.last ∙ level_before-same level new (set new i before) i (λ j lower. sym (other j (omega arith))))
     ];
     rest = λ k from. other k (omega arith) ∙ h.rest k (omega arith);
     last = sym (level_before-more level (set new i before) i ∙ get_or-set_same new i before 0 fits);
@@ -199,7 +200,8 @@ pub record AreLastBlanks (classes : List BidiClass) (from to start : ℕ) : Type
   pub blank : (k : ℕ) → start ≤ k → k < to → is_blank (class_at classes k) ≡ true
   pub stops : (k : ℕ) → from < start → k + 1 ≡ start → is_blank (class_at classes k) ≡ false
 
-module _ (level : ℕ) (classes : List BidiClass) (old new next : List ℕ) (start before i blanks : ℕ) (b : AreLastBlanks classes start i blanks) (h : IsSweptTo level classes old new start before i) where
+module _ (level : ℕ) (classes : List BidiClass) (old new next : List ℕ) (start before i blanks : ℕ) (b : AreLastBlanks classes start i blanks)
+    (h : IsSweptTo level classes old new start before i) where
   -- in front of the last unit that is no blank nothing is reset
   not_reset : i ≤ length classes → (k : ℕ) → start ≤ k → k < blanks → is_reset (drop k classes) ≡ false
   not_reset fits k from below = is_reset-before classes k (blanks - 1) (omega arith, omega (arith, b.ends))
@@ -222,7 +224,8 @@ module _ (level : ℕ) (classes : List BidiClass) (old new next : List ℕ) (sta
   IsSweptTo-separator fits apart f = record {
     ordered = omega arith;
     long = f.long ∙ h.long;
-    done = all_done (i + 1) (omega arith) (λ k from below. is_reset-to classes k i (omega arith, omega arith) (λ j low high. b.blank j (omega arith) high) ∙ is_reset-at_separator classes i fits apart) f;
+    done = all_done (i + 1) (omega arith)
+        (λ k from below. is_reset-to classes k i (omega arith, omega arith) (λ j low high. b.blank j (omega arith) high) ∙ is_reset-at_separator classes i fits apart) f;
     apart = λ k from below. absurd (omega arith);
     pending = λ k from below. absurd (omega arith);
     rest = λ k from. f.after k from ∙ h.rest k (omega arith);

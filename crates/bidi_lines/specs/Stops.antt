@@ -1,12 +1,17 @@
 -- Where a pass over a line's classes has to look closer (L1).
-use Rattle.std.specs.Prelude.{◌≡◌, ℕ, ◌-◌, Bool, true, false, ◌||◌, List, slice_index}
+use Rattle.std.specs.Prelude.{◌≡◌, ℕ, ◌-◌, ◌<◌, ◌≤◌, Bool, true, false, ◌||◌, List, slice_index}
 use Rattle.bidi_base.specs.declared.char_data.BidiClass.{BidiClass}
 use Rattle.bidi_base.specs.Classes.{is_removed, is_separator}
+use Rattle.bidi_base.specs.Line.{is_blank}
 use Rattle.bidi_base.specs.Places.{class_at}
 
 -- a separator, or what X9 removes
 abbrev pub is_stop : BidiClass → Bool
 is_stop c = is_separator c || is_removed c
+
+-- the units from `from` up to `to` are blanks
+abbrev pub AreBlanks : List BidiClass → ℕ → ℕ → Type 0
+AreBlanks classes from to = (k : ℕ) → from ≤ k → k < to → is_blank (class_at classes k) ≡ true
 
 -- a unit of this class and level is no separator, and has the level before it if X9 removes it
 pub record IsSteady (c : BidiClass) (before own : ℕ) : Type 0 where

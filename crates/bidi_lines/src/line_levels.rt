@@ -7,7 +7,7 @@ ghost use Rattle.bidi_base.specs.Line.{is_blank, line_levels, levels_of_line, le
 ghost use Rattle.bidi_base.specs.Places.{class_at};
 ghost use Rattle.bidi_base.specs.Search.{IsFirst};
 ghost use Rattle.bidi_base.specs.Text.{text_len, per_char};
-ghost use Rattle.bidi_lines.specs.Stops.{is_stop, IsSteady, IsSteadyAt};
+ghost use Rattle.bidi_lines.specs.Stops.{is_stop, AreBlanks, IsSteady, IsSteadyAt};
 
 use crate::stored::ClassList;
 use crate::visual_order::first_other;
@@ -48,7 +48,7 @@ fn is_blank_unit(class: BidiClass) -> bool
 fn are_blanks<C: ClassList>(classes: C, from: usize) -> bool
     requires within { from + 16 ≤ length (C.classes classes) }
     requires fits { from + 16 ≤ usize.MAX }
-    ensures { result ≡ true → (k : ℕ) → from ≤ k → k < from + 16 → is_blank (class_at (C.classes classes) k) ≡ true }
+    ensures { result ≡ true → AreBlanks (C.classes classes) from (from + 16) }
 {
     let mut all = true;
     for j in 0..16 {
@@ -65,7 +65,7 @@ fn blank_blocks_start<C: ClassList>(classes: C, from: usize, to: usize) -> usize
     requires ends { to ≤ length (C.classes classes) }
     ensures begins { from ≤ result }
     ensures ends { result ≤ to }
-    ensures blank { (k : ℕ) → result ≤ k → k < to → is_blank (class_at (C.classes classes) k) ≡ true }
+    ensures blank { AreBlanks (C.classes classes) result to }
 {
     let mut start = to;
     while start - from >= 16 && are_blanks(classes, start - 16) {
@@ -80,7 +80,7 @@ fn blanks_start<C: ClassList>(classes: C, from: usize, to: usize) -> usize
     requires ends { to ≤ length (C.classes classes) }
     ensures begins { from ≤ result }
     ensures ends { result ≤ to }
-    ensures blank { (k : ℕ) → result ≤ k → k < to → is_blank (class_at (C.classes classes) k) ≡ true }
+    ensures blank { AreBlanks (C.classes classes) result to }
     ensures stops { (k : ℕ) → from < result → k + 1 ≡ result → is_blank (class_at (C.classes classes) k) ≡ false }
 {
     let mut start = to;

@@ -43,7 +43,9 @@ module _ (xs : List ℕ) (at : ℕ) (h : IsEnded xs at) where
     turned-two = first_of_two (get_or xs at 0) (get_or xs (at + 1) 0) (get_or xs (at + 2) 0) (get_or xs (at + 3) 0) (get_or xs (at + 4) 0) (omega (arith, is)) (omega (arith, is)) ∙ then
 
     pub turned-two-last : turned_at xs (at + 1) ≡ x
-    turned-two-last = rw (e11, e12, e13) (last_of_two (get_or xs (at + 1) 0) (get_or xs (at + 2) 0) (get_or xs (at + 3) 0) (get_or xs (at + 4) 0) (get_or xs (at + 1 + 4) 0) (omega (arith, is)) (omega (arith, is)) (omega (arith, then)) ∙ is)
+    turned-two-last = rw (e11, e12, e13)
+        (last_of_two (get_or xs (at + 1) 0) (get_or xs (at + 2) 0) (get_or xs (at + 3) 0) (get_or xs (at + 4) 0) (get_or xs (at + 1 + 4) 0) (omega (arith, is))
+        (omega (arith, is)) (omega (arith, then)) ∙ is)
 
     pub ended-two : IsEnded xs (at + 2)
     ended-two = record { low = omega (arith, is); inside = rw e21 (omega (arith, then)) }
@@ -54,10 +56,14 @@ module _ (xs : List ℕ) (at : ℕ) (h : IsEnded xs at) where
     turned-three = first_of_three (get_or xs at 0) (get_or xs (at + 1) 0) (get_or xs (at + 2) 0) (get_or xs (at + 3) 0) (get_or xs (at + 4) 0) (omega (arith, is)) ∙ later
 
     pub turned-three-second : turned_at xs (at + 1) ≡ y
-    turned-three-second = rw (e11, e12, e13) (second_of_three (get_or xs (at + 1) 0) (get_or xs (at + 2) 0) (get_or xs (at + 3) 0) (get_or xs (at + 4) 0) (get_or xs (at + 1 + 4) 0) (omega (arith, h.inside)) (omega (arith, is)) (omega (arith, then)) ∙ then)
+    turned-three-second = rw (e11, e12, e13)
+        (second_of_three (get_or xs (at + 1) 0) (get_or xs (at + 2) 0) (get_or xs (at + 3) 0) (get_or xs (at + 4) 0) (get_or xs (at + 1 + 4) 0) (omega (arith, h.inside))
+        (omega (arith, is)) (omega (arith, then)) ∙ then)
 
     pub turned-three-last : turned_at xs (at + 2) ≡ x
-    turned-three-last = rw (e21, e22) (last_of_three (get_or xs (at + 2) 0) (get_or xs (at + 3) 0) (get_or xs (at + 4) 0) (get_or xs (at + 2 + 3) 0) (get_or xs (at + 2 + 4) 0) (omega (arith, is)) (omega (arith, then)) (omega (arith, later)) ∙ is)
+    turned-three-last = rw (e21, e22)
+        (last_of_three (get_or xs (at + 2) 0) (get_or xs (at + 3) 0) (get_or xs (at + 4) 0) (get_or xs (at + 2 + 3) 0) (get_or xs (at + 2 + 4) 0) (omega (arith, is))
+        (omega (arith, then)) (omega (arith, later)) ∙ is)
 
     pub ended-three : IsEnded xs (at + 3)
     ended-three = record { low = omega (arith, then); inside = rw e31 (omega (arith, later)) }

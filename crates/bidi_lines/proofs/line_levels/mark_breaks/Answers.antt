@@ -17,5 +17,6 @@ loop-j-preserved g c k below none = elim (cases_lt k c.loop-j.j) [
   | inr same ↦
       let e : k ≡ c.loop-j.j = omega arith in
       let clear : c.is_break.result ≡ false = grind (arith, get_or-set_same c.loop-j.marks c.loop-j.j c.from.result 0) in
-      simp e (steady_read _ c.args.levels.now (c.args.from + c.loop-j.j) _ _ _ (omega (arith, c.requires.ends, c.loop-j-test.true)) c.class_at.ensures c.index-levels-at.is c.index-levels-at-in-loop-j.is (c.is_break.ensures clear))
+      simp e (steady_read _ c.args.levels.now (c.args.from + c.loop-j.j) _ _ _ (omega (arith, c.requires.ends, c.loop-j-test.true)) c.class_at.ensures
+      c.index-levels-at.is c.index-levels-at-in-loop-j.is (c.is_break.ensures clear))
 ]

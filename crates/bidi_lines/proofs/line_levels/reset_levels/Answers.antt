@@ -26,8 +26,10 @@ loop-at-preserved-then-is_removed g c =
     let f = c.steady_end-at.ensures in
     let at = c.loop-at.at in
     let long = length-set c.loop-at.levels at c.loop-at.before in
-    let read = level_before-at c.args.level (set c.loop-at.levels at c.loop-at.before) c.steady_end-at.result c.index-levels-at.result c.index-levels-at.result (omega (arith, f.begins)) (omega (arith, f.ends, long)) c.index-levels-at.is in
-    let one = IsSweptTo-removed c.args.level (g.C.ClassList.classes c.args.classes) c.args.levels.now c.loop-at.levels c.loop-at.start c.loop-at.before at (grind arith) (grind arith) c.loop-at.invariant.swept in
+    let read = level_before-at c.args.level (set c.loop-at.levels at c.loop-at.before) c.steady_end-at.result c.index-levels-at.result c.index-levels-at.result
+    (omega (arith, f.begins)) (omega (arith, f.ends, long)) c.index-levels-at.is in
+    let one = IsSweptTo-removed c.args.level (g.C.ClassList.classes c.args.classes) c.args.levels.now c.loop-at.levels c.loop-at.start c.loop-at.before at (grind arith)
+    (grind arith) c.loop-at.invariant.swept in
     record {
       swept = rw read (IsSweptTo-steady _ _ _ _ _ c.loop-at.before _ _ (omega arith) f.begins f.steady one);
       ends = grind arith;
@@ -38,7 +40,8 @@ loop-at-preserved g c =
     let f = c.next_stop-at.ensures in
     let here : is_stop (class_at (g.C.ClassList.classes c.args.classes) c.loop-at.at) ≡ false =
     rw (← c.class_at-class.ensures) (simp (sym c.is_separator.ensures ∙ c.if-is_separator.false, sym c.is_removed.ensures ∙ c.if-is_removed.false)) in
-    let read = level_before-at c.args.level c.loop-at.levels c.next_stop-at.result c.index-levels-at-else-is_removed.result c.index-levels-at-else-is_removed.result (omega (arith, f.begins)) (omega (arith, f.ends, c.requires, c.loop-at.auto.levels)) c.index-levels-at-else-is_removed.is in
+    let read = level_before-at c.args.level c.loop-at.levels c.next_stop-at.result c.index-levels-at-else-is_removed.result c.index-levels-at-else-is_removed.result
+    (omega (arith, f.begins)) (omega (arith, f.ends, c.requires, c.loop-at.auto.levels)) c.index-levels-at-else-is_removed.is in
     record {
       swept = rw read (IsSweptTo-plain _ _ _ _ _ c.loop-at.before _ _ (omega (arith, f.begins)) (λ k from below. elim (cases_lt c.loop-at.at k) [
         | inl past ↦ f.before k (omega arith) below

@@ -4,7 +4,8 @@ use Rattle.bidi_text_lines.specs.Turned.{turned_at, behind_two, IsEnded}
 use Rattle.bidi_text_lines.proofs.ShortRuns.{read_byte, turned-two, turned-two-last, turned-three, turned-three-second, turned-three-last, mirrored-same, mirrored-other}
 use Rattle.bidi_text_lines.proofs.line_text.turned.turn_character.Goals as goal
 
-two_written : (bytes out : List ℕ) (at x y : ℕ) → length out ≡ length bytes → IsEnded (behind_two bytes) at → x ≡ get_or bytes at 0 → y ≡ get_or bytes (at + 1) 0 → at + 1 < length bytes → 0xC0 ≤ x → x < 0xE0 → y < 0xC0
+two_written : (bytes out : List ℕ) (at x y : ℕ) → length out ≡ length bytes → IsEnded (behind_two bytes) at → x ≡ get_or bytes at 0 → y ≡ get_or bytes (at + 1) 0
+    → at + 1 < length bytes → 0xC0 ≤ x → x < 0xE0 → y < 0xC0
     → (j : ℕ) → at ≤ j → j < at + 2 → get_or (set (set out (length bytes - 1 - at) y) (length bytes - 1 - (at + 1)) x) (length bytes - 1 - j) 0 ≡ turned_at (behind_two bytes) j
 two_written bytes out at x y same ended is then fits big small last j low high =
     let len = length bytes in
@@ -23,10 +24,13 @@ two_written bytes out at x y same ended is then fits big small last j low high =
     ]
 
 pub returns-then-first-lt-OF_THREE-clause-turned : goal.returns-then-first-lt-OF_THREE-clause-turned
-returns-then-first-lt-OF_THREE-clause-turned c = two_written c.args.bytes.now c.args.out.now c.args.at _ _ c.requires.same_len c.requires.ended refl refl (omega arith) (omega arith) (omega arith) (omega arith)
+returns-then-first-lt-OF_THREE-clause-turned c = two_written c.args.bytes.now c.args.out.now c.args.at _ _ c.requires.same_len c.requires.ended refl refl (omega arith)
+    (omega arith) (omega arith) (omega arith)
 
-three_written : (bytes out : List ℕ) (at x y z : ℕ) → length out ≡ length bytes → IsEnded (behind_two bytes) at → x ≡ get_or bytes at 0 → y ≡ get_or bytes (at + 1) 0 → z ≡ get_or bytes (at + 2) 0 → at + 2 < length bytes → 0xE0 ≤ x → y < 0xC0 → z < 0xC0
-    → (j : ℕ) → at ≤ j → j < at + 3 → get_or (set (set (set out (length bytes - 1 - at) z) (length bytes - 1 - (at + 1)) y) (length bytes - 1 - (at + 2)) x) (length bytes - 1 - j) 0 ≡ turned_at (behind_two bytes) j
+three_written : (bytes out : List ℕ) (at x y z : ℕ) → length out ≡ length bytes → IsEnded (behind_two bytes) at → x ≡ get_or bytes at 0 → y ≡ get_or bytes (at + 1) 0
+    → z ≡ get_or bytes (at + 2) 0 → at + 2 < length bytes → 0xE0 ≤ x → y < 0xC0 → z < 0xC0
+    → (j : ℕ) → at ≤ j → j < at + 3 → get_or (set (set (set out (length bytes - 1 - at) z) (length bytes - 1 - (at + 1)) y) (length bytes - 1 - (at + 2)) x)
+    (length bytes - 1 - j) 0 ≡ turned_at (behind_two bytes) j
 three_written bytes out at x y z same ended is then later fits big second last j low high =
     let len = length bytes in
     let out1 = set out (len - 1 - at) z in
@@ -48,7 +52,8 @@ three_written bytes out at x y z same ended is then later fits big second last j
       ]
       | inr here ↦
           let e : j ≡ at = omega arith in
-          simp e (mirrored-other out2 len long2 (at + 2) at x fits (omega arith) (λ f. absurd (omega arith)) ∙ mirrored-other out1 len long1 (at + 1) at y (omega arith) (omega arith) (λ f. absurd (omega arith))
+          simp e (mirrored-other out2 len long2 (at + 2) at x fits (omega arith) (λ f. absurd (omega arith)) ∙ mirrored-other out1 len long1 (at + 1) at y (omega arith)
+          (omega arith) (λ f. absurd (omega arith))
           ∙ mirrored-same out len same at z (omega arith) ∙ sym (turned-three (behind_two bytes) at ended x y z x_is y_is z_is big second last))
     ]
 

@@ -29,7 +29,8 @@ returns-then-turn_characters c =
     let is : chars text ≡ subrange len_utf8 (chars c.args.self.text.now) c.args.run.start c.args.run.end = ap chars c.as_str-text.ensures ∙ c.subrange.ensures in
     let same : length c.turn_characters.new.out ≡ length text = grind (arith, as_long) in
     let short = all_short-from_each c.as_bytes-bytes.result.now (c.turn_characters.ensures.short c.if-turn_characters.true) in
-    turned-chars text c.turn_characters.new.out c.as_str-text.utf8 (rw value at short) same (of_text text c.as_bytes-bytes.result.now c.turn_characters.new.out value same (c.turn_characters.ensures.turned c.if-turn_characters.true))
+    turned-chars text c.turn_characters.new.out c.as_str-text.utf8 (rw value at short) same
+    (of_text text c.as_bytes-bytes.result.now c.turn_characters.new.out value same (c.turn_characters.ensures.turned c.if-turn_characters.true))
     ∙ ap (λ cs. flat_map encode_utf8 (reverse cs)) is
 
 pub turn_round-requires : goal.turn_round-requires
