@@ -1,5 +1,7 @@
 -- The explicit pass by stretches: where no control comes the status stands still, so the characters there have one level and are under one override.
-use Rattle.bidi_base.proofs.Common.{◌≡◌, ℕ, zero, suc, ◌+◌, ◌-◌, ◌<◌, ◌≤◌, ◌^◌, Bool, true, false, not, List, [], ◌∷◌, ◌++◌, length, get_or, set, Option, Some, None, refl, sym, ap, subst, ◌∙◌, arith, inl, inr, length-take, eq-eqb, common_steps, cases_Bool, cases_lt, cases_eq, ext_get_or, length-replicate, get_or-append_right, is_kept, is_kept_in_place, is_removed, then_some, class_at, IsFirst, is_kept_at, level_at, State, start, closed, step, state_at, char_index, is_boundary, place, text_len, is_per_char, per_unit, IsPerChar, level_run_ranges, add-zero}
+use Rattle.bidi_base.proofs.Common.{◌≡◌, ℕ, zero, suc, ◌+◌, ◌-◌, ◌<◌, ◌≤◌, ◌^◌, Bool, true, false, not, List, [], ◌∷◌, ◌++◌, length, get_or, set, Option, Some, None, refl, sym, ap, subst, ◌∙◌, arith, inl, inr}
+use Rattle.bidi_base.proofs.Common.{length-take, eq-eqb, common_steps, cases_Bool, cases_lt, cases_eq, ext_get_or, length-replicate, get_or-append_right, is_kept, is_kept_in_place, is_removed, then_some, class_at}
+use Rattle.bidi_base.proofs.Common.{IsFirst, is_kept_at, level_at, State, start, closed, step, state_at, char_index, is_boundary, place, text_len, is_per_char, per_unit, IsPerChar, level_run_ranges, add-zero}
 use Rattle.std.specs.Prelude.{if◌then◌else◌}
 use Rattle.std.proofs.lemmas.List.{get_or-drop}
 use Rattle.bidi_base.specs.declared.char_data.BidiClass.{BidiClass}
@@ -57,7 +59,8 @@ module _ (put : BidiClass) (from at next : ℕ) (old now : List BidiClass) (h : 
 pub IsOverridden-none : (put : BidiClass) (from : ℕ) (old : List BidiClass) → IsOverridden (Some put) from from old old
 IsOverridden-none put from old = record { inside = λ u a b. absurd (omega arith); below = λ u a. refl; above = λ u a. refl; long = refl }
 
-pub IsOverridden-next : (put : BidiClass) (from at : ℕ) (old now : List BidiClass) → IsOverridden (Some put) from at old now → from ≤ at → at < length old → IsOverridden (Some put) from (at + 1) old (set now at (put_over put (class_at now at)))
+pub IsOverridden-next : (put : BidiClass) (from at : ℕ) (old now : List BidiClass) → IsOverridden (Some put) from at old now → from ≤ at
+    → at < length old → IsOverridden (Some put) from (at + 1) old (set now at (put_over put (class_at now at)))
 IsOverridden-next put from at old now h begun fits = record {
   inside = λ u a b. grind (arith, common_steps, cases_lt u at, h.inside u, h.above u, h.long);
   below = λ u a. grind (arith, common_steps, h.below u, h.long);
@@ -85,7 +88,8 @@ module _ (len_of : ℕ → ℕ) (chars : List ℕ) (classes : List BidiClass) (l
   same_level level = ap not (eq-eqb level level refl)
 
   -- those behind a kept one at the same level go with its run
-  cut-same : (i j : ℕ) (runs : List (ℕ × ℕ)) (from level : ℕ) → i ≤ j → ((k : ℕ) → i ≤ k → k < j → level ≡ level_at levels k) → IsCutTo len_of chars classes levels i runs from (Some level) → IsCutTo len_of chars classes levels j runs from (Some level)
+  cut-same : (i j : ℕ) (runs : List (ℕ × ℕ)) (from level : ℕ) → i ≤ j → ((k : ℕ) → i ≤ k → k < j → level ≡ level_at levels k)
+      → IsCutTo len_of chars classes levels i runs from (Some level) → IsCutTo len_of chars classes levels j runs from (Some level)
   cut-same i j runs from level order one = kept_on (λ k. IsCutTo len_of chars classes levels k runs from (Some level)) i (j - i) j (omega arith) (λ k a b h. elim (cases_Bool (is_kept_at classes k)) [
     | inl kept ↦ simp (same_level level) at (IsCutTo-kept len_of chars classes levels k runs from (Some level) level kept (one k a b) h)
     | inr gone ↦ IsCutTo-removed len_of chars classes levels k runs from (Some level) gone h
@@ -158,7 +162,8 @@ module _ (p : Paragraph) (has_units : HasUnits p.len_of) (whole : IsPerChar p.le
       grind (arith, cases_lt to (length p.original), first-begins is_control i from (length p.original) to, original_long, place-end p.len_of p.chars (length p.chars))
 
   -- what holds of the class of each unit holds of each character
-  each-char : (test : BidiClass → Bool) (b : Bool) (i j from to : ℕ) → from ≡ place_of i → to ≡ place_of j → j ≤ length p.chars → ((u : ℕ) → from ≤ u → u < to → test (class_at p.original u) ≡ b) → (k : ℕ) → i ≤ k → k < j → test (class_at (stored p) k) ≡ b
+  each-char : (test : BidiClass → Bool) (b : Bool) (i j from to : ℕ) → from ≡ place_of i → to ≡ place_of j → j ≤ length p.chars
+      → ((u : ℕ) → from ≤ u → u < to → test (class_at p.original u) ≡ b) → (k : ℕ) → i ≤ k → k < j → test (class_at (stored p) k) ≡ b
   each-char test b i j from to from_is to_is short each k above below =
       grind (arith, class-at_place k, place-mono p.len_of p.chars i k, place-lt p.len_of p.chars has_units k j, each (place_of k))
 
@@ -195,10 +200,12 @@ pub is_boundary-end : (len_of : ℕ → ℕ) (chars : List ℕ) (units : ℕ) �
 is_boundary-end len_of chars units is = ap (is_boundary len_of chars) (is ∙ sym (place-end len_of chars (length chars) (omega arith))) ∙ is_boundary-place len_of chars (length chars)
 
 -- as many characters are read as begin below the unit
-pub read-index : (p : Paragraph) (u : ℕ) (stack : State) (levels : List ℕ) (classes : List BidiClass) (runs : List (ℕ × ℕ)) (run : OpenRun) (h : IsReadTo p u stack levels classes runs run) → char_index p.len_of p.chars u ≡ h.index
+pub read-index : (p : Paragraph) (u : ℕ) (stack : State) (levels : List ℕ) (classes : List BidiClass) (runs : List (ℕ × ℕ)) (run : OpenRun) (h : IsReadTo p u stack levels classes runs run)
+    → char_index p.len_of p.chars u ≡ h.index
 read-index p u stack levels classes runs run h = ap (char_index p.len_of p.chars) h.begins ∙ char_index-place p.len_of p.chars h.has_units h.index h.within
 
-pub read-begins : (p : Paragraph) (u : ℕ) (stack : State) (levels : List ℕ) (classes : List BidiClass) (runs : List (ℕ × ℕ)) (run : OpenRun) → IsReadTo p u stack levels classes runs run → is_boundary p.len_of p.chars u ≡ true
+pub read-begins : (p : Paragraph) (u : ℕ) (stack : State) (levels : List ℕ) (classes : List BidiClass) (runs : List (ℕ × ℕ)) (run : OpenRun)
+    → IsReadTo p u stack levels classes runs run → is_boundary p.len_of p.chars u ≡ true
 read-begins p u stack levels classes runs run h = grind (arith, is_boundary-place) steps 400000
 
 -- ---- more characters are read
@@ -261,17 +268,20 @@ module _ (p : Paragraph) (from to : ℕ) (stack : State) (levels : List ℕ) (cl
   class-here : (k : ℕ) → h.index ≤ k → k < end.index → class_at (classes_of p) k ≡ overridden stack.top.status.override (class_at (stored p) k)
   class-here k above below = simp h.machine (class-still p h.has_units h.per_char h.index end.index end.order end.within plain k above below)
 
-  kept-as : (b : Bool) (j u : ℕ) → u ≡ place p.len_of p.chars j → j ≤ end.index → ((v : ℕ) → from ≤ v → v < u → is_kept_in_place (class_at p.original v) ≡ b) → (k : ℕ) → h.index ≤ k → k < j → is_kept_at (stored p) k ≡ b
+  kept-as : (b : Bool) (j u : ℕ) → u ≡ place p.len_of p.chars j → j ≤ end.index
+      → ((v : ℕ) → from ≤ v → v < u → is_kept_in_place (class_at p.original v) ≡ b) → (k : ℕ) → h.index ≤ k → k < j → is_kept_at (stored p) k ≡ b
   kept-as b j u there upto each k above below =
       grind (arith, kept-plain (class_at (stored p) k), plain k, end.within, each-char p h.has_units h.per_char is_kept_in_place b h.index j from u h.begins there)
 
   -- up to the first kept unit
-  cut-before : (j u : ℕ) → u ≡ place p.len_of p.chars j → h.index ≤ j → j ≤ end.index → ((v : ℕ) → from ≤ v → v < u → is_kept_in_place (class_at p.original v) ≡ false) → IsCut j runs run.start run.last_level
+  cut-before : (j u : ℕ) → u ≡ place p.len_of p.chars j → h.index ≤ j → j ≤ end.index
+      → ((v : ℕ) → from ≤ v → v < u → is_kept_in_place (class_at p.original v) ≡ false) → IsCut j runs run.start run.last_level
   cut-before j u there order upto none =
       kept_on (λ k. IsCut k runs run.start run.last_level) h.index (j - h.index) j (omega arith)
       (λ k a b. IsCutTo-removed p.len_of p.chars (stored p) (levels_of p) k runs run.start run.last_level (kept-as false j u there upto none k a b)) h.cut
 
-  cut-some : (v level : ℕ) → level ≡ stack.top.status.level → IsFirst is_kept_in_place p.original from to v → v < to → IsCut end.index (runs_before run.last_level level run.start v runs) (run_start run.last_level level run.start v) (Some level)
+  cut-some : (v level : ℕ) → level ≡ stack.top.status.level → IsFirst is_kept_in_place p.original from to v → v < to
+      → IsCut end.index (runs_before run.last_level level run.start v runs) (run_start run.last_level level run.start v) (Some level)
   cut-some v level level_is first inside =
       let last = stretch.ends in
       let b = first-begins p h.has_units h.per_char is_kept_in_place h.index from to v h.begins (omega arith) first inside in
@@ -282,7 +292,8 @@ module _ (p : Paragraph) (from to : ℕ) (stack : State) (levels : List ℕ) (cl
       (simp (← b.there) at (IsCutTo-kept p.len_of p.chars (stored p) (levels_of p) b.index runs run.start run.last_level level kept (level_is ∙ sym (level-here b.index b.order below))
       (cut-before b.index v b.there b.order (omega arith) first.before)))
 
-  stretch-read : (level : ℕ) (override : Option BidiClass) (now_levels : List ℕ) (now_classes : List BidiClass) (now_runs : List (ℕ × ℕ)) (now : OpenRun) → level ≡ stack.top.status.level → override ≡ stack.top.status.override
+  stretch-read : (level : ℕ) (override : Option BidiClass) (now_levels : List ℕ) (now_classes : List BidiClass) (now_runs : List (ℕ × ℕ)) (now : OpenRun)
+      → level ≡ stack.top.status.level → override ≡ stack.top.status.override
       → now_levels ≡ filled from (to - from) level levels → IsOverridden override from to classes now_classes → IsCut end.index now_runs now.start now.last_level → IsReadTo p to stack now_levels now_classes now_runs now
   stretch-read level override now_levels now_classes now_runs now level_is override_is filled_is over cut =
       let still = state-to p h.has_units h.per_char h.index end.index end.order end.within plain end.index end.order
@@ -301,7 +312,8 @@ module _ (p : Paragraph) (from to : ℕ) (stack : State) (levels : List ℕ) (cl
   module _ (level : ℕ) (override : Option BidiClass) (now_levels : List ℕ) (now_classes : List BidiClass) (level_is : level ≡ stack.top.status.level) (override_is : override ≡ stack.top.status.override)
       (filled_is : now_levels ≡ filled from (to - from) level levels) (over : IsOverridden override from to classes now_classes) (v : ℕ) (first : IsFirst is_kept_in_place p.original from to v) where
     -- its first kept character, if there is one, meets the run
-    pub stretch-met : (some : Bool) → (some ≡ true → v < to) → (some ≡ false → to ≤ v) → (kept : Option ℕ) → kept ≡ then_some some v → IsReadTo p to stack now_levels now_classes (runs_met kept level run runs) (run_met kept level run)
+    pub stretch-met : (some : Bool) → (some ≡ true → v < to) → (some ≡ false → to ≤ v) → (kept : Option ℕ) → kept ≡ then_some some v
+        → IsReadTo p to stack now_levels now_classes (runs_met kept level run runs) (run_met kept level run)
     stretch-met some inside past kept kept_is = elim (cases_Bool some) [
       | inl set ↦ simp (kept_is, set) (stretch-read level override now_levels now_classes _ _ level_is override_is filled_is over (cut-some v level level_is first (inside set)))
       | inr none ↦ simp (kept_is, none) (stretch-read level override now_levels now_classes runs run level_is override_is filled_is over (cut-before end.index to end.there end.order
@@ -346,7 +358,9 @@ module _ (p : Paragraph) (at : ℕ) (stack : State) (levels : List ℕ) (classes
     put-at_control : put ≡ class_at (classes_of p) h.index
     put-at_control = put_at p.len_of p.chars p.level (stored p) h.index within (class_at p.original at) control-class stack now level put now_is level_is put_is h.machine
 
-    control-read : (now_runs : List (ℕ × ℕ)) (now_run : OpenRun) → IsCutTo p.len_of p.chars (stored p) (levels_of p) (h.index + 1) now_runs now_run.start now_run.last_level → IsReadTo p next now now_levels now_classes now_runs now_run
+    control-read : (now_runs : List (ℕ × ℕ)) (now_run : OpenRun)
+        → IsCutTo p.len_of p.chars (stored p) (levels_of p) (h.index + 1) now_runs now_run.start now_run.last_level
+        → IsReadTo p next now now_levels now_classes now_runs now_run
     control-read now_runs now_run cut =
         let there : next ≡ place p.len_of p.chars (h.index + 1) = ends h.index control-fits h.begins in
         let room : at + (next - at) ≤ length classes = omega (arith, there, h.classes_long, control-some next ends, place-le p.len_of p.chars (h.index + 1)) in
@@ -375,7 +389,8 @@ module _ (p : Paragraph) (at : ℕ) (stack : State) (levels : List ℕ) (classes
 
 -- ---- the start and the end of a paragraph
 
-pub read-start : (p : Paragraph) → HasUnits p.len_of → is_per_char ghosts.eq p.len_of p.chars p.original ≡ true → (stack : State) (levels : List ℕ) (classes : List BidiClass) (runs : List (ℕ × ℕ)) (run : OpenRun) → stack ≡ start p.level
+pub read-start : (p : Paragraph) → HasUnits p.len_of → is_per_char ghosts.eq p.len_of p.chars p.original ≡ true
+    → (stack : State) (levels : List ℕ) (classes : List BidiClass) (runs : List (ℕ × ℕ)) (run : OpenRun) → stack ≡ start p.level
     → length levels ≡ length p.original → classes ≡ p.original → runs ≡ [] → run ≡ record { start = 0; last_level = None } → IsReadTo p 0 stack levels classes runs run
 unfolding state_at
 read-start p has_units whole stack levels classes runs run new long same none first =

@@ -1,6 +1,8 @@
 -- The pass over units that gives explicit levels, classes and level runs: what it has written once it read some characters.
 use native.Mathlib.Numerals.{unary_clauses}
-use Rattle.bidi_base.proofs.Common.{◌≡◌, ℕ, zero, suc, ◌+◌, ◌<◌, ◌≤◌, ◌^◌, true, List, [], ◌∷◌, length, get_or, set, unwrap_or, refl, sym, ap, ◌∙◌, arith, length-append, common_steps, take-append-drop, length-replicate, is_paragraph_separator, is_removed, class_at, text_len, per_unit, per_char, is_per_char, explicit_levels, processing_class, processing_classes, State, closed, step, state_at, counted, IsWithinDepth, IsPoppable, suc-add}
+use Rattle.bidi_base.proofs.Common.{◌≡◌, ℕ, zero, suc, ◌+◌, ◌<◌, ◌≤◌, ◌^◌, true, List, [], ◌∷◌, length, get_or, set, unwrap_or, refl, sym, ap, ◌∙◌, arith, length-append}
+use Rattle.bidi_base.proofs.Common.{common_steps, take-append-drop, length-replicate, is_paragraph_separator, is_removed, class_at, text_len, per_unit, per_char, is_per_char}
+use Rattle.bidi_base.proofs.Common.{explicit_levels, processing_class, processing_classes, State, closed, step, state_at, counted, IsWithinDepth, IsPoppable, suc-add}
 use Rattle.std.specs.Prelude.{◌||◌, if◌then◌else◌}
 use Rattle.std.proofs.lemmas.List.{length-take, length-drop}
 use Rattle.bidi_base.specs.StatusMachine.{answer_class, answer_level}
@@ -45,7 +47,8 @@ module _ (len_of : ℕ → ℕ) (chars : List ℕ) (paragraph : ℕ) (stored : L
     pub depth : IsWithinDepth paragraph (closed class stack)
     pub counts : counted (closed class stack) + 1 < 2 ^ 64
 
-  pub can_read : (k : ℕ) (stack : State) (class : BidiClass) → paragraph ≤ 125 → k < length stored → length stored < 2 ^ 64 → class ≡ class_at stored k → stack ≡ state_at paragraph stored k → CanRead class stack
+  pub can_read : (k : ℕ) (stack : State) (class : BidiClass) → paragraph ≤ 125 → k < length stored → length stored < 2 ^ 64
+      → class ≡ class_at stored k → stack ≡ state_at paragraph stored k → CanRead class stack
   can_read k stack class low within few is machine = grind (arith, closed-counted, state_at-IsPoppable, closed-IsWithinDepth) steps 400000
 
   -- one character more
@@ -64,9 +67,13 @@ pub text_len-some : (len_of : ℕ → ℕ) (chars : List ℕ) → 0 < text_len l
 text_len-some len_of chars some = grind (arith, common_steps)
 
 -- what is left is one level for each character, each its explicit one
-pub per_char-explicit_levels : (len_of : ℕ → ℕ) → HasUnits len_of → (chars : List ℕ) (paragraph : ℕ) (stored : List BidiClass) (levels : List ℕ) → length stored ≡ length chars → levels ≡ per_unit len_of chars (explicit_levels paragraph stored)
+pub per_char-explicit_levels : (len_of : ℕ → ℕ) → HasUnits len_of
+    → (chars : List ℕ) (paragraph : ℕ) (stored : List BidiClass) (levels : List ℕ) → length stored ≡ length chars
+    → levels ≡ per_unit len_of chars (explicit_levels paragraph stored)
     → per_char 0 len_of chars levels ≡ explicit_levels paragraph stored
 per_char-explicit_levels len_of h chars paragraph stored levels long is = ap (per_char 0 len_of chars) is ∙ per_char-per_unit len_of h 0 chars (explicit_levels paragraph stored) (length-explicit_levels paragraph stored ∙ long)
 
-pub is_per_char-explicit_levels : (len_of : ℕ → ℕ) (chars : List ℕ) (paragraph : ℕ) (stored : List BidiClass) (levels : List ℕ) → length stored ≡ length chars → levels ≡ per_unit len_of chars (explicit_levels paragraph stored) → is_per_char level_eq len_of chars levels ≡ true
+pub is_per_char-explicit_levels : (len_of : ℕ → ℕ) (chars : List ℕ) (paragraph : ℕ) (stored : List BidiClass) (levels : List ℕ)
+    → length stored ≡ length chars → levels ≡ per_unit len_of chars (explicit_levels paragraph stored)
+    → is_per_char level_eq len_of chars levels ≡ true
 is_per_char-explicit_levels len_of chars paragraph stored levels long is = grind (arith, is_per_char-per_unit, length-explicit_levels) steps 400000

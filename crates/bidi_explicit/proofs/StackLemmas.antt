@@ -1,5 +1,7 @@
 -- What the operations of the machine do to a stack of entries.
-use Rattle.bidi_base.proofs.Common.{◌≡◌, ℕ, ◌+◌, ◌-◌, ◌<◌, ◌≤◌, true, false, cond, List, [], ◌∷◌, ◌++◌, length, map, reverse, ◌∙◌, arith, common_steps, cond-true, cond-false, reverse-append, length-reverse, length-map, is_initiator, is_opener, is_pdi, is_pdf, State, entry_of, taken, refused, entered, fits_in, drop_isolate, close_isolate, close_embedding, closed, opened, asked_level, override_of, IsWithinDepth}
+use Rattle.bidi_base.proofs.Common.{◌≡◌, ℕ, ◌+◌, ◌-◌, ◌<◌, ◌≤◌, true, false, cond, List, [], ◌∷◌, ◌++◌, length, map, reverse, ◌∙◌, arith, common_steps, cond-true}
+use Rattle.bidi_base.proofs.Common.{cond-false, reverse-append, length-reverse, length-map, is_initiator, is_opener, is_pdi, is_pdf, State, entry_of, taken, refused}
+use Rattle.bidi_base.proofs.Common.{entered, fits_in, drop_isolate, close_isolate, close_embedding, closed, opened, asked_level, override_of, IsWithinDepth}
 use Rattle.bidi_base.specs.declared.char_data.BidiClass.{BidiClass}
 use Rattle.bidi_laws.proofs.StatusBounds.{IsTaken-room}
 use Rattle.bidi_explicit.specs.declared.explicit.status.StatusEntry.{StatusEntry}

@@ -1,5 +1,6 @@
 -- A pass that brings the value of each character's first unit to the character's index.
-use Rattle.bidi_base.proofs.Common.{◌≡◌, ◌≢◌, ◌∙◌, ℕ, ◌+◌, ◌-◌, ◌<◌, ◌≤◌, List, length, get_or, take, set, arith, true, false, sym, ap, char_index, get_or-set_other, take_more, take_more_set, take_all, place, text_len, per_char, is_boundary}
+use Rattle.bidi_base.proofs.Common.{◌≡◌, ◌≢◌, ◌∙◌, ℕ, ◌+◌, ◌-◌, ◌<◌, ◌≤◌, List, length, get_or, take, set, arith, true, false, sym, ap, char_index}
+use Rattle.bidi_base.proofs.Common.{get_or-set_other, take_more, take_more_set, take_all, place, text_len, per_char, is_boundary}
 use Rattle.std.proofs.Common.{length-set, length-take-le}
 use Rattle.std.proofs.lemmas.List.{take-set}
 use Rattle.bidi_base.proofs.TextLemmas.{HasUnits, length-le-text_len}
@@ -18,12 +19,15 @@ module _ (len_of : ℕ → ℕ) (chars old : List ℕ) where
   index-le-place h n fits = grind (arith, length-le-text_len, length-take-le)
 
   -- one value more at the front
-  front-more : HasUnits len_of → (new : List ℕ) (n x : ℕ) → n < length chars → length old ≡ text_len len_of chars → length new ≡ length old → x ≡ get_or old (place len_of chars n) 0 → take n new ≡ take n (per_char 0 len_of chars old) → take (n + 1) (set new n x) ≡ take (n + 1) (per_char 0 len_of chars old)
+  front-more : HasUnits len_of → (new : List ℕ) (n x : ℕ) → n < length chars → length old ≡ text_len len_of chars → length new ≡ length old
+      → x ≡ get_or old (place len_of chars n) 0 → take n new ≡ take n (per_char 0 len_of chars old)
+      → take (n + 1) (set new n x) ≡ take (n + 1) (per_char 0 len_of chars old)
   front-more h new n x fits same long is front =
       let ahead = index-le-place h n (omega arith) in
       grind (arith, take_more_set new n x, take_more (per_char 0 len_of chars old) n 0, get_or-per_char 0 len_of chars old n 0, length-per_char 0 len_of chars old, place-more-le len_of chars n 0, h (get_or chars n 0))
 
-  pub IsGathered-more : HasUnits len_of → (new : List ℕ) (n x : ℕ) → n < length chars → length old ≡ text_len len_of chars → x ≡ get_or new (place len_of chars n) 0 → IsGathered new n → IsGathered (set new n x) (n + 1)
+  pub IsGathered-more : HasUnits len_of → (new : List ℕ) (n x : ℕ) → n < length chars → length old ≡ text_len len_of chars
+      → x ≡ get_or new (place len_of chars n) 0 → IsGathered new n → IsGathered (set new n x) (n + 1)
   IsGathered-more h new n x fits same is g =
       let ahead = index-le-place h n (omega arith) in
       let later = index-le-place h (n + 1) (omega arith) in
@@ -56,7 +60,8 @@ module _ (len_of : ℕ → ℕ) (chars old : List ℕ) where
       }
 
   -- the next character begins here
-  pub IsTaken-more : HasUnits len_of → (new : List ℕ) (n at x : ℕ) → is_boundary len_of chars at ≡ true → at < text_len len_of chars → length old ≡ text_len len_of chars → x ≡ get_or old at 0 → IsTaken new n at → IsTaken (set new n x) (n + 1) (at + 1)
+  pub IsTaken-more : HasUnits len_of → (new : List ℕ) (n at x : ℕ) → is_boundary len_of chars at ≡ true → at < text_len len_of chars
+      → length old ≡ text_len len_of chars → x ≡ get_or old at 0 → IsTaken new n at → IsTaken (set new n x) (n + 1) (at + 1)
   IsTaken-more h new n at x begins within same is s =
       let m = char_index len_of chars at in
       let place_m : place len_of chars m ≡ at = place-char_index len_of h chars at begins in

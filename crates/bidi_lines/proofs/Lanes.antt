@@ -1,5 +1,6 @@
 -- How many of sixteen lanes come before the first one that a test accepts.
-use Rattle.bidi_base.proofs.Common.{◌≡◌, ℕ, ◌+◌, ◌<◌, ◌≤◌, List, map, cond, eqb, length, slice_index, not, true, false, Bool, ap, ◌∙◌, arith, prefix_len, length-chunk, run_in_chunk_fails, run_in_chunk_stops}
+use Rattle.bidi_base.proofs.Common.{◌≡◌, ℕ, ◌+◌, ◌<◌, ◌≤◌, List, map, cond, eqb, length, slice_index, not, true, false, Bool, ap}
+use Rattle.bidi_base.proofs.Common.{◌∙◌, arith, prefix_len, length-chunk, run_in_chunk_fails, run_in_chunk_stops}
 use lib.Count.{count_trailing_zeros}
 use lib.Lanes.{chunk, mask_l}
 use Rattle.std.proofs.lemmas.Simd.{first_set_mask_l, run_in_chunk_le}

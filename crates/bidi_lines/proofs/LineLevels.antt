@@ -1,5 +1,7 @@
 -- L1 along a line: the level that each place takes, and what a pass over the line keeps true.
-use Rattle.bidi_base.proofs.Common.{◌≡◌, ℕ, zero, suc, ◌+◌, ◌-◌, ◌<◌, ◌≤◌, ◌≢◌, if◌then◌else◌, ◌&&◌, ◌||◌, Bool, true, false, not, nat_lt, List, [], ◌∷◌, length, get_or, drop, set, refl, sym, ap, ◌∙◌, arith, inl, inr, drop-cons, get_or-set_other, get_or-set_same, add-zero, common_steps, same_number_lists, cases_lt, cases_Bool, get_or_default, list_any_at, list_any_none, is_removed, is_odd, has_rtl, is_reset, line_levels_after, line_levels, class_at}
+use Rattle.bidi_base.proofs.Common.{◌≡◌, ℕ, zero, suc, ◌+◌, ◌-◌, ◌<◌, ◌≤◌, ◌≢◌, if◌then◌else◌, ◌&&◌, ◌||◌, Bool, true, false, not, nat_lt, List, [], ◌∷◌, length, get_or, drop, set}
+use Rattle.bidi_base.proofs.Common.{refl, sym, ap, ◌∙◌, arith, inl, inr, drop-cons, get_or-set_other, get_or-set_same, add-zero, common_steps, same_number_lists, cases_lt, cases_Bool}
+use Rattle.bidi_base.proofs.Common.{get_or_default, list_any_at, list_any_none, is_removed, is_odd, has_rtl, is_reset, line_levels_after, line_levels, class_at}
 use Rattle.std.proofs.Common.{length-set}
 use Rattle.bidi_base.specs.declared.char_data.BidiClass.{BidiClass}
 use Rattle.bidi_base.specs.declared.char_data.BidiClass.TheVariants.{L}
@@ -36,7 +38,8 @@ module _ (classes : List BidiClass) where
   is_reset-to k i within blank = grind (arith, is_reset-blanks (i - k) k)
 
   -- what comes before a character that is neither is not reset, up to the separator before it
-  is_reset-not : (n k m : ℕ) → k + n ≡ m → m < length classes → ((j : ℕ) → k ≤ j → j ≤ m → is_separator (class_at classes j) ≡ false) → is_blank (class_at classes m) ≡ false → is_reset (drop k classes) ≡ false
+  is_reset-not : (n k m : ℕ) → k + n ≡ m → m < length classes → ((j : ℕ) → k ≤ j → j ≤ m → is_separator (class_at classes j) ≡ false)
+      → is_blank (class_at classes m) ≡ false → is_reset (drop k classes) ≡ false
   is_reset-not zero k m e fits apart other =
       let same : m ≡ k = omega arith in
       is_reset-at_other k (omega arith) (apart k (omega arith) (omega arith)) (simp (← same) other)
@@ -47,7 +50,8 @@ module _ (classes : List BidiClass) where
         | inr none ↦ is_reset-at_other k (omega arith) (apart k (omega arith) (omega arith)) none
       ]
 
-  pub is_reset-before : (k m : ℕ) → (k ≤ m) × (m < length classes) → ((j : ℕ) → k ≤ j → j ≤ m → is_separator (class_at classes j) ≡ false) → is_blank (class_at classes m) ≡ false → is_reset (drop k classes) ≡ false
+  pub is_reset-before : (k m : ℕ) → (k ≤ m) × (m < length classes) → ((j : ℕ) → k ≤ j → j ≤ m → is_separator (class_at classes j) ≡ false)
+      → is_blank (class_at classes m) ≡ false → is_reset (drop k classes) ≡ false
   is_reset-before k m within apart other = is_reset-not (m - k) k m (omega arith) (omega arith) apart other
 
 -- the line's end counts as reset
@@ -76,7 +80,8 @@ kept_level before classes old new i = if is_removed (class_at classes i) then le
 abbrev pub HasLineLevel : ℕ → ℕ → List BidiClass → List ℕ → List ℕ → ℕ → Type 0
 HasLineLevel level before classes old new i = get_or new i 0 ≡ (if is_reset (drop i classes) then level else kept_level before classes old new i)
 
-pub length-line_levels_after : (level before : ℕ) (classes : List BidiClass) (levels : List ℕ) → length levels ≡ length classes → length (line_levels_after level before classes levels) ≡ length classes
+pub length-line_levels_after : (level before : ℕ) (classes : List BidiClass) (levels : List ℕ) → length levels ≡ length classes
+    → length (line_levels_after level before classes levels) ≡ length classes
 unfolding line_levels_after
 length-line_levels_after level before [] levels e = refl
 length-line_levels_after level before (c ∷ classes) [] e = absurd (omega arith)
@@ -130,7 +135,8 @@ IsSweptTo-start level classes levels = grind arith
 stays : (level : ℕ) (classes : List BidiClass) (old xs ys : List ℕ) (k : ℕ) → ((j : ℕ) → j < k → get_or xs j 0 ≡ get_or ys j 0) → kept_level level classes old xs k ≡ kept_level level classes old ys k
 stays level classes old xs ys k h = grind arith
 
-done_stays : (level : ℕ) (classes : List BidiClass) (old xs ys : List ℕ) (k : ℕ) → ((j : ℕ) → j < suc k → get_or xs j 0 ≡ get_or ys j 0) → HasLineLevel level level classes old xs k → HasLineLevel level level classes old ys k
+done_stays : (level : ℕ) (classes : List BidiClass) (old xs ys : List ℕ) (k : ℕ) → ((j : ℕ) → j < suc k → get_or xs j 0 ≡ get_or ys j 0)
+    → HasLineLevel level level classes old xs k → HasLineLevel level level classes old ys k
 done_stays level classes old xs ys k h here = grind arith
 
 -- the part from `from` to `to` of a list is written with one level
@@ -254,7 +260,8 @@ module _ (level : ℕ) (classes : List BidiClass) (levels : List ℕ) (same : le
   has_rtl-first some removed odd = grind (arith, list_any_at is_odd (line_levels level classes levels) 0 0, length-line_levels, line_levels-at level classes levels 0)
 
   -- where there is none, no level is odd
-  pub has_rtl-none : ((k : ℕ) → k < length classes → shows_rtl level classes levels k ≡ false) → (0 < length classes → is_removed (class_at classes 0) ≡ true → is_odd level ≡ false) → has_rtl (line_levels level classes levels) ≡ false
+  pub has_rtl-none : ((k : ℕ) → k < length classes → shows_rtl level classes levels k ≡ false)
+      → (0 < length classes → is_removed (class_at classes 0) ≡ true → is_odd level ≡ false) → has_rtl (line_levels level classes levels) ≡ false
   has_rtl-none none start = list_any_none is_odd (line_levels level classes levels) (λ k d fits. simp (get_or_default (line_levels level classes levels) k d 0 fits, even_at k (omega (arith, length-line_levels level classes levels same))))
     where
       even_at : (k : ℕ) → k < length classes → is_odd (get_or (line_levels level classes levels) k 0) ≡ false
@@ -288,7 +295,8 @@ module _ (level : ℕ) (classes : List BidiClass) (levels : List ℕ) where
       → shows ≡ (if reset then is_odd level else (not (is_removed (class_at classes at)) && is_odd own)) → (reset ≡ is_reset (drop at classes)) × (shows ≡ shows_rtl level classes levels at)
   read-at at next reset shows own fits e f g h = grind (arith, common_steps)
 
-  pub IsQuietFrom-more : (at : ℕ) (next reset : Bool) → at < length classes → reset ≡ is_reset (drop at classes) → shows_rtl level classes levels at ≡ false → IsQuietFrom level classes levels next (at + 1) → IsQuietFrom level classes levels reset at
+  pub IsQuietFrom-more : (at : ℕ) (next reset : Bool) → at < length classes → reset ≡ is_reset (drop at classes)
+      → shows_rtl level classes levels at ≡ false → IsQuietFrom level classes levels next (at + 1) → IsQuietFrom level classes levels reset at
   IsQuietFrom-more at next reset fits e here h = record {
     within = omega arith;
     reset_next = e;

@@ -1,5 +1,7 @@
 -- Lists made of pieces: what holds of each pair in them, and their permutations.
-use Rattle.bidi_base.proofs.Common.{◌≡◌, ℕ, zero, suc, ◌+◌, ◌-◌, ◌<◌, ◌≤◌, List, [], ◌∷◌, ◌++◌, map, flat_map, reverse, length, get_or, set, AllPairs, refl, arith, append_assoc, suc-add, range_with_len, IsPermutation, common_steps, get_or-map, get_or-reverse, length-reverse, All-append, All-head, All-tail, length-range_with_len, get_or-range_with_len, IsPermutation-refl, IsPermutation-sym, IsPermutation-trans, IsPermutation-append_left, IsPermutation-append_right, IsPermutation-append_comm, between, at_places}
+use Rattle.bidi_base.proofs.Common.{◌≡◌, ℕ, zero, suc, ◌+◌, ◌-◌, ◌<◌, ◌≤◌, List, [], ◌∷◌, ◌++◌, map, flat_map, reverse, length, get_or, set, AllPairs, refl, arith, append_assoc, suc-add, range_with_len}
+use Rattle.bidi_base.proofs.Common.{IsPermutation, common_steps, get_or-map, get_or-reverse, length-reverse, All-append, All-head, All-tail, length-range_with_len, get_or-range_with_len, IsPermutation-refl}
+use Rattle.bidi_base.proofs.Common.{IsPermutation-sym, IsPermutation-trans, IsPermutation-append_left, IsPermutation-append_right, IsPermutation-append_comm, between, at_places}
 use Rattle.std.proofs.Common.{swap, All}
 use Rattle.std.proofs.Math.Nat.{zero-add}
 use Rattle.std.proofs.lemmas.List.Sorted.{IsPermutation-keeps, IsPermutation-append}
@@ -74,7 +76,8 @@ IsPermutation-flat_map-set f (y ∷ xs) (suc i) x d fits =
     (IsPermutation-trans _ _ _ (IsPermutation-append_right (f y) _ _ (IsPermutation-flat_map-set f xs i x d (omega arith))) (two_fronts (f y) (f x) (flat_map f xs)))
 
 -- two pieces in each other's place
-IsPermutation-flat_map-swap : {A B : Type 0} (f : A → List B) (xs : List A) (i j : ℕ) (d : A) → i < length xs → j < length xs → IsPermutation (flat_map f xs) (flat_map f (set (set xs i (get_or xs j d)) j (get_or xs i d)))
+IsPermutation-flat_map-swap : {A B : Type 0} (f : A → List B) (xs : List A) (i j : ℕ) (d : A) → i < length xs → j < length xs
+    → IsPermutation (flat_map f xs) (flat_map f (set (set xs i (get_or xs j d)) j (get_or xs i d)))
 IsPermutation-flat_map-swap f [] i j d fits fits' = absurd (omega arith)
 IsPermutation-flat_map-swap f (x ∷ xs) zero zero d fits fits' = IsPermutation-refl _
 IsPermutation-flat_map-swap f (x ∷ xs) zero (suc j) d fits fits' = IsPermutation-sym _ _ (IsPermutation-flat_map-set f xs j x d (omega arith))

@@ -1,5 +1,7 @@
 -- What the annex's reversals leave: each pair stands as the levels between its items ask.
-use Rattle.bidi_base.proofs.Common.{◌≡◌, ℕ, zero, suc, ◌+◌, ◌-◌, ◌<◌, ◌≤◌, fold, get_or, nat_lt, max, List, [], ◌∷◌, ◌++◌, length, AllPairs, Contains, arith, ◌⊎◌, inl, inr, eqb-true, le_refl, ap, min, add-zero, suc-add, cases_lt, cases_Bool, IsPermutation, All-cons, All-nil, All-tail, filter_passes, AllPairs-cons, length-range_with_len, get_or-range_with_len, All-permutation, Contains-permutation, IsPermutation-refl, IsPermutation-trans, IsPermutation-cons, IsPermutation-append_right, IsPermutation-middle, is_odd, indexes, least, order_by_reversals}
+use Rattle.bidi_base.proofs.Common.{◌≡◌, ℕ, zero, suc, ◌+◌, ◌-◌, ◌<◌, ◌≤◌, fold, get_or, nat_lt, max, List, [], ◌∷◌, ◌++◌, length, AllPairs, Contains, arith, ◌⊎◌, inl, inr, eqb-true, le_refl, ap, min, add-zero, suc-add}
+use Rattle.bidi_base.proofs.Common.{cases_lt, cases_Bool, IsPermutation, All-cons, All-nil, All-tail, filter_passes, AllPairs-cons, length-range_with_len, get_or-range_with_len, All-permutation, Contains-permutation}
+use Rattle.bidi_base.proofs.Common.{IsPermutation-refl, IsPermutation-trans, IsPermutation-cons, IsPermutation-append_right, IsPermutation-middle, is_odd, indexes, least, order_by_reversals}
 use Rattle.std.proofs.Common.{filter, All}
 use Rattle.std.proofs.Math.Nat.{add-suc}
 use Rattle.std.proofs.lemmas.List.{append-nil}
@@ -131,7 +133,8 @@ module _ (levels : List ℕ) (t : ℕ) where
 
 -- ---- all passes
 
-passes : (levels : List ℕ) (l count : ℕ) (line : List ℕ) → IsPermutation (indexes levels) line → AllPairs (StandsLeft levels (l + count)) line → AllPairs (StandsLeft levels l) (reversals levels (suc l) count line)
+passes : (levels : List ℕ) (l count : ℕ) (line : List ℕ) → IsPermutation (indexes levels) line
+    → AllPairs (StandsLeft levels (l + count)) line → AllPairs (StandsLeft levels l) (reversals levels (suc l) count line)
 passes levels l zero line perm pairs = rw add-zero at pairs
 passes levels l (suc count) line perm pairs =
     rw (suc-add l count) (passes levels l count _ (IsPermutation-trans _ _ _ perm (pass-permutation levels (suc (l + count)) line [])) (pass levels (l + count) line perm (rw (add-suc l count) at pairs)))

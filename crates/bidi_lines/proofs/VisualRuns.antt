@@ -1,12 +1,16 @@
 -- The level runs in the visual order of their levels, written out, are the visual order of the units.
-use Rattle.bidi_base.proofs.Common.{◌≡◌, ℕ, zero, suc, ◌+◌, ◌-◌, ◌<◌, ◌≤◌, max, true, List, [], ◌∷◌, map, flat_map, length, get_or, AllPairs, refl, ap, subst, arith, inl, inr, range_with_len, IsPermutation, cases_lt, cases_order, both_ways, cases_Bool, get_or-map, length-map, same_lists, get_or_default, flat_map-map, length-range_with_len, get_or-range_with_len, length-map-range_with_len, get_or-map-range_with_len, All-tail, All-map, All-permutation, IsPermutation-refl, IsPermutation-sym, IsPermutation-trans, IsPermutation-reverse, is_odd, between, indexes, at_places, least_between, stands_left, visual_order, IsVisualOrder, Run, level_runs, run_level, visual_runs, written_run, written_runs, IsLevelRun, AreVisualRuns}
+use Rattle.bidi_base.proofs.Common.{◌≡◌, ℕ, zero, suc, ◌+◌, ◌-◌, ◌<◌, ◌≤◌, max, true, List, [], ◌∷◌, map, flat_map, length, get_or, AllPairs, refl, ap, subst, arith, inl, inr, range_with_len, IsPermutation, cases_lt}
+use Rattle.bidi_base.proofs.Common.{cases_order, both_ways, cases_Bool, get_or-map, length-map, same_lists, get_or_default, flat_map-map, length-range_with_len, get_or-range_with_len, length-map-range_with_len}
+use Rattle.bidi_base.proofs.Common.{get_or-map-range_with_len, All-tail, All-map, All-permutation, IsPermutation-refl, IsPermutation-sym, IsPermutation-trans, IsPermutation-reverse, is_odd, between, indexes, at_places}
+use Rattle.bidi_base.proofs.Common.{least_between, stands_left, visual_order, IsVisualOrder, Run, level_runs, run_level, visual_runs, written_run, written_runs, IsLevelRun, AreVisualRuns}
 use Rattle.std.proofs.Common.{All}
 use Rattle.std.proofs.lemmas.List.Sorted.{IsPermutation-map}
 use Rattle.bidi_laws.proofs.OrderLemmas.{least_between-le, stands_left-before, stands_left-after}
 use Rattle.bidi_laws.proofs.VisualOrderLemmas.{stands_left-same, visual_order-unique, all_below}
 use Rattle.bidi_lines.proofs.Least.{least_between-is, least_between-at}
 use Rattle.bidi_lines.proofs.Ordered.{visual_order-is}
-use Rattle.bidi_lines.proofs.Pieces.{AllPairs-map, AllPairs-reverse, AllPairs-between, All-between, AllPairs-flat_map, between-append, at_places-map, IsPermutation-flat_map, IsPermutation-flat_map_each}
+use Rattle.bidi_lines.proofs.Pieces.{AllPairs-map, AllPairs-reverse, AllPairs-between, All-between, AllPairs-flat_map}
+use Rattle.bidi_lines.proofs.Pieces.{between-append, at_places-map, IsPermutation-flat_map, IsPermutation-flat_map_each}
 use Rattle.bidi_lines.proofs.RunsLemmas.{Follow, level_runs-follow, level_runs-each}
 
 abbrev pub run_at : List Run → ℕ → Run
@@ -58,7 +62,8 @@ unfolding run_levels
 length-run_levels from levels runs = length-map runs (run_level from levels)
 
 -- the level of a unit is that of its run
-unit_level : (from : ℕ) (levels : List ℕ) (runs : List Run) → Cut from levels runs → (k u : ℕ) → k < length runs → IsUnitOf (run_at runs k) u → get_or levels (u - from) 0 ≡ get_or (run_levels from levels runs) k 0
+unit_level : (from : ℕ) (levels : List ℕ) (runs : List Run) → Cut from levels runs → (k u : ℕ) → k < length runs
+    → IsUnitOf (run_at runs k) u → get_or levels (u - from) 0 ≡ get_or (run_levels from levels runs) k 0
 unfolding run_levels
 unit_level from levels runs cut k u fits unit = grind (arith, get_or-map)
 

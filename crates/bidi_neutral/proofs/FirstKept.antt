@@ -1,5 +1,7 @@
 -- The first unit of some runs that is kept, and the first character.
-use Rattle.bidi_base.proofs.Common.{◌≡◌, ℕ, zero, suc, ◌+◌, ◌-◌, ◌<◌, ◌≤◌, Bool, true, false, List, [], ◌∷◌, ◌++◌, length, map, get_or, take, find, Some, None, slice_get, refl, arith, range_with_len, option_or, Range, cases_Bool, flat_map-append, common_steps, map-append, take-append-drop, All-head, All-tail, filter-append, find-append, is_kept_in_place, between, class_at, first_or, place, IsLine, char_index, IsPerChar, bounds, chars_in_runs, kept_in_place, units_in_runs, AreLines}
+use Rattle.bidi_base.proofs.Common.{◌≡◌, ℕ, zero, suc, ◌+◌, ◌-◌, ◌<◌, ◌≤◌, Bool, true, false, List, [], ◌∷◌, ◌++◌, length, map, get_or, take, find, Some, None, slice_get, refl, arith}
+use Rattle.bidi_base.proofs.Common.{range_with_len, option_or, Range, cases_Bool, flat_map-append, common_steps, map-append, take-append-drop, All-head, All-tail, filter-append, find-append}
+use Rattle.bidi_base.proofs.Common.{is_kept_in_place, between, class_at, first_or, place, IsLine, char_index, IsPerChar, bounds, chars_in_runs, kept_in_place, units_in_runs, AreLines}
 use Rattle.bidi_base.specs.declared.char_data.BidiClass.{BidiClass}
 use Rattle.bidi_base.proofs.PlaceLemmas.{line_places, place-lt, place-mono}
 use Rattle.bidi_base.proofs.TextLemmas.{HasUnits}
@@ -49,7 +51,8 @@ module _ (len_of : ℕ → ℕ) (h : HasUnits len_of) (chars : List ℕ) (units 
   reads u = is_kept_in_place (class_at units u)
 
   -- of the n characters from i on
-  first_in_line : (i n : ℕ) → i + n ≤ length chars → find reads (between (place len_of chars i) (place len_of chars (i + n))) ≡ slice_get (map (place len_of chars) (kept_among len_of chars units (range_with_len i n))) 0
+  first_in_line : (i n : ℕ) → i + n ≤ length chars
+      → find reads (between (place len_of chars i) (place len_of chars (i + n))) ≡ slice_get (map (place len_of chars) (kept_among len_of chars units (range_with_len i n))) 0
   first_in_line i zero fits = grind arith
   first_in_line i (suc n) fits =
       let a = place len_of chars i in

@@ -1,5 +1,6 @@
 -- The brackets of a sequence by the units at which they begin: as they are gathered, and that they pair as the definitions say.
-use Rattle.bidi_base.proofs.Common.{◌≡◌, ℕ, suc, ◌+◌, ◌<◌, List, [], ◌∷◌, ◌++◌, length, map, get_or, refl, sym, ap, subst, ◌∙◌, arith, flat_map-append, length-map, counted_brackets, AreNestedPairs, brackets_from, found_brackets, ArePairsOf, at_places, Source, place, bounds, kept_in_place, Range, add-zero}
+use Rattle.bidi_base.proofs.Common.{◌≡◌, ℕ, suc, ◌+◌, ◌<◌, List, [], ◌∷◌, ◌++◌, length, map, get_or, refl, sym, ap, subst, ◌∙◌, arith, flat_map-append, length-map, counted_brackets}
+use Rattle.bidi_base.proofs.Common.{AreNestedPairs, brackets_from, found_brackets, ArePairsOf, at_places, Source, place, bounds, kept_in_place, Range, add-zero}
 use Rattle.bidi_base.specs.declared.brackets.Bracket.{Bracket}
 use Rattle.bidi_base.specs.declared.char_data.BidiClass.{BidiClass}
 use Rattle.bidi_base.specs.declared.char_data.BidiClass.TheVariants.{L}
@@ -40,7 +41,8 @@ pairs-placed len_of h chars source runs sos old ready brackets pairs is search =
     bracket_pairs-moved f rises brackets pairs (values_of L len_of chars old ks) (map source.bracket_of (at_places 0 chars ks)) search
     (is ∙ placed-moved len_of chars source old f rises 0 ks (λ i below. let same : 0 + i ≡ i = omega arith in ap f same ∙ spot-in len_of h chars old (map bounds runs) ready.lines ready.ordered i below))
 
-pub pairs-nested : (len_of : ℕ → ℕ) (chars : List ℕ) (source : Source) (runs : List (Range ℕ)) (old : List BidiClass) → AreNestedPairs (length (kept_in_place len_of chars old (map bounds runs))) (pairs_in len_of chars source old runs)
+pub pairs-nested : (len_of : ℕ → ℕ) (chars : List ℕ) (source : Source) (runs : List (Range ℕ)) (old : List BidiClass)
+    → AreNestedPairs (length (kept_in_place len_of chars old (map bounds runs))) (pairs_in len_of chars source old runs)
 pairs-nested len_of chars source runs old =
     let ks = kept_in_place len_of chars old (map bounds runs) in
     let long = length-values_of len_of chars L old ks in

@@ -1,5 +1,7 @@
 -- N1 for the direction against the embedding one, in one walk: neutrals wait from a class of that direction to the next class with one.
-use Rattle.bidi_base.proofs.Common.{◌≡◌, ℕ, zero, suc, ◌+◌, ◌-◌, ◌<◌, ◌≤◌, Bool, true, false, not, ◌&&◌, List, [], ◌∷◌, ◌++◌, length, map, replicate, Some, refl, ap, ◌∙◌, arith, append_assoc, append-nil, ◌⊎◌, filter, list_all, range_with_len, cases_Bool, cases_lt, map-append, as_direction, is_l_or_r, is_neutral, is_weak_resolved, stands_for, nearest_direction, n1_n2, n2_rule, at_places, class_at, in_runs}
+use Rattle.bidi_base.proofs.Common.{◌≡◌, ℕ, zero, suc, ◌+◌, ◌-◌, ◌<◌, ◌≤◌, Bool, true, false, not, ◌&&◌, List, [], ◌∷◌, ◌++◌, length, map, replicate, Some, refl, ap, ◌∙◌}
+use Rattle.bidi_base.proofs.Common.{arith, append_assoc, append-nil, ◌⊎◌, filter, list_all, range_with_len, cases_Bool, cases_lt, map-append, as_direction, is_l_or_r}
+use Rattle.bidi_base.proofs.Common.{is_neutral, is_weak_resolved, stands_for, nearest_direction, n1_n2, n2_rule, at_places, class_at, in_runs}
 use Rattle.bidi_base.specs.declared.char_data.BidiClass.{BidiClass}
 use Rattle.bidi_base.specs.declared.char_data.BidiClass.TheVariants.{L}
 use Rattle.bidi_laws.proofs.NeutralBlocks.{common}
@@ -62,7 +64,8 @@ module _ (e eos : BidiClass) (side : is_l_or_r e ≡ true) where
       simp (n1_n2-neutrals e o eos cs (c ∷ rest) h, near e c rest is, common_apart, map-settled cs h, n1_n2-directed e o e eos c rest is, n1_n2-directed e e e eos c rest is)
 
   -- neutrals between two of the opposite direction
-  between_two : (cs rest : List BidiClass) (c : BidiClass) → list_all is_neutral cs ≡ true → as_direction c ≡ Some o → n1_n2 e o eos (cs ++ c ∷ rest) ≡ replicate (length cs) o ++ n1_n2 e o eos (c ∷ rest)
+  between_two : (cs rest : List BidiClass) (c : BidiClass) → list_all is_neutral cs ≡ true → as_direction c ≡ Some o
+      → n1_n2 e o eos (cs ++ c ∷ rest) ≡ replicate (length cs) o ++ n1_n2 e o eos (c ∷ rest)
   between_two cs rest c h is = grind (arith, n1_n2-neutrals)
 
   -- a stretch of the opposite direction, whatever stands before it
@@ -81,7 +84,8 @@ module _ (mark : ℕ → Bool) (p : BidiClass → Bool) (old : List BidiClass) w
   at_marked-each low high h = each low (high - low) (λ k from below is. h k from (omega arith) is)
 
 -- a unit keeps its class, or has one that was written over some units
-pub own-after : (mark : ℕ → Bool) (d : BidiClass) (from to : ℕ) (old now new : List BidiClass) → IsWrittenOver mark d from to now new → ((k : ℕ) → (class_at now k ≡ class_at old k) ⊎ (class_at now k ≡ d))
+pub own-after : (mark : ℕ → Bool) (d : BidiClass) (from to : ℕ) (old now new : List BidiClass) → IsWrittenOver mark d from to now new
+    → ((k : ℕ) → (class_at now k ≡ class_at old k) ⊎ (class_at now k ≡ d))
     → (k : ℕ) → (class_at new k ≡ class_at old k) ⊎ (class_at new k ≡ d)
 own-after mark d from to old now new w own k = grind (arith, own k, cases_Bool (mark k), cases_lt k from, cases_lt k to)
 
@@ -125,14 +129,17 @@ module _ (s : Unjoined) where
       grind (arith, done-more now done to a, append_assoc, at_marked-same mark now s.old done to)
 
   -- more neutrals, or units that are none of the sequence
-  pub IsJoined-more : (now : List BidiClass) (waits : Bool) (done at to : ℕ) → at ≤ to → ((k : ℕ) → at ≤ k → k < to → mark k ≡ true → is_neutral (class_at s.old k) ≡ true) → IsJoined s now waits done at → IsJoined s now waits done to
+  pub IsJoined-more : (now : List BidiClass) (waits : Bool) (done at to : ℕ) → at ≤ to
+      → ((k : ℕ) → at ≤ k → k < to → mark k ≡ true → is_neutral (class_at s.old k) ≡ true) → IsJoined s now waits done at
+      → IsJoined s now waits done to
   IsJoined-more now waits done at to upto more j = grind arith
 
   waited : (now : List BidiClass) (waits : Bool) (done at : ℕ) → IsJoined s now waits done at → list_all is_neutral (at_old done at) ≡ true
   waited now waits done at j = at_marked-each mark is_neutral s.old done at j.waiting
 
   -- behind the embedding direction: units that don't stand for the opposite one
-  pub IsJoined-quiet : (now : List BidiClass) (done at to : ℕ) → at ≤ to → to ≤ size → ((k : ℕ) → at ≤ k → k < to → stands_for against (class_at s.old k) ≡ false) → IsJoined s now false done at → IsJoined s now false to to
+  pub IsJoined-quiet : (now : List BidiClass) (done at to : ℕ) → at ≤ to → to ≤ size
+      → ((k : ℕ) → at ≤ k → k < to → stands_for against (class_at s.old k) ≡ false) → IsJoined s now false done at → IsJoined s now false to to
   IsJoined-quiet now done at to upto fits none j =
       read now false false done at to (omega (arith, j.order)) fits j
       (ap (n1_n2 e e s.eos) (split s.old done to size (omega (arith, j.order)) fits)
@@ -148,7 +155,8 @@ module _ (s : Unjoined) where
   seen-directed at d inside is = grind arith steps 400000
 
   -- the embedding direction comes
-  pub IsJoined-turned : (now : List BidiClass) (done at : ℕ) → at < size → in_runs s.runs at ≡ true → as_direction (class_at s.old at) ≡ Some e → IsJoined s now true done at → IsJoined s now false at at
+  pub IsJoined-turned : (now : List BidiClass) (done at : ℕ) → at < size → in_runs s.runs at ≡ true
+      → as_direction (class_at s.old at) ≡ Some e → IsJoined s now true done at → IsJoined s now false at at
   IsJoined-turned now done at fits inside is j =
       let turn = turned e s.eos s.side (at_old done at) (at_old (at + 1) size) (class_at s.old at)
       (waited now true done at j) is in
@@ -164,7 +172,8 @@ module _ (s : Unjoined) where
   row-written now new from to w = grind (arith, at_marked-same, at_marked-all, length-at_places, map-opposite)
 
   -- the opposite direction comes, and is written to what waits
-  pub IsJoined-settled : (now new : List BidiClass) (done at : ℕ) → at < size → in_runs s.runs at ≡ true → as_direction (class_at s.old at) ≡ Some against → IsWrittenOver mark against done at now new → IsJoined s now true done at
+  pub IsJoined-settled : (now new : List BidiClass) (done at : ℕ) → at < size → in_runs s.runs at ≡ true
+      → as_direction (class_at s.old at) ≡ Some against → IsWrittenOver mark against done at now new → IsJoined s now true done at
       → IsJoined s new true at at
   IsJoined-settled now new done at fits inside is w j =
       let first = first_at at fits (seen-directed at against inside is) in

@@ -1,5 +1,6 @@
 -- The walk for N1 over the runs of a sequence.
-use Rattle.bidi_base.proofs.Common.{◌≡◌, ℕ, ◌+◌, ◌<◌, ◌≤◌, Bool, true, false, List, length, map, get_or, drop, Some, arith, add-one, inl, inr, ◌⊎◌, cases_Bool, as_direction, has_direction, is_kept_in_place, is_l_or_r, stands_for, n1_n2, n2_rule, at_places, class_at, in_runs}
+use Rattle.bidi_base.proofs.Common.{◌≡◌, ℕ, ◌+◌, ◌<◌, ◌≤◌, Bool, true, false, List, length, map, get_or, drop, Some, arith, add-one, inl, inr, ◌⊎◌, cases_Bool}
+use Rattle.bidi_base.proofs.Common.{as_direction, has_direction, is_kept_in_place, is_l_or_r, stands_for, n1_n2, n2_rule, at_places, class_at, in_runs}
 use Rattle.bidi_base.specs.declared.char_data.BidiClass.{BidiClass}
 use Rattle.bidi_base.specs.declared.char_data.BidiClass.TheVariants.{L}
 use Rattle.bidi_neutral.specs.JoinPass.{side_before, units_of, Unjoined, IsAtOpposite, IsJoined, IsUnderWay}
@@ -7,7 +8,8 @@ use Rattle.bidi_neutral.specs.PairWalk.{opposite_of}
 use Rattle.bidi_runs.specs.Written.{is_seen, IsWrittenOver}
 use Rattle.bidi_neutral.specs.declared.neutral.directions.Join.{Join}
 use Rattle.bidi_runs.proofs.InRuns.{in_runs-at, in_runs-drop, start_or, gap_before, gap_after, next_start}
-use Rattle.bidi_neutral.proofs.JoinScan.{opposite-directed, own-after, IsJoined-more, IsJoined-quiet, IsJoined-turned, IsJoined-settled, IsJoined-stretch, finished-quiet, finished-embedding, finished-opposite}
+use Rattle.bidi_neutral.proofs.JoinScan.{opposite-directed, own-after, IsJoined-more, IsJoined-quiet, IsJoined-turned}
+use Rattle.bidi_neutral.proofs.JoinScan.{IsJoined-settled, IsJoined-stretch, finished-quiet, finished-embedding, finished-opposite}
 use Rattle.bidi_runs.proofs.WrittenOver.{IsWrittenOver-same_test}
 
 -- a direction other than the opposite one is the embedding direction
@@ -16,7 +18,9 @@ other-embedding e c side h n = grind arith
 
 module _ (s : Unjoined) (now : List BidiClass) (w : Join) where
   -- what is written to what waits
-  over-old : (at : ℕ) (new : List BidiClass) (u : IsUnderWay s now w at) → w.waits ≡ true → IsWrittenOver (is_seen (drop w.first_run s.runs) now) (opposite_of s.e) w.first at now new → IsWrittenOver (is_seen s.runs s.old) (opposite_of s.e) u.done at now new
+  over-old : (at : ℕ) (new : List BidiClass) (u : IsUnderWay s now w at) → w.waits ≡ true
+      → IsWrittenOver (is_seen (drop w.first_run s.runs) now) (opposite_of s.e) w.first at now new
+      → IsWrittenOver (is_seen s.runs s.old) (opposite_of s.e) u.done at now new
   over-old at new u waiting over =
       let n = u.named waiting in
       IsWrittenOver-same_test (is_seen (drop w.first_run s.runs) now) (is_seen s.runs s.old) (opposite_of s.e) u.done at now new (λ k a b. cc (n.reached k a, u.joined.unwritten k a)) (simp n.first at over)
@@ -27,7 +31,9 @@ module _ (s : Unjoined) (now : List BidiClass) (w : Join) where
     IsUnderWay-more next from upto none = grind arith
 
     -- it comes, and is written to what waits
-    pub IsAtOpposite-settled : (new : List BidiClass) (next : ℕ) → at ≤ next → next < end → ((k : ℕ) → at ≤ k → k < next → has_direction (class_at now k) ≡ false) → stands_for (opposite_of s.e) (class_at now next) ≡ true → w.waits ≡ true
+    pub IsAtOpposite-settled : (new : List BidiClass) (next : ℕ) → at ≤ next → next < end
+        → ((k : ℕ) → at ≤ k → k < next → has_direction (class_at now k) ≡ false) → stands_for (opposite_of s.e) (class_at now next) ≡ true
+        → w.waits ≡ true
         → IsWrittenOver (is_seen (drop w.first_run s.runs) now) (opposite_of s.e) w.first next now new → IsAtOpposite s new w next end
     IsAtOpposite-settled new next from below none is waiting over =
         let more = IsUnderWay-more next from (omega arith) none in
@@ -41,7 +47,8 @@ module _ (s : Unjoined) (now : List BidiClass) (w : Join) where
         )
 
     -- the embedding direction comes
-    pub IsUnderWay-turned : (next : ℕ) → at ≤ next → next < end → ((k : ℕ) → at ≤ k → k < next → has_direction (class_at now k) ≡ false) → has_direction (class_at now next) ≡ true → stands_for (opposite_of s.e) (class_at now next) ≡ false → w.waits ≡ true
+    pub IsUnderWay-turned : (next : ℕ) → at ≤ next → next < end → ((k : ℕ) → at ≤ k → k < next → has_direction (class_at now k) ≡ false)
+        → has_direction (class_at now next) ≡ true → stands_for (opposite_of s.e) (class_at now next) ≡ false → w.waits ≡ true
         → IsJoined s now false next next
     IsUnderWay-turned next from below none is other waiting =
         let more = IsUnderWay-more next from (omega arith) none in
@@ -57,7 +64,8 @@ IsAtOpposite-quiet s now w done from next end j idle low high fits none is = gri
 )
 
 -- a stretch of it, with BN among it
-pub IsUnderWay-stretch : (s : Unjoined) (now : List BidiClass) (w : Join) (waits : Bool) (run at next : ℕ) → w.waits ≡ true → w.first ≡ next → w.first_run ≡ run → run < length s.runs → (get_or s.runs run (0, 0)).0 ≤ at → next ≤ (get_or s.runs run (0, 0)).1
+pub IsUnderWay-stretch : (s : Unjoined) (now : List BidiClass) (w : Join) (waits : Bool) (run at next : ℕ) → w.waits ≡ true
+    → w.first ≡ next → w.first_run ≡ run → run < length s.runs → (get_or s.runs run (0, 0)).0 ≤ at → next ≤ (get_or s.runs run (0, 0)).1
     → next ≤ length s.old → at < next → stands_for (opposite_of s.e) (class_at now at) ≡ true
     → ((k : ℕ) → at ≤ k → k < next → is_kept_in_place (class_at now k) ≡ true → stands_for (opposite_of s.e) (class_at now k) ≡ true) → IsJoined s now waits at at → IsUnderWay s now w next
 IsUnderWay-stretch s now w waits run at next waiting first_is run_is fits from upto within some here all j =
@@ -72,7 +80,8 @@ module _ (s : Unjoined) where
   size = length s.old
 
   -- behind a run
-  pub IsUnderWay-gap : (now : List BidiClass) (w : Join) (run : ℕ) → run < length s.runs → (get_or s.runs run (0, 0)).1 ≤ size → IsUnderWay s now w (get_or s.runs run (0, 0)).1 → IsUnderWay s now w (start_or s.runs (run + 1) size)
+  pub IsUnderWay-gap : (now : List BidiClass) (w : Join) (run : ℕ) → run < length s.runs → (get_or s.runs run (0, 0)).1 ≤ size
+      → IsUnderWay s now w (get_or s.runs run (0, 0)).1 → IsUnderWay s now w (start_or s.runs (run + 1) size)
   IsUnderWay-gap now w run here within u =
       grind (arith, add-one run, IsJoined-more, next_start 0 run s.runs size s.ordered here within, λ (k : ℕ). gap_after 0 run s.runs k size s.ordered here)
 

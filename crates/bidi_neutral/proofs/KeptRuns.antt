@@ -1,5 +1,7 @@
 -- The characters of runs that the passes take as kept, one after another.
-use Rattle.bidi_base.proofs.Common.{◌≡◌, ℕ, ◌+◌, ◌-◌, ◌<◌, ◌≤◌, true, List, [], ◌∷◌, ◌++◌, length, map, get_or, take, refl, arith, append-nil, range_with_len, flat_map-append, get_or-map, length-map, map-append, take_more, All-get_or, All-head, All-tail, filter-append, Range, is_kept_in_place, between, class_at, place, IsLine, char_index, are_ordered, are_ordered_from, bounds, chars_in_runs, kept_in_place, AreLines}
+use Rattle.bidi_base.proofs.Common.{◌≡◌, ℕ, ◌+◌, ◌-◌, ◌<◌, ◌≤◌, true, List, [], ◌∷◌, ◌++◌, length, map, get_or, take, refl, arith, append-nil, range_with_len}
+use Rattle.bidi_base.proofs.Common.{flat_map-append, get_or-map, length-map, map-append, take_more, All-get_or, All-head, All-tail, filter-append, Range, is_kept_in_place}
+use Rattle.bidi_base.proofs.Common.{between, class_at, place, IsLine, char_index, are_ordered, are_ordered_from, bounds, chars_in_runs, kept_in_place, AreLines}
 use Rattle.bidi_base.specs.declared.char_data.BidiClass.{BidiClass}
 use Rattle.bidi_base.proofs.TextLemmas.{HasUnits}
 use Rattle.bidi_base.proofs.PlaceLemmas.{char_index-le, line_places, place-le-back}
@@ -9,7 +11,8 @@ use Rattle.bidi_runs.proofs.WalkLemmas.{no_range, are_ordered-front}
 
 -- ---- the runs one after another
 
-pub line_at : (len_of : ℕ → ℕ) (chars : List ℕ) (runs : List (Range ℕ)) (i : ℕ) → i < length runs → AreLines len_of chars (map bounds runs) → IsLine len_of chars (get_or runs i no_range).start (get_or runs i no_range).end
+pub line_at : (len_of : ℕ → ℕ) (chars : List ℕ) (runs : List (Range ℕ)) (i : ℕ) → i < length runs → AreLines len_of chars (map bounds runs)
+    → IsLine len_of chars (get_or runs i no_range).start (get_or runs i no_range).end
 line_at len_of chars runs i fits lines =
     simp (get_or-map bounds runs i no_range (0, 0) fits) at (All-get_or (λ (r : ℕ × ℕ). IsLine len_of chars r.0 r.1) (map bounds runs) i (0, 0) (omega (arith, length-map runs bounds)) lines)
 
@@ -47,7 +50,8 @@ Ascends-append low mid high [] ys h g = Ascends-lower low mid high ys h g
 Ascends-append low mid high (x ∷ xs) ys h g = (h.0, Ascends-append (x + 1) mid high xs ys h.1 g)
 
 module _ (len_of : ℕ → ℕ) (h : HasUnits len_of) (chars : List ℕ) where
-  chars-all : (a : ℕ) (runs : List (ℕ × ℕ)) → AreLines len_of chars runs → are_ordered_from (place len_of chars a) runs ≡ true → a ≤ length chars → Ascends a (chars_in_runs len_of chars runs) (length chars)
+  chars-all : (a : ℕ) (runs : List (ℕ × ℕ)) → AreLines len_of chars runs → are_ordered_from (place len_of chars a) runs ≡ true
+      → a ≤ length chars → Ascends a (chars_in_runs len_of chars runs) (length chars)
   unfolding chars_in_runs
   chars-all a [] lines ordered within = within
   chars-all a (r ∷ runs) lines ordered within =

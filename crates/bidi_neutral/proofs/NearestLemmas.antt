@@ -1,5 +1,6 @@
 -- Searches through runs for a direction, forwards and backwards.
-use Rattle.bidi_base.proofs.Common.{◌≡◌, ℕ, ◌+◌, ◌<◌, ◌≤◌, true, false, List, length, map, get_or, take, drop, Some, None, ap, ◌∙◌, arith, inl, common_steps, Range, get_or-map, length-map, drop_more, as_direction, stands_for, class_at, bounds, are_ordered, in_runs}
+use Rattle.bidi_base.proofs.Common.{◌≡◌, ℕ, ◌+◌, ◌<◌, ◌≤◌, true, false, List, length, map, get_or, take, drop, Some, None, ap, ◌∙◌, arith, inl, common_steps}
+use Rattle.bidi_base.proofs.Common.{Range, get_or-map, length-map, drop_more, as_direction, stands_for, class_at, bounds, are_ordered, in_runs}
 use Rattle.bidi_base.specs.declared.char_data.BidiClass.{BidiClass}
 use Rattle.bidi_neutral.specs.PairWalk.{IsFirstFor, IsNearestBefore}
 use Rattle.bidi_runs.proofs.InRuns.{in_runs-at, in_runs-drop, in_runs-take}

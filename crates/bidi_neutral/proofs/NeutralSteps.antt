@@ -1,5 +1,8 @@
 -- The steps of N0 and N1 over a sequence, one after the other.
-use Rattle.bidi_base.proofs.Common.{◌≡◌, ℕ, ◌+◌, ◌<◌, ◌≤◌, Bool, true, false, ◌&&◌, if◌then◌else◌, List, [], ◌∷◌, length, map, find, slice_get, Option, Some, None, refl, sym, ap, ◌∙◌, arith, ◌⊎◌, rules, All, list_all, Range, cases_Bool, cases_lt, and_parts, and_left, and_right, nil_from_length, length-map, get_or_past, length-range_with_len, get_or-map-range_with_len, bracket_pairs, is_l_or_r, is_kept_in_place, is_weak_resolved, direction_of, n0, n1_rule, n1_n2, n2_rule, neutral_classes, at_places, class_at, first_or, indexes, level_at, Source, place, text_len, is_per_char, per_unit, IsPerChar, bounds, in_runs, kept_in_place, units_in_runs, AreLines}
+use Rattle.bidi_base.proofs.Common.{◌≡◌, ℕ, ◌+◌, ◌<◌, ◌≤◌, Bool, true, false, ◌&&◌, if◌then◌else◌, List, [], ◌∷◌, length, map, find, slice_get, Option, Some, None, refl, sym, ap, ◌∙◌, arith, ◌⊎◌, rules}
+use Rattle.bidi_base.proofs.Common.{All, list_all, Range, cases_Bool, cases_lt, and_parts, and_left, and_right, nil_from_length, length-map, get_or_past, length-range_with_len}
+use Rattle.bidi_base.proofs.Common.{get_or-map-range_with_len, bracket_pairs, is_l_or_r, is_kept_in_place, is_weak_resolved, direction_of, n0, n1_rule, n1_n2, n2_rule, neutral_classes, at_places}
+use Rattle.bidi_base.proofs.Common.{class_at, first_or, indexes, level_at, Source, place, text_len, is_per_char, per_unit, IsPerChar, bounds, in_runs, kept_in_place, units_in_runs, AreLines}
 use Rattle.bidi_base.specs.InPlace.{AreNeutralsResolvedUpToN1}
 use Rattle.bidi_base.specs.declared.char_data.BidiClass.{BidiClass}
 use Rattle.bidi_base.specs.declared.char_data.BidiClass.TheVariants.{L}
@@ -29,7 +32,9 @@ use Rattle.bidi_neutral.proofs.KeptRuns.{kept_in_place-Ascends}
 use Rattle.bidi_runs.proofs.WalkLemmas.{is_run_sequence-ordered}
 use Rattle.std.proofs.Math.ListN.{get_or-map as get_or-mapped}
 
-pub IsReady-sequence : (len_of : ℕ → ℕ) → HasUnits len_of → (chars : List ℕ) (sequence : LentSequence) (runs : List (Range ℕ)) (sos : BidiClass) (old : List BidiClass) → runs ≡ lent_runs sequence → sos ≡ lent_sos sequence
+pub IsReady-sequence : (len_of : ℕ → ℕ) → HasUnits len_of
+    → (chars : List ℕ) (sequence : LentSequence) (runs : List (Range ℕ)) (sos : BidiClass) (old : List BidiClass) → runs ≡ lent_runs sequence
+    → sos ≡ lent_sos sequence
     → is_per_char class_eq len_of chars old ≡ true → AreLines len_of chars (map bounds (lent_runs sequence))
     → list_all is_weak_resolved (values_of L len_of chars old (kept_in_place len_of chars old (map bounds (lent_runs sequence)))) ≡ true → IsReady len_of chars runs sos old
 IsReady-sequence len_of h chars sequence runs sos old runs_is sos_is per lines resolved =
@@ -162,7 +167,8 @@ module _ (len_of : ℕ → ℕ) (h : HasUnits len_of) (chars : List ℕ) (source
         grind (arith, cases_Bool (is_seen rs mid first), answer u, answer first, settled_same, either, others u, others first)
 
     -- N1 over the units then
-    pub IsUpToN1-paired : (levels : List ℕ) (first : ℕ) → Some first ≡ find (λ u. is_kept_in_place (class_at old u)) (units_in_runs rs) → e ≡ direction_of (level_at levels first) → IsUpToN1 len_of chars source levels original old new runs sos eos
+    pub IsUpToN1-paired : (levels : List ℕ) (first : ℕ) → Some first ≡ find (λ u. is_kept_in_place (class_at old u)) (units_in_runs rs)
+        → e ≡ direction_of (level_at levels first) → IsUpToN1 len_of chars source levels original old new runs sos eos
     IsUpToN1-paired levels first found is =
         let places = map (place len_of chars) (kept_in_place len_of chars old rs) in
         let everywhere = map (n2_rule e) new in
@@ -179,12 +185,14 @@ module _ (len_of : ℕ → ℕ) (h : HasUnits len_of) (chars : List ℕ) (source
         }
 
 -- without a character that is read nothing is to be done
-pub IsUpToN1-none : (len_of : ℕ → ℕ) (h : HasUnits len_of) (chars : List ℕ) (source : Source) (levels : List ℕ) (original old : List BidiClass) (runs : List (Range ℕ)) (sos eos : BidiClass) → IsReady len_of chars runs sos old
+pub IsUpToN1-none : (len_of : ℕ → ℕ) (h : HasUnits len_of) (chars : List ℕ) (source : Source) (levels : List ℕ) (original old : List BidiClass) (runs : List (Range ℕ)) (sos eos : BidiClass)
+    → IsReady len_of chars runs sos old
     → None ≡ find (λ u. is_kept_in_place (class_at old u)) (units_in_runs (map bounds runs)) → IsUpToN1 len_of chars source levels original old old runs sos eos
 IsUpToN1-none len_of h chars source levels original old runs sos eos ready found =
     grind (arith, neutral_classes-none, none-read len_of h chars runs sos old ready found, is_per_char-from_IsPerChar class_eq class_test len_of chars old ready.per_char)
 
 -- at the sequence itself
-pub IsUpToN1-sequence : (len_of : ℕ → ℕ) (chars : List ℕ) (source : Source) (levels : List ℕ) (original old new : List BidiClass) (sequence : LentSequence) (runs : List (Range ℕ)) (sos eos : BidiClass) → runs ≡ lent_runs sequence
+pub IsUpToN1-sequence : (len_of : ℕ → ℕ) (chars : List ℕ) (source : Source) (levels : List ℕ) (original old new : List BidiClass) (sequence : LentSequence) (runs : List (Range ℕ)) (sos eos : BidiClass)
+    → runs ≡ lent_runs sequence
     → sos ≡ lent_sos sequence → eos ≡ lent_eos sequence → IsUpToN1 len_of chars source levels original old new runs sos eos → IsUpToN1 len_of chars source levels original old new (lent_runs sequence) (lent_sos sequence) (lent_eos sequence)
 IsUpToN1-sequence len_of chars source levels original old new sequence runs sos eos runs_are sos_is eos_is r = grind arith steps 400000

@@ -1,5 +1,6 @@
 -- The characters of some runs stand in the runs.
-use Rattle.bidi_base.proofs.Common.{◌≡◌, ℕ, zero, suc, ◌+◌, ◌-◌, ◌<◌, ◌≤◌, Bool, true, List, [], ◌∷◌, arith, filter, All, range_with_len, or_right, All-append, All-cons, All-nil, All-head, All-tail, All-weaker, filter_passes, between, place, char_index, IsLine, chars_in_runs, in_runs, AreLines}
+use Rattle.bidi_base.proofs.Common.{◌≡◌, ℕ, zero, suc, ◌+◌, ◌-◌, ◌<◌, ◌≤◌, Bool, true, List, [], ◌∷◌, arith, filter, All, range_with_len, or_right, All-append, All-cons}
+use Rattle.bidi_base.proofs.Common.{All-nil, All-head, All-tail, All-weaker, filter_passes, between, place, char_index, IsLine, chars_in_runs, in_runs, AreLines}
 use Rattle.bidi_base.proofs.PlaceLemmas.{line_places, place-lt, place-mono}
 use Rattle.bidi_base.proofs.TextLemmas.{HasUnits}
 use Rattle.bidi_runs.proofs.InRuns.{in_run, in_run-inside}

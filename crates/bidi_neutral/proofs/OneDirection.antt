@@ -1,5 +1,7 @@
 -- A sequence in which each class is a neutral or one direction, which stands at its ends too: N2 alone is left.
-use Rattle.bidi_base.proofs.Common.{◌≡◌, ℕ, Bool, true, false, List, [], ◌∷◌, map, find, Option, Some, refl, arith, filter, All, list_all, Range, cases_Bool, length-map, All-head, All-tail, All-nil, All-cons, All-map, bracket_pairs, is_l_or_r, is_kept_in_place, is_weak_resolved, same_class, direction_of, n2_rule, neutral_classes, at_places, class_at, level_at, Source, place, bounds, chars_in_runs, in_runs, kept_in_place, units_in_runs}
+use Rattle.bidi_base.proofs.Common.{◌≡◌, ℕ, Bool, true, false, List, [], ◌∷◌, map, find, Option, Some, refl, arith, filter, All, list_all, Range, cases_Bool, length-map, All-head}
+use Rattle.bidi_base.proofs.Common.{All-tail, All-nil, All-cons, All-map, bracket_pairs, is_l_or_r, is_kept_in_place, is_weak_resolved, same_class, direction_of, n2_rule}
+use Rattle.bidi_base.proofs.Common.{neutral_classes, at_places, class_at, level_at, Source, place, bounds, chars_in_runs, in_runs, kept_in_place, units_in_runs}
 use Rattle.bidi_base.specs.declared.char_data.BidiClass.{BidiClass}
 use Rattle.bidi_base.specs.declared.char_data.BidiClass.TheVariants.{L}
 use Rattle.bidi_base.specs.declared.data_source.BidiMatchedOpeningBracket.{BidiMatchedOpeningBracket}
@@ -71,6 +73,7 @@ module _ (len_of : ℕ → ℕ) (h : HasUnits len_of) (chars : List ℕ) (runs :
           length-resolved e e e source classes (bracket_pairs classes brackets),
         )
 
-    pub IsUpToN1-one : (source : Source) (levels : List ℕ) (original : List BidiClass) (eos : BidiClass) (first : ℕ) → sos ≡ e → eos ≡ e → Some first ≡ find (λ u. is_kept_in_place (class_at old u)) (units_in_runs rs)
+    pub IsUpToN1-one : (source : Source) (levels : List ℕ) (original : List BidiClass) (eos : BidiClass) (first : ℕ) → sos ≡ e → eos ≡ e
+        → Some first ≡ find (λ u. is_kept_in_place (class_at old u)) (units_in_runs rs)
         → e ≡ direction_of (level_at levels first) → IsUpToN1 len_of chars source levels original old old runs sos eos
     IsUpToN1-one source levels original eos first sos_is eos_is found is = grind (arith, first-is, kept-one, is_per_char-from_IsPerChar, class_test)

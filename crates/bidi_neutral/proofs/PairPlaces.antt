@@ -1,5 +1,7 @@
 -- N0 over the units of a sequence, pair by pair: what a search over units says of the characters between two brackets and before them, and what is written.
-use Rattle.bidi_base.proofs.Common.{◌≡◌, ℕ, zero, suc, ◌+◌, ◌-◌, ◌<◌, ◌≤◌, true, false, ltb, List, length, map, get_or, take, drop, reverse, Some, None, refl, sym, ap, ◌∙◌, arith, inl, inr, lt-ltb, le-ltb, length-take, length-drop, get_or-take, get_or-drop, list_any, Range, cases_lt, list_any_at, list_any_none, as_direction, is_kept_in_place, stands_for, AreNestedPairs, nearest_direction, class_at, IsPerChar, bounds, in_runs, kept_in_place}
+use Rattle.bidi_base.proofs.Common.{◌≡◌, ℕ, zero, suc, ◌+◌, ◌-◌, ◌<◌, ◌≤◌, true, false, ltb, List, length, map, get_or, take, drop, reverse, Some, None, refl, sym, ap, ◌∙◌, arith}
+use Rattle.bidi_base.proofs.Common.{inl, inr, lt-ltb, le-ltb, length-take, length-drop, get_or-take, get_or-drop, list_any, Range, cases_lt, list_any_at, list_any_none, as_direction}
+use Rattle.bidi_base.proofs.Common.{is_kept_in_place, stands_for, AreNestedPairs, nearest_direction, class_at, IsPerChar, bounds, in_runs, kept_in_place}
 use Rattle.std.proofs.Common.{slice_range}
 use Rattle.std.proofs.Math.Numerals.{add-one}
 use Rattle.std.proofs.lemmas.List.Elements.{All-from_get_or}
@@ -46,7 +48,8 @@ pub opens_upto : (n : ℕ) (pairs : List (ℕ × ℕ)) (k m : ℕ) → AreNested
 opens_upto n pairs k m nested order fits = grind arith
 
 -- a class between two brackets
-between_at : (classes : List BidiClass) (i j k : ℕ) → j ≤ length classes → k < length (slice_range classes (i + 1) j) → (get_or (slice_range classes (i + 1) j) k L ≡ class_at classes (i + 1 + k)) × (i + 1 + k < j)
+between_at : (classes : List BidiClass) (i j k : ℕ) → j ≤ length classes → k < length (slice_range classes (i + 1) j)
+    → (get_or (slice_range classes (i + 1) j) k L ≡ class_at classes (i + 1 + k)) × (i + 1 + k < j)
 between_at classes i j k fits inside = grind (arith, length-take, get_or-take, get_or-drop)
 
 module _ (len_of : ℕ → ℕ) (h : HasUnits len_of) (chars : List ℕ) (runs : List (Range ℕ)) (sos : BidiClass) (old : List BidiClass) (ready : IsReady len_of chars runs sos old) (now : List BidiClass) (per : IsPerChar len_of chars now)
@@ -107,7 +110,8 @@ module _ (len_of : ℕ → ℕ) (h : HasUnits len_of) (chars : List ℕ) (runs :
       )
 
   -- so whether it lies before a closing says whether the direction stands between
-  pub between : (d : BidiClass) (i j r : ℕ) → j < length ks → ((x : ℕ) → i < x → x < j → at x < r → stands_for d (class_at cs x) ≡ false) → (r < at j → (x : ℕ) × (i < x) × (x < j) × (stands_for d (class_at cs x) ≡ true))
+  pub between : (d : BidiClass) (i j r : ℕ) → j < length ks → ((x : ℕ) → i < x → x < j → at x < r → stands_for d (class_at cs x) ≡ false)
+      → (r < at j → (x : ℕ) × (i < x) × (x < j) × (stands_for d (class_at cs x) ≡ true))
       → ltb r (at j) ≡ list_any (stands_for d) (slice_range cs (i + 1) j)
   between d i j r fits before found =
       let part = slice_range cs (i + 1) j in

@@ -1,5 +1,8 @@
 -- N0 over units, one pair after another: what is known ahead, and what a bracket and the marks behind it take.
-use Rattle.bidi_base.proofs.Common.{◌≡◌, ℕ, suc, ◌+◌, ◌<◌, ◌≤◌, Bool, true, false, ◌&&◌, ◌||◌, cond, eqb, ltb, List, [], ◌∷◌, length, map, get_or, take, reverse, Option, Some, None, refl, sym, ap, ◌∙◌, arith, inl, inr, eq-eqb, ne_eqb, length-take, get_or-take, get_or-drop, list_all, list_any, Range, cases_Bool, cases_lt, and_parts, and_from, get_or-map, length-map, fill_by_all, AreNestedPairs, has_direction, is_kept_in_place, is_l_or_r, is_nsm, stands_for, is_mark_after, n0_pair, nearest_direction, pair_direction, class_at, is_boundary, place, text_len, IsPerChar, bounds, in_runs, kept_in_place}
+use Rattle.bidi_base.proofs.Common.{◌≡◌, ℕ, suc, ◌+◌, ◌<◌, ◌≤◌, Bool, true, false, ◌&&◌, ◌||◌, cond, eqb, ltb, List, [], ◌∷◌, length, map, get_or, take, reverse, Option, Some, None, refl}
+use Rattle.bidi_base.proofs.Common.{sym, ap, ◌∙◌, arith, inl, inr, eq-eqb, ne_eqb, length-take, get_or-take, get_or-drop, list_all, list_any, Range, cases_Bool, cases_lt, and_parts}
+use Rattle.bidi_base.proofs.Common.{and_from, get_or-map, length-map, fill_by_all, AreNestedPairs, has_direction, is_kept_in_place, is_l_or_r, is_nsm, stands_for, is_mark_after, n0_pair}
+use Rattle.bidi_base.proofs.Common.{nearest_direction, pair_direction, class_at, is_boundary, place, text_len, IsPerChar, bounds, in_runs, kept_in_place}
 use Rattle.std.proofs.Common.{slice_range}
 use Rattle.bidi_base.specs.declared.char_data.BidiClass.{BidiClass}
 use Rattle.bidi_base.specs.declared.char_data.BidiClass.TheVariants.{L}
@@ -75,7 +78,8 @@ module _ (len_of : ℕ → ℕ) (h : HasUnits len_of) (chars : List ℕ) (origin
   module _ (pairs : List (ℕ × ℕ)) (nested : AreNestedPairs (length ks) pairs) (d : BidiClass) where
     -- within each pair from the one at k on, the first class that stands for the direction is the one at the unit `next`, or behind it; pairs that open at a mark are left out
     pub record Foresees (cs : List BidiClass) (k next : ℕ) : Type 0 where
-      pub ahead : (m : ℕ) → k ≤ m → m < length pairs → is_nsm (class_at sources (pair_at pairs m).0) ≡ false → (x : ℕ) → (pair_at pairs m).0 < x → x < (pair_at pairs m).1 → at x ≤ next → stands_for d (class_at cs x) ≡ eqb (at x) next
+      pub ahead : (m : ℕ) → k ≤ m → m < length pairs → is_nsm (class_at sources (pair_at pairs m).0) ≡ false → (x : ℕ)
+          → (pair_at pairs m).0 < x → x < (pair_at pairs m).1 → at x ≤ next → stands_for d (class_at cs x) ≡ eqb (at x) next
       pub there : 0 < next → next < text_len len_of chars → (x : ℕ) × (x < length ks) × (next ≡ at x)
 
     pub Foresees-start : (cs : List BidiClass) → Foresees cs 0 0
@@ -85,7 +89,8 @@ module _ (len_of : ℕ → ℕ) (h : HasUnits len_of) (chars : List ℕ) (origin
     Foresees-same cs new k next is f = record { ahead = λ m from fits none x after before upto. ap (λ (ds : List BidiClass). stands_for d (class_at ds x)) is ∙ f.ahead m (omega arith) fits none x after before upto; there = f.there }
 
     -- once N0 was done for the pair at k
-    pub Foresees-pair : (e : BidiClass) (cs : List BidiClass) (k next : ℕ) → length cs ≡ length ks → k < length pairs → Foresees cs k next → Foresees (n0_pair e sos sources cs (pair_at pairs k)) (k + 1) next
+    pub Foresees-pair : (e : BidiClass) (cs : List BidiClass) (k next : ℕ) → length cs ≡ length ks → k < length pairs → Foresees cs k next
+        → Foresees (n0_pair e sos sources cs (pair_at pairs k)) (k + 1) next
     Foresees-pair e cs k next long fits f = record {
       ahead = λ m after inside none x above below upto.
           let within = nested.0 m (0, 0) inside in
@@ -347,7 +352,8 @@ module _ (len_of : ℕ → ℕ) (h : HasUnits len_of) (chars : List ℕ) (origin
         ]
 
     -- nothing is written
-    pub IsWalkedTo-none : (taken : Option BidiClass) → IsAnswered taken → taken ≡ None → new_walk.embedding.direction ≡ e → new_walk.opposite.direction ≡ opposite_of e → IsWalkedTo now (k + 1) new_walk
+    pub IsWalkedTo-none : (taken : Option BidiClass) → IsAnswered taken → taken ≡ None → new_walk.embedding.direction ≡ e
+        → new_walk.opposite.direction ≡ opposite_of e → IsWalkedTo now (k + 1) new_walk
     IsWalkedTo-none taken a none e_is o_is =
         let stays = n0_pair-None e sos from_sources (cs_of now) (pair_at pairs k) (sym a.direction ∙ none) in
         let embedding = Foresees-same len_of h chars original runs sos old ready pairs nested e (cs_of now) (cs_of now) k new_walk.embedding.unit refl a.embedding in
@@ -355,7 +361,8 @@ module _ (len_of : ℕ → ℕ) (h : HasUnits len_of) (chars : List ℕ) (origin
         grind (arith, stays, w.done, n0-more e sos from_sources (cs_of old) pairs k (0, 0) fits, embedding, opposite)
 
     -- both brackets are written
-    pub IsWalkedTo-set : (taken : Option BidiClass) (d : BidiClass) (mid new : List BidiClass) → IsAnswered taken → taken ≡ Some d → new_walk.embedding.direction ≡ e → new_walk.opposite.direction ≡ opposite_of e
+    pub IsWalkedTo-set : (taken : Option BidiClass) (d : BidiClass) (mid new : List BidiClass) → IsAnswered taken → taken ≡ Some d
+        → new_walk.embedding.direction ≡ e → new_walk.opposite.direction ≡ opposite_of e
         → (let ks = kept_in_place len_of chars old (map bounds runs) in IsSet len_of chars (map bounds runs) original d (spots i) (get_or ks i 0 + 1) now mid)
         → (let ks = kept_in_place len_of chars old (map bounds runs) in IsSet len_of chars (map bounds runs) original d (spots j) (get_or ks j 0 + 1) mid new)
         → IsWalkedTo new (k + 1) new_walk

@@ -12,7 +12,8 @@ module _ (len_of : ℕ → ℕ) (chars : List ℕ) (runs : List (ℕ × ℕ)) (o
   IsRow-none units d = grind arith
 
   -- what stands in the row is written as it is to be
-  pub IsSet-held : HasUnits len_of → (units : List BidiClass) (row : Row) (b k : ℕ) (d : BidiClass) → IsRow len_of chars runs original units row → row.from ≤ b → b < row.end → row.direction ≡ d → k < length chars → b ≡ place len_of chars k
+  pub IsSet-held : HasUnits len_of → (units : List BidiClass) (row : Row) (b k : ℕ) (d : BidiClass)
+      → IsRow len_of chars runs original units row → row.from ≤ b → b < row.end → row.direction ≡ d → k < length chars → b ≡ place len_of chars k
       → IsSet len_of chars runs original d b (k + 1) units units
   IsSet-held h units row b k d r from below same fits there =
       let next = place-more len_of chars k 0 fits in
@@ -20,7 +21,9 @@ module _ (len_of : ℕ → ℕ) (chars : List ℕ) (runs : List (ℕ × ℕ)) (o
       (row.end, (grind (arith, place-mono), grind arith))
 
   -- what was written is the row
-  pub IsRow-set : (old new : List BidiClass) (b k end : ℕ) (d : BidiClass) → b ≡ place len_of chars k → IsSetUpTo len_of chars runs original d b (k + 1) end old new → IsRow len_of chars runs original new (record { from = b; end = end; direction = d })
+  pub IsRow-set : (old new : List BidiClass) (b k end : ℕ) (d : BidiClass) → b ≡ place len_of chars k
+      → IsSetUpTo len_of chars runs original d b (k + 1) end old new
+      → IsRow len_of chars runs original new (record { from = b; end = end; direction = d })
   IsRow-set old new b k end d there set =
       let e = set.0 in
       let w = set.1 in

@@ -1,5 +1,6 @@
 -- N2 over the units of a sequence, once N0 and N1 are done.
-use Rattle.bidi_base.proofs.Common.{◌≡◌, ℕ, ◌+◌, ◌<◌, ◌≤◌, true, false, List, [], ◌∷◌, length, map, find, None, refl, ◌∙◌, arith, All, Range, cases_Bool, All-head, All-tail, is_kept_in_place, direction_of, n2_rule, neutral_classes, at_places, class_at, first_or, level_at, Source, place, is_per_char, IsPerChar, bounds, in_runs, kept_in_place, units_in_runs}
+use Rattle.bidi_base.proofs.Common.{◌≡◌, ℕ, ◌+◌, ◌<◌, ◌≤◌, true, false, List, [], ◌∷◌, length, map, find, None, refl, ◌∙◌, arith, All, Range, cases_Bool, All-head, All-tail, is_kept_in_place, direction_of}
+use Rattle.bidi_base.proofs.Common.{n2_rule, neutral_classes, at_places, class_at, first_or, level_at, Source, place, is_per_char, IsPerChar, bounds, in_runs, kept_in_place, units_in_runs}
 use Rattle.bidi_base.specs.InPlace.{AreNeutralsResolved}
 use Rattle.bidi_base.specs.declared.char_data.BidiClass.{BidiClass}
 use Rattle.bidi_base.specs.declared.char_data.BidiClass.TheVariants.{L, BN}
@@ -23,7 +24,8 @@ at_each f now new (p ∷ ps) a = simp (
 )
 
 -- without a character that is read nothing is to be done
-kept-none : (len_of : ℕ → ℕ) (h : HasUnits len_of) (chars : List ℕ) (source : Source) (levels : List ℕ) (original old : List BidiClass) (runs : List (Range ℕ)) (sos eos : BidiClass) → IsReady len_of chars runs sos old
+kept-none : (len_of : ℕ → ℕ) (h : HasUnits len_of) (chars : List ℕ) (source : Source) (levels : List ℕ) (original old : List BidiClass) (runs : List (Range ℕ)) (sos eos : BidiClass)
+    → IsReady len_of chars runs sos old
     → None ≡ find (λ u. is_kept_in_place (class_at old u)) (units_in_runs (map bounds runs))
     → (let read = kept_in_place len_of chars old (map bounds runs) in let places = map (place len_of chars) read in
     at_places L old places
@@ -35,7 +37,8 @@ kept-none len_of h chars source levels original old runs sos eos ready found =
       (IsUpToN1-none len_of h chars source levels original old runs sos eos ready found).kept,
     )
 
-pub resolved-none : (len_of : ℕ → ℕ) (h : HasUnits len_of) (chars : List ℕ) (source : Source) (levels : List ℕ) (original old : List BidiClass) (runs : List (Range ℕ)) (sos eos : BidiClass) → is_per_char class_eq len_of chars old ≡ true → IsReady len_of chars runs sos old
+pub resolved-none : (len_of : ℕ → ℕ) (h : HasUnits len_of) (chars : List ℕ) (source : Source) (levels : List ℕ) (original old : List BidiClass) (runs : List (Range ℕ)) (sos eos : BidiClass)
+    → is_per_char class_eq len_of chars old ≡ true → IsReady len_of chars runs sos old
     → None ≡ find (λ u. is_kept_in_place (class_at old u)) (units_in_runs (map bounds runs)) → IsResolved len_of chars source levels original old old runs sos eos
 resolved-none len_of h chars source levels original old runs sos eos per ready found = record {
   kept = kept-none len_of h chars source levels original old runs sos eos ready found;
@@ -52,7 +55,8 @@ module _ (len_of : ℕ → ℕ) (h : HasUnits len_of) (chars : List ℕ) (runs :
   abbrev places : List ℕ
   places = map (place len_of chars) (kept_in_place len_of chars old rs)
 
-  pub IsResolved-settled : (e : BidiClass) → e ≡ direction_of (level_at levels (first_or 0 places)) → length new ≡ length now → ((u : ℕ) → in_runs rs u ≡ true → class_at new u ≡ n2_rule e (class_at now u))
+  pub IsResolved-settled : (e : BidiClass) → e ≡ direction_of (level_at levels (first_or 0 places)) → length new ≡ length now
+      → ((u : ℕ) → in_runs rs u ≡ true → class_at new u ≡ n2_rule e (class_at now u))
       → ((u : ℕ) → in_runs rs u ≡ false → class_at new u ≡ class_at now u) → IsResolved len_of chars source levels original old new runs sos eos
   IsResolved-settled e is long changed same = record {
     kept = simp is at (at_each (n2_rule e) now new places (at_read len_of h chars runs sos old ready (λ u. class_at new u ≡ n2_rule e (class_at now u)) (λ u inside reads. changed u inside))) ∙ up.kept;

@@ -1,5 +1,7 @@
 -- The characters of a sequence that are kept, by their numbers, and the units at which they begin.
-use Rattle.bidi_base.proofs.Common.{◌≡◌, ℕ, zero, suc, ◌+◌, ◌-◌, ◌<◌, ◌≤◌, true, Bool, List, [], ◌∷◌, ◌++◌, length, map, get_or, refl, sym, ap, ◌∙◌, arith, inl, inr, filter, range_with_len, cases_Bool, cases_lt, and_parts, or_cases, length-map, All-head, All-tail, All-filter, is_kept_in_place, at_places, between, class_at, char_index, place, IsLine, IsPerChar, are_ordered, chars_in_runs, in_runs, kept_in_place, AreLines}
+use Rattle.bidi_base.proofs.Common.{◌≡◌, ℕ, zero, suc, ◌+◌, ◌-◌, ◌<◌, ◌≤◌, true, Bool, List, [], ◌∷◌, ◌++◌, length, map, get_or, refl, sym, ap, ◌∙◌, arith, inl, inr, filter}
+use Rattle.bidi_base.proofs.Common.{range_with_len, cases_Bool, cases_lt, and_parts, or_cases, length-map, All-head, All-tail, All-filter, is_kept_in_place, at_places, between}
+use Rattle.bidi_base.proofs.Common.{class_at, char_index, place, IsLine, IsPerChar, are_ordered, chars_in_runs, in_runs, kept_in_place, AreLines}
 use Rattle.bidi_base.specs.declared.char_data.BidiClass.{BidiClass}
 use Rattle.bidi_base.specs.declared.char_data.BidiClass.TheVariants.{L}
 use Rattle.bidi_laws.proofs.PermutationLemmas.{Ascends}

@@ -1,5 +1,6 @@
 -- The brackets of a line, gathered unit by unit: those units at which no character begins have none, nor have those of another class than ON.
-use Rattle.bidi_base.proofs.Common.{◌≡◌, ℕ, zero, suc, ◌+◌, ◌-◌, ◌<◌, ◌≤◌, false, List, [], ◌∷◌, ◌++◌, length, get_or, None, refl, ap, ◌∙◌, arith, append-nil, range_with_len, flat_map-append, same_class, between, class_at, Source, char_at, char_index, place, IsLine, kept_in_place}
+use Rattle.bidi_base.proofs.Common.{◌≡◌, ℕ, zero, suc, ◌+◌, ◌-◌, ◌<◌, ◌≤◌, false, List, [], ◌∷◌, ◌++◌, length, get_or, None, refl, ap, ◌∙◌, arith, append-nil}
+use Rattle.bidi_base.proofs.Common.{range_with_len, flat_map-append, same_class, between, class_at, Source, char_at, char_index, place, IsLine, kept_in_place}
 use Rattle.std.specs.Prelude.{flat_map}
 use Rattle.bidi_base.specs.declared.brackets.Bracket.{Bracket}
 use Rattle.bidi_base.specs.declared.char_data.BidiClass.{BidiClass}
@@ -27,7 +28,8 @@ module _ (len_of : ℕ → ℕ) (chars : List ℕ) (source : Source) (units : Li
   pub unit_brackets-none : (low high : ℕ) → ((u : ℕ) → low ≤ u → u < high → same_class ON (class_at units u) ≡ false) → unit_brackets len_of chars source units low high ≡ []
   unit_brackets-none low high h = none_in low (high - low) (λ u a b. plain_unit u (h u a (omega arith)))
 
-  pub unit_brackets-parts : (low mid high : ℕ) → low ≤ mid → mid ≤ high → unit_brackets len_of chars source units low high ≡ unit_brackets len_of chars source units low mid ++ unit_brackets len_of chars source units mid high
+  pub unit_brackets-parts : (low mid high : ℕ) → low ≤ mid → mid ≤ high
+      → unit_brackets len_of chars source units low high ≡ unit_brackets len_of chars source units low mid ++ unit_brackets len_of chars source units mid high
   unit_brackets-parts low mid high a b = ap (flat_map at_unit) (between-append low mid high a b) ∙ flat_map-append at_unit (between low mid) (between mid high)
 
   -- one more unit, and those behind it that have none
@@ -54,16 +56,19 @@ module _ (len_of : ℕ → ℕ) (chars : List ℕ) (source : Source) (units : Li
         let last = place len_of chars (k + 1) in
         simp (between-first first last (omega arith), none_in (first + 1) (last - (first + 1)) (λ u a b. simp (within_none k u fits (omega arith) (omega arith))), append-nil, char_at-place len_of h chars k 0 fits)
 
-    placed-first : (i : ℕ) (ks : List ℕ) → placed_brackets len_of chars source units (kept_among len_of chars units (i ∷ ks)) ≡ placed_bracket len_of chars source units i ++ placed_brackets len_of chars source units (kept_among len_of chars units ks)
+    placed-first : (i : ℕ) (ks : List ℕ)
+        → placed_brackets len_of chars source units (kept_among len_of chars units (i ∷ ks)) ≡ placed_bracket len_of chars source units i ++ placed_brackets len_of chars source units (kept_among len_of chars units ks)
     placed-first i ks = grind arith
 
-    some_chars : (i n : ℕ) → i + n ≤ length chars → unit_brackets len_of chars source units (place len_of chars i) (place len_of chars (i + n)) ≡ placed_brackets len_of chars source units (kept_among len_of chars units (range_with_len i n))
+    some_chars : (i n : ℕ) → i + n ≤ length chars
+        → unit_brackets len_of chars source units (place len_of chars i) (place len_of chars (i + n)) ≡ placed_brackets len_of chars source units (kept_among len_of chars units (range_with_len i n))
     some_chars i zero fits = grind arith
     some_chars i (suc n) fits =
         grind (arith, unit_brackets-parts (place len_of chars i) (place len_of chars (i + 1)) (place len_of chars (i + 1 + n)), place-mono, one_char i, some_chars (i + 1) n, placed-first i (range_with_len (i + 1) n))
 
     -- those of a line
-    pub unit_brackets-line : (start end : ℕ) → IsLine len_of chars start end → unit_brackets len_of chars source units start end ≡ placed_brackets len_of chars source units (kept_in_place len_of chars units ((start, end) ∷ []))
+    pub unit_brackets-line : (start end : ℕ) → IsLine len_of chars start end
+        → unit_brackets len_of chars source units start end ≡ placed_brackets len_of chars source units (kept_in_place len_of chars units ((start, end) ∷ []))
     unit_brackets-line start end line =
         let i = char_index len_of chars start in
         let j = char_index len_of chars end in

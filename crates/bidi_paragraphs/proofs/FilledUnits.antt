@@ -1,5 +1,8 @@
 -- The levels of a paragraph's units: of what X9 removed, and of a paragraph that keeps to its level throughout.
-use Rattle.bidi_base.proofs.Common.{◌≡◌, ℕ, zero, suc, ◌+◌, ◌-◌, ◌<◌, ◌≤◌, Bool, true, false, List, [], ◌∷◌, length, get_or, Option, refl, sym, map, ap, ◌∙◌, arith, inl, inr, All, list_any, cases_Bool, cases_lt, both_ways, not-true, ext_get_or, replicate-append-replicate, get_or_default, get_or-map, length-map, list_any_at, list_any_none, sum_by-cons, IsPermutation-refl, IsTrue, is_initiator, is_removed, hidden, class_at, resolved_fsi, stored_classes, explicit_levels, explicit_classes, is_kept_at, level_at, sequences, AreResolved, levels_in, text_len, place, is_per_char, per_unit, per_char}
+use Rattle.bidi_base.proofs.Common.{◌≡◌, ℕ, zero, suc, ◌+◌, ◌-◌, ◌<◌, ◌≤◌, Bool, true, false, List, [], ◌∷◌, length, get_or, Option, refl, sym, map, ap, ◌∙◌, arith, inl, inr, All}
+use Rattle.bidi_base.proofs.Common.{list_any, cases_Bool, cases_lt, both_ways, not-true, ext_get_or, replicate-append-replicate, get_or_default, get_or-map, length-map, list_any_at}
+use Rattle.bidi_base.proofs.Common.{list_any_none, sum_by-cons, IsPermutation-refl, IsTrue, is_initiator, is_removed, hidden, class_at, resolved_fsi, stored_classes, explicit_levels}
+use Rattle.bidi_base.proofs.Common.{explicit_classes, is_kept_at, level_at, sequences, AreResolved, levels_in, text_len, place, is_per_char, per_unit, per_char}
 use Rattle.std.proofs.Common.{add-zero}
 use Rattle.std.specs.Prelude.{replicate}
 use Rattle.bidi_base.specs.declared.char_data.BidiClass.{BidiClass}
@@ -149,7 +152,8 @@ pub per_unit-replicate : {X : Type 0} (len_of : ℕ → ℕ) (chars : List ℕ) 
 per_unit-replicate len_of [] x = refl
 per_unit-replicate len_of (c ∷ chars) x = simp (per_unit-replicate len_of chars x, replicate-append-replicate, sum_by-cons)
 
-pub kept_to_levels : (len_of : ℕ → ℕ) (chars : List ℕ) (source : List BidiClass) (brackets : List (Option BidiMatchedOpeningBracket)) (paragraph : ℕ) (old new : List ℕ) → length source ≡ length chars → length old ≡ text_len len_of chars
+pub kept_to_levels : (len_of : ℕ → ℕ) (chars : List ℕ) (source : List BidiClass) (brackets : List (Option BidiMatchedOpeningBracket)) (paragraph : ℕ) (old new : List ℕ)
+    → length source ≡ length chars → length old ≡ text_len len_of chars
     → keeps_to paragraph source ≡ true → new ≡ replicate (length old) paragraph → new ≡ per_unit len_of chars (levels_in paragraph source brackets)
 kept_to_levels len_of chars source brackets paragraph old new fits long keeps is = grind (arith, per_unit-replicate, levels_in-keeps_to)
 

@@ -1,5 +1,6 @@
 -- A paragraph in which nothing opens a level: the passes over its one run.
-use Rattle.bidi_base.proofs.Common.{◌≡◌, ℕ, true, List, [], ◌∷◌, length, map, Option, arith, filter, Range, All-cons, All-nil, explicit_levels, explicit_classes, is_flat, hidden, stored_classes, direction_of, has_places, kept_places, sequences, IsLine, text_len, per_unit, AreLines, chars_in_runs, kept_in_runs}
+use Rattle.bidi_base.proofs.Common.{◌≡◌, ℕ, true, List, [], ◌∷◌, length, map, Option, arith, filter, Range, All-cons, All-nil, explicit_levels, explicit_classes, is_flat, hidden}
+use Rattle.bidi_base.proofs.Common.{stored_classes, direction_of, has_places, kept_places, sequences, IsLine, text_len, per_unit, AreLines, chars_in_runs, kept_in_runs}
 use Rattle.std.specs.Prelude.{replicate}
 use Rattle.std.proofs.lemmas.List.{append-nil}
 use Rattle.bidi_base.specs.declared.char_data.BidiClass.{BidiClass}
@@ -72,7 +73,8 @@ module _ (len_of : ℕ → ℕ) (h : HasUnits len_of) (chars : List ℕ) (source
   levels-whole old new long is = grind (arith, per_unit-replicate, explicit_levels-flat, stored_is)
 
   -- and the passes begin with the hidden classes
-  pub whole-AreResolvedTo : (original units : List BidiClass) → original ≡ per_unit len_of chars stored → units ≡ map hidden original → AreResolvedTo len_of h chars source bracket_of paragraph [] units
+  pub whole-AreResolvedTo : (original units : List BidiClass) → original ≡ per_unit len_of chars stored → units ≡ map hidden original
+      → AreResolvedTo len_of h chars source bracket_of paragraph [] units
   whole-AreResolvedTo original units original_is is =
       AreResolvedTo-start len_of h chars source bracket_of paragraph original units fits original_is
       (simp (is, original_is, stored_is, map-per_unit hidden len_of chars source, per_char-per_unit len_of h L chars source fits, processing_classes-flat source flat paragraph))

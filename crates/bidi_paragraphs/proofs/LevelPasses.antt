@@ -1,5 +1,8 @@
 -- The passes over the units of a paragraph, put together: what they leave once some sequences are resolved, and once all are.
-use Rattle.bidi_base.proofs.Common.{◌≡◌, ℕ, Range, bounds, take_all, zero, suc, ◌+◌, ◌<◌, ◌≤◌, true, false, List, [], ◌∷◌, ◌++◌, length, get_or, take, map, Option, refl, sym, ap, ◌∙◌, arith, filter, list_all, length-map, get_or-map, get_or_default, get_or-append_seam, take-append_seam, length-append, map-append, is_l_or_r, length-replicate, nil_from_length, get_or-zip, length-zip, is_weak_resolved, class_at, at_places, first_or, stored_classes, explicit_levels, explicit_classes, processing_classes, RunSequence, level_at, has_places, sequences, weak_classes, direction_of, n2_rule, neutral_classes, implicit_level, AreResolved, text_len, place, is_per_char, per_unit, per_char, AreLines, in_runs, kept_in_runs, kept_in_place}
+use Rattle.bidi_base.proofs.Common.{◌≡◌, ℕ, Range, bounds, take_all, zero, suc, ◌+◌, ◌<◌, ◌≤◌, true, false, List, [], ◌∷◌, ◌++◌, length, get_or, take, map, Option, refl, sym, ap, ◌∙◌, arith, filter, list_all, length-map}
+use Rattle.bidi_base.proofs.Common.{get_or-map, get_or_default, get_or-append_seam, take-append_seam, length-append, map-append, is_l_or_r, length-replicate, nil_from_length, get_or-zip, length-zip, is_weak_resolved}
+use Rattle.bidi_base.proofs.Common.{class_at, at_places, first_or, stored_classes, explicit_levels, explicit_classes, processing_classes, RunSequence, level_at, has_places, sequences, weak_classes, direction_of, n2_rule}
+use Rattle.bidi_base.proofs.Common.{neutral_classes, implicit_level, AreResolved, text_len, place, is_per_char, per_unit, per_char, AreLines, in_runs, kept_in_runs, kept_in_place}
 use Rattle.std.specs.Prelude.{zip, replicate}
 use Rattle.std.specs.List.{All}
 use Rattle.bidi_base.specs.declared.char_data.BidiClass.{BidiClass}
@@ -70,7 +73,8 @@ module _ (len_of : ℕ → ℕ) (h : HasUnits len_of) (chars : List ℕ) (source
   stored_read : (original : List BidiClass) → length source ≡ length chars → original ≡ per_unit len_of chars stored → per_char L len_of chars original ≡ stored
   stored_read original fits is = simp (is, per_char-per_unit len_of h L chars stored (length-stored_classes source ∙ fits))
 
-  pub AreResolvedTo-start : (original units : List BidiClass) → length source ≡ length chars → original ≡ per_unit len_of chars stored → units ≡ per_unit len_of chars (processing_classes paragraph (per_char L len_of chars original)) → AreResolvedTo [] units
+  pub AreResolvedTo-start : (original units : List BidiClass) → length source ≡ length chars → original ≡ per_unit len_of chars stored
+      → units ≡ per_unit len_of chars (processing_classes paragraph (per_char L len_of chars original)) → AreResolvedTo [] units
   AreResolvedTo-start original units fits original_is is =
       let read = simp (stored_read original fits original_is) at is in
       record { values = processing_classes paragraph stored; is = read; under_way = IsUnderWay-start paragraph source brackets stored levels }
@@ -229,7 +233,8 @@ module _ (len_of : ℕ → ℕ) (h : HasUnits len_of) (chars : List ℕ) (source
       all_are : map (characters_of len_of chars stored) (linked_sequences links runs) ≡ resolved_before r ++ characters_of len_of chars stored s ∷ map (characters_of len_of chars stored) part.after
       all_are = simp (part.is, map-append, is)
 
-      pub prepared-next : is_l_or_r s.sos ≡ true → IsNext source brackets stored levels classes (map (characters_of len_of chars stored) (sequences_before links runs r)) (characters_of len_of chars stored s)
+      pub prepared-next : is_l_or_r s.sos ≡ true
+          → IsNext source brackets stored levels classes (map (characters_of len_of chars stored) (sequences_before links runs r)) (characters_of len_of chars stored s)
       prepared-next side =
           let k : ℕ = length (resolved_before r) in
           let m : RunSequence = characters_of len_of chars stored s in
@@ -250,7 +255,8 @@ module _ (len_of : ℕ → ℕ) (h : HasUnits len_of) (chars : List ℕ) (source
       pub prepared-more : map (characters_of len_of chars stored) (sequences_before links runs (r + 1)) ≡ map (characters_of len_of chars stored) (sequences_before links runs r) ++ characters_of len_of chars stored s ∷ []
       prepared-more = simp (sequences_before-more links runs r here, map-append, is)
 
-    pub prepared-same : (r : ℕ) → begins links r ≡ false → map (characters_of len_of chars stored) (sequences_before links runs (r + 1)) ≡ map (characters_of len_of chars stored) (sequences_before links runs r)
+    pub prepared-same : (r : ℕ) → begins links r ≡ false
+        → map (characters_of len_of chars stored) (sequences_before links runs (r + 1)) ≡ map (characters_of len_of chars stored) (sequences_before links runs r)
     prepared-same r other = ap (map (characters_of len_of chars stored)) (sequences_before-same links runs r other)
 
     pub prepared-long : length unit_levels ≡ text_len len_of chars
@@ -261,7 +267,9 @@ module _ (len_of : ℕ → ℕ) (h : HasUnits len_of) (chars : List ℕ) (source
         rw ready.levels_is (All-per_unit (λ (n : ℕ). n ≤ 125) len_of chars levels
         (λ k d within. grind (arith, get_or_default levels k 0 d, explicit_levels-IsExplicitIn paragraph stored k, length-explicit_levels)))
 
-    pub AreLevels-from : (r : ℕ) (units : List BidiClass) (new : List ℕ) → r ≡ length runs → AreResolvedTo (map (characters_of len_of chars stored) (sequences_before links runs r)) units → new ≡ map (λ (e : ℕ × BidiClass). implicit_level e.0 e.1) (zip unit_levels units) → AreLevels new
+    pub AreLevels-from : (r : ℕ) (units : List BidiClass) (new : List ℕ) → r ≡ length runs
+        → AreResolvedTo (map (characters_of len_of chars stored) (sequences_before links runs r)) units
+        → new ≡ map (λ (e : ℕ × BidiClass). implicit_level e.0 e.1) (zip unit_levels units) → AreLevels new
     unfolding linked_sequences
     AreLevels-from r units new all now is =
         AreLevels-all (map (characters_of len_of chars stored) (sequences_before links runs r)) units unit_levels new ready.fits ready.levels_is

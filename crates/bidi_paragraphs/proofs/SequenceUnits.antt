@@ -1,5 +1,7 @@
 -- What the passes over the units of a sequence say about its characters.
-use Rattle.bidi_base.proofs.Common.{◌≡◌, ℕ, ◌+◌, ◌-◌, ◌<◌, true, false, List, [], ◌∷◌, length, map, refl, sym, ◌∙◌, arith, inl, inr, common_steps, filter, cases_Bool, cases_lt, both_ways, false_from_ne_true, nat_tests, get_or_past, get_or-map, filter-append, All-head, All-tail, sum_by-append, is_kept_in_place, class_at, at_places, between, first_or, is_kept_at, level_at, place, IsLine, char_index, per_unit, AreLines, in_runs, chars_in_runs, kept_in_runs, kept_in_place}
+use Rattle.bidi_base.proofs.Common.{◌≡◌, ℕ, ◌+◌, ◌-◌, ◌<◌, true, false, List, [], ◌∷◌, length, map, refl, sym, ◌∙◌, arith, inl, inr, common_steps, filter, cases_Bool, cases_lt, both_ways}
+use Rattle.bidi_base.proofs.Common.{false_from_ne_true, nat_tests, get_or_past, get_or-map, filter-append, All-head, All-tail, sum_by-append, is_kept_in_place, class_at, at_places, between}
+use Rattle.bidi_base.proofs.Common.{first_or, is_kept_at, level_at, place, IsLine, char_index, per_unit, AreLines, in_runs, chars_in_runs, kept_in_runs, kept_in_place}
 use Rattle.bidi_base.specs.declared.char_data.BidiClass.{BidiClass}
 use Rattle.bidi_base.specs.declared.char_data.BidiClass.TheVariants.{L, BN}
 use Rattle.bidi_base.proofs.ChainLemmas.{filter_range-agree}
@@ -25,7 +27,8 @@ at_places-map f d chars (p ∷ ps) h =
 
 module _ (len_of : ℕ → ℕ) (h : HasUnits len_of) (chars : List ℕ) where
   -- the units at the places of characters have their values
-  pub at_places-place : {X : Type 0} (d : X) (values units : List X) (ps : List ℕ) → length values ≡ length chars → units ≡ per_unit len_of chars values → AreWithin chars ps → at_places d units (map (place len_of chars) ps) ≡ at_places d values ps
+  pub at_places-place : {X : Type 0} (d : X) (values units : List X) (ps : List ℕ) → length values ≡ length chars
+      → units ≡ per_unit len_of chars values → AreWithin chars ps → at_places d units (map (place len_of chars) ps) ≡ at_places d values ps
   at_places-place d values units [] long is within = refl
   at_places-place d values units (p ∷ ps) long is within =
       simp (
@@ -35,7 +38,8 @@ module _ (len_of : ℕ → ℕ) (h : HasUnits len_of) (chars : List ℕ) where
       )
 
   -- and so has the first of them
-  pub level_at-first : (levels units : List ℕ) (ps : List ℕ) → length levels ≡ length chars → units ≡ per_unit len_of chars levels → AreWithin chars ps → level_at units (first_or 0 (map (place len_of chars) ps)) ≡ level_at levels (first_or 0 ps)
+  pub level_at-first : (levels units : List ℕ) (ps : List ℕ) → length levels ≡ length chars → units ≡ per_unit len_of chars levels
+      → AreWithin chars ps → level_at units (first_or 0 (map (place len_of chars) ps)) ≡ level_at levels (first_or 0 ps)
   level_at-first levels units ps long is within = grind (arith, common_steps, get_or-per_unit-place, length-per_unit)
 
   -- where BN stands exactly for what X9 removed, what is read is what it keeps
@@ -63,7 +67,8 @@ module _ (len_of : ℕ → ℕ) (h : HasUnits len_of) (chars : List ℕ) where
       grind (arith, there, times_in-kept_in_runs stored r runs p, kept_in_runs-within stored runs p, found, char_index-le len_of chars r.1, char_index-le len_of chars r.0)
 
   -- a kept character of which a unit stands in some runs is one of theirs
-  pub kept_in_runs-in : (stored : List BidiClass) (runs : List (ℕ × ℕ)) (p : ℕ) → AreLines len_of chars runs → p < length chars → is_kept_at stored p ≡ true → in_runs runs (place len_of chars p) ≡ true → 0 < times_in (kept_in_runs len_of chars stored runs) p
+  pub kept_in_runs-in : (stored : List BidiClass) (runs : List (ℕ × ℕ)) (p : ℕ) → AreLines len_of chars runs → p < length chars
+      → is_kept_at stored p ≡ true → in_runs runs (place len_of chars p) ≡ true → 0 < times_in (kept_in_runs len_of chars stored runs) p
   unfolding kept_in_runs chars_in_runs
   kept_in_runs-in stored [] p lines fits kept inside = absurd (both_ways false refl inside)
   kept_in_runs-in stored (r ∷ runs) p lines fits kept inside =
@@ -83,7 +88,8 @@ module _ (len_of : ℕ → ℕ) (h : HasUnits len_of) (chars : List ℕ) where
       )
 
   -- a pass that leaves BN and what stands outside some runs changes no other character than theirs
-  pub stays_elsewhere : (stored old new units units' : List BidiClass) (runs : List (ℕ × ℕ)) → AreLines len_of chars runs → length old ≡ length chars → length new ≡ length chars → units ≡ per_unit len_of chars old → units' ≡ per_unit len_of chars new
+  pub stays_elsewhere : (stored old new units units' : List BidiClass) (runs : List (ℕ × ℕ)) → AreLines len_of chars runs
+      → length old ≡ length chars → length new ≡ length chars → units ≡ per_unit len_of chars old → units' ≡ per_unit len_of chars new
       → ((p : ℕ) → p < length chars → is_kept_in_place (class_at old p) ≡ is_kept_at stored p)
       → ((u : ℕ) → class_at units u ≡ BN → class_at units' u ≡ BN) → ((u : ℕ) → in_runs runs u ≡ false → class_at units' u ≡ class_at units u)
       → (p : ℕ) → times_in (kept_in_runs len_of chars stored runs) p ≡ 0 → class_at new p ≡ class_at old p

@@ -1,5 +1,8 @@
 -- The sequences of a paragraph, resolved in place one after another: what the classes of its characters say once some of them are.
-use Rattle.bidi_base.proofs.Common.{◌≡◌, ℕ, zero, suc, ◌<◌, Bool, true, eqb, lt-ltb, List, [], ◌∷◌, ◌++◌, length, map, get_or, take, Option, None, refl, sym, ap, ◌∙◌, arith, inl, inr, filter, list_all, cases_Bool, cases_eq, nat_tests, nil_from_length, list_all-map, flat_map-append, sum_by-append, count_by-le-length, has_direction, is_kept, is_l_or_r, is_kept_in_place, is_weak_resolved, class_at, at_places, first_or, explicit_levels, explicit_classes, processing_class, processing_classes, RunSequence, is_kept_at, level_at, has_places, sequences, weak_classes, direction_of, n2_rule, neutral_classes, implicit_level, implicit_levels, resolved_levels, AreResolved}
+use Rattle.bidi_base.proofs.Common.{◌≡◌, ℕ, zero, suc, ◌<◌, Bool, true, eqb, lt-ltb, List, [], ◌∷◌, ◌++◌, length, map, get_or, take, Option, None, refl, sym, ap, ◌∙◌, arith, inl, inr, filter, list_all}
+use Rattle.bidi_base.proofs.Common.{cases_Bool, cases_eq, nat_tests, nil_from_length, list_all-map, flat_map-append, sum_by-append, count_by-le-length, has_direction, is_kept, is_l_or_r, is_kept_in_place}
+use Rattle.bidi_base.proofs.Common.{is_weak_resolved, class_at, at_places, first_or, explicit_levels, explicit_classes, processing_class, processing_classes, RunSequence, is_kept_at, level_at, has_places}
+use Rattle.bidi_base.proofs.Common.{sequences, weak_classes, direction_of, n2_rule, neutral_classes, implicit_level, implicit_levels, resolved_levels, AreResolved}
 use Rattle.bidi_base.specs.declared.char_data.BidiClass.{BidiClass}
 use Rattle.bidi_base.specs.declared.char_data.BidiClass.TheVariants.{L}
 use Rattle.bidi_base.specs.declared.data_source.BidiMatchedOpeningBracket.{BidiMatchedOpeningBracket}
@@ -28,12 +31,14 @@ module _ (source : List BidiClass) (brackets : List (Option BidiMatchedOpeningBr
   AreNeutral now [] = Unit {0}
   AreNeutral now (s ∷ seqs) = (map (n2_rule (own_direction s)) (at_places L now s.places) ≡ resolved_classes s) × AreNeutral now seqs
 
-  AreNeutral-kept : (now other : List BidiClass) (seqs : List RunSequence) → ((p : ℕ) → 0 < times_in (places_of seqs) p → class_at other p ≡ class_at now p) → AreNeutral now seqs → AreNeutral other seqs
+  AreNeutral-kept : (now other : List BidiClass) (seqs : List RunSequence)
+      → ((p : ℕ) → 0 < times_in (places_of seqs) p → class_at other p ≡ class_at now p) → AreNeutral now seqs → AreNeutral other seqs
   AreNeutral-kept now other [] agree h = h
   AreNeutral-kept now other (s ∷ seqs) agree h =
       grind (arith, agree, at_places-agree L other now s.places, AreNeutral-kept now other seqs, sum_by-append)
 
-  AreNeutral-push : (now : List BidiClass) (seqs : List RunSequence) (s : RunSequence) → AreNeutral now seqs → map (n2_rule (own_direction s)) (at_places L now s.places) ≡ resolved_classes s → AreNeutral now (seqs ++ s ∷ [])
+  AreNeutral-push : (now : List BidiClass) (seqs : List RunSequence) (s : RunSequence) → AreNeutral now seqs
+      → map (n2_rule (own_direction s)) (at_places L now s.places) ≡ resolved_classes s → AreNeutral now (seqs ++ s ∷ [])
   AreNeutral-push now [] s h e = (e, tt)
   AreNeutral-push now (r ∷ seqs) s h e = (h.0, AreNeutral-push now seqs s h.1 e)
 
@@ -68,7 +73,8 @@ module _ (source : List BidiClass) (brackets : List (Option BidiMatchedOpeningBr
     none_of p there = grind (arith, next.apart p)
 
     -- what is written is read, and what is not has not changed
-    read_after : (old new : List BidiClass) → ((p : ℕ) → p < length stored → is_kept_in_place (class_at old p) ≡ is_kept_at stored p) → StaysElsewhere s.places old new → list_all is_kept_in_place (at_places L new s.places) ≡ true
+    read_after : (old new : List BidiClass) → ((p : ℕ) → p < length stored → is_kept_in_place (class_at old p) ≡ is_kept_at stored p)
+        → StaysElsewhere s.places old new → list_all is_kept_in_place (at_places L new s.places) ≡ true
         → (p : ℕ) → p < length stored → is_kept_in_place (class_at new p) ≡ is_kept_at stored p
     read_after old new read stays all p within = elim (cases_eq (times_in s.places p) 0) [
       | inl none ↦ cc (stays p none, read p within)
@@ -82,7 +88,8 @@ module _ (source : List BidiClass) (brackets : List (Option BidiMatchedOpeningBr
     weak_resolved : list_all is_weak_resolved (weak_classes s.sos (at_places L classes s.places)) ≡ true
     weak_resolved = weak_classes-resolved s.sos (at_places L classes s.places) next.sos (list_all-at_places is_kept L classes s.places (λ p there. next.explicit p there))
 
-    pub IsWeakNext-from : (old new : List BidiClass) → IsUnderWay seqs old → length new ≡ length old → StaysElsewhere s.places old new → at_places L new s.places ≡ weak_classes s.sos (at_places L old s.places) → IsWeakNext seqs s new
+    pub IsWeakNext-from : (old new : List BidiClass) → IsUnderWay seqs old → length new ≡ length old → StaysElsewhere s.places old new
+        → at_places L new s.places ≡ weak_classes s.sos (at_places L old s.places) → IsWeakNext seqs s new
     IsWeakNext-from old new h long stays weak =
         let answer : at_places L new s.places ≡ weak_classes s.sos (at_places L classes s.places) =
         cc (weak, at_places-agree L old classes s.places (λ p there. h.rest p (next.kept p there).1 (next.kept p there).0 (next.apart p there))) in
@@ -112,7 +119,9 @@ module _ (source : List BidiClass) (brackets : List (Option BidiMatchedOpeningBr
   implicit_levels-n2 level [] = refl
   implicit_levels-n2 level (c ∷ cs) = grind (arith, implicit_levels-n2 level cs)
 
-  implicit_levels-at : (level : ℕ) (new : List ℕ) (now : List BidiClass) (ps : List ℕ) → ((p : ℕ) → 0 < times_in ps p → level_at new p ≡ implicit_level level (class_at now p)) → at_places 0 new ps ≡ implicit_levels level (at_places L now ps)
+  implicit_levels-at : (level : ℕ) (new : List ℕ) (now : List BidiClass) (ps : List ℕ)
+      → ((p : ℕ) → 0 < times_in ps p → level_at new p ≡ implicit_level level (class_at now p))
+      → at_places 0 new ps ≡ implicit_levels level (at_places L now ps)
   implicit_levels-at level new now [] each = refl
   implicit_levels-at level new now (p ∷ ps) each = grind (arith, each, times_in-first p ps, implicit_levels-at level new now ps, times_in-later p ps)
 
@@ -129,7 +138,8 @@ module _ (source : List BidiClass) (brackets : List (Option BidiMatchedOpeningBr
       let later : (k : ℕ) (d : RunSequence) → k < length seqs → HasOneLevel (get_or seqs k d) = λ k d within. one (suc k) d (omega arith) in
       grind (arith, one 0 s, later, implicit, implicit_levels-at (level_at levels (first_or 0 s.places)) new now s.places, implicit_levels-n2, AreResolved-from new now seqs, sum_by-append)
 
-  pub AreResolved-filter : (new : List ℕ) (test : RunSequence → Bool) (seqs : List RunSequence) → AreResolved source brackets levels classes new seqs → AreResolved source brackets levels classes new (filter test seqs)
+  pub AreResolved-filter : (new : List ℕ) (test : RunSequence → Bool) (seqs : List RunSequence)
+      → AreResolved source brackets levels classes new seqs → AreResolved source brackets levels classes new (filter test seqs)
   AreResolved-filter new test [] h = tt
   AreResolved-filter new test (s ∷ seqs) h = grind (arith, AreResolved-filter new test seqs)
 
@@ -142,7 +152,8 @@ unfolding processing_class
 IsUnderWay-start paragraph source brackets stored levels =
     grind (arith, length-processing_classes, class_at-processing_classes, class_at-explicit_classes, is_kept_in_place-kept, explicit_class-kept)
 
-filter-at : {X : Type 0} (test : X → Bool) (xs : List X) (k : ℕ) (d : X) → k < length xs → test (get_or xs k d) ≡ true → (j : ℕ) × (j < length (filter test xs)) × (get_or (filter test xs) j d ≡ get_or xs k d)
+filter-at : {X : Type 0} (test : X → Bool) (xs : List X) (k : ℕ) (d : X) → k < length xs → test (get_or xs k d) ≡ true
+    → (j : ℕ) × (j < length (filter test xs)) × (get_or (filter test xs) j d ≡ get_or xs k d)
 filter-at test [] k d within passes = absurd (omega arith)
 filter-at test (x ∷ xs) zero d within passes = simp passes (0, omega arith, refl)
 filter-at test (x ∷ xs) (suc k) d within passes =
@@ -178,7 +189,8 @@ module _ (paragraph : ℕ) (stored : List BidiClass) (seqs : List RunSequence) (
       record { sos = side; kept = kept; apart = apart; explicit = grind (arith, kept, explicit_classes-kept paragraph stored) }
 
   -- once all are resolved, the implicit levels are those of the rules
-  pub AreResolved-all : (source : List BidiClass) (brackets : List (Option BidiMatchedOpeningBracket)) (now : List BidiClass) (new : List ℕ) → IsUnderWay source brackets stored levels (explicit_classes paragraph stored) seqs now
+  pub AreResolved-all : (source : List BidiClass) (brackets : List (Option BidiMatchedOpeningBracket)) (now : List BidiClass) (new : List ℕ)
+      → IsUnderWay source brackets stored levels (explicit_classes paragraph stored) seqs now
       → ((p : ℕ) → p < length stored → level_at new p ≡ implicit_level (level_at levels p) (class_at now p))
       → AreResolved source brackets levels (explicit_classes paragraph stored) new (sequences paragraph stored levels)
   AreResolved-all source brackets now new h implicit =

@@ -1,5 +1,8 @@
 -- A settled sequence is as W1 to N1 leave it.
-use Rattle.bidi_base.proofs.Common.{◌≡◌, ℕ, zero, suc, ◌-◌, ◌<◌, ◌≤◌, Bool, true, false, not, ◌&&◌, List, [], ◌∷◌, length, get_or, map, find, Some, refl, sym, arith, nat_lt, filter, All, list_all, cases_Bool, and_parts, and_from, All-head, All-tail, All-nil, All-cons, All-map, bounds, are_ordered, is_l_or_r, is_en, is_kept_in_place, is_weak_resolved, in_context, w1_rule, w2_rule, w3_rule, w4_rule, w5_rule, w6_rule, w7_rule, weak_classes, class_at, at_places, Source, text_len, place, in_runs, units_in_runs, chars_in_runs, kept_in_place, AreLines, is_per_char, ◌⊎◌, inl, inr, get_or_past, first_or, indexes, n0, n1_rule, n2_rule, neutral_classes, ◌∙◌, level_at, direction_of}
+use Rattle.bidi_base.proofs.Common.{◌≡◌, ℕ, zero, suc, ◌-◌, ◌<◌, ◌≤◌, Bool, true, false, not, ◌&&◌, List, [], ◌∷◌, length, get_or, map, find, Some, refl, sym, arith, nat_lt, filter, All, list_all}
+use Rattle.bidi_base.proofs.Common.{cases_Bool, and_parts, and_from, All-head, All-tail, All-nil, All-cons, All-map, bounds, are_ordered, is_l_or_r, is_en, is_kept_in_place, is_weak_resolved, in_context}
+use Rattle.bidi_base.proofs.Common.{w1_rule, w2_rule, w3_rule, w4_rule, w5_rule, w6_rule, w7_rule, weak_classes, class_at, at_places, Source, text_len, place, in_runs, units_in_runs, chars_in_runs}
+use Rattle.bidi_base.proofs.Common.{kept_in_place, AreLines, is_per_char, ◌⊎◌, inl, inr, get_or_past, first_or, indexes, n0, n1_rule, n2_rule, neutral_classes, ◌∙◌, level_at, direction_of}
 use Rattle.std.specs.Prelude.{◌==◌, filter_map, fold, Option, None}
 use Rattle.bidi_base.specs.Brackets.{counted_brackets, bracket_at, with_closing, closed_pairs, bracket_limit, pairs_of, bracket_pairs}
 use Rattle.bidi_base.specs.declared.data_source.BidiMatchedOpeningBracket.{BidiMatchedOpeningBracket}
@@ -20,7 +23,8 @@ use Rattle.bidi_paragraphs.specs.Settled.{goes_along, is_directed, first_unit, H
 abbrev is_idle : BidiClass → Bool
 is_idle c = is_weak_resolved c && not (is_en c)
 
-same-in_context : (rule : List BidiClass → BidiClass → List BidiClass → BidiClass) (p : BidiClass → Bool) → ((before : List BidiClass) (c : BidiClass) (after : List BidiClass) → p c ≡ true → rule before c after ≡ c)
+same-in_context : (rule : List BidiClass → BidiClass → List BidiClass → BidiClass) (p : BidiClass → Bool)
+    → ((before : List BidiClass) (c : BidiClass) (after : List BidiClass) → p c ≡ true → rule before c after ≡ c)
     → (before xs : List BidiClass) → list_all p xs ≡ true → in_context rule before xs ≡ xs
 same-in_context rule p same before [] h = refl
 same-in_context rule p same before (x ∷ xs) h = grind (arith, and_parts, same, same-in_context rule p same (x ∷ before) xs)
@@ -135,7 +139,8 @@ module _ (classes : List BidiClass) (brackets : List (Option BidiMatchedOpeningB
 
 -- ---- the characters of a sequence
 
-pub lines-within : (len_of : ℕ → ℕ) (chars : List ℕ) (units : List BidiClass) (runs : List (ℕ × ℕ)) → length units ≡ text_len len_of chars → AreLines len_of chars runs → All (λ r. r.1 ≤ length units) runs
+pub lines-within : (len_of : ℕ → ℕ) (chars : List ℕ) (units : List BidiClass) (runs : List (ℕ × ℕ)) → length units ≡ text_len len_of chars
+    → AreLines len_of chars runs → All (λ r. r.1 ≤ length units) runs
 lines-within len_of chars units runs long lines = grind (arith, is_boundary-le)
 
 list_all-at_places : (p : BidiClass → Bool) (units : List BidiClass) (ps : List ℕ) → All (λ u. p (class_at units u) ≡ true) ps → list_all p (at_places L units ps) ≡ true
@@ -150,7 +155,8 @@ filter_each test within P holds (k ∷ ks) a =
     grind (arith, cases_Bool (test k), All-cons P k (filter test ks), holds k, All-head (λ j. within j ≡ true) k ks a, filter_each test within P holds ks (All-tail (λ j. within j ≡ true) k ks a))
 
 -- the first of them
-found_first : (test : ℕ → Bool) (rs : List (ℕ × ℕ)) → nat_lt 0 (length rs) ≡ true → are_ordered rs ≡ true → test (get_or rs 0 (0, 0)).0 ≡ true → Some (get_or rs 0 (0, 0)).0 ≡ find test (units_in_runs rs)
+found_first : (test : ℕ → Bool) (rs : List (ℕ × ℕ)) → nat_lt 0 (length rs) ≡ true → are_ordered rs ≡ true
+    → test (get_or rs 0 (0, 0)).0 ≡ true → Some (get_or rs 0 (0, 0)).0 ≡ find test (units_in_runs rs)
 found_first test [] some ordered passes = absurd (cc some)
 found_first test (r ∷ rs) some ordered passes = by_length (r.1 - r.0) refl (grind arith)
   where

@@ -1,5 +1,6 @@
 -- The character that begins at a boundary, and where it ends.
-use Rattle.bidi_base.proofs.Common.{◌≡◌, ℕ, ◌+◌, ◌<◌, ◌≤◌, true, List, length, get_or, Some, sym, ap, ◌∙◌, arith, common_steps, class_at, char_at, char_index, is_boundary, place, text_len, is_per_char}
+use Rattle.bidi_base.proofs.Common.{◌≡◌, ℕ, ◌+◌, ◌<◌, ◌≤◌, true, List, length, get_or, Some, sym, ap, ◌∙◌, arith, common_steps}
+use Rattle.bidi_base.proofs.Common.{class_at, char_at, char_index, is_boundary, place, text_len, is_per_char}
 use Rattle.bidi_base.specs.declared.char_data.BidiClass.{BidiClass}
 use Rattle.bidi_base.proofs.PlaceLemmas.{char_at-place, char_index-place, is_boundary-place, place-char_index, place-end, place-le-back, place-mono, place-more, place-more-le, place-zero}
 use Rattle.bidi_text.proofs.PerCharTests.{class_eq, class_test}
@@ -50,7 +51,8 @@ module _ (len_of : ℕ → ℕ) (h : HasUnits len_of) (chars : List ℕ) where
     pub index : char_index len_of chars next ≡ char_index len_of chars at + 1
     pub same : (u : ℕ) → at ≤ u → u < next → class_at classes u ≡ class_at classes at
 
-  pub goes : (classes : List BidiClass) (at next to : ℕ) → is_per_char class_eq len_of chars classes ≡ true → is_boundary len_of chars at ≡ true → is_boundary len_of chars to ≡ true → at < to → to ≤ text_len len_of chars
+  pub goes : (classes : List BidiClass) (at next to : ℕ) → is_per_char class_eq len_of chars classes ≡ true
+      → is_boundary len_of chars at ≡ true → is_boundary len_of chars to ≡ true → at < to → to ≤ text_len len_of chars
       → ((k : ℕ) → k < length chars → at ≡ place len_of chars k → next ≡ place len_of chars (k + 1)) → Goes classes at next to
   goes classes at next to whole begins ends order inside is =
       let b = begins_at at begins (omega arith) in

@@ -1,5 +1,6 @@
 -- How many units of some ranges lie below a unit.
-use Rattle.bidi_base.proofs.Common.{◌≡◌, ℕ, ◌+◌, ◌-◌, ◌<◌, ◌≤◌, min, List, [], ◌∷◌, length, true, get_or, take, drop, refl, sym, arith, common_steps, length-range_with_len, sum_by-cons, sum_by-append, between, are_ordered_from, take_more}
+use Rattle.bidi_base.proofs.Common.{◌≡◌, ℕ, ◌+◌, ◌-◌, ◌<◌, ◌≤◌, min, List, [], ◌∷◌, length, true, get_or, take, drop, refl, sym, arith}
+use Rattle.bidi_base.proofs.Common.{common_steps, length-range_with_len, sum_by-cons, sum_by-append, between, are_ordered_from, take_more}
 use Rattle.std.proofs.lemmas.List.Sums.{sum_by-take-drop}
 use Rattle.bidi_runs.specs.Written.{count_below}
 use Rattle.bidi_runs.proofs.WalkLemmas.{are_ordered-front}
@@ -27,7 +28,8 @@ unfolding count_below
 count_below-parts index runs u = sym (sum_by-take-drop (λ (r : ℕ × ℕ). min r.1 u - min r.0 u) runs index)
 
 -- one range more
-pub count_below-more : (index : ℕ) (runs : List (ℕ × ℕ)) (u : ℕ) → index < length runs → count_below (take (index + 1) runs) u ≡ count_below (take index runs) u + (min (get_or runs index (0, 0)).1 u - min (get_or runs index (0, 0)).0 u)
+pub count_below-more : (index : ℕ) (runs : List (ℕ × ℕ)) (u : ℕ) → index < length runs
+    → count_below (take (index + 1) runs) u ≡ count_below (take index runs) u + (min (get_or runs index (0, 0)).1 u - min (get_or runs index (0, 0)).0 u)
 unfolding count_below
 count_below-more index runs u fits =
     grind (arith, take_more runs index (0, 0) fits, sum_by-append (λ (r : ℕ × ℕ). min r.1 u - min r.0 u), sum_by-cons (λ (r : ℕ × ℕ). min r.1 u - min r.0 u))

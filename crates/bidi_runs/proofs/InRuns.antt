@@ -1,5 +1,6 @@
 -- The units in some ranges that are in order.
-use Rattle.bidi_base.proofs.Common.{◌≡◌, ℕ, zero, suc, ◌+◌, ◌<◌, ◌≤◌, Bool, true, false, ◌&&◌, ◌||◌, leb, ltb, List, [], ◌∷◌, length, get_or, take, drop, refl, arith, All, and_from, and_left, and_right, le-leb, list_any_at, are_ordered_from, in_runs}
+use Rattle.bidi_base.proofs.Common.{◌≡◌, ℕ, zero, suc, ◌+◌, ◌<◌, ◌≤◌, Bool, true, false, ◌&&◌, ◌||◌, leb, ltb, List, [], ◌∷◌, length, get_or, take, drop}
+use Rattle.bidi_base.proofs.Common.{refl, arith, All, and_from, and_left, and_right, le-leb, list_any_at, are_ordered_from, in_runs}
 use Rattle.std.proofs.lemmas.Bool.{lt-ltb, le-ltb, lt-leb}
 use Rattle.std.proofs.lemmas.List.Folds.{list_any_more}
 use Rattle.bidi_runs.proofs.WalkLemmas.{are_ordered-front}
@@ -32,14 +33,16 @@ start_after end zero (r ∷ runs) h fits = (are_ordered-front end r runs h).from
 start_after end (suc index) (r ∷ runs) h fits = grind (arith, are_ordered-front end r runs h, start_after r.1 index runs)
 
 -- from a unit on that the ranges before `index` do not reach
-pub in_runs-drop : (low index : ℕ) (runs : List (ℕ × ℕ)) (k : ℕ) → are_ordered_from low runs ≡ true → index < length runs → (get_or runs index (0, 0)).0 ≤ k → in_runs (drop index runs) k ≡ in_runs runs k
+pub in_runs-drop : (low index : ℕ) (runs : List (ℕ × ℕ)) (k : ℕ) → are_ordered_from low runs ≡ true → index < length runs
+    → (get_or runs index (0, 0)).0 ≤ k → in_runs (drop index runs) k ≡ in_runs runs k
 in_runs-drop low zero runs k h fits from = refl
 in_runs-drop low (suc index) [] k h fits from = refl
 in_runs-drop low (suc index) (r ∷ runs) k h fits from =
     grind (arith, are_ordered-front low r runs h, start_after r.1 index runs, in_run-above r k, in_runs-drop r.1 index runs k)
 
 -- up to a unit at which the range at `index` has not begun
-pub in_runs-take : (low index : ℕ) (runs : List (ℕ × ℕ)) (k : ℕ) → are_ordered_from low runs ≡ true → index < length runs → k < (get_or runs index (0, 0)).0 → in_runs (take index runs) k ≡ in_runs runs k
+pub in_runs-take : (low index : ℕ) (runs : List (ℕ × ℕ)) (k : ℕ) → are_ordered_from low runs ≡ true → index < length runs
+    → k < (get_or runs index (0, 0)).0 → in_runs (take index runs) k ≡ in_runs runs k
 in_runs-take low index [] k h fits before = absurd (omega arith)
 in_runs-take low zero (r ∷ runs) k h fits before = grind (arith, in_runs-below)
 in_runs-take low (suc index) (r ∷ runs) k h fits before = grind (arith, are_ordered-front low r runs h, in_runs-take r.1 index runs k)
@@ -77,14 +80,16 @@ pub gap_before : (low : ℕ) (runs : List (ℕ × ℕ)) (k n : ℕ) → are_orde
 gap_before low [] k n h before = refl
 gap_before low (r ∷ runs) k n h before = grind (arith, in_runs-below)
 
-pub gap_after : (low index : ℕ) (runs : List (ℕ × ℕ)) (k n : ℕ) → are_ordered_from low runs ≡ true → index < length runs → (get_or runs index (0, 0)).1 ≤ k → k < start_or runs (suc index) n → in_runs runs k ≡ false
+pub gap_after : (low index : ℕ) (runs : List (ℕ × ℕ)) (k n : ℕ) → are_ordered_from low runs ≡ true → index < length runs
+    → (get_or runs index (0, 0)).1 ≤ k → k < start_or runs (suc index) n → in_runs runs k ≡ false
 gap_after low index [] k n h fits past before = absurd (omega arith)
 gap_after low zero (r ∷ runs) k n h fits past before = grind (arith, are_ordered-front low r runs h, in_run-above r k, gap_before r.1 runs k n)
 gap_after low (suc index) (r ∷ runs) k n h fits past before =
     grind (arith, are_ordered-front low r runs h, start_after r.1 index runs, run_some r.1 index runs, in_run-above r k, gap_after r.1 index runs k n)
 
 -- a range ends where the next one starts, or before
-pub next_start : (low index : ℕ) (runs : List (ℕ × ℕ)) (n : ℕ) → are_ordered_from low runs ≡ true → index < length runs → (get_or runs index (0, 0)).1 ≤ n → (get_or runs index (0, 0)).1 ≤ start_or runs (suc index) n
+pub next_start : (low index : ℕ) (runs : List (ℕ × ℕ)) (n : ℕ) → are_ordered_from low runs ≡ true → index < length runs
+    → (get_or runs index (0, 0)).1 ≤ n → (get_or runs index (0, 0)).1 ≤ start_or runs (suc index) n
 next_start low index [] n h fits within = absurd (omega arith)
 next_start low zero (r ∷ []) n h fits within = within
 next_start low zero (r ∷ q ∷ runs) n h fits within = (are_ordered-front r.1 q runs (are_ordered-front low r (q ∷ runs) h).later).from

@@ -1,5 +1,6 @@
 -- Sequences as a list of their own: what holds of those that the links lead to holds of their copies.
-use Rattle.bidi_base.proofs.Common.{◌≡◌, ℕ, ◌+◌, true, List, [], ◌∷◌, ◌++◌, Range, map-append, bounds, length, map, get_or, sym, ap, subst, ◌∙◌, arith, filter, All, map-map, length-map, get_or-map, flat_map-map, has_places, AreLines}
+use Rattle.bidi_base.proofs.Common.{◌≡◌, ℕ, ◌+◌, true, List, [], ◌∷◌, ◌++◌, Range, map-append, bounds, length, map, get_or, sym, ap, subst, ◌∙◌}
+use Rattle.bidi_base.proofs.Common.{arith, filter, All, map-map, length-map, get_or-map, flat_map-map, has_places, AreLines}
 use Rattle.std.specs.Prelude.{flat_map}
 use Rattle.bidi_base.specs.declared.char_data.BidiClass.{BidiClass}
 use Rattle.bidi_runs.specs.declared.prepare.sequence.IsolatingRunSequence.{IsolatingRunSequence}
@@ -10,12 +11,15 @@ use Rattle.bidi_runs.proofs.LinkedSequences.{sequences_before-more}
 use Rattle.bidi_runs.specs.RunSequence.{joined, run_bounds, sequences_in}
 
 -- one more is copied, or none begins with the run
-pub copied-more : (links : RunLinks) (runs : List (ℕ × ℕ)) (r : ℕ) (out : List IsolatingRunSequence) (s : IsolatingRunSequence) → map joined out ≡ sequences_before links runs r → begins links r ≡ true → joined s ≡ sequence_at links runs r → map joined (out ++ s ∷ []) ≡ sequences_before links runs (r + 1)
+pub copied-more : (links : RunLinks) (runs : List (ℕ × ℕ)) (r : ℕ) (out : List IsolatingRunSequence) (s : IsolatingRunSequence)
+    → map joined out ≡ sequences_before links runs r → begins links r ≡ true → joined s ≡ sequence_at links runs r
+    → map joined (out ++ s ∷ []) ≡ sequences_before links runs (r + 1)
 copied-more links runs r out s before here is =
     map-append joined out (s ∷ []) ∙ ap {B = List JoinedRuns} (λ js. js ++ joined s ∷ []) before ∙ ap {B = List JoinedRuns} (λ j. sequences_before links runs r ++ j ∷ []) is ∙ sym (sequences_before-more links runs r here)
 
 -- all are
-pub copied-all : (links : RunLinks) (runs : List (Range ℕ)) (r : ℕ) (out : List IsolatingRunSequence) → map joined out ≡ sequences_before links (map bounds runs) r → r ≡ length runs → map joined out ≡ linked_sequences links (map bounds runs)
+pub copied-all : (links : RunLinks) (runs : List (Range ℕ)) (r : ℕ) (out : List IsolatingRunSequence)
+    → map joined out ≡ sequences_before links (map bounds runs) r → r ≡ length runs → map joined out ≡ linked_sequences links (map bounds runs)
 unfolding linked_sequences
 copied-all links runs r out before all = before ∙ ap (sequences_before links (map bounds runs)) (all ∙ sym (length-map runs bounds))
 

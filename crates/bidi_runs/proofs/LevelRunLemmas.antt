@@ -1,5 +1,7 @@
 -- The level runs that cover a paragraph, one by one: as ranges of characters, and of units.
-use Rattle.bidi_base.proofs.Common.{◌≡◌, ℕ, zero, suc, ◌+◌, ◌-◌, ◌<◌, ◌≤◌, true, false, List, [], ◌∷◌, ◌++◌, length, map, get_or, refl, sym, ap, arith, ◌⊎◌, length-append, rules, filter, range_with_len, cases_Bool, map-append, get_or-map, length-map, filter-append, flat_map-append, indexes, is_kept_at, begins_run, run_starts, place, text_len, ranges_between, level_run_ranges, chars_in_runs, kept_in_runs}
+use Rattle.bidi_base.proofs.Common.{◌≡◌, ℕ, zero, suc, ◌+◌, ◌-◌, ◌<◌, ◌≤◌, true, false, List, [], ◌∷◌, ◌++◌, length, map, get_or, refl, sym, ap, arith, ◌⊎◌}
+use Rattle.bidi_base.proofs.Common.{length-append, rules, filter, range_with_len, cases_Bool, map-append, get_or-map, length-map, filter-append, flat_map-append, indexes}
+use Rattle.bidi_base.proofs.Common.{is_kept_at, begins_run, run_starts, place, text_len, ranges_between, level_run_ranges, chars_in_runs, kept_in_runs}
 use Rattle.bidi_base.specs.declared.char_data.BidiClass.{BidiClass}
 use Rattle.bidi_base.proofs.TextLemmas.{HasUnits}
 use Rattle.bidi_base.proofs.PlaceLemmas.{place-end, char_index-place}
@@ -7,7 +9,8 @@ use Rattle.bidi_laws.proofs.SuccessorLemmas.{kept_before-is_None}
 use Rattle.bidi_laws.proofs.RunsLemmas.{IsLevelRun}
 
 -- the ranges between starts and an end, one by one
-pub ranges_between-at : (starts : List ℕ) (end k : ℕ) (d : ℕ × ℕ) → k < length starts → get_or (ranges_between starts end) k d ≡ (get_or (starts ++ end ∷ []) k 0, get_or (starts ++ end ∷ []) (suc k) 0)
+pub ranges_between-at : (starts : List ℕ) (end k : ℕ) (d : ℕ × ℕ) → k < length starts
+    → get_or (ranges_between starts end) k d ≡ (get_or (starts ++ end ∷ []) k 0, get_or (starts ++ end ∷ []) (suc k) 0)
 ranges_between-at [] end k d within = absurd (omega arith)
 ranges_between-at (s ∷ []) end zero d within = refl
 ranges_between-at (s ∷ []) end (suc k) d within = absurd (omega arith)
@@ -43,7 +46,8 @@ module _ (classes : List BidiClass) (levels : List ℕ) where
   pub AreLevelRuns-begins : 0 < length classes → AreLevelRuns 0 (filter (begins_run classes levels) (indexes classes))
   AreLevelRuns-begins some = grind (arith, begins_run-zero, cut)
 
-  level_run_at : (a : ℕ) (starts : List ℕ) (k : ℕ) → AreLevelRuns a starts → k < length (a ∷ starts) → IsLevelRun classes levels (get_or (a ∷ starts ++ length classes ∷ []) k 0) (get_or (a ∷ starts ++ length classes ∷ []) (suc k) 0)
+  level_run_at : (a : ℕ) (starts : List ℕ) (k : ℕ) → AreLevelRuns a starts → k < length (a ∷ starts)
+      → IsLevelRun classes levels (get_or (a ∷ starts ++ length classes ∷ []) k 0) (get_or (a ∷ starts ++ length classes ∷ []) (suc k) 0)
   level_run_at a [] zero h within = h
   level_run_at a [] (suc k) h within = absurd (omega arith)
   level_run_at a (b ∷ starts) zero h within = h.0
@@ -63,7 +67,8 @@ unfolding kept_in_runs chars_in_runs
 kept_in_run len_of h chars classes a b first second = search (rules, char_index-place)
 
 -- one more range
-pub kept_in_runs-push : (len_of : ℕ → ℕ) (chars : List ℕ) (classes : List BidiClass) (runs : List (ℕ × ℕ)) (r : ℕ × ℕ) → kept_in_runs len_of chars classes (runs ++ r ∷ []) ≡ kept_in_runs len_of chars classes runs ++ kept_in_runs len_of chars classes (r ∷ [])
+pub kept_in_runs-push : (len_of : ℕ → ℕ) (chars : List ℕ) (classes : List BidiClass) (runs : List (ℕ × ℕ)) (r : ℕ × ℕ)
+    → kept_in_runs len_of chars classes (runs ++ r ∷ []) ≡ kept_in_runs len_of chars classes runs ++ kept_in_runs len_of chars classes (r ∷ [])
 unfolding kept_in_runs chars_in_runs
 kept_in_runs-push len_of chars classes runs r = grind (arith, flat_map-append, filter-append)
 
@@ -85,6 +90,7 @@ level_run_ranges-at len_of chars classes levels k d long within =
       get_or-map (place len_of chars) (starts ++ n ∷ []),
     )
 
-pub length-level_run_ranges : (len_of : ℕ → ℕ) (chars : List ℕ) (classes : List BidiClass) (levels : List ℕ) → length (level_run_ranges len_of chars classes levels) ≡ length (run_starts classes levels)
+pub length-level_run_ranges : (len_of : ℕ → ℕ) (chars : List ℕ) (classes : List BidiClass) (levels : List ℕ)
+    → length (level_run_ranges len_of chars classes levels) ≡ length (run_starts classes levels)
 unfolding level_run_ranges
 length-level_run_ranges len_of chars classes levels = grind (arith, length-ranges_between, length-map)

@@ -1,11 +1,15 @@
 -- The links between all level runs of a paragraph: their chains are the isolating run sequences.
-use Rattle.bidi_base.proofs.Common.{◌≡◌, ℕ, zero, suc, ◌+◌, ◌<◌, ◌≤◌, Bool, true, false, not, cond, List, [], ◌∷◌, ◌++◌, length, map, get_or, Option, Some, None, is_some, unwrap_or, refl, sym, ap, subst, ◌∙◌, arith, add-one, append-nil, inl, inr, filter, filter-append, range_with_len, cases_Bool, both_ways, lt-ltb, le-leb, list_any, flat_map-map, All, All-nil, All-cons, map-append, IsPermutation, length-map, indexes, is_l_or_r, last_or, holds_number, chain, is_kept_at, kept_before, next_kept, have_one_level, successor, is_first, start_class, end_class, sequence_from, sequences, has_places, place, IsLine, AreLines, are_ordered_from, are_ordered, level_run_ranges, chars_in_runs, kept_in_runs}
+use Rattle.bidi_base.proofs.Common.{◌≡◌, ℕ, zero, suc, ◌+◌, ◌<◌, ◌≤◌, Bool, true, false, not, cond, List, [], ◌∷◌, ◌++◌, length, map, get_or, Option, Some, None, is_some, unwrap_or, refl, sym, ap, subst, ◌∙◌}
+use Rattle.bidi_base.proofs.Common.{arith, add-one, append-nil, inl, inr, filter, filter-append, range_with_len, cases_Bool, both_ways, lt-ltb, le-leb, list_any, flat_map-map, All, All-nil, All-cons, map-append}
+use Rattle.bidi_base.proofs.Common.{IsPermutation, length-map, indexes, is_l_or_r, last_or, holds_number, chain, is_kept_at, kept_before, next_kept, have_one_level, successor, is_first, start_class, end_class}
+use Rattle.bidi_base.proofs.Common.{sequence_from, sequences, has_places, place, IsLine, AreLines, are_ordered_from, are_ordered, level_run_ranges, chars_in_runs, kept_in_runs}
 use Rattle.std.specs.Prelude.{flat_map}
 use Rattle.std.proofs.lemmas.List.Sorted.{IsPermutation-map}
 use Rattle.bidi_base.specs.Units.{is_run_sequence}
 use Rattle.bidi_base.specs.declared.char_data.BidiClass.{BidiClass}
 use Rattle.bidi_base.specs.declared.char_data.BidiClass.TheVariants.{L}
-use Rattle.bidi_base.proofs.ChainLemmas.{IsLinked, IsPermutation-chains, IsMaximal-chain, Follows, Follows-chain, Follows-join, holds_number-from, holds_number-true, filter_range-agree, none_in_range, fails_in_range}
+use Rattle.bidi_base.proofs.ChainLemmas.{IsLinked, IsPermutation-chains, IsMaximal-chain, Follows, Follows-chain, Follows-join}
+use Rattle.bidi_base.proofs.ChainLemmas.{holds_number-from, holds_number-true, filter_range-agree, none_in_range, fails_in_range}
 use Rattle.bidi_base.proofs.Lists.{cases_Option}
 use Rattle.bidi_base.proofs.PlaceLemmas.{place-lt, place-mono, IsLine-places}
 use Rattle.bidi_base.proofs.TextLemmas.{HasUnits}
@@ -163,7 +167,8 @@ module _ (classes : List BidiClass) (levels : List ℕ) (links : RunLinks) (whol
       let later = later_members (first_of k) w.rest w.run.kept w.run.within (AreRunSteps-successors classes levels (first_of k) w.rest w.run.steps) in
       ap (filter (is_first classes levels)) w.here ∙ ap {B = List ℕ} (λ ys. cond (is_first classes levels (first_of k)) (first_of k ∷ ys) ys) later
 
-  firsts_from : (low m : ℕ) → low + m ≤ n → filter (is_first classes levels) (flat_map (members classes levels) (range_with_len low m)) ≡ map (head classes levels) (filter (λ k. is_first classes levels (head classes levels k)) (range_with_len low m))
+  firsts_from : (low m : ℕ) → low + m ≤ n
+      → filter (is_first classes levels) (flat_map (members classes levels) (range_with_len low m)) ≡ map (head classes levels) (filter (λ k. is_first classes levels (head classes levels k)) (range_with_len low m))
   firsts_from low zero fits = refl
   firsts_from low (suc m) fits = elim (cases_Bool (is_first classes levels (first_of low))) [
     | inl e ↦ simp (filter-append, firsts_of_run low (omega arith), firsts_from (low + 1) m (omega arith), e)
@@ -258,7 +263,8 @@ module _ (classes : List BidiClass) (levels : List ℕ) (links : RunLinks) (whol
         ap (λ ks. (sides_at links.sides.items (last_or r ks)).eos) s.runs
         ∙ ap (λ (x : RunSides). x.eos) (sides.is (last_or r s.rs) (last_below r s.rs within s.follows))
 
-    sequence_is : (r : ℕ) → r < n → is_first classes levels (head classes levels r) ≡ true → characters_of len_of chars classes (sequence_at links runs r) ≡ sequence_from paragraph classes levels (head classes levels r)
+    sequence_is : (r : ℕ) → r < n → is_first classes levels (head classes levels r) ≡ true
+        → characters_of len_of chars classes (sequence_at links runs r) ≡ sequence_from paragraph classes levels (head classes levels r)
     unfolding sequence_from
     sequence_is r within first = λ i. record { places = places_are i; sos = sos_is r within first i; eos = eos_are i }
       where

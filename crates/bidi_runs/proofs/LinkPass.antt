@@ -1,5 +1,8 @@
 -- One level run after another is linked: what a link says, what waits for the match of an open initiator, and what one more run does.
-use Rattle.bidi_base.proofs.Common.{◌≡◌, ◌≢◌, ℕ, zero, suc, ◌+◌, ◌-◌, ◌<◌, ◌≤◌, true, false, cond, eqb, max, List, [], ◌∷◌, ◌++◌, length, get_or, set, take, reverse, Option, Some, None, refl, sym, ap, subst, ◌∙◌, arith, ◌⊎◌, inl, inr, range_with_len, cases_Bool, cases_eq, cases_lt, get_or_push, get_or_append_left, length-append, length-set, reverse-append, eq-eqb, ne_eqb, IfSome, direction_of, class_at, first_or, last_or, is_initiator_at, is_pdi_at, matching_pdi, is_kept_at, kept_before, next_kept, level_at, level_or, have_one_level, successor, is_first, start_class, end_class, read_class, waiting_for}
+use Rattle.bidi_base.proofs.Common.{◌≡◌, ◌≢◌, ℕ, zero, suc, ◌+◌, ◌-◌, ◌<◌, ◌≤◌, true, false, cond, eqb, max, List, [], ◌∷◌, ◌++◌, length, get_or, set, take, reverse, Option, Some, None}
+use Rattle.bidi_base.proofs.Common.{refl, sym, ap, subst, ◌∙◌, arith, ◌⊎◌, inl, inr, range_with_len, cases_Bool, cases_eq, cases_lt, get_or_push, get_or_append_left, length-append}
+use Rattle.bidi_base.proofs.Common.{length-set, reverse-append, eq-eqb, ne_eqb, IfSome, direction_of, class_at, first_or, last_or, is_initiator_at, is_pdi_at, matching_pdi, is_kept_at}
+use Rattle.bidi_base.proofs.Common.{kept_before, next_kept, level_at, level_or, have_one_level, successor, is_first, start_class, end_class, read_class, waiting_for}
 use Rattle.std.specs.List.{fold}
 use Rattle.std.proofs.lemmas.List.{get_or-set_same, get_or-set_other}
 use Rattle.bidi_base.specs.declared.char_data.BidiClass.{BidiClass}
@@ -174,7 +177,8 @@ module _ (classes : List BidiClass) (levels : List ℕ) where
   IsOpen-more m n waits h = record { stack = h.stack; isolates = h.isolates; waiting = AreWaiting-more n h.stack (reverse waits) h.waiting }
 
   -- one character is read
-  pub IsOpen-read : (m n : ℕ) (waits : List (Option ℕ)) (w : Option ℕ) → IsOpen m n waits → (is_initiator_at classes m ≡ true → IsWaiting n m w) → IsOpen (m + 1) n (read_class (class_at classes m) w waits)
+  pub IsOpen-read : (m n : ℕ) (waits : List (Option ℕ)) (w : Option ℕ) → IsOpen m n waits
+      → (is_initiator_at classes m ≡ true → IsWaiting n m w) → IsOpen (m + 1) n (read_class (class_at classes m) w waits)
   IsOpen-read m n waits w h wait = elim (cases_Bool (is_initiator_at classes m)) [
     | inl opens ↦
         rw opens
@@ -188,10 +192,12 @@ module _ (classes : List BidiClass) (levels : List ℕ) where
     ]
   ]
     where
-      finish : (now : List (Option ℕ)) (st : List ℕ) (r : List (Option ℕ)) → IsReadStack (is_initiator_at classes) (is_pdi_at classes) (m + 1) st → AreWaiting n st r → r ≡ reverse now → IsOpen (m + 1) n now
+      finish : (now : List (Option ℕ)) (st : List ℕ) (r : List (Option ℕ))
+          → IsReadStack (is_initiator_at classes) (is_pdi_at classes) (m + 1) st → AreWaiting n st r → r ≡ reverse now → IsOpen (m + 1) n now
       finish now st r isolates waiting e = record { stack = st; isolates = isolates; waiting = subst (λ (x : List (Option ℕ)). AreWaiting n st x) e waiting }
 
-      popped : is_initiator_at classes m ≡ false → is_pdi_at classes m ≡ true → (st : List ℕ) (r : List (Option ℕ)) → reverse waits ≡ r → IsReadStack (is_initiator_at classes) (is_pdi_at classes) m st → AreWaiting n st r
+      popped : is_initiator_at classes m ≡ false → is_pdi_at classes m ≡ true → (st : List ℕ) (r : List (Option ℕ)) → reverse waits ≡ r
+          → IsReadStack (is_initiator_at classes) (is_pdi_at classes) m st → AreWaiting n st r
           → IsOpen (m + 1) n (take (length waits - 1) waits)
       popped other closes [] [] e isolates waiting =
           let none : waits ≡ [] = reverse_none waits e in
@@ -402,7 +408,9 @@ module _ (classes : List BidiClass) (levels : List ℕ) where
             rw (e.1, first_is, last_member, later, eos_end) refl
       ]
 
-      pub IsLinkedTo-more : (now : List (Option ℕ)) → now ≡ read_range classes (l + 1) n (cut classes levels n) (cut classes levels (n + 1)) waits → IsLinkedTo paragraph (n + 1) (with_link g next) (with_sides g sos eos sides) now level
+      pub IsLinkedTo-more : (now : List (Option ℕ))
+          → now ≡ read_range classes (l + 1) n (cut classes levels n) (cut classes levels (n + 1)) waits
+          → IsLinkedTo paragraph (n + 1) (with_link g next) (with_sides g sos eos sides) now level
       IsLinkedTo-more now read = record {
         wholes = wholes_more;
         links = links_more;

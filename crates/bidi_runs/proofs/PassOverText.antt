@@ -1,5 +1,6 @@
 -- The units of the characters of a text: lines take all of one or none, and what is equal within each.
-use Rattle.bidi_base.proofs.Common.{◌≡◌, ℕ, zero, suc, ◌+◌, ◌-◌, ◌<◌, ◌≤◌, ◌||◌, true, false, List, [], ◌∷◌, length, get_or, take, None, refl, ap, ◌∙◌, arith, inl, inr, cases_lt, both_ways, or_cases, sum_by-cons, ext_get_or, All-head, All-tail, class_at, text_len, place, char_at, IsLine, char_index, per_unit, per_char, IsPerChar, in_runs, AreLines}
+use Rattle.bidi_base.proofs.Common.{◌≡◌, ℕ, zero, suc, ◌+◌, ◌-◌, ◌<◌, ◌≤◌, ◌||◌, true, false, List, [], ◌∷◌, length, get_or, take, None, refl, ap, ◌∙◌, arith, inl, inr, cases_lt, both_ways, or_cases}
+use Rattle.bidi_base.proofs.Common.{sum_by-cons, ext_get_or, All-head, All-tail, class_at, text_len, place, char_at, IsLine, char_index, per_unit, per_char, IsPerChar, in_runs, AreLines}
 use Rattle.bidi_base.specs.declared.char_data.BidiClass.{BidiClass}
 use Rattle.bidi_base.specs.declared.char_data.BidiClass.TheVariants.{L}
 use Rattle.bidi_base.proofs.TextLemmas.{HasUnits, is_boundary-le}

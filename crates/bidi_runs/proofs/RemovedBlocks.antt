@@ -1,5 +1,6 @@
 -- Blocks of code units of which X9 keeps none.
-use Rattle.bidi_base.proofs.Common.{◌≡◌, ℕ, ◌+◌, ◌-◌, ◌<◌, ◌≤◌, Bool, false, ◌||◌, List, [], ◌∷◌, length, get_or, take, drop, sym, ◌∙◌, arith, inl, inr, cases_Bool, get_or-take, length-take, length-drop, both_ways, is_kept, is_kept_at}
+use Rattle.bidi_base.proofs.Common.{◌≡◌, ℕ, ◌+◌, ◌-◌, ◌<◌, ◌≤◌, Bool, false, ◌||◌, List, [], ◌∷◌, length, get_or, take, drop, sym, ◌∙◌, arith}
+use Rattle.bidi_base.proofs.Common.{inl, inr, cases_Bool, get_or-take, length-take, length-drop, both_ways, is_kept, is_kept_at}
 use Rattle.std.proofs.lemmas.List.{get_or-drop}
 use Rattle.std.proofs.lemmas.List.Folds.{list_any_at}
 use Rattle.std.specs.List.{fold, list_any}

@@ -1,5 +1,6 @@
 -- A sequence's runs, as the links lead to them one after another.
-use Rattle.bidi_base.proofs.Common.{◌≡◌, ℕ, zero, suc, ◌+◌, ◌-◌, ◌<◌, ◌≤◌, List, [], ◌∷◌, ◌++◌, length, map, get_or, Option, Some, None, refl, sym, ap, ◌∙◌, arith, append-nil, append_assoc, drop-cons, take, drop, take-append-le, drop-append-le, get_or-take, subst, is_some, unwrap_or, IsTrue, get_or_default, Range, map-append, get_or-map, last_or, chain, bounds}
+use Rattle.bidi_base.proofs.Common.{◌≡◌, ℕ, zero, suc, ◌+◌, ◌-◌, ◌<◌, ◌≤◌, List, [], ◌∷◌, ◌++◌, length, map, get_or, Option, Some, None, refl, sym, ap, ◌∙◌, arith, append-nil, append_assoc, drop-cons, take}
+use Rattle.bidi_base.proofs.Common.{drop, take-append-le, drop-append-le, get_or-take, subst, is_some, unwrap_or, IsTrue, get_or_default, Range, map-append, get_or-map, last_or, chain, bounds}
 use Rattle.bidi_base.proofs.ChainLemmas.{chain-None}
 use Rattle.bidi_base.proofs.Lists.{last_or-append}
 use Rattle.bidi_base.specs.Units.{is_run_sequence}
@@ -39,7 +40,8 @@ module _ (links : RunLinks) (runs : List (Range ℕ)) (linked : AreLinked links 
     within = omega (arith, long);
   }
 
-  pub IsGathered-more : (last next : ℕ) (came : List (Range ℕ)) (r : Range ℕ) → IsGathered links (map bounds runs) first last came → next_run links.next.items last ≡ Some next → r ≡ get_or runs next r → IsGathered links (map bounds runs) first next (came ++ r ∷ [])
+  pub IsGathered-more : (last next : ℕ) (came : List (Range ℕ)) (r : Range ℕ) → IsGathered links (map bounds runs) first last came
+      → next_run links.next.items last ≡ Some next → r ≡ get_or runs next r → IsGathered links (map bounds runs) first next (came ++ r ∷ [])
   IsGathered-more last next came r h e is =
       let order = linked.later last next e in
       let more : chain (next_run links.next.items) h.left (next_run links.next.items last) ≡ next ∷ chain (next_run links.next.items) (h.left - 1) (next_run links.next.items next) =

@@ -1,5 +1,8 @@
 -- The loop over the level runs of a text: the run that comes, what has been joined before it, and what then.
-use Rattle.bidi_base.proofs.Common.{◌≡◌, ℕ, ◌+◌, ◌-◌, ◌<◌, ◌≤◌, Bool, true, false, cond, eqb, max, List, [], ◌∷◌, ◌++◌, length, map, get_or, take, Option, refl, sym, ap, subst, ◌∙◌, arith, length-append, rules, common_steps, IfSome, All, list_any, Range, both_ways, length-map, get_or-map, get_or_default, get_or_past, nil_from_length, take_more, All-nil, All-cons, list_any_at, IsPermutation-refl, is_initiator, direction_of, class_at, is_initiator_at, is_kept_at, level_at, is_l_or_r, Some, None, IsTrue, lt-ltb, le-leb, suc, zero, sequences, run_starts, waiting_for, place, text_len, per_unit, per_char, is_per_char, is_boundary, IsLine, bounds, kept_in_runs, level_run_ranges, AreLines}
+use Rattle.bidi_base.proofs.Common.{◌≡◌, ℕ, ◌+◌, ◌-◌, ◌<◌, ◌≤◌, Bool, true, false, cond, eqb, max, List, [], ◌∷◌, ◌++◌, length, map, get_or, take, Option, refl, sym, ap, subst, ◌∙◌, arith, length-append, rules}
+use Rattle.bidi_base.proofs.Common.{common_steps, IfSome, All, list_any, Range, both_ways, length-map, get_or-map, get_or_default, get_or_past, nil_from_length, take_more, All-nil, All-cons, list_any_at}
+use Rattle.bidi_base.proofs.Common.{IsPermutation-refl, is_initiator, direction_of, class_at, is_initiator_at, is_kept_at, level_at, is_l_or_r, Some, None, IsTrue, lt-ltb, le-leb, suc, zero, sequences}
+use Rattle.bidi_base.proofs.Common.{run_starts, waiting_for, place, text_len, per_unit, per_char, is_per_char, is_boundary, IsLine, bounds, kept_in_runs, level_run_ranges, AreLines}
 use Rattle.std.specs.Prelude.{flat_map, IsPermutation}
 use Rattle.bidi_base.specs.Units.{is_run_sequence}
 use Rattle.bidi_base.specs.declared.char_data.BidiClass.{BidiClass}
@@ -143,7 +146,8 @@ module _ (len_of : ℕ → ℕ) (h : HasUnits len_of) (chars : List ℕ) (units 
   counted = sym (length-map runs bounds) ∙ ap length given.runs_are ∙ length-level_run_ranges len_of chars classes levels
 
   module _ (paragraph : ℕ) where
-    pub AreLinkedSoFar-start : (reads : Bool) (links : RunLinks) → links.next.items ≡ [] → links.sides.items ≡ [] → links.waiting ≡ [] → AreLinkedSoFar len_of chars units unit_levels paragraph reads [] links paragraph
+    pub AreLinkedSoFar-start : (reads : Bool) (links : RunLinks) → links.next.items ≡ [] → links.sides.items ≡ [] → links.waiting ≡ []
+        → AreLinkedSoFar len_of chars units unit_levels paragraph reads [] links paragraph
     AreLinkedSoFar-start reads links next sides waiting = record { so_far = rw (next, sides, waiting) (IsLinkedTo-start classes levels paragraph); quiet = λ _. waiting }
 
     -- a run with a kept character comes
@@ -184,7 +188,8 @@ module _ (len_of : ℕ → ℕ) (h : HasUnits len_of) (chars : List ℕ) (units 
         level_at_last : level ≡ level_at (per_char 0 len_of chars unit_levels) last.index
         level_at_last = level_is ∙ get_or_default unit_levels (kept_end - 1) level 0 (omega (arith, next.some, next.inside_levels, e.to)) ∙ last.unit.level
 
-        linked_with : more.waiting ≡ read_range (per_char L len_of chars units) (last.index + 1) (length came) (cut len_of chars units unit_levels (length came)) (cut len_of chars units unit_levels (length came + 1)) links.waiting → (reads ≡ false → more.waiting ≡ [])
+        linked_with : more.waiting ≡ read_range (per_char L len_of chars units) (last.index + 1) (length came) (cut len_of chars units unit_levels (length came)) (cut len_of chars units unit_levels (length came + 1)) links.waiting
+            → (reads ≡ false → more.waiting ≡ [])
             → AreLinkedSoFar len_of chars units unit_levels paragraph reads (came ++ run ∷ []) more level
         linked_with read quiet = record {
           so_far = rw (length-append came (run ∷ []), next_is, sides_are)
@@ -193,7 +198,9 @@ module _ (len_of : ℕ → ℕ) (h : HasUnits len_of) (chars : List ℕ) (units 
         }
 
         -- its characters were read
-        pub AreLinkedSoFar-read : reads ≡ true → (index : ℕ) → index ≡ length came → more.waiting ≡ read_units len_of chars units kept_end index run.start run.end links.waiting → AreLinkedSoFar len_of chars units unit_levels paragraph reads (came ++ run ∷ []) more level
+        pub AreLinkedSoFar-read : reads ≡ true → (index : ℕ) → index ≡ length came
+            → more.waiting ≡ read_units len_of chars units kept_end index run.start run.end links.waiting
+            → AreLinkedSoFar len_of chars units unit_levels paragraph reads (came ++ run ∷ []) more level
         AreLinkedSoFar-read on index is read =
             let last_at = char_index-place len_of chars h (last.index + 1) last.within in
             let a_at = char_index-place len_of chars h a (omega (arith, next.at.range.not_empty, next.at.range.within, long)) in
@@ -201,7 +208,8 @@ module _ (len_of : ℕ → ℕ) (h : HasUnits len_of) (chars : List ℕ) (units 
             linked_with (read ∙ simp (is, last.unit.at_end, next.at.start, next.at.end, last_at, a_at, b_at)) (λ off. absurd (both_ways reads off on))
 
         -- none of its characters opens an isolate
-        pub AreLinkedSoFar-unread : reads ≡ false → (list_any is_initiator units ≡ true → reads ≡ true) → more.waiting ≡ links.waiting → AreLinkedSoFar len_of chars units unit_levels paragraph reads (came ++ run ∷ []) more level
+        pub AreLinkedSoFar-unread : reads ≡ false → (list_any is_initiator units ≡ true → reads ≡ true) → more.waiting ≡ links.waiting
+            → AreLinkedSoFar len_of chars units unit_levels paragraph reads (came ++ run ∷ []) more level
         AreLinkedSoFar-unread off any kept =
             linked_with (kept ∙ simp (state.quiet off, read_range-quiet classes (last.index + 1) (length came) a b none)) (λ _. kept ∙ state.quiet off)
           where
@@ -209,7 +217,9 @@ module _ (len_of : ℕ → ℕ) (h : HasUnits len_of) (chars : List ℕ) (units 
             none m =
                 grind (arith, any, units_long, long, class_of_unit len_of h chars classes levels long units unit_levels same units_are levels_are m, place-lt len_of chars h m (length chars), place-end len_of chars (length chars), list_any_at is_initiator units (place len_of chars m) L, get_or_past classes m L)
 
-    pub AreSequences-end : (reads : Bool) (came : List (Range ℕ)) (links : RunLinks) (before : ℕ) → came ≡ runs → AreLinkedSoFar len_of chars units unit_levels paragraph reads came links before → AreSequences len_of chars units unit_levels paragraph runs links
+    pub AreSequences-end : (reads : Bool) (came : List (Range ℕ)) (links : RunLinks) (before : ℕ) → came ≡ runs
+        → AreLinkedSoFar len_of chars units unit_levels paragraph reads came links before
+        → AreSequences len_of chars units unit_levels paragraph runs links
     AreSequences-end reads came links before all state =
         let w : IsLinkedTo (per_char L len_of chars units) (per_char 0 len_of chars unit_levels) paragraph (count (per_char L len_of chars units) (per_char 0 len_of chars unit_levels)) links.next.items links.sides.items links.waiting before =
         subst (λ (n : ℕ). IsLinkedTo classes levels paragraph n links.next.items links.sides.items links.waiting before) (ap length all ∙ counted) state.so_far in

@@ -1,5 +1,6 @@
 -- The run of a unit, and what is found in the runs from it on, or up to it.
-use Rattle.bidi_base.proofs.Common.{◌≡◌, ℕ, zero, suc, ◌+◌, ◌<◌, ◌≤◌, ◌||◌, true, false, List, [], ◌∷◌, length, map, get_or, take, drop, refl, sym, ap, ◌∙◌, arith, take_all, get_or-map, length-map, class_at, All, All-take, are_ordered, are_ordered_from, bounds, in_runs, Range, cases_Bool}
+use Rattle.bidi_base.proofs.Common.{◌≡◌, ℕ, zero, suc, ◌+◌, ◌<◌, ◌≤◌, ◌||◌, true, false, List, [], ◌∷◌, length, map, get_or, take, drop, refl, sym, ap, ◌∙◌, arith, take_all}
+use Rattle.bidi_base.proofs.Common.{get_or-map, length-map, class_at, All, All-take, are_ordered, are_ordered_from, bounds, in_runs, Range, cases_Bool}
 use Rattle.bidi_base.specs.declared.char_data.BidiClass.{BidiClass}
 use Rattle.bidi_runs.proofs.WalkLemmas.{no_range, are_ordered-front}
 use Rattle.bidi_runs.proofs.InRuns.{in_run, in_run-true, in_runs-more, in_run-above, in_runs-take, next_start, start_or-at}
@@ -23,7 +24,8 @@ in_runs-later (suc index) [] k h = refl
 in_runs-later (suc index) (r ∷ runs) k h = in_runs-later index runs k (λ i below. h (suc i) (omega arith)) ∙ sym (ap (λ b. b || in_runs runs k) (in_run-above r k (h 0 (omega arith))))
 
 -- up to the run that ends behind a unit
-pub in_runs-upto : (index : ℕ) (runs : List (ℕ × ℕ)) (k : ℕ) → are_ordered runs ≡ true → index ≤ length runs → (index < length runs → k < (get_or runs index (0, 0)).1) → in_runs (take (index + 1) runs) k ≡ in_runs runs k
+pub in_runs-upto : (index : ℕ) (runs : List (ℕ × ℕ)) (k : ℕ) → are_ordered runs ≡ true → index ≤ length runs
+    → (index < length runs → k < (get_or runs index (0, 0)).1) → in_runs (take (index + 1) runs) k ≡ in_runs runs k
 in_runs-upto index runs k ordered fits ends = grind (arith, start_or-at, in_runs-take, next_start, take_all)
 
 -- a run ends within all units

@@ -1,5 +1,7 @@
 -- The characters of a run that open or close an isolate, read one by one.
-use Rattle.bidi_base.proofs.Common.{◌≡◌, ℕ, zero, suc, ◌+◌, ◌-◌, ◌<◌, ◌≤◌, Bool, ◌||◌, true, false, cond, eqb, eq-eqb, List, [], ◌∷◌, ◌++◌, length, get_or, take, replicate, Option, Some, None, refl, sym, ap, ◌∙◌, arith, append-nil, append_assoc, is_initiator, is_pdi, ne_eqb, inl, inr, then_some, cases_eq, cases_lt, fold_push, class_at, IsFirst, read_class, place, text_len, per_char, is_per_char, is_boundary, char_index, IsLine, IsPerChar}
+use Rattle.bidi_base.proofs.Common.{◌≡◌, ℕ, zero, suc, ◌+◌, ◌-◌, ◌<◌, ◌≤◌, Bool, ◌||◌, true, false, cond, eqb, eq-eqb, List, [], ◌∷◌, ◌++◌, length, get_or, take, replicate, Option}
+use Rattle.bidi_base.proofs.Common.{Some, None, refl, sym, ap, ◌∙◌, arith, append-nil, append_assoc, is_initiator, is_pdi, ne_eqb, inl, inr, then_some, cases_eq, cases_lt, fold_push}
+use Rattle.bidi_base.proofs.Common.{class_at, IsFirst, read_class, place, text_len, per_char, is_per_char, is_boundary, char_index, IsLine, IsPerChar}
 use Rattle.std.proofs.lemmas.List.{replicate-append-replicate}
 use Rattle.bidi_base.specs.declared.char_data.BidiClass.{BidiClass}
 use Rattle.bidi_base.specs.declared.char_data.BidiClass.TheVariants.{L}
@@ -15,7 +17,8 @@ use Rattle.bidi_runs.proofs.OpenIsolates.{take-pushed}
 use Rattle.bidi_runs.proofs.PassOverText.{alike_class}
 
 -- one character more
-read_range-more : (classes : List BidiClass) (last s a m : ℕ) (waits : List (Option ℕ)) → a ≤ m → read_range classes last s a (m + 1) waits ≡ read_class (class_at classes m) (cond (eqb (m + 1) last) (Some s) None) (read_range classes last s a m waits)
+read_range-more : (classes : List BidiClass) (last s a m : ℕ) (waits : List (Option ℕ)) → a ≤ m
+    → read_range classes last s a (m + 1) waits ≡ read_class (class_at classes m) (cond (eqb (m + 1) last) (Some s) None) (read_range classes last s a m waits)
 read_range-more classes last s a m waits order = grind (arith, range_with_len-more, fold_push)
 
 -- a class that neither opens nor closes changes nothing
@@ -150,7 +153,8 @@ module _ (len_of : ℕ → ℕ) (h : HasUnits len_of) (chars : List ℕ) (units 
         is = grind (arith, stored_class, read_range-more);
       }
 
-  pub IsReadTo-past : (old waits : List (Option ℕ)) (at behind : ℕ) → at < end → ((k : ℕ) → k < length chars → at ≡ place len_of chars k → behind ≡ place len_of chars (k + 1)) → ReadTo old waits at → at < behind
+  pub IsReadTo-past : (old waits : List (Option ℕ)) (at behind : ℕ) → at < end
+      → ((k : ℕ) → k < length chars → at ≡ place len_of chars k → behind ≡ place len_of chars (k + 1)) → ReadTo old waits at → at < behind
   IsReadTo-past old waits at behind below ends r =
       grind (arith, line_places, ends r.index, place-more len_of chars r.index 0, h (get_or chars r.index 0))
 

@@ -1,5 +1,6 @@
 -- A paragraph that X9 removes whole, and one in which nothing opens an isolate.
-use Rattle.bidi_base.proofs.Common.{◌≡◌, ℕ, ◌+◌, ◌<◌, false, cond, eqb, List, [], ◌∷◌, length, Option, Some, None, refl, arith, is_initiator, class_at, between, is_initiator_at, kept_places, begins_run, sequences, run_starts, read_class}
+use Rattle.bidi_base.proofs.Common.{◌≡◌, ℕ, ◌+◌, ◌<◌, false, cond, eqb, List, [], ◌∷◌, length, Option, Some, None, refl, arith, is_initiator}
+use Rattle.bidi_base.proofs.Common.{class_at, between, is_initiator_at, kept_places, begins_run, sequences, run_starts, read_class}
 use Rattle.std.specs.List.{fold}
 use Rattle.bidi_base.specs.declared.char_data.BidiClass.{BidiClass}
 use Rattle.bidi_base.proofs.ChainLemmas.{filter_range-none}

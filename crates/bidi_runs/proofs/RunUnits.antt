@@ -1,5 +1,6 @@
 -- A level run as a range of units: which characters stand in it, and what its last kept unit says.
-use Rattle.bidi_base.proofs.Common.{◌≡◌, ℕ, ◌+◌, ◌-◌, ◌<◌, ◌≤◌, true, false, List, [], ◌∷◌, ◌++◌, length, get_or, sym, ap, ◌∙◌, arith, inl, inr, cases_lt, both_ways, get_or_push, is_kept, class_at, is_kept_at, level_at, run_starts, place, text_len, per_unit, level_run_ranges}
+use Rattle.bidi_base.proofs.Common.{◌≡◌, ℕ, ◌+◌, ◌-◌, ◌<◌, ◌≤◌, true, false, List, [], ◌∷◌, ◌++◌, length, get_or, sym, ap, ◌∙◌, arith, inl, inr, cases_lt, both_ways}
+use Rattle.bidi_base.proofs.Common.{get_or_push, is_kept, class_at, is_kept_at, level_at, run_starts, place, text_len, per_unit, level_run_ranges}
 use Rattle.std.proofs.Math.Numerals.{add-one}
 use Rattle.bidi_base.specs.declared.char_data.BidiClass.{BidiClass}
 use Rattle.bidi_base.specs.declared.char_data.BidiClass.TheVariants.{L}
@@ -34,7 +35,8 @@ module _ (len_of : ℕ → ℕ) (h : HasUnits len_of) (chars : List ℕ) (classe
     pub start : r.0 ≡ place len_of chars a
     pub end : r.1 ≡ place len_of chars b
 
-  pub run_at : (runs : List (ℕ × ℕ)) (k : ℕ) → runs ≡ level_run_ranges len_of chars classes levels → k < length runs → IsRunAt k (get_or (cuts classes levels) k 0) (get_or (cuts classes levels) (k + 1) 0) (get_or runs k (0, 0))
+  pub run_at : (runs : List (ℕ × ℕ)) (k : ℕ) → runs ≡ level_run_ranges len_of chars classes levels → k < length runs
+      → IsRunAt k (get_or (cuts classes levels) k 0) (get_or (cuts classes levels) (k + 1) 0) (get_or runs k (0, 0))
   run_at runs k e within =
       let fits : k < length (run_starts classes levels) = omega (arith, ap length e, length-level_run_ranges len_of chars classes levels) in
       grind (
@@ -74,7 +76,8 @@ module _ (len_of : ℕ → ℕ) (h : HasUnits len_of) (chars : List ℕ) (classe
     none_kept a b start end last first next fits e none m from below =
         ap is_kept (sym (class_of_unit m (omega arith))) ∙ e.gone (place len_of chars m) (omega (arith, place-mono len_of chars a m from)) (omega (arith, place-lt len_of chars h m b below (omega arith)))
 
-    pub last_unit : (a b start end last : ℕ) → start ≡ place len_of chars a → end ≡ place len_of chars b → b ≤ length chars → IsKeptEnd units start end last → ¬ (last ≡ start) → (l : ℕ) × IsLastUnit a b last l
+    pub last_unit : (a b start end last : ℕ) → start ≡ place len_of chars a → end ≡ place len_of chars b → b ≤ length chars
+        → IsKeptEnd units start end last → ¬ (last ≡ start) → (l : ℕ) × IsLastUnit a b last l
     last_unit a b start end last first next fits e some = by_unit (unit_of len_of chars (last - 1) (omega (
       arith,
       e.from,

@@ -1,5 +1,7 @@
 -- The units of a sequence that are not BN: those that a pass over units reads, and the characters that they belong to.
-use Rattle.bidi_base.proofs.Common.{◌≡◌, ◌≢◌, ℕ, zero, suc, ◌+◌, ◌<◌, ◌≤◌, Bool, true, false, List, [], ◌∷◌, ◌++◌, length, map, replicate, refl, ◌∙◌, arith, inl, inr, filter, All, list_all, range_with_len, cases_Bool, and_parts, and_from, and_left, length-map, All-head, All-tail, filter-append, is_kept_in_place, at_places, between, class_at, place, per_unit, IsPerChar, are_ordered_from, are_ordered, in_runs, kept_in_place, units_in_runs, AreLines}
+use Rattle.bidi_base.proofs.Common.{◌≡◌, ◌≢◌, ℕ, zero, suc, ◌+◌, ◌<◌, ◌≤◌, Bool, true, false, List, [], ◌∷◌, ◌++◌, length, map, replicate, refl, ◌∙◌, arith, inl, inr, filter, All}
+use Rattle.bidi_base.proofs.Common.{list_all, range_with_len, cases_Bool, and_parts, and_from, and_left, length-map, All-head, All-tail, filter-append, is_kept_in_place, at_places}
+use Rattle.bidi_base.proofs.Common.{between, class_at, place, per_unit, IsPerChar, are_ordered_from, are_ordered, in_runs, kept_in_place, units_in_runs, AreLines}
 use Rattle.std.proofs.lemmas.List.Folds.{list_all-append}
 use Rattle.bidi_base.specs.declared.char_data.BidiClass.{BidiClass}
 use Rattle.bidi_base.specs.declared.char_data.BidiClass.TheVariants.{L}
@@ -31,7 +33,8 @@ module _ (units : List BidiClass) where
   abbrev kept_at : ℕ → Bool
   kept_at u = is_kept_in_place (class_at units u)
 
-  seen-from : (low : ℕ) (runs : List (ℕ × ℕ)) → low ≤ length units → are_ordered_from low runs ≡ true → All (λ r. r.1 ≤ length units) runs → marked (is_seen runs units) low (length units) ≡ filter kept_at (units_in_runs runs)
+  seen-from : (low : ℕ) (runs : List (ℕ × ℕ)) → low ≤ length units → are_ordered_from low runs ≡ true → All (λ r. r.1 ≤ length units) runs
+      → marked (is_seen runs units) low (length units) ≡ filter kept_at (units_in_runs runs)
   seen-from low [] fits ordered within = marked-empty (is_seen [] units) low (length units) (λ k from below. refl)
   seen-from low (r ∷ runs) fits ordered within =
       let f = are_ordered-front low r runs ordered in
@@ -122,7 +125,8 @@ all_units test len_of [] cs h = refl
 all_units test len_of (d ∷ ds) [] h = refl
 all_units test len_of (d ∷ ds) (c ∷ cs) h = grind (arith, list_all-append, all_replicate, all_units test len_of ds cs)
 
-pub seen-every : (len_of : ℕ → ℕ) (h : HasUnits len_of) (chars : List ℕ) (units : List BidiClass) → IsPerChar len_of chars units → (runs : List (ℕ × ℕ)) → AreLines len_of chars runs → are_ordered runs ≡ true
+pub seen-every : (len_of : ℕ → ℕ) (h : HasUnits len_of) (chars : List ℕ) (units : List BidiClass) → IsPerChar len_of chars units
+    → (runs : List (ℕ × ℕ)) → AreLines len_of chars runs → are_ordered runs ≡ true
     → All (λ r. r.1 ≤ length units) runs → (test : BidiClass → Bool) → list_all test (at_places L units (map (place len_of chars) (kept_in_place len_of chars units runs))) ≡ true
     → (u : ℕ) → is_seen runs units u ≡ true → test (class_at units u) ≡ true
 seen-every len_of h chars units per runs lines ordered within test all u seen =

@@ -1,5 +1,7 @@
 -- Ranges in order, and the walks over the units of some of them.
-use Rattle.bidi_base.proofs.Common.{◌≡◌, ℕ, zero, suc, ◌+◌, ◌-◌, ◌<◌, ◌≤◌, true, List, [], ◌∷◌, ◌++◌, length, map, get_or, take, drop, reverse, Some, append-nil, refl, sym, ap, ◌∙◌, arith, length-append, lt-ltb, All-head, All-tail, IsTrue, All, le-leb, map-append, reverse-append, get_or-map, flat_map-append, MakesProgress, item_count, Range, between, is_l_or_r, bounds, are_ordered_from, are_ordered, units_in_runs}
+use Rattle.bidi_base.proofs.Common.{◌≡◌, ℕ, zero, suc, ◌+◌, ◌-◌, ◌<◌, ◌≤◌, true, List, [], ◌∷◌, ◌++◌, length, map, get_or, take, drop, reverse, Some, append-nil, refl, sym}
+use Rattle.bidi_base.proofs.Common.{ap, ◌∙◌, arith, length-append, lt-ltb, All-head, All-tail, IsTrue, All, le-leb, map-append, reverse-append, get_or-map, flat_map-append}
+use Rattle.bidi_base.proofs.Common.{MakesProgress, item_count, Range, between, is_l_or_r, bounds, are_ordered_from, are_ordered, units_in_runs}
 use Rattle.std.proofs.lemmas.Slice.{between_to_end}
 use Rattle.bidi_base.specs.declared.char_data.BidiClass.{BidiClass}
 use Rattle.bidi_base.specs.Units.{is_run_sequence, units_from, units_below}
@@ -47,7 +49,8 @@ pub between-first : (low high : ℕ) → low < high → between low high ≡ low
 between-first low high order = grind arith
 
 -- upwards: the first unit of the next range
-pub forwards_run : (at end : ℕ) (all later : List (ℕ × ℕ)) (r : ℕ × ℕ) → end ≤ at → are_ordered all ≡ true → all ≡ r ∷ later → between at end ++ units_in_runs all ≡ r.0 ∷ (between (r.0 + 1) r.1 ++ units_in_runs later)
+pub forwards_run : (at end : ℕ) (all later : List (ℕ × ℕ)) (r : ℕ × ℕ) → end ≤ at → are_ordered all ≡ true → all ≡ r ∷ later
+    → between at end ++ units_in_runs all ≡ r.0 ∷ (between (r.0 + 1) r.1 ++ units_in_runs later)
 forwards_run at end all later r order h e = grind (arith, between-first)
 
 pub backwards_unit : (start at : ℕ) (earlier : List (ℕ × ℕ)) → start < at → reverse (units_in_runs earlier ++ between start at) ≡ (at - 1) ∷ reverse (units_in_runs earlier ++ between start (at - 1))
@@ -65,7 +68,8 @@ walks_on can rest s t x e ready = grind arith steps 400000
 pub later_ranges : (runs later : List (Range ℕ)) (run : Range ℕ) → runs ≡ run ∷ later → IsTrue (are_ordered (map bounds runs)) → IsTrue (are_ordered (map bounds later))
 later_ranges runs later run e h = grind (arith, are_ordered-lower)
 
-pub earlier_ranges : (runs earlier : List (Range ℕ)) (run : Range ℕ) → runs ≡ earlier ++ run ∷ [] → IsTrue (are_ordered (map bounds runs)) → IsTrue (are_ordered (map bounds earlier)) × (run.start < run.end)
+pub earlier_ranges : (runs earlier : List (Range ℕ)) (run : Range ℕ) → runs ≡ earlier ++ run ∷ [] → IsTrue (are_ordered (map bounds runs))
+    → IsTrue (are_ordered (map bounds earlier)) × (run.start < run.end)
 earlier_ranges runs earlier run e h = grind (arith, are_ordered-last, map-append)
 
 -- where a walk upwards begins: `read` is the slice of the ranges, and `run` the one at an index
@@ -107,11 +111,13 @@ pub is_run_sequence-ordered : (runs : List (ℕ × ℕ)) (sos eos : BidiClass) �
 is_run_sequence-ordered runs sos eos h = grind arith steps 400000
 
 -- one more range after all others
-pub are_ordered-push : (low : ℕ) (runs : List (ℕ × ℕ)) (r : ℕ × ℕ) → low ≤ r.0 → r.0 < r.1 → All (λ (q : ℕ × ℕ). q.1 ≤ r.0) runs → are_ordered_from low runs ≡ true → are_ordered_from low (runs ++ r ∷ []) ≡ true
+pub are_ordered-push : (low : ℕ) (runs : List (ℕ × ℕ)) (r : ℕ × ℕ) → low ≤ r.0 → r.0 < r.1 → All (λ (q : ℕ × ℕ). q.1 ≤ r.0) runs
+    → are_ordered_from low runs ≡ true → are_ordered_from low (runs ++ r ∷ []) ≡ true
 are_ordered-push low [] r from some all h = simp (le-leb low r.0 from, lt-ltb r.0 r.1 some)
 are_ordered-push low (q ∷ runs) r from some all h =
     let P = λ (x : ℕ × ℕ). x.1 ≤ r.0 in
     grind (arith, are_ordered-front low q runs h, All-head P q runs all, are_ordered-push q.1 runs r, All-tail P q runs all)
 
-pub is_run_sequence-push : (runs : List (ℕ × ℕ)) (r : ℕ × ℕ) (sos eos after : BidiClass) → r.0 < r.1 → All (λ (q : ℕ × ℕ). q.1 ≤ r.0) runs → IsTrue (is_l_or_r after) → IsTrue (is_run_sequence runs sos eos) → IsTrue (is_run_sequence (runs ++ r ∷ []) sos after)
+pub is_run_sequence-push : (runs : List (ℕ × ℕ)) (r : ℕ × ℕ) (sos eos after : BidiClass) → r.0 < r.1 → All (λ (q : ℕ × ℕ). q.1 ≤ r.0) runs
+    → IsTrue (is_l_or_r after) → IsTrue (is_run_sequence runs sos eos) → IsTrue (is_run_sequence (runs ++ r ∷ []) sos after)
 is_run_sequence-push runs r sos eos after some all side h = grind (arith, length-append, are_ordered-push)

@@ -1,5 +1,7 @@
 -- A class written over some units of a slice.
-use Rattle.bidi_base.proofs.Common.{◌≡◌, ℕ, ◌+◌, ◌-◌, ◌<◌, ◌≤◌, Bool, true, false, min, max, List, length, get_or, set, take, sym, ap, subst, ◌∙◌, arith, inl, inr, length-take, length-drop, length-append, get_or-set_other, get_or-set_same, common_steps, cases_lt, cases_eq, cases_Bool, and_parts, and_from, and_left, or_parts, both_ways, length-replicate, get_or_append_left, get_or-append_right, get_or-replicate, is_kept_in_place, class_at, are_ordered, in_runs}
+use Rattle.bidi_base.proofs.Common.{◌≡◌, ℕ, ◌+◌, ◌-◌, ◌<◌, ◌≤◌, Bool, true, false, min, max, List, length, get_or, set, take, sym, ap, subst, ◌∙◌, arith, inl, inr, length-take, length-drop}
+use Rattle.bidi_base.proofs.Common.{length-append, get_or-set_other, get_or-set_same, common_steps, cases_lt, cases_eq, cases_Bool, and_parts, and_from, and_left, or_parts, both_ways}
+use Rattle.bidi_base.proofs.Common.{length-replicate, get_or_append_left, get_or-append_right, get_or-replicate, is_kept_in_place, class_at, are_ordered, in_runs}
 use Rattle.std.proofs.Common.{length-set}
 use Rattle.std.proofs.lemmas.Bool.{and_cases}
 use Rattle.std.proofs.lemmas.List.{get_or-take, get_or-drop}
@@ -27,7 +29,8 @@ module _ (test : ℕ → Bool) (class : BidiClass) (from : ℕ) (old : List Bidi
     long = h.long;
   }
 
-  pub IsWrittenOver-set : (i : ℕ) (now : List BidiClass) → from ≤ i → i < length old → test i ≡ true → IsWrittenOver test class from i old now → IsWrittenOver test class from (i + 1) old (set now i class)
+  pub IsWrittenOver-set : (i : ℕ) (now : List BidiClass) → from ≤ i → i < length old → test i ≡ true
+      → IsWrittenOver test class from i old now → IsWrittenOver test class from (i + 1) old (set now i class)
   IsWrittenOver-set i now order fits passes h = record {
     inside = λ k a b t. elim (cases_eq k i) [
       | inl same ↦ grind (arith, get_or-set_same)
@@ -40,7 +43,8 @@ module _ (test : ℕ → Bool) (class : BidiClass) (from : ℕ) (old : List Bidi
   }
 
   -- the end of a loop from `from` to `to`
-  pub IsWrittenOver-end : (i to : ℕ) (now : List BidiClass) → (from ≤ to → i ≤ to) → to ≤ i → (to ≤ from → now ≡ old) → IsWrittenOver test class from i old now → IsWrittenOver test class from to old now
+  pub IsWrittenOver-end : (i to : ℕ) (now : List BidiClass) → (from ≤ to → i ≤ to) → to ≤ i → (to ≤ from → now ≡ old)
+      → IsWrittenOver test class from i old now → IsWrittenOver test class from to old now
   IsWrittenOver-end i to now within past untouched h = elim (cases_lt from to) [
     | inl some ↦ let top : i ≡ to = omega (arith, within (omega arith)) in subst (λ (j : ℕ). IsWrittenOver test class from j old now) top h
     | inr none ↦ grind arith
@@ -52,7 +56,8 @@ IsWrittenOver-filled class from to old order fits =
     search (arith, length-take, length-replicate, get_or-append_right, get_or_append_left, get_or-replicate, get_or-take, get_or-drop, length-append, length-drop)
 
 -- the same units by another test
-pub IsWrittenOver-same_test : (test other : ℕ → Bool) (class : BidiClass) (from to : ℕ) (old now : List BidiClass) → ((k : ℕ) → from ≤ k → k < to → test k ≡ other k) → IsWrittenOver test class from to old now → IsWrittenOver other class from to old now
+pub IsWrittenOver-same_test : (test other : ℕ → Bool) (class : BidiClass) (from to : ℕ) (old now : List BidiClass)
+    → ((k : ℕ) → from ≤ k → k < to → test k ≡ other k) → IsWrittenOver test class from to old now → IsWrittenOver other class from to old now
 IsWrittenOver-same_test test other class from to old now same h = record {
   inside = λ k a b t. h.inside k a b (same k a b ∙ t);
   failing = λ k t. by_range k from to (h.below k) (λ high within. h.failing k (same k high within ∙ t)) (h.above k);
@@ -101,5 +106,6 @@ module _ (runs : List (ℕ × ℕ)) (class : BidiClass) (from to : ℕ) (old : L
     }
 
   -- the ranges from the one at `index` on begin at `to` or later
-  pub runs-stop : (index : ℕ) (now : List BidiClass) → are_ordered runs ≡ true → index < length runs → to ≤ (get_or runs index (0, 0)).0 → IsWrittenOver (is_seen (take index runs) old) class from to old now → IsWrittenOver (is_seen runs old) class from to old now
+  pub runs-stop : (index : ℕ) (now : List BidiClass) → are_ordered runs ≡ true → index < length runs → to ≤ (get_or runs index (0, 0)).0
+      → IsWrittenOver (is_seen (take index runs) old) class from to old now → IsWrittenOver (is_seen runs old) class from to old now
   runs-stop index now ordered fits past h = grind (arith, common_steps, in_runs-take)

@@ -1,5 +1,6 @@
 -- The direction of a list of levels by two tests: is some level odd, is some even.
-use Rattle.bidi_base.proofs.Common.{◌≡◌, ◌%◌, ℕ, ◌≤◌, if◌then◌else◌, not, true, false, List, [], ◌∷◌, length, take, refl, arith, inl, inr, eq-eqb, ne_eqb, list_all, list_any, take_all, direction_of_levels, is_even, is_odd}
+use Rattle.bidi_base.proofs.Common.{◌≡◌, ◌%◌, ℕ, ◌≤◌, if◌then◌else◌, not, true, false, List, [], ◌∷◌, length, take, refl, arith, inl, inr}
+use Rattle.bidi_base.proofs.Common.{eq-eqb, ne_eqb, list_all, list_any, take_all, direction_of_levels, is_even, is_odd}
 use Rattle.bidi_base.specs.declared.char_data.Direction.TheVariants.{Ltr, Rtl, Mixed}
 use Rattle.bidi_base.proofs.LevelsLemmas.{odd_or_even, is_odd-not_even}
 

@@ -1,5 +1,6 @@
 -- The reordered text of a line within a text: its runs are parts of the text.
-use Rattle.bidi_base.proofs.Common.{◌≡◌, ℕ, ◌+◌, ◌-◌, ◌≤◌, List, flat_map, length, get_or, sym, ◌∙◌, arith, flat_map-map, same_number_lists, place, per_unit, Run, visual_runs, reordered_text, run_text_in, IsLevelRun}
+use Rattle.bidi_base.proofs.Common.{◌≡◌, ℕ, ◌+◌, ◌-◌, ◌≤◌, List, flat_map, length, get_or, sym, ◌∙◌, arith, flat_map-map}
+use Rattle.bidi_base.proofs.Common.{same_number_lists, place, per_unit, Run, visual_runs, reordered_text, run_text_in, IsLevelRun}
 use Rattle.std.proofs.Common.{slice_range}
 use Rattle.bidi_base.specs.Display.{run_text}
 use Rattle.bidi_base.proofs.TextLemmas.{HasUnits}
@@ -19,7 +20,8 @@ pub place-line : (len_of : ℕ → ℕ) (chars : List ℕ) (i j k : ℕ) → i +
 place-line len_of chars i j k fits within = sym (place-slice_range len_of chars i j k fits within)
 
 -- The text of the line's visual runs, each read in the whole text. The line goes from the character i up to the character j.
-pub reordered_text-line : (len_of : ℕ → ℕ) → HasUnits len_of → (encode : ℕ → List ℕ) (chars units levels : List ℕ) (i j : ℕ) → i ≤ j → j ≤ length chars → length units ≡ place len_of chars (length chars) → length levels ≡ j - i
+pub reordered_text-line : (len_of : ℕ → ℕ) → HasUnits len_of → (encode : ℕ → List ℕ) (chars units levels : List ℕ) (i j : ℕ) → i ≤ j
+    → j ≤ length chars → length units ≡ place len_of chars (length chars) → length levels ≡ j - i
     → reordered_text len_of encode (slice_range chars i j) (slice_range units (place len_of chars i) (place len_of chars j)) levels
     ≡ flat_map (run_text_in len_of encode chars units (place len_of chars i) (per_unit len_of (slice_range chars i j) levels)) (visual_runs (place len_of chars i) (per_unit len_of (slice_range chars i j) levels))
 reordered_text-line len_of some encode chars units levels i j up within long same =

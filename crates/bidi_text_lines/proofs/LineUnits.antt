@@ -1,5 +1,7 @@
 -- L1 over the units of a line is L1 over its characters.
-use Rattle.bidi_base.proofs.Common.{◌≡◌, ℕ, zero, suc, ◌-◌, ◌≤◌, if◌then◌else◌, Bool, List, [], ◌∷◌, ◌++◌, length, take, drop, refl, ap₂, ◌∙◌, arith, append_assoc, length-drop, slice_range, list_any, or-false, drop-drop, take-append-drop, nil_from_length, list_any-append, is_removed, is_reset, line_levels_after, line_levels, levels_with_line, place, per_unit, char_index, IsLine}
+use Rattle.bidi_base.proofs.Common.{◌≡◌, ℕ, zero, suc, ◌-◌, ◌≤◌, if◌then◌else◌, Bool, List, [], ◌∷◌, ◌++◌, length, take, drop, refl, ap₂, ◌∙◌, arith}
+use Rattle.bidi_base.proofs.Common.{append_assoc, length-drop, slice_range, list_any, or-false, drop-drop, take-append-drop, nil_from_length, list_any-append}
+use Rattle.bidi_base.proofs.Common.{is_removed, is_reset, line_levels_after, line_levels, levels_with_line, place, per_unit, char_index, IsLine}
 use Rattle.std.proofs.Common.{length-take-le}
 use Rattle.std.specs.Prelude.{replicate}
 use Rattle.bidi_base.specs.declared.char_data.BidiClass.{BidiClass}
@@ -74,7 +76,8 @@ list_any-units test v zero some = absurd (omega arith)
 list_any-units test v (suc zero) some = simp or-false
 list_any-units test v (suc (suc n)) some = grind (arith, list_any-units test v (suc n))
 
-pub list_any-per_unit : {X : Type 0} (test : X → Bool) (len_of : ℕ → ℕ) → HasUnits len_of → (chars : List ℕ) (values : List X) → length values ≡ length chars → list_any test (per_unit len_of chars values) ≡ list_any test values
+pub list_any-per_unit : {X : Type 0} (test : X → Bool) (len_of : ℕ → ℕ) → HasUnits len_of → (chars : List ℕ) (values : List X)
+    → length values ≡ length chars → list_any test (per_unit len_of chars values) ≡ list_any test values
 list_any-per_unit test len_of h [] values e = simp (nil_from_length values (omega arith))
 list_any-per_unit test len_of h (c ∷ chars) [] e = absurd (omega arith)
 list_any-per_unit test len_of h (c ∷ chars) (v ∷ values) e = grind (arith, list_any-append, list_any-units test v, list_any-per_unit test len_of h chars values)

@@ -1,5 +1,6 @@
 -- The bytes of a line of UTF-8, written from left to right, are UTF-8.
-use Rattle.bidi_base.proofs.Common.{ℕ, List, [], ◌∷◌, flat_map, arith, inl, inr, cases_Bool, All-tail, zero, Range, IsUtf8, chars, encode_utf8, is_odd, IsLine, IsPerChar, Run, run_level, visual_runs, levels_of_line}
+use Rattle.bidi_base.proofs.Common.{ℕ, List, [], ◌∷◌, flat_map, arith, inl, inr, cases_Bool, All-tail, zero, Range, IsUtf8, chars}
+use Rattle.bidi_base.proofs.Common.{encode_utf8, is_odd, IsLine, IsPerChar, Run, run_level, visual_runs, levels_of_line}
 use Rattle.std.proofs.Common.{slice_range, All}
 use Rattle.std.specs.Char.{len_utf8}
 use Rattle.std.proofs.lemmas.Str.{scalars-chars, IsUtf8-nil, IsUtf8-append, IsUtf8-between}
@@ -28,7 +29,8 @@ module _ (text : List ℕ) (u : IsUtf8 text) where
   shown_utf8 start levels of_chars =
       IsUtf8-flat_map (run_units len_utf8 encode_utf8 (chars text) text start levels) (visual_runs start levels) (λ k d fits. run_utf8 start levels _ (of_chars k d fits))
 
-  pub line_utf8 : (level : ℕ) (classes : List BidiClass) (levels : List ℕ) (line : Range ℕ) → IsPerChar len_utf8 (chars text) classes → IsPerChar len_utf8 (chars text) levels → IsLine len_utf8 (chars text) line.start line.end
+  pub line_utf8 : (level : ℕ) (classes : List BidiClass) (levels : List ℕ) (line : Range ℕ) → IsPerChar len_utf8 (chars text) classes
+      → IsPerChar len_utf8 (chars text) levels → IsLine len_utf8 (chars text) line.start line.end
       → IsUtf8 (line_units encode_utf8 text (record { len_of = len_utf8; chars = chars text; classes = classes; levels = levels }) level line)
   line_utf8 level classes levels line of_classes of_levels is_line =
       shown_utf8 line.start (levels_of_line level classes levels line.start line.end)

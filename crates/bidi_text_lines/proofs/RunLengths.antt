@@ -1,5 +1,6 @@
 -- The visual runs of a line have the length of the line.
-use Rattle.bidi_base.proofs.Common.{◌≡◌, ℕ, ◌-◌, List, [], ◌∷◌, length, map, refl, sym, ap, ◌∙◌, arith, Range, length-append, length-map, length-reverse, length-range_with_len, sum_by, sum_by-cons, visual_order, Run, run_of, written_run, written_runs, AreVisualRuns}
+use Rattle.bidi_base.proofs.Common.{◌≡◌, ℕ, ◌-◌, List, [], ◌∷◌, length, map, refl, sym, ap, ◌∙◌, arith, Range, length-append, length-map, length-reverse}
+use Rattle.bidi_base.proofs.Common.{length-range_with_len, sum_by, sum_by-cons, visual_order, Run, run_of, written_run, written_runs, AreVisualRuns}
 use Rattle.bidi_lines.proofs.Pieces.{length-between}
 use Rattle.bidi_lines.proofs.Ordered.{visual_order-is}
 use Rattle.std.proofs.lemmas.List.Sorted.{length_permutation}

@@ -1,5 +1,7 @@
 -- The reordered text of a line is that of its runs, from left to right.
-use Rattle.bidi_base.proofs.Common.{◌≡◌, ℕ, zero, suc, ◌+◌, ◌-◌, ◌<◌, ◌≤◌, List, [], ◌∷◌, ◌++◌, map, flat_map, length, get_or, drop, refl, sym, arith, inl, inr, zero-add, le_refl, range_with_len, cases_Bool, get_or-map, length-map, drop-drop, flat_map-map, All-tail, All-permutation, IsPermutation-reverse, flat_map-append, same_number_lists, is_odd, between, place, text_len, per_unit, Run, run_level, visual_runs, written_run, written_runs, reordered_text, IsLevelRun}
+use Rattle.bidi_base.proofs.Common.{◌≡◌, ℕ, zero, suc, ◌+◌, ◌-◌, ◌<◌, ◌≤◌, List, [], ◌∷◌, ◌++◌, map, flat_map, length, get_or, drop, refl, sym, arith, inl, inr, zero-add, le_refl}
+use Rattle.bidi_base.proofs.Common.{range_with_len, cases_Bool, get_or-map, length-map, drop-drop, flat_map-map, All-tail, All-permutation, IsPermutation-reverse, flat_map-append}
+use Rattle.bidi_base.proofs.Common.{same_number_lists, is_odd, between, place, text_len, per_unit, Run, run_level, visual_runs, written_run, written_runs, reordered_text, IsLevelRun}
 use Rattle.std.proofs.Common.{slice_range, All, add-zero, map-id, take_all}
 use Rattle.bidi_base.specs.Display.{written_char, char_units, run_text}
 use Rattle.bidi_laws.proofs.OrderLemmas.{get_or-slice_range, length-slice_range}

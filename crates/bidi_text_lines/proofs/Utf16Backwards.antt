@@ -1,5 +1,6 @@
 -- Units of UTF-16 without surrogates are their characters.
-use Rattle.bidi_base.proofs.Common.{◌≡◌, ℕ, ◌<◌, ◌^◌, true, false, List, [], ◌∷◌, ◌++◌, suc, get_or, reverse, flat_map, refl, sym, ap, ap₂, ◌∙◌, arith, and_parts, append-nil, list_all, utf16_text, flat_map-append, reverse-append}
+use Rattle.bidi_base.proofs.Common.{◌≡◌, ℕ, ◌<◌, ◌^◌, true, false, List, [], ◌∷◌, ◌++◌, suc, get_or, reverse, flat_map, refl, sym, ap, ap₂}
+use Rattle.bidi_base.proofs.Common.{◌∙◌, arith, and_parts, append-nil, list_all, utf16_text, flat_map-append, reverse-append}
 use Rattle.std.specs.Char.Escape.{encode_utf16}
 use Rattle.bidi_base.specs.Utf16.{is_pair, lone_char}
 use Rattle.bidi_base.specs.Utf16.{is_character}

@@ -75,7 +75,8 @@ module _ (source : Source) (block : List ℕ) (minded : ClassSet) (flags : Parag
     are = are;
   }
 
-  pub IsBlockPassed-noted : (sought : ClassSet) → AreSought sought minded (with_set flags found) → any_of minded (has found) ≡ false → IsBlockPassed source block minded flags (with_set flags found) sought
+  pub IsBlockPassed-noted : (sought : ClassSet) → AreSought sought minded (with_set flags found) → any_of minded (has found) ≡ false
+      → IsBlockPassed source block minded flags (with_set flags found) sought
   IsBlockPassed-noted sought are none = record {
     idle = apart minded none;
     turns = flags_to-set source block flags 16 ∙ ap (with_set flags) (sym found_is);

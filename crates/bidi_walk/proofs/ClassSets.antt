@@ -1,5 +1,6 @@
 -- Sets of classes: what is in them, and which tests of what is in them agree.
-use Rattle.bidi_base.proofs.Common.{◌≡◌, ℕ, ◌^◌, ◌<◌, ◌≢◌, bit_or, Bool, true, false, not, ◌==◌, ◌&&◌, ◌||◌, List, [], ◌∷◌, get_or, refl, arith, inl, inr, common_steps, list_any, cases_Bool, cases_lt, both_ways, false_from_ne_true, list_any_none, list_any_at, class_number, same_class}
+use Rattle.bidi_base.proofs.Common.{◌≡◌, ℕ, ◌^◌, ◌<◌, ◌≢◌, bit_or, Bool, true, false, not, ◌==◌, ◌&&◌, ◌||◌, List, [], ◌∷◌, get_or, refl, arith, inl, inr, common_steps}
+use Rattle.bidi_base.proofs.Common.{list_any, cases_Bool, cases_lt, both_ways, false_from_ne_true, list_any_none, list_any_at, class_number, same_class}
 use Rattle.std.proofs.Common.{bit_and, bit_xor}
 use Rattle.std.specs.Int.{bit_at}
 use Rattle.std.proofs.Math.Nat.{min-zero}

@@ -1,5 +1,6 @@
 -- What a paragraph's flags say of its classes.
-use Rattle.bidi_base.proofs.Common.{◌≡◌, ◌∙◌, ℕ, ◌<◌, ◌^◌, ◌==◌, zero, suc, bit_or, Bool, false, not, ◌||◌, List, [], ◌∷◌, ◌++◌, length, get_or, arith, refl, sym, ap, inl, inr, cases_eq, cases_Bool, common_steps, nat_tests, list_any, class_number, Source, is_initiator, is_opener, is_removed, may_turn, is_pure_ltr, is_flat, may_leave, or_assoc, or-false}
+use Rattle.bidi_base.proofs.Common.{◌≡◌, ◌∙◌, ℕ, ◌<◌, ◌^◌, ◌==◌, zero, suc, bit_or, Bool, false, not, ◌||◌, List, [], ◌∷◌, ◌++◌, length, get_or, arith, refl, sym, ap, inl, inr, cases_eq, cases_Bool}
+use Rattle.bidi_base.proofs.Common.{common_steps, nat_tests, list_any, class_number, Source, is_initiator, is_opener, is_removed, may_turn, is_pure_ltr, is_flat, may_leave, or_assoc, or-false}
 use Rattle.std.proofs.Common.{bit_and}
 use Rattle.std.specs.Int.{bit_at}
 use Rattle.std.proofs.lemmas.Nat.Bits.{bit_at_or, bit_at_and, bit_at-zero, bit_at-lt, bit_at-pow_same, bit_at-pow_other, same_from_bits}
@@ -88,7 +89,8 @@ flags_to-set source block flags (suc n) =
     let class = source.class_of (get_or block n 0) in
     ap (λ more. with_class more class) (flags_to-set source block flags n) ∙ with_set-with flags (set_of_first source block n) class
 
-pub flags_to-same : (source : Source) (block : List ℕ) (flags : ParagraphFlags) (n : ℕ) → ((k : ℕ) → k < n → with_class flags (source.class_of (get_or block k 0)) ≡ flags) → flags_to source block flags n ≡ flags
+pub flags_to-same : (source : Source) (block : List ℕ) (flags : ParagraphFlags) (n : ℕ)
+    → ((k : ℕ) → k < n → with_class flags (source.class_of (get_or block k 0)) ≡ flags) → flags_to source block flags n ≡ flags
 flags_to-same source block flags zero same = refl
 flags_to-same source block flags (suc n) same =
     let class = source.class_of (get_or block n 0) in

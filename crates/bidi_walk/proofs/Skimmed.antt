@@ -1,5 +1,7 @@
 -- Characters on which nothing but the flags depends, read one after another.
-use Rattle.bidi_base.proofs.Common.{Bool, None, Option, inl, inr, cases_lt, class_at, take_more, get_or, subst, zero, suc, ◌≡◌, ℕ, ◌+◌, ◌-◌, ◌<◌, ◌≤◌, true, false, List, [], ◌∷◌, ◌++◌, length, take, drop, map, Some, set, refl, sym, ap, ◌∙◌, arith, add-one, append_assoc, length-take, length-drop, drop-append_seam, take-append-add, map-append, length-map, take-append-le, take-append-drop, nat_tests, All-nil, All-append, All-push, sum_by-append, sum_by-cons, Source, text_len, char_at, ascii_of, ascii_at, char_index, is_boundary, subrange, IsLine}
+use Rattle.bidi_base.proofs.Common.{Bool, None, Option, inl, inr, cases_lt, class_at, take_more, get_or, subst, zero, suc, ◌≡◌, ℕ, ◌+◌, ◌-◌, ◌<◌, ◌≤◌, true, false, List, [], ◌∷◌, ◌++◌, length, take, drop, map, Some}
+use Rattle.bidi_base.proofs.Common.{set, refl, sym, ap, ◌∙◌, arith, add-one, append_assoc, length-take, length-drop, drop-append_seam, take-append-add, map-append, length-map, take-append-le, take-append-drop}
+use Rattle.bidi_base.proofs.Common.{nat_tests, All-nil, All-append, All-push, sum_by-append, sum_by-cons, Source, text_len, char_at, ascii_of, ascii_at, char_index, is_boundary, subrange, IsLine}
 use Rattle.std.specs.Prelude.{replicate, MatchOption}
 use Rattle.std.proofs.Math.Nat.{add_assoc}
 use Rattle.std.proofs.Math.Seq.{take-suc-set}
@@ -94,29 +96,35 @@ module _ (source : Source) (len_of : ℕ → ℕ) (minded : BidiClass → Bool) 
       → take (at + len_of c) after ≡ take at new ++ replicate (len_of c) (source.class_of c) → AreWritten source len_of (read ++ c ∷ []) from (at + len_of c) old after
   AreWritten-push read from at c old new after h is = grind (arith, sum_by-append, append_assoc, per_unit-push, length-map, map-append)
 
-  AreWritten-join : (xs ys : List ℕ) (from at to : ℕ) (old new after : List BidiClass) → AreWritten source len_of xs from at old new → AreWritten source len_of ys at to new after → AreWritten source len_of (xs ++ ys) from to old after
+  AreWritten-join : (xs ys : List ℕ) (from at to : ℕ) (old new after : List BidiClass) → AreWritten source len_of xs from at old new
+      → AreWritten source len_of ys at to new after → AreWritten source len_of (xs ++ ys) from to old after
   AreWritten-join xs ys from at to old new after h k = grind (arith, sum_by-append, append_assoc, per_unit-append, length-map, map-append)
 
   -- where the units from `at` on were handed on
-  AreWritten-part : (read : List ℕ) (at to : ℕ) (old part new tail : List BidiClass) → at ≤ length old → to ≤ length new → AreWritten source len_of read 0 to part new → AreWritten source len_of read at (at + to) old (take at old ++ (new ++ tail))
+  AreWritten-part : (read : List ℕ) (at to : ℕ) (old part new tail : List BidiClass) → at ≤ length old → to ≤ length new
+      → AreWritten source len_of read 0 to part new → AreWritten source len_of read at (at + to) old (take at old ++ (new ++ tail))
   AreWritten-part read at to old part new tail inside room h =
       grind (arith, length-take at old, take-append-add (take at old) (new ++ tail) to, take-append-le to new tail room)
 
   -- it begins in what came
-  pub IsMet-within : (coming : List ℕ) (from : ℕ) (met : Met) (old new : List BidiClass) (was is : ParagraphFlags) → IsMet source len_of minded coming from met old new was is → met.start ≤ from + text_len len_of coming
+  pub IsMet-within : (coming : List ℕ) (from : ℕ) (met : Met) (old new : List BidiClass) (was is : ParagraphFlags)
+      → IsMet source len_of minded coming from met old new was is → met.start ≤ from + text_len len_of coming
   IsMet-within coming from met old new was is h = grind (arith, sum_by-append)
 
   -- the flags with those of the characters that were read, of one more, and of some more
-  pub turns-push : (was now : ParagraphFlags) (read : List ℕ) (c : ℕ) → now ≡ with_classes was (map source.class_of read) → with_class now (source.class_of c) ≡ with_classes was (map source.class_of (read ++ c ∷ []))
+  pub turns-push : (was now : ParagraphFlags) (read : List ℕ) (c : ℕ) → now ≡ with_classes was (map source.class_of read)
+      → with_class now (source.class_of c) ≡ with_classes was (map source.class_of (read ++ c ∷ []))
   turns-push was now read c is =
       ap (λ flags. with_class flags (source.class_of c)) is ∙ sym (ap (with_classes was) (map-append source.class_of read (c ∷ [])) ∙ with_classes-push was (map source.class_of read) (source.class_of c))
 
-  pub turns-join : (was now later : ParagraphFlags) (xs ys : List ℕ) → now ≡ with_classes was (map source.class_of xs) → later ≡ with_classes now (map source.class_of ys) → later ≡ with_classes was (map source.class_of (xs ++ ys))
+  pub turns-join : (was now later : ParagraphFlags) (xs ys : List ℕ) → now ≡ with_classes was (map source.class_of xs)
+      → later ≡ with_classes now (map source.class_of ys) → later ≡ with_classes was (map source.class_of (xs ++ ys))
   turns-join was now later xs ys is more =
       more ∙ ap (λ flags. with_classes flags (map source.class_of ys)) is ∙ sym (ap (with_classes was) (map-append source.class_of xs ys) ∙ with_classes-append was (map source.class_of xs) (map source.class_of ys))
 
   -- what was met is not minded, and is read too
-  pub IsSkimmed-met : (coming : List ℕ) (from : ℕ) (met : Met) (old new : List BidiClass) (was is : ParagraphFlags) → IsMet source len_of minded coming from met old new was is → minded met.class ≡ false
+  pub IsSkimmed-met : (coming : List ℕ) (from : ℕ) (met : Met) (old new : List BidiClass) (was is : ParagraphFlags)
+      → IsMet source len_of minded coming from met old new was is → minded met.class ≡ false
       → IsSkimmed source len_of minded coming from (met.start + met.len) old new was (with_class is met.class)
   IsSkimmed-met coming from met old new was is h idle = record {
     read = h.read ++ met.c ∷ [];
@@ -154,14 +162,16 @@ module _ (source : Source) (len_of : ℕ → ℕ) (minded : BidiClass → Bool) 
         let written : AreWritten source len_of h.read from at old after = record { long = h.written.long; classes = kept ∙ h.written.classes } in
         record { read = h.read; rest = h.rest; joined = h.joined; idle = h.idle; written = written; turns = h.turns }
 
-    pub IsSkimmed-join : (to : ℕ) (after : List BidiClass) (later : ParagraphFlags) → IsSkimmed source len_of minded h.rest at to new after now later → IsSkimmed source len_of minded coming from to old after was later
+    pub IsSkimmed-join : (to : ℕ) (after : List BidiClass) (later : ParagraphFlags)
+        → IsSkimmed source len_of minded h.rest at to new after now later → IsSkimmed source len_of minded coming from to old after was later
     IsSkimmed-join to after later k =
         let joined = h.joined ∙ ap (λ cs. h.read ++ cs) k.joined ∙ sym (append_assoc h.read k.read k.rest) in
         let idle = All-append (λ c. minded (source.class_of c) ≡ false) h.read k.read h.idle k.idle in
         let written = AreWritten-join h.read k.read from at to old new after h.written k.written in
         record { read = h.read ++ k.read; rest = k.rest; joined = joined; idle = idle; written = written; turns = turns-join was now later h.read k.read h.turns k.turns }
 
-    pub IsMet-join : (met : Met) (after : List BidiClass) (later : ParagraphFlags) → IsMet source len_of minded h.rest at met new after now later → IsMet source len_of minded coming from met old after was later
+    pub IsMet-join : (met : Met) (after : List BidiClass) (later : ParagraphFlags)
+        → IsMet source len_of minded h.rest at met new after now later → IsMet source len_of minded coming from met old after was later
     IsMet-join met after later k =
         let joined = h.joined ∙ ap (λ cs. h.read ++ cs) k.joined ∙ sym (append_assoc h.read k.read (met.c ∷ k.rest)) in
         let idle = All-append (λ c. minded (source.class_of c) ≡ false) h.read k.read h.idle k.idle in
@@ -196,10 +206,14 @@ module _ (source : Source) (len_of : ℕ → ℕ) (minded : BidiClass → Bool) 
       pub ahead-skimmed : ahead len_of chars at ≡ h.rest
       ahead-skimmed = ap (λ cs. ahead len_of cs at) split ∙ ap (ahead len_of (passed ++ h.rest)) (sym passed_long) ∙ ahead-append len_of units passed h.rest
 
-      pub IsMet-on : (met : Met) (after : List BidiClass) (later : ParagraphFlags) → IsMet source len_of minded (ahead len_of chars at) at met new after now later → IsMet source len_of minded coming from met old after was later
+      pub IsMet-on : (met : Met) (after : List BidiClass) (later : ParagraphFlags)
+          → IsMet source len_of minded (ahead len_of chars at) at met new after now later
+          → IsMet source len_of minded coming from met old after was later
       IsMet-on met after later k = IsMet-join met after later (rw ahead-skimmed at k)
 
-      pub IsSkimmed-on : (to : ℕ) (after : List BidiClass) (later : ParagraphFlags) → IsSkimmed source len_of minded (ahead len_of chars at) at to new after now later → IsSkimmed source len_of minded coming from to old after was later
+      pub IsSkimmed-on : (to : ℕ) (after : List BidiClass) (later : ParagraphFlags)
+          → IsSkimmed source len_of minded (ahead len_of chars at) at to new after now later
+          → IsSkimmed source len_of minded coming from to old after was later
       IsSkimmed-on to after later k = IsSkimmed-join to after later (rw ahead-skimmed at k)
 
       pub met-on : (r : Option Met) (to : ℕ) (after : List BidiClass) (later : ParagraphFlags)
@@ -257,14 +271,16 @@ module _ (source : Source) (len_of : ℕ → ℕ) (minded : BidiClass → Bool) 
           IsMet-char = IsMet-next (record { start = at; c = c; len = n; class = class }) char-skimmed.tail after char-skimmed.next refl is_class char-skimmed.long written
 
         -- one unit long, and its class is there already
-        pub IsSkimmed-char_there : (later : ParagraphFlags) → n ≡ 1 → at < length new → class_at new at ≡ source.class_of c → minded (class_at new at) ≡ false → with_class now (source.class_of c) ≡ later
+        pub IsSkimmed-char_there : (later : ParagraphFlags) → n ≡ 1 → at < length new → class_at new at ≡ source.class_of c
+            → minded (class_at new at) ≡ false → with_class now (source.class_of c) ≡ later
             → IsSkimmed source len_of minded coming from (at + 1) old new was later
         IsSkimmed-char_there later one within is_class idle more =
             let w = char-skimmed in
             let long : len_of c ≡ 1 = omega (arith, w.long, one) in
             IsSkimmed-more c w.tail (at + 1) new later w.next (rw is_class at idle) (omega (arith, long)) (simp (long, ← is_class) (take_more new at L within)) more
 
-        pub IsMet-char_there : n ≡ 1 → at < length new → class_at new at ≡ source.class_of c → IsMet source len_of minded coming from (record { start = at; c = c; len = 1; class = class_at new at }) old new was now
+        pub IsMet-char_there : n ≡ 1 → at < length new → class_at new at ≡ source.class_of c
+            → IsMet source len_of minded coming from (record { start = at; c = c; len = 1; class = class_at new at }) old new was now
         IsMet-char_there one within is_class =
             let w = char-skimmed in
             let long : len_of c ≡ 1 = omega (arith, w.long, one) in
@@ -330,7 +346,8 @@ module _ (len_of : ℕ → ℕ) (units : HasUnits len_of) (chars : List ℕ) (st
       block_first = cc (is_block, take-append-drop (char_index len_of chars end - char_index len_of chars start) (ahead len_of chars start))
 
       module _ (source : Source) (minded : BidiClass → Bool) (part written tail : List BidiClass) (was is : ParagraphFlags) (room : text_len len_of block ≤ length written) where
-        pub IsSkimmed-block : IsSkimmed source len_of minded block 0 (text_len len_of block) part written was is → IsSkimmed source len_of minded (ahead len_of chars start) start end classes (take start classes ++ (written ++ tail)) was is
+        pub IsSkimmed-block : IsSkimmed source len_of minded block 0 (text_len len_of block) part written was is
+            → IsSkimmed source len_of minded (ahead len_of chars start) start end classes (take start classes ++ (written ++ tail)) was is
         IsSkimmed-block k = record {
           read = k.read;
           rest = k.rest ++ behind;

@@ -1,5 +1,8 @@
 -- What the walk over a text holds once n characters were read.
-use Rattle.bidi_base.proofs.Common.{◌≡◌, ℕ, ◌+◌, ◌<◌, ◌≤◌, true, false, List, [], ◌∷◌, ◌++◌, length, get_or, take, drop, map, Option, Some, None, is_some, option_map, refl, sym, ap, ◌∙◌, arith, ◌-◌, ◌⊎◌, inl, inr, ◌&&◌, ◌==◌, if◌then◌else◌, is_initiator, is_strong, is_pdi, subst, cases_Bool, false_from_ne_true, All-nil, append_assoc, length-append, length-take, common_steps, All, is_none, Range, nil_from_length, map-append, length-map, take_more, take_all, drop_all, get_or-append-add, length-take-le, take-append-drop, sum_by-append, is_paragraph_separator, deciding_class, paragraph_level, stored_classes, class_at, ranges_from, innermost, met_units, Source, text_classes, paragraph_levels, char_at, place, text_len, per_unit}
+use Rattle.bidi_base.proofs.Common.{◌≡◌, ℕ, ◌+◌, ◌<◌, ◌≤◌, true, false, List, [], ◌∷◌, ◌++◌, length, get_or, take, drop, map, Option, Some, None, is_some, option_map, refl, sym, ap, ◌∙◌, arith, ◌-◌, ◌⊎◌, inl, inr, ◌&&◌}
+use Rattle.bidi_base.proofs.Common.{◌==◌, if◌then◌else◌, is_initiator, is_strong, is_pdi, subst, cases_Bool, false_from_ne_true, All-nil, append_assoc, length-append, length-take, common_steps, All, is_none, Range}
+use Rattle.bidi_base.proofs.Common.{nil_from_length, map-append, length-map, take_more, take_all, drop_all, get_or-append-add, length-take-le, take-append-drop, sum_by-append, is_paragraph_separator, deciding_class}
+use Rattle.bidi_base.proofs.Common.{paragraph_level, stored_classes, class_at, ranges_from, innermost, met_units, Source, text_classes, paragraph_levels, char_at, place, text_len, per_unit}
 use Rattle.std.specs.Prelude.{replicate}
 use Rattle.std.proofs.lemmas.List.{append-nil}
 use Rattle.std.proofs.lemmas.List.Concat.{flat_map-append}
@@ -10,7 +13,8 @@ use Rattle.bidi_base.proofs.PerUnit.{per_unit-push, get_or-per_unit-place}
 use Rattle.bidi_base.proofs.PlaceLemmas.{place-le, place-lt, place-mono, place-more}
 use Rattle.bidi_laws.proofs.ParagraphsLemmas.{IsCut, IsCut-start, IsCut-more, IsCut-stop, IsCut-last, IsCut-none, ranges_from-push, joined, length-text_classes}
 use Rattle.bidi_laws.proofs.ReadingLemmas.{char_units, char_units-take, met_units-char, innermost-All}
-use Rattle.bidi_laws.proofs.StoredSteps.{stored_classes-nil, deciding_class-push, deciding_class-nil, open_initiators, open_initiators-push, met_by, stored_classes-push, length-stored_classes, length-met_by, open_initiators-below}
+use Rattle.bidi_laws.proofs.StoredSteps.{stored_classes-nil, deciding_class-push, deciding_class-nil, open_initiators, open_initiators-push}
+use Rattle.bidi_laws.proofs.StoredSteps.{met_by, stored_classes-push, length-stored_classes, length-met_by, open_initiators-below}
 use Rattle.bidi_walk.specs.declared.paragraph_flags.ParagraphFlags.{ParagraphFlags}
 use Rattle.bidi_walk.specs.declared.first_walk.reading.Reading.{Reading}
 use Rattle.bidi_walk.specs.declared.first_walk.TextReading.{TextReading}
@@ -24,7 +28,8 @@ use Rattle.bidi_walk.specs.declared.split_rule.SplitRule.{SplitRule}
 use Rattle.bidi_walk.proofs.FlagsLemmas.{with_classes-push}
 use Rattle.bidi_walk.proofs.IdleClasses.{idle-classes, idle-initiator, idle-pdi, idle-strong}
 use Rattle.bidi_walk.proofs.PutUnits.{take-filled, filled-append}
-use Rattle.bidi_walk.proofs.Undecided.{undecided_from, waits_of, fsi_at, waiting-is, undecided-more, deciding-more, length-opened_by, open_initiators-few, All-undecided, depths, deeper, undecided_after-deeper, classes_after-deeper, deciding_after-deeper, counted_after, none_counted, All-deeper}
+use Rattle.bidi_walk.proofs.Undecided.{undecided_from, waits_of, fsi_at, waiting-is, undecided-more, deciding-more, length-opened_by, open_initiators-few, All-undecided, depths}
+use Rattle.bidi_walk.proofs.Undecided.{deeper, undecided_after-deeper, classes_after-deeper, deciding_after-deeper, counted_after, none_counted, All-deeper}
 
 -- one more character was read, of this class and with these units: k isolates were not counted, and then `after`
 pub record IsCountedOn (class : BidiClass) (range : Range ℕ) (k after : ℕ) (old new : Reading) : Type 0 where
@@ -140,7 +145,8 @@ module _ (source : Source) (len_of : ℕ → ℕ) (chars : List ℕ) where
     pub flags : found.flags ≡ paragraph_flags source done
 
   -- the next paragraph begins
-  pub IsTextRead-fresh : (base : Option ℕ) (n : ℕ) (done : List (List ℕ)) (found : Seen) (reading : Reading) → IsTextDone base n done found → IsFresh reading (place len_of chars n) → IsTextRead base n done [] found reading
+  pub IsTextRead-fresh : (base : Option ℕ) (n : ℕ) (done : List (List ℕ)) (found : Seen) (reading : Reading) → IsTextDone base n done found
+      → IsFresh reading (place len_of chars n) → IsTextRead base n done [] found reading
   IsTextRead-fresh base n done found reading h fresh = record {
     whole = grind (arith, h.whole, append-nil);
     sized = h.sized;
@@ -159,7 +165,8 @@ module _ (source : Source) (len_of : ℕ → ℕ) (chars : List ℕ) where
   }
 
   -- the isolates that are open are not counted any more
-  pub IsTextRead-stop_counting : (base : Option ℕ) (n : ℕ) (done : List (List ℕ)) (current : List ℕ) (found : Seen) (reading new : Reading) → IsTextRead base n done current found reading → StopsCounting reading new → IsTextRead base n done current found new
+  pub IsTextRead-stop_counting : (base : Option ℕ) (n : ℕ) (done : List (List ℕ)) (current : List ℕ) (found : Seen) (reading new : Reading)
+      → IsTextRead base n done current found reading → StopsCounting reading new → IsTextRead base n done current found new
   IsTextRead-stop_counting base n done current found reading new h less = record {
     whole = h.whole;
     sized = h.sized;
@@ -203,7 +210,8 @@ module _ (source : Source) (len_of : ℕ → ℕ) (chars : List ℕ) where
     IsTextDone-close closed end here same ended =
         grind (arith, flat_map-append, map-append, append-nil, read_to, ranges_from-push)
 
-  pub IsTextDone-none : (base : Option ℕ) (n : ℕ) (done : List (List ℕ)) (current : List ℕ) (found : Seen) (reading : Reading) → current ≡ [] → IsTextRead base n done current found reading → IsTextDone base n done found
+  pub IsTextDone-none : (base : Option ℕ) (n : ℕ) (done : List (List ℕ)) (current : List ℕ) (found : Seen) (reading : Reading)
+      → current ≡ [] → IsTextRead base n done current found reading → IsTextDone base n done found
   IsTextDone-none base n done current found reading none h = grind (arith, append-nil, stored_classes-nil)
 
   -- ---- one more character
@@ -322,7 +330,8 @@ module _ (source : Source) (len_of : ℕ → ℕ) (chars : List ℕ) where
             }
 
         -- a character on whose class something depends
-        pub IsTextRead-more : (range : Range ℕ) (longer : Seen) (new : Reading) → range ≡ char_units len_of chars n → longer.units ≡ classes_after class (waiting reading.depth reading.undecided.items) drawn
+        pub IsTextRead-more : (range : Range ℕ) (longer : Seen) (new : Reading) → range ≡ char_units len_of chars n
+            → longer.units ≡ classes_after class (waiting reading.depth reading.undecided.items) drawn
             → length longer.units ≡ length found.units → longer.paragraphs ≡ found.paragraphs → longer.flags ≡ found.flags → IsReadBy class range reading new → IsTextRead base (n + 1) done (current ++ c ∷ []) longer new
         IsTextRead-more range longer new is_range is_longer same_length same_paragraphs same_flags read =
             IsTextRead-on range longer new (uncounted_after class reading.depth h.uncounted) is_range
@@ -347,7 +356,9 @@ module _ (source : Source) (len_of : ℕ → ℕ) (chars : List ℕ) where
     pub one : split ≡ None → done ≡ []
     pub read : IsTextRead base n done current found reading
 
-  pub IsRead-start : (split : Option SplitRule) (base : Option ℕ) (found : Seen) (reading : Reading) → length found.units ≡ text_len len_of chars → found.paragraphs ≡ [] → found.flags ≡ [] → IsFresh reading 0 → IsRead split base 0 found reading
+  pub IsRead-start : (split : Option SplitRule) (base : Option ℕ) (found : Seen) (reading : Reading)
+      → length found.units ≡ text_len len_of chars → found.paragraphs ≡ [] → found.flags ≡ [] → IsFresh reading 0
+      → IsRead split base 0 found reading
   unfolding text_classes paragraph_levels paragraph_flags
   IsRead-start split base found reading sized no_paragraphs no_flags fresh =
       let none : IsTextDone base 0 [] found = grind arith in
@@ -355,14 +366,16 @@ module _ (source : Source) (len_of : ℕ → ℕ) (chars : List ℕ) where
       record { done = []; current = []; cut = IsCut-start (ends_after split source) chars; one = λ e. refl; read = read }
 
   -- the paragraph goes on
-  pub IsRead-on : (split : Option SplitRule) (base : Option ℕ) (n c : ℕ) (found : Seen) (reading : Reading) (longer : Seen) (after : Reading) (h : IsRead split base n found reading) → drop n chars ≡ c ∷ drop (n + 1) chars
+  pub IsRead-on : (split : Option SplitRule) (base : Option ℕ) (n c : ℕ) (found : Seen) (reading : Reading) (longer : Seen) (after : Reading) (h : IsRead split base n found reading)
+      → drop n chars ≡ c ∷ drop (n + 1) chars
       → IsTextRead base (n + 1) h.done (h.current ++ c ∷ []) longer after → ends_after split source c (drop (n + 1) chars) ≡ false → IsRead split base (n + 1) longer after
   IsRead-on split base n c found reading longer after h next read on =
       let cut = IsCut-more (ends_after split source) chars h.done h.current c (drop (n + 1) chars) on (rw next at h.cut) in
       record { done = h.done; current = h.current ++ c ∷ []; cut = cut; one = h.one; read = read }
 
   -- or it ends, and the next one begins
-  pub IsRead-stop : (split : Option SplitRule) (base : Option ℕ) (n c : ℕ) (found : Seen) (reading : Reading) (closed : Seen) (after : Reading) (h : IsRead split base n found reading) → drop n chars ≡ c ∷ drop (n + 1) chars
+  pub IsRead-stop : (split : Option SplitRule) (base : Option ℕ) (n c : ℕ) (found : Seen) (reading : Reading) (closed : Seen) (after : Reading) (h : IsRead split base n found reading)
+      → drop n chars ≡ c ∷ drop (n + 1) chars
       → IsTextDone base (n + 1) (h.done ++ (h.current ++ c ∷ []) ∷ []) closed → IsFresh after (place len_of chars (n + 1)) → ends_after split source c (drop (n + 1) chars) ≡ true → IsRead split base (n + 1) closed after
   IsRead-stop split base n c found reading closed after h next ended fresh stop =
       let done = h.done ++ (h.current ++ c ∷ []) ∷ [] in
@@ -376,13 +389,15 @@ module _ (source : Source) (len_of : ℕ → ℕ) (chars : List ℕ) where
     ended split h = rw (drop_all n chars (omega arith)) at h.cut
 
     -- it is not empty, or the only one
-    pub IsRead-last : (split : Option SplitRule) (h : IsRead split base n found reading) → (is_none split ≡ true) ⊎ (reading.start < place len_of chars n) → h.done ++ h.current ∷ [] ≡ pieces_by split source chars
+    pub IsRead-last : (split : Option SplitRule) (h : IsRead split base n found reading)
+        → (is_none split ≡ true) ⊎ (reading.start < place len_of chars n) → h.done ++ h.current ∷ [] ≡ pieces_by split source chars
     IsRead-last None h last = grind (arith, h.one refl, h.read.whole, take_all)
     IsRead-last (Some rule) h (inl e) = absurd (cc e)
     IsRead-last (Some rule) h (inr order) =
         sym (IsCut-last (ends_by rule source) chars h.done h.current (current-some base n h.done h.current found reading h.read units order) (ended (Some rule) h))
 
-    pub IsRead-none : (split : Option SplitRule) (h : IsRead split base n found reading) → is_none split ≡ false → place len_of chars n ≤ reading.start → (h.current ≡ []) × (h.done ≡ pieces_by split source chars)
+    pub IsRead-none : (split : Option SplitRule) (h : IsRead split base n found reading) → is_none split ≡ false
+        → place len_of chars n ≤ reading.start → (h.current ≡ []) × (h.done ≡ pieces_by split source chars)
     IsRead-none None h some order = absurd (cc some)
     IsRead-none (Some rule) h some order =
         let none = current-none base n h.done h.current found reading h.read units order in
@@ -396,7 +411,8 @@ module _ (source : Source) (len_of : ℕ → ℕ) (chars : List ℕ) where
     pub levels : levels_of found.paragraphs ≡ paragraph_levels source base (pieces_by split source chars)
     pub flags : found.flags ≡ paragraph_flags source (pieces_by split source chars)
 
-  pub IsTextDone-answer : (split : Option SplitRule) (base : Option ℕ) (n : ℕ) (done : List (List ℕ)) (found : Seen) → n ≡ length chars → done ≡ pieces_by split source chars → IsTextDone base n done found → IsAnswer split base found
+  pub IsTextDone-answer : (split : Option SplitRule) (base : Option ℕ) (n : ℕ) (done : List (List ℕ)) (found : Seen) → n ≡ length chars
+      → done ≡ pieces_by split source chars → IsTextDone base n done found → IsAnswer split base found
   IsTextDone-answer split base n done found all is h = grind (arith, take_all)
 
 -- what is no separator ends no paragraph

@@ -1,11 +1,15 @@
 -- The open isolates of an FSI that no character decided yet: what they are once some characters were read, and after one more.
-use Rattle.bidi_base.proofs.Common.{◌≡◌, ℕ, zero, suc, ◌+◌, ◌-◌, ◌<◌, ◌≤◌, Bool, true, false, ◌&&◌, ◌||◌, cond, List, [], ◌∷◌, ◌++◌, length, take, map, Option, Some, None, refl, ap, ◌∙◌, arith, length-append, get_or-set_same, get_or-set_other, All, option_or, option_to_list, get_or-append, add-zero, get_or-append_seam, Range, cond_both, length-take-le, length-map, map-append, get_or-map, option_map, common_steps, All-nil, All-cons, All-head, All-tail, All-take, is_strong, is_initiator, is_pdi, stored_classes, class_at, innermost, outer, opened_by, decided_by, is_fsi}
+use Rattle.bidi_base.proofs.Common.{◌≡◌, ℕ, zero, suc, ◌+◌, ◌-◌, ◌<◌, ◌≤◌, Bool, true, false, ◌&&◌, ◌||◌, cond, List, [], ◌∷◌, ◌++◌, length, take, map, Option, Some, None, refl, ap}
+use Rattle.bidi_base.proofs.Common.{◌∙◌, arith, length-append, get_or-set_same, get_or-set_other, All, option_or, option_to_list, get_or-append, add-zero, get_or-append_seam, Range}
+use Rattle.bidi_base.proofs.Common.{cond_both, length-take-le, length-map, map-append, get_or-map, option_map, common_steps, All-nil, All-cons, All-head, All-tail, All-take}
+use Rattle.bidi_base.proofs.Common.{is_strong, is_initiator, is_pdi, stored_classes, class_at, innermost, outer, opened_by, decided_by, is_fsi}
 use Rattle.std.specs.Option.{is_some}
 use Rattle.std.proofs.lemmas.List.{append-nil}
 use Rattle.std.proofs.lemmas.List.Elements.{All-push}
 use Rattle.bidi_base.specs.declared.char_data.BidiClass.{BidiClass}
 use Rattle.bidi_laws.proofs.ReadingLemmas.{outer-take, innermost-All}
-use Rattle.bidi_laws.proofs.StoredSteps.{innermost-map, onto_later, resolved-strong, open_initiators, open_initiators-push, open_initiators-below, met_by, length-met_by, stored_classes-push, length-stored_classes}
+use Rattle.bidi_laws.proofs.StoredSteps.{innermost-map, onto_later, resolved-strong, open_initiators, open_initiators-push}
+use Rattle.bidi_laws.proofs.StoredSteps.{open_initiators-below, met_by, length-met_by, stored_classes-push, length-stored_classes}
 use Rattle.bidi_walk.proofs.ClassSets.{apart_eqb}
 use Rattle.bidi_walk.specs.FirstWalk.{at_depth, waiting, depth_after, undecided_after, deciding_after, classes_after}
 use Rattle.bidi_walk.specs.declared.first_walk.reading.Undecided.{Undecided}
@@ -88,13 +92,15 @@ module _ (units : ℕ → Range ℕ) where
       (λ _. All-cons (λ (u : Undecided). u.depth ≤ k + suc (length qs)) (record { units = units q; depth = k + 1 }) (undecided_from units (k + 1) stored qs) (omega arith) rest) (λ _. rest)
 
   -- they depend on the stored classes of the initiators alone
-  undecided-agree : (k : ℕ) (stored other : List BidiClass) (qs : List ℕ) → All (λ (q : ℕ). class_at other q ≡ class_at stored q) qs → undecided_from units k other qs ≡ undecided_from units k stored qs
+  undecided-agree : (k : ℕ) (stored other : List BidiClass) (qs : List ℕ) → All (λ (q : ℕ). class_at other q ≡ class_at stored q) qs
+      → undecided_from units k other qs ≡ undecided_from units k stored qs
   undecided-agree k stored other [] h = refl
   undecided-agree k stored other (q ∷ qs) h =
       grind (arith, All-head (λ p. class_at other p ≡ class_at stored p) q qs h, undecided-agree (k + 1) stored other qs, All-tail (λ p. class_at other p ≡ class_at stored p) q qs h)
 
 -- what holds of each initiator holds of those that are undecided
-pub All-undecided : (P : Undecided → Type 0) (units : ℕ → Range ℕ) (k : ℕ) (stored : List BidiClass) (qs : List ℕ) → All (λ (q : ℕ). (d : ℕ) → P (record { units = units q; depth = d })) qs → All P (undecided_from units k stored qs)
+pub All-undecided : (P : Undecided → Type 0) (units : ℕ → Range ℕ) (k : ℕ) (stored : List BidiClass) (qs : List ℕ)
+    → All (λ (q : ℕ). (d : ℕ) → P (record { units = units q; depth = d })) qs → All P (undecided_from units k stored qs)
 All-undecided P units k stored [] h = All-nil P
 All-undecided P units k stored (q ∷ qs) h =
     let here : ℕ → Type 0 = λ q. (d : ℕ) → P (record { units = units q; depth = d }) in
@@ -273,7 +279,8 @@ pub All-deeper : (P : Range ℕ → Type 0) (k : ℕ) (us : List Undecided) → 
 All-deeper P k us h = λ i d within. rw (get_or-map (deeper k) us i d) at (h i (deeper k d) (omega (arith, length-map us (deeper k))))
 
 -- the undecided stay counted
-pub counted_after : (class : BidiClass) (range : Range ℕ) (d : ℕ) (us : List Undecided) → All (λ (u : Undecided). 0 < u.depth) us → All (λ (u : Undecided). 0 < u.depth) (undecided_after class range d us)
+pub counted_after : (class : BidiClass) (range : Range ℕ) (d : ℕ) (us : List Undecided) → All (λ (u : Undecided). 0 < u.depth) us
+    → All (λ (u : Undecided). 0 < u.depth) (undecided_after class range d us)
 counted_after class range d us h =
     let P : Undecided → Type 0 = λ u. 0 < u.depth in
     cond_both (is_initiator class) _ _ (All P)

@@ -1,5 +1,6 @@
 -- The walk over a text from one character to the next on which more than the flags depends.
-use Rattle.bidi_base.proofs.Common.{◌≡◌, ℕ, ◌+◌, ◌≤◌, false, List, [], ◌∷◌, ◌++◌, length, take, drop, map, refl, sym, ap, subst, ◌∙◌, arith, append_assoc, length-append, length-drop, length-take, Option, All, Range, add-zero, take-append_seam, drop-append_seam, map-append, length-map, take-take, drop-drop, All-tail, sum_by-append, sum_by-cons, Source, text_len, place, per_unit}
+use Rattle.bidi_base.proofs.Common.{◌≡◌, ℕ, ◌+◌, ◌≤◌, false, List, [], ◌∷◌, ◌++◌, length, take, drop, map, refl, sym, ap, subst, ◌∙◌, arith, append_assoc, length-append, length-drop, length-take, Option, All, Range}
+use Rattle.bidi_base.proofs.Common.{add-zero, take-append_seam, drop-append_seam, map-append, length-map, take-take, drop-drop, All-tail, sum_by-append, sum_by-cons, Source, text_len, place, per_unit}
 use Rattle.std.specs.Prelude.{replicate}
 use Rattle.std.proofs.lemmas.List.{append-nil}
 use Rattle.bidi_base.specs.declared.char_data.BidiClass.{BidiClass}
@@ -53,7 +54,8 @@ module _ (source : Source) (len_of : ℕ → ℕ) where
     pub AreWritten-back : AreWritten source len_of ys (from + text_len len_of xs) to new new
     AreWritten-back = record { long = omega (arith, h.long, sum_by-append len_of xs ys); classes = both ∙ ap (λ us. us ++ back) (sym front_is) }
 
-  AreWritten-one : (c from to : ℕ) (old new : List BidiClass) → AreWritten source len_of (c ∷ []) from to old new → take (from + len_of c) new ≡ take from old ++ replicate (len_of c) (source.class_of c)
+  AreWritten-one : (c from to : ℕ) (old new : List BidiClass) → AreWritten source len_of (c ∷ []) from to old new
+      → take (from + len_of c) new ≡ take from old ++ replicate (len_of c) (source.class_of c)
   AreWritten-one c from to old new h = grind (arith, append-nil)
 
   -- ---- where the walk is
@@ -80,7 +82,8 @@ module _ (source : Source) (len_of : ℕ → ℕ) where
     pub turn_at : (n c : ℕ) (rest : List ℕ) → drop n chars ≡ c ∷ rest → CharTurn len_of chars n (place len_of chars n) c
     turn_at n c rest next = char_turn_of len_of chars n (place len_of chars n) c refl (cc (next, drop-drop 1 n chars))
 
-    IsRead-idle : (n c : ℕ) (rest : List ℕ) (found : Seen) (reading : Reading) (drawn : List BidiClass) → IsRead source len_of chars split base n found reading → drop n chars ≡ c ∷ rest → minds reading (source.class_of c) ≡ false
+    IsRead-idle : (n c : ℕ) (rest : List ℕ) (found : Seen) (reading : Reading) (drawn : List BidiClass)
+        → IsRead source len_of chars split base n found reading → drop n chars ≡ c ∷ rest → minds reading (source.class_of c) ≡ false
         → length drawn ≡ length found.units → take (place len_of chars n + len_of c) drawn ≡ take (place len_of chars n) found.units ++ replicate (len_of c) (source.class_of c)
         → IsRead source len_of chars split base (n + 1) (with_units drawn found) (with_flags reading (with_class reading.flags (source.class_of c)))
     IsRead-idle n c rest found reading drawn h next idle long written =
@@ -126,7 +129,9 @@ module _ (source : Source) (len_of : ℕ → ℕ) where
           IsRead-idles read rest h.index to found reading drawn h.read (sym ahead_is ∙ joined) idle long (rw h.here at written)
 
       -- the state with the flags of the characters that were read
-      pub IsAt-met : (met : Met) (flags : ParagraphFlags) → IsMet source len_of (minds reading) (ahead len_of chars at) at met found.units drawn reading.flags flags → IsAt chars split base met (with_units drawn found) (with_flags reading flags)
+      pub IsAt-met : (met : Met) (flags : ParagraphFlags)
+          → IsMet source len_of (minds reading) (ahead len_of chars at) at met found.units drawn reading.flags flags
+          → IsAt chars split base met (with_units drawn found) (with_flags reading flags)
       IsAt-met met flags k =
           let to : ℕ = at + text_len len_of k.read in
           let w = on k.read (met.c ∷ k.rest) to k.joined k.idle (AreWritten-front k.read (met.c ∷ []) at (met.start + len_of met.c) found.units drawn inside k.written) in

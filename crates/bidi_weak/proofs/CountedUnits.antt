@@ -1,5 +1,6 @@
 -- The units of some ranges below a unit, as they are counted and paid for by a walk, and the characters that begin in them.
-use Rattle.bidi_base.proofs.Common.{◌≡◌, ℕ, zero, suc, ◌+◌, ◌-◌, ◌*◌, ◌<◌, ◌≤◌, List, [], ◌∷◌, length, true, false, get_or, take, drop, arith, length-append, length-take, length-drop, flat_map-append, All, slice_range, cond-true, cond-false, All-head, All-tail, char_index, IsLine, are_ordered, are_ordered_from, chars_in_runs, units_in_runs, AreLines, take_more}
+use Rattle.bidi_base.proofs.Common.{◌≡◌, ℕ, zero, suc, ◌+◌, ◌-◌, ◌*◌, ◌<◌, ◌≤◌, List, [], ◌∷◌, length, true, false, get_or, take, drop, arith, length-append, length-take, length-drop, flat_map-append, All}
+use Rattle.bidi_base.proofs.Common.{slice_range, cond-true, cond-false, All-head, All-tail, char_index, IsLine, are_ordered, are_ordered_from, chars_in_runs, units_in_runs, AreLines, take_more}
 use Rattle.bidi_base.proofs.PlaceLemmas.{line_places, place-sum}
 use Rattle.bidi_base.proofs.TextLemmas.{HasUnits, length-le-text_len}
 use Rattle.bidi_weak.specs.declared.weak.numbers.Walk.{Walk}
@@ -13,7 +14,8 @@ units-cons : (r : ℕ × ℕ) (runs : List (ℕ × ℕ)) → length (units_in_ru
 units-cons r runs = grind (arith, length-append, length-between) steps 400000
 
 -- of the units of one range each counts
-pub count_below-within : (low index : ℕ) (runs : List (ℕ × ℕ)) (u v : ℕ) → are_ordered_from low runs ≡ true → index < length runs → (get_or runs index (0, 0)).0 ≤ u → u ≤ v → v ≤ (get_or runs index (0, 0)).1
+pub count_below-within : (low index : ℕ) (runs : List (ℕ × ℕ)) (u v : ℕ) → are_ordered_from low runs ≡ true → index < length runs
+    → (get_or runs index (0, 0)).0 ≤ u → u ≤ v → v ≤ (get_or runs index (0, 0)).1
     → count_below runs u + (v - u) ≤ count_below runs v
 unfolding count_below
 count_below-within low index [] u v h fits from order to = absurd (omega arith)
@@ -28,7 +30,8 @@ count_below-all low [] n h within = count_below-none n
 count_below-all low (r ∷ runs) n h within =
     grind (arith, All-head (λ (q : ℕ × ℕ). q.1 ≤ n) r runs within, are_ordered-front low r runs h, count_below-all r.1 runs n, All-tail (λ (q : ℕ × ℕ). q.1 ≤ n) r runs within, count_below-cons r runs n, units-cons r runs)
 
-pub length-units_in_runs-more : (index : ℕ) (runs : List (ℕ × ℕ)) → index < length runs → length (units_in_runs (take (index + 1) runs)) ≡ length (units_in_runs (take index runs)) + ((get_or runs index (0, 0)).1 - (get_or runs index (0, 0)).0)
+pub length-units_in_runs-more : (index : ℕ) (runs : List (ℕ × ℕ)) → index < length runs
+    → length (units_in_runs (take (index + 1) runs)) ≡ length (units_in_runs (take index runs)) + ((get_or runs index (0, 0)).1 - (get_or runs index (0, 0)).0)
 length-units_in_runs-more index runs fits = grind (arith, take_more runs index (0, 0) fits, flat_map-append, length-append, length-between)
 
 -- what is settled where something waits, and where nothing does
@@ -39,7 +42,9 @@ pub settled_to-idle : (w : Walk) (u : ℕ) → waits w.before ≡ false → sett
 settled_to-idle w u h = cond-false (waits w.before) w.first u h
 
 -- some of the ranges and the units that they have between two units, where the turns over those ranges are paid by these
-pub paid-by-part : (index : ℕ) (runs : List (ℕ × ℕ)) (u v a b : ℕ) → are_ordered runs ≡ true → u ≤ v → a + 2 * count_below (drop index runs) u ≤ b + 2 * count_below (drop index runs) v → a + 2 * count_below runs u ≤ b + 2 * count_below runs v
+pub paid-by-part : (index : ℕ) (runs : List (ℕ × ℕ)) (u v a b : ℕ) → are_ordered runs ≡ true → u ≤ v
+    → a + 2 * count_below (drop index runs) u ≤ b + 2 * count_below (drop index runs) v
+    → a + 2 * count_below runs u ≤ b + 2 * count_below runs v
 paid-by-part index runs u v a b ordered order paid =
     omega (
       arith,
@@ -65,7 +70,8 @@ characters_within len_of h chars start end line =
     let j = char_index len_of chars end in
     grind (arith, line_places len_of h chars start end line, place-sum len_of chars i j, length-le-text_len len_of h (slice_range chars i j), length-take (j - i) (drop i chars), length-drop i chars)
 
-pub characters-at_most : (len_of : ℕ → ℕ) → HasUnits len_of → (chars : List ℕ) (runs : List (ℕ × ℕ)) → AreLines len_of chars runs → length (chars_in_runs len_of chars runs) ≤ length (units_in_runs runs)
+pub characters-at_most : (len_of : ℕ → ℕ) → HasUnits len_of → (chars : List ℕ) (runs : List (ℕ × ℕ)) → AreLines len_of chars runs
+    → length (chars_in_runs len_of chars runs) ≤ length (units_in_runs runs)
 unfolding chars_in_runs
 characters-at_most len_of h chars [] lines = omega arith
 characters-at_most len_of h chars (r ∷ runs) lines =

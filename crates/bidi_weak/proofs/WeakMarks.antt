@@ -1,5 +1,7 @@
 -- W1 over units, one after another.
-use Rattle.bidi_base.proofs.Common.{◌≡◌, ℕ, zero, suc, ◌+◌, ◌-◌, ◌<◌, ◌≤◌, Bool, true, false, List, [], ◌∷◌, ◌++◌, length, map, get_or, set, refl, sym, ap, ◌∙◌, arith, inl, inr, append_assoc, append-nil, length-take, length-drop, get_or-set_same, get_or-set_other, All, filter, slice_range, list_any, range_with_len, Range, All-nil, All-cons, All-head, All-tail, list_any_at, cases_eq, cases_Bool, both_ways, and_parts, and_left, are_ordered, bounds, in_runs, is_kept_in_place, is_nsm, at_places, class_at, carried}
+use Rattle.bidi_base.proofs.Common.{◌≡◌, ℕ, zero, suc, ◌+◌, ◌-◌, ◌<◌, ◌≤◌, Bool, true, false, List, [], ◌∷◌, ◌++◌, length, map, get_or, set, refl, sym, ap, ◌∙◌, arith, inl, inr, append_assoc, append-nil}
+use Rattle.bidi_base.proofs.Common.{length-take, length-drop, get_or-set_same, get_or-set_other, All, filter, slice_range, list_any, range_with_len, Range, All-nil, All-cons, All-head, All-tail}
+use Rattle.bidi_base.proofs.Common.{list_any_at, cases_eq, cases_Bool, both_ways, and_parts, and_left, are_ordered, bounds, in_runs, is_kept_in_place, is_nsm, at_places, class_at, carried}
 use Rattle.std.proofs.Common.{length-set}
 use Rattle.std.proofs.Math.Numerals.{add-one}
 use Rattle.std.proofs.lemmas.List.{get_or-take, get_or-drop}
@@ -65,14 +67,16 @@ module _ (runs : List (ℕ × ℕ)) (sos : BidiClass) (old : List BidiClass) whe
         AreMarked-unseen old sos 0 (AreMarked-start kept) (start_or runs 0 (length old)) (omega arith)
         (start_within runs 0 (length old) ordered within) (λ k from below. grind (arith, gap_before))
 
-    pub AreMarked-next_run : (now : List BidiClass) (mark : BidiClass) (index : ℕ) → index < length runs → AreMarked runs sos old now mark (get_or runs index (0, 0)).1 → AreMarked runs sos old now mark (start_or runs (index + 1) (length old))
+    pub AreMarked-next_run : (now : List BidiClass) (mark : BidiClass) (index : ℕ) → index < length runs
+        → AreMarked runs sos old now mark (get_or runs index (0, 0)).1 → AreMarked runs sos old now mark (start_or runs (index + 1) (length old))
     AreMarked-next_run now mark index fits h =
         simp add-one (AreMarked-unseen now mark (get_or runs index (0, 0)).1 h (start_or runs (suc index) (length old)) (next_start 0 index runs (length old) ordered fits (within index (0, 0) fits)) (start_within runs (suc index) (length old) ordered within)
         (λ k from below. and_left (in_runs runs k) (is_kept_in_place (class_at old k)) (gap_after 0 index runs k (length old) ordered fits from below)))
 
 -- ---- where no class passes a test
 
-in_part : (test : BidiClass → Bool) (units : List BidiClass) (start end u : ℕ) → end ≤ length units → start ≤ u → u < end → list_any test (slice_range units start end) ≡ false → test (class_at units u) ≡ false
+in_part : (test : BidiClass → Bool) (units : List BidiClass) (start end u : ℕ) → end ≤ length units → start ≤ u → u < end
+    → list_any test (slice_range units start end) ≡ false → test (class_at units u) ≡ false
 in_part test units start end u fits from below none =
     grind (arith, list_any_at test (slice_range units start end) (u - start) L, get_or-take, get_or-drop, length-take, length-drop)
 
@@ -86,10 +90,14 @@ none_in part test units at (r ∷ runs) within none u inside =
     let others = All-tail (λ (q : ℕ × ℕ). q.1 ≤ length units) (bounds r) (map bounds runs) within in
     grind (arith, at (bounds r) u first, in_run-true (bounds r) u, fold_any test (part units (bounds r)), none_in part test units at runs others)
 
-pub is_any-none : (test : BidiClass → Bool) (runs : List (Range ℕ)) (units : List BidiClass) → All (λ r. r.1 ≤ length units) (map bounds runs) → is_any test runs units ≡ false → (u : ℕ) → in_runs (map bounds runs) u ≡ true → test (class_at units u) ≡ false
+pub is_any-none : (test : BidiClass → Bool) (runs : List (Range ℕ)) (units : List BidiClass)
+    → All (λ r. r.1 ≤ length units) (map bounds runs) → is_any test runs units ≡ false → (u : ℕ) → in_runs (map bounds runs) u ≡ true
+    → test (class_at units u) ≡ false
 is_any-none test runs units within none = none_in part_of test units (λ r u fits from below none. grind (arith, in_part)) runs within none
 
-pub is_any_wide-none : (test : BidiClass → Bool) (runs : List (Range ℕ)) (units : List BidiClass) → All (λ r. r.1 ≤ length units) (map bounds runs) → is_any_wide test runs units ≡ false → (u : ℕ) → in_runs (map bounds runs) u ≡ true → test (class_at units u) ≡ false
+pub is_any_wide-none : (test : BidiClass → Bool) (runs : List (Range ℕ)) (units : List BidiClass)
+    → All (λ r. r.1 ≤ length units) (map bounds runs) → is_any_wide test runs units ≡ false → (u : ℕ) → in_runs (map bounds runs) u ≡ true
+    → test (class_at units u) ≡ false
 is_any_wide-none test runs units within none = none_in wide_part_of test units (λ r u fits from below none. grind (arith, in_part)) runs within none
 
 -- so of the units that are seen
@@ -105,6 +113,7 @@ after_w1-none units [] mark none = refl
 after_w1-none units (u ∷ us) mark none =
     grind (arith, All-head (λ u. is_nsm (class_at units u) ≡ false) u us none, after_w1-none units us (carried (class_at units u)) (All-tail (λ u. is_nsm (class_at units u) ≡ false) u us none))
 
-pub IsMarked-none : (runs : List (Range ℕ)) (sos : BidiClass) (old : List BidiClass) → ((u : ℕ) → in_runs (map bounds runs) u ≡ true → is_nsm (class_at old u) ≡ false) → IsMarked (map bounds runs) sos old old
+pub IsMarked-none : (runs : List (Range ℕ)) (sos : BidiClass) (old : List BidiClass)
+    → ((u : ℕ) → in_runs (map bounds runs) u ≡ true → is_nsm (class_at old u) ≡ false) → IsMarked (map bounds runs) sos old old
 IsMarked-none runs sos old none =
     grind (arith, after_w1-none old (seen_units (map bounds runs) old) sos (All-seen (λ u. is_nsm (class_at old u) ≡ false) (map bounds runs) old none))

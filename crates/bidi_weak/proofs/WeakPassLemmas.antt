@@ -1,5 +1,6 @@
 -- The pass from the front gives W1 to W7.
-use Rattle.bidi_base.proofs.Common.{◌≡◌, ℕ, zero, suc, Bool, true, false, not, if◌then◌else◌, List, [], ◌∷◌, ◌++◌, replicate, refl, sym, ap, ◌∙◌, append-nil, arith, rules, is_strong, is_nsm, is_et, is_en, is_l, is_l_or_r, nearest, nearest_is, in_context, carried, w1_rule, w2_rule, w3_rule, w4_rule, w5_rule, w6_rule, w7_rule, w1, w3, w6, weak_classes}
+use Rattle.bidi_base.proofs.Common.{◌≡◌, ℕ, zero, suc, Bool, true, false, not, if◌then◌else◌, List, [], ◌∷◌, ◌++◌, replicate, refl, sym, ap, ◌∙◌, append-nil, arith, rules, is_strong, is_nsm, is_et, is_en}
+use Rattle.bidi_base.proofs.Common.{is_l, is_l_or_r, nearest, nearest_is, in_context, carried, w1_rule, w2_rule, w3_rule, w4_rule, w5_rule, w6_rule, w7_rule, w1, w3, w6, weak_classes}
 use Rattle.bidi_base.specs.declared.char_data.BidiClass.{BidiClass}
 use Rattle.bidi_base.specs.declared.char_data.BidiClass.TheVariants.{L, R, EN, ES, ET, AN, CS, ON}
 use Rattle.bidi_weak.specs.declared.weak.steps.Before.{Before}
@@ -84,7 +85,8 @@ beside-passed true sos before = refl
 beside-passed false sos before = refl
 
 -- one terminator that no European number stands before
-one-terminator : (sos : BidiClass) (after_l d : Bool) (b4 b5 b7 zs : List BidiClass) → is_european b5 ≡ false → is_european (in_context w4_rule (ET ∷ b4) zs) ≡ d → after_l ≡ is_l (nearest is_l_or_r b7 sos)
+one-terminator : (sos : BidiClass) (after_l d : Bool) (b4 b5 b7 zs : List BidiClass) → is_european b5 ≡ false
+    → is_european (in_context w4_rule (ET ∷ b4) zs) ≡ d → after_l ≡ is_l (nearest is_l_or_r b7 sos)
     → after_all sos b4 b5 b7 (ET ∷ zs) ≡ w7_by after_l (beside d) ∷ after_all sos (ET ∷ b4) (ET ∷ b5) (beside d ∷ b7) zs
 one-terminator sos after_l true b4 b5 b7 zs none far left = simp (w4-terminator b4 zs, none, far, left)
 one-terminator sos after_l false b4 b5 b7 zs none far left = simp (w4-terminator b4 zs, none, far, left)

@@ -1,5 +1,7 @@
 -- The weak passes over the units of a text: what stands at the characters once all are done.
-use Rattle.bidi_base.proofs.Common.{◌≡◌, ℕ, zero, suc, ◌+◌, ◌-◌, ◌<◌, ◌≤◌, Bool, true, false, List, [], length, map, get_or, refl, sym, ap, ◌∙◌, arith, inl, inr, All, filter, range_with_len, cases_Bool, cases_eq, and_parts, and_left, and_right, length-map, is_kept_in_place, at_places, class_at, carried, w1_rule, w1, weak_classes, is_per_char, place, per_unit, IsLine, IsPerChar, are_ordered, in_runs, kept_in_place, units_in_runs, AreLines}
+use Rattle.bidi_base.proofs.Common.{◌≡◌, ℕ, zero, suc, ◌+◌, ◌-◌, ◌<◌, ◌≤◌, Bool, true, false, List, [], length, map, get_or, refl, sym, ap, ◌∙◌, arith, inl, inr, All, filter}
+use Rattle.bidi_base.proofs.Common.{range_with_len, cases_Bool, cases_eq, and_parts, and_left, and_right, length-map, is_kept_in_place, at_places, class_at, carried, w1_rule, w1}
+use Rattle.bidi_base.proofs.Common.{weak_classes, is_per_char, place, per_unit, IsLine, IsPerChar, are_ordered, in_runs, kept_in_place, units_in_runs, AreLines}
 use Rattle.bidi_base.specs.InPlace.{AreWeakTypesResolved}
 use Rattle.bidi_base.specs.declared.char_data.BidiClass.{BidiClass}
 use Rattle.bidi_base.specs.declared.char_data.BidiClass.TheVariants.{L, BN}
@@ -28,7 +30,8 @@ module _ (len_of : ℕ → ℕ) (h : HasUnits len_of) (chars : List ℕ) where
   len_at-place k fits = grind (arith, char_at-place) steps 400000
 
   -- in a line
-  pub IsWhole-line : (classes : List BidiClass) → IsPerChar len_of chars classes → (start end : ℕ) → IsLine len_of chars start end → (u : ℕ) → start ≤ u → u < end → IsWhole (len_at len_of chars) classes end u
+  pub IsWhole-line : (classes : List BidiClass) → IsPerChar len_of chars classes → (start end : ℕ) → IsLine len_of chars start end
+      → (u : ℕ) → start ≤ u → u < end → IsWhole (len_at len_of chars) classes end u
   IsWhole-line classes per start end line u from below =
       let w = unit_of len_of chars u (omega (arith, is_boundary-le len_of chars end line.ends)) in
       let k = w.index in
@@ -50,7 +53,9 @@ module _ (len_of : ℕ → ℕ) (h : HasUnits len_of) (chars : List ℕ) where
 -- ---- the passes, one behind another
 
 -- a class that is changed by itself where a unit is marked
-at_marked-map : (f : BidiClass → BidiClass) (mark : ℕ → Bool) (xs ys : List BidiClass) (low n : ℕ) → ((k : ℕ) → mark k ≡ true → class_at xs k ≡ f (class_at ys k)) → at_places L xs (filter mark (range_with_len low n)) ≡ map f (at_places L ys (filter mark (range_with_len low n)))
+at_marked-map : (f : BidiClass → BidiClass) (mark : ℕ → Bool) (xs ys : List BidiClass) (low n : ℕ)
+    → ((k : ℕ) → mark k ≡ true → class_at xs k ≡ f (class_at ys k))
+    → at_places L xs (filter mark (range_with_len low n)) ≡ map f (at_places L ys (filter mark (range_with_len low n)))
 at_marked-map f mark xs ys low zero h = refl
 at_marked-map f mark xs ys low (suc n) h = grind (
   arith,

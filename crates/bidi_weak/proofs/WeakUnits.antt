@@ -1,5 +1,7 @@
 -- The walk over units gives what W2 to W7 give the characters, repeated.
-use Rattle.bidi_base.proofs.Common.{◌≡◌, ℕ, zero, suc, ◌+◌, ◌-◌, ◌<◌, ◌≤◌, Bool, true, false, List, [], ◌∷◌, ◌++◌, length, map, get_or, replicate, refl, sym, ap, ◌∙◌, arith, inl, inr, append-nil, append_assoc, length-append, All, range_with_len, cases_Bool, replicate-append-replicate, sum_by-append, sum_by-cons, All-head, All-tail, is_l, at_places, class_at, place, per_unit, text_len}
+use Rattle.bidi_base.proofs.Common.{◌≡◌, ℕ, zero, suc, ◌+◌, ◌-◌, ◌<◌, ◌≤◌, Bool, true, false, List, [], ◌∷◌, ◌++◌, length, map, get_or, replicate, refl, sym, ap}
+use Rattle.bidi_base.proofs.Common.{◌∙◌, arith, inl, inr, append-nil, append_assoc, length-append, All, range_with_len, cases_Bool, replicate-append-replicate}
+use Rattle.bidi_base.proofs.Common.{sum_by-append, sum_by-cons, All-head, All-tail, is_l, at_places, class_at, place, per_unit, text_len}
 use Rattle.bidi_base.specs.declared.char_data.BidiClass.{BidiClass}
 use Rattle.bidi_base.specs.declared.char_data.BidiClass.TheVariants.{L, ET, ON}
 use Rattle.bidi_laws.proofs.RepeatedPlaces.{AreIndexes, units_of_chars}
@@ -23,7 +25,8 @@ module _ (class : ℕ → BidiClass) (len : ℕ → ℕ) where
   skipped strong before (suc m) n a us = let more : n + suc m ≡ suc n + m = omega arith in simp more (skipped strong before m (suc n) (a + 1) us)
 
   -- terminators that join those that wait
-  joined : (strong : BidiClass) (m n a : ℕ) (us : List ℕ) → ((k : ℕ) → a ≤ k → k < a + m → class k ≡ ET) → walked class len strong Terminators 0 n (range_with_len a m ++ us) ≡ walked class len strong Terminators 0 (n + m) us
+  joined : (strong : BidiClass) (m n a : ℕ) (us : List ℕ) → ((k : ℕ) → a ≤ k → k < a + m → class k ≡ ET)
+      → walked class len strong Terminators 0 n (range_with_len a m ++ us) ≡ walked class len strong Terminators 0 (n + m) us
   joined strong zero n a us each = grind arith
   joined strong (suc m) n a us each = grind (arith, each a, joined strong m (suc n) (a + 1) us)
 
@@ -45,10 +48,12 @@ module _ (class : ℕ → BidiClass) (len : ℕ → ℕ) where
     abbrev own : BidiClass
     own = w7_by (is_l strong) (resolved z before)
 
-    pub row-joins : (m n a : ℕ) (us : List ℕ) → ((k : ℕ) → a ≤ k → k < a + m → class k ≡ c) → joins z before ≡ true → walked class len strong before 0 n (range_with_len a m ++ us) ≡ walked class len now next 0 (n + m) us
+    pub row-joins : (m n a : ℕ) (us : List ℕ) → ((k : ℕ) → a ≤ k → k < a + m → class k ≡ c) → joins z before ≡ true
+        → walked class len strong before 0 n (range_with_len a m ++ us) ≡ walked class len now next 0 (n + m) us
     row-joins m n a us each h = grind (arith, joined)
 
-    decided : IsSteady c strong before → waits next ≡ false → (m a : ℕ) (us : List ℕ) → ((k : ℕ) → a ≤ k → k < a + m → class k ≡ c) → walked class len now next 0 0 (range_with_len a m ++ us) ≡ replicate m own ++ walked class len now next 0 0 us
+    decided : IsSteady c strong before → waits next ≡ false → (m a : ℕ) (us : List ℕ) → ((k : ℕ) → a ≤ k → k < a + m → class k ≡ c)
+        → walked class len now next 0 0 (range_with_len a m ++ us) ≡ replicate m own ++ walked class len now next 0 0 us
     decided s free zero a us each = refl
     decided s free (suc m) a us each = grind (arith, s, each a, decided s free m (a + 1) us)
 
@@ -78,7 +83,8 @@ record IsPlain (c strong : BidiClass) (before : Before) : Type 0 where
 is_plain : (c strong : BidiClass) (before : Before) → is_number c ≡ false → is_idle before ≡ true → IsPlain c strong before
 is_plain c strong before h idle = grind arith
 
-pub walked-plain : (classes : List BidiClass) (len : ℕ → ℕ) (us : List ℕ) → All (λ u. is_number (class_at classes u) ≡ false) us → (strong : BidiClass) (before : Before) (n : ℕ) → is_idle before ≡ true
+pub walked-plain : (classes : List BidiClass) (len : ℕ → ℕ) (us : List ℕ) → All (λ u. is_number (class_at classes u) ≡ false) us
+    → (strong : BidiClass) (before : Before) (n : ℕ) → is_idle before ≡ true
     → walked (class_at classes) len strong before 0 n us ≡ replicate n ON ++ map left_over (at_places L classes us)
 walked-plain classes len [] none strong before n idle = sym (append-nil (replicate n ON))
 walked-plain classes len (u ∷ us) none strong before n idle =
@@ -100,7 +106,8 @@ left-next : (strong c : BidiClass) → is_after_l (is_l strong) (strengthened st
 left-next strong c = grind arith
 
 -- what waits in front of the others
-per_unit-held : (len_of : ℕ → ℕ) (held cs : List ℕ) (v : BidiClass) (xs : List BidiClass) → per_unit len_of (held ++ cs) (replicate (length held) v ++ xs) ≡ replicate (text_len len_of held) v ++ per_unit len_of cs xs
+per_unit-held : (len_of : ℕ → ℕ) (held cs : List ℕ) (v : BidiClass) (xs : List BidiClass)
+    → per_unit len_of (held ++ cs) (replicate (length held) v ++ xs) ≡ replicate (text_len len_of held) v ++ per_unit len_of cs xs
 per_unit-held len_of [] cs v xs = refl
 per_unit-held len_of (c ∷ held) cs v xs =
     simp (per_unit-held len_of held cs v xs, sum_by-cons len_of c held, ← replicate-append-replicate (len_of c) (text_len len_of held) v, append_assoc)

@@ -1,5 +1,7 @@
 -- The steps of the walk over numbers, by stretches of units.
-use Rattle.bidi_base.proofs.Common.{◌≡◌, ℕ, zero, suc, ◌+◌, ◌-◌, ◌<◌, ◌≤◌, Bool, true, false, List, [], ◌∷◌, ◌++◌, length, get_or, map, take, drop, reverse, replicate, refl, sym, ap, ◌∙◌, arith, inl, inr, append-nil, append_assoc, length-append, get_or-drop, common_steps, All, range_with_len, cases_Bool, both_ways, and_left, and_right, map-append, length-range_with_len, Range, is_l, is_strong, is_kept_in_place, at_places, class_at, nearest, are_ordered, bounds, in_runs}
+use Rattle.bidi_base.proofs.Common.{◌≡◌, ℕ, zero, suc, ◌+◌, ◌-◌, ◌<◌, ◌≤◌, Bool, true, false, List, [], ◌∷◌, ◌++◌, length, get_or, map, take, drop, reverse, replicate, refl, sym, ap, ◌∙◌}
+use Rattle.bidi_base.proofs.Common.{arith, inl, inr, append-nil, append_assoc, length-append, get_or-drop, common_steps, All, range_with_len, cases_Bool, both_ways, and_left, and_right}
+use Rattle.bidi_base.proofs.Common.{map-append, length-range_with_len, Range, is_l, is_strong, is_kept_in_place, at_places, class_at, nearest, are_ordered, bounds, in_runs}
 use Rattle.std.proofs.Math.Numerals.{add-one}
 use Rattle.bidi_base.specs.declared.char_data.BidiClass.{BidiClass}
 use Rattle.bidi_base.specs.declared.char_data.BidiClass.TheVariants.{L, ON}
@@ -213,7 +215,8 @@ other-free before h = grind arith
 removed-weak : (strong c : BidiClass) → is_kept_in_place c ≡ false → strong_up_to strong c ≡ strong
 removed-weak strong c h = grind arith
 
-pub IsUnderWay-passes : (p : Pass) (now : List BidiClass) (w : Walk) (i run : ℕ) → IsUnderWay p now w i → run < length p.runs → (get_or p.runs run (0, 0)).0 ≤ i → i < (get_or p.runs run (0, 0)).1 → i < length p.old
+pub IsUnderWay-passes : (p : Pass) (now : List BidiClass) (w : Walk) (i run : ℕ) → IsUnderWay p now w i → run < length p.runs
+    → (get_or p.runs run (0, 0)).0 ≤ i → i < (get_or p.runs run (0, 0)).1 → i < length p.old
     → is_other w.before ≡ true → is_asked (class_at now i) ≡ false → IsUnderWay p now (record { strong = strong_up_to w.strong (class_at now i); before = w.before; first = w.first; first_run = w.first_run }) (i + 1)
 IsUnderWay-passes p now w i run h fits starts ends inside other asked =
     let c = class_at p.old i in
@@ -240,7 +243,8 @@ nearest-unit now i m strong fits =
     simp (more, get_or-drop) (nearest-more is_strong (class_at now (i + m)) (reverse (take m (drop i now))) strong)
 
 -- units that are passed over, one behind another
-pub IsUnderWay-passes_all : (p : Pass) (now : List BidiClass) (w : Walk) (i run n : ℕ) → IsUnderWay p now w i → run < length p.runs → (get_or p.runs run (0, 0)).0 ≤ i → i + n ≤ (get_or p.runs run (0, 0)).1 → i + n ≤ length now
+pub IsUnderWay-passes_all : (p : Pass) (now : List BidiClass) (w : Walk) (i run n : ℕ) → IsUnderWay p now w i → run < length p.runs
+    → (get_or p.runs run (0, 0)).0 ≤ i → i + n ≤ (get_or p.runs run (0, 0)).1 → i + n ≤ length now
     → is_other w.before ≡ true → ((k : ℕ) → i ≤ k → k < i + n → is_asked (class_at now k) ≡ false)
     → IsUnderWay p now (record { strong = nearest is_strong (reverse (take n (drop i now))) w.strong; before = w.before; first = w.first; first_run = w.first_run }) (i + n)
 IsUnderWay-passes_all p now w i run zero h fits starts ends inside other none = grind arith
@@ -257,12 +261,14 @@ module _ (p : Pass) (ordered : are_ordered p.runs ≡ true) (within : All (λ (r
       IsUnderWay-unseen p p.old (record { strong = p.sos; before = Other; first = 0; first_run = 0 }) 0 (IsUnderWay-start p) (start_or p.runs 0 (length p.old)) (omega arith) (start_within p.runs 0 (length p.old) ordered within)
       (λ k from below. and_left (in_runs p.runs k) (is_kept_in_place (class_at p.old k)) (gap_before 0 p.runs k (length p.old) ordered below))
 
-  pub IsUnderWay-next_run : (now : List BidiClass) (w : Walk) (index : ℕ) → index < length p.runs → IsUnderWay p now w (get_or p.runs index (0, 0)).1 → IsUnderWay p now w (start_or p.runs (index + 1) (length p.old))
+  pub IsUnderWay-next_run : (now : List BidiClass) (w : Walk) (index : ℕ) → index < length p.runs
+      → IsUnderWay p now w (get_or p.runs index (0, 0)).1 → IsUnderWay p now w (start_or p.runs (index + 1) (length p.old))
   IsUnderWay-next_run now w index fits h =
       simp add-one (IsUnderWay-unseen p now w (get_or p.runs index (0, 0)).1 h (start_or p.runs (suc index) (length p.old)) (next_start 0 index p.runs (length p.old) ordered fits (within index (0, 0) fits)) (start_within p.runs (suc index) (length p.old) ordered within)
       (λ k from below. and_left (in_runs p.runs k) (is_kept_in_place (class_at p.old k)) (gap_after 0 index p.runs k (length p.old) ordered fits from below)))
 
 -- where no number stands nothing is written
-pub IsWalked-none : (len : ℕ → ℕ) (runs : List (Range ℕ)) (sos : BidiClass) (old : List BidiClass) → ((u : ℕ) → in_runs (map bounds runs) u ≡ true → is_number (class_at old u) ≡ false) → IsWalked len (map bounds runs) sos old old
+pub IsWalked-none : (len : ℕ → ℕ) (runs : List (Range ℕ)) (sos : BidiClass) (old : List BidiClass)
+    → ((u : ℕ) → in_runs (map bounds runs) u ≡ true → is_number (class_at old u) ≡ false) → IsWalked len (map bounds runs) sos old old
 IsWalked-none len runs sos old none =
     grind (arith, walked-plain old len (seen_units (map bounds runs) old) (All-seen (λ u. is_number (class_at old u) ≡ false) (map bounds runs) old none) sos Other 0)

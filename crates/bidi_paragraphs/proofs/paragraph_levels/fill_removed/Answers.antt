@@ -4,7 +4,8 @@ use Rattle.bidi_paragraphs.proofs.FilledUnits.{AreFilled, AreFilled-removed}
 use Rattle.bidi_paragraphs.proofs.paragraph_levels.fill_removed.Goals as goal
 
 -- up to the next one that is removed
-up_to : (para : ℕ) (classes : List BidiClass) (old now : List ℕ) (i next : ℕ) → IsFirst is_removed classes i (length classes) next → AreFilled para classes old i now → AreFilled para classes old next now
+up_to : (para : ℕ) (classes : List BidiClass) (old now : List ℕ) (i next : ℕ) → IsFirst is_removed classes i (length classes) next
+    → AreFilled para classes old i now → AreFilled para classes old next now
 up_to para classes old now i next f h = grind arith
 
 pub loop-at-init : goal.loop-at-init

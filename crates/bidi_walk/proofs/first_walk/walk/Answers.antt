@@ -2,7 +2,8 @@ use Rattle.bidi_base.proofs.Common.{not, ◌≡◌, ◌∙◌, ◌+◌, ℕ, ◌
 use Rattle.std.proofs.lemmas.List.{with_items_is}
 use Rattle.bidi_base.proofs.PlaceLemmas.{is_boundary-place, place-end}
 use Rattle.bidi_walk.specs.declared.first_walk.reading.Reading.{Reading}
-use Rattle.bidi_walk.proofs.TextRead.{seen, same_range, open_within, depth-le, drawn-is, IsTextRead-more, IsTextRead-stop_counting, IsTextDone-close, IsRead, IsRead-start, IsRead-on, IsRead-stop, IsRead-last, IsRead-none, IsTextDone-none, IsAnswer, IsTextDone-answer}
+use Rattle.bidi_walk.proofs.TextRead.{seen, same_range, open_within, depth-le, drawn-is, IsTextRead-more, IsTextRead-stop_counting, IsTextDone-close, IsRead}
+use Rattle.bidi_walk.proofs.TextRead.{IsRead-start, IsRead-on, IsRead-stop, IsRead-last, IsRead-none, IsTextDone-none, IsAnswer, IsTextDone-answer}
 use Rattle.bidi_walk.proofs.WalkSteps.{IsAt, IsAt-met, IsRead-end}
 use Rattle.bidi_walk.proofs.first_walk.walk.Goals as goal
 use Rattle.bidi_walk.proofs.first_walk.walk.Goals.{In-Some, then-is_none+in_ok-close, then-is_none-via-then-is_none, then-is_none-via-else-is_none+then-walk-end, else-is_none+else-walk-end}
@@ -84,7 +85,8 @@ loop-met-preserved g c =
 pub close-requires : goal.close-requires
 close-requires g c = grind arith
 
-answered : (g : Over) (c : goal.After-drop-walk-2 g) → IsAnswer (g.D.BidiDataSource.source c.args.data_source.now) g.T.TextSource.units (g.T.TextSource.characters c.args.text) c.args.split c.args.base (seen c.next_met.new.classes c.if-is_none.walk)
+answered : (g : Over) (c : goal.After-drop-walk-2 g)
+    → IsAnswer (g.D.BidiDataSource.source c.args.data_source.now) g.T.TextSource.units (g.T.TextSource.characters c.args.text) c.args.split c.args.base (seen c.next_met.new.classes c.if-is_none.walk)
 answered g c =
     let split = c.args.split in
     let old = seen c.next_met.new.classes c.loop-met.walk in

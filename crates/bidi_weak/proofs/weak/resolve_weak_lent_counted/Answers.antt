@@ -19,12 +19,14 @@ record IsReady (len_of : ℕ → ℕ) (chars : List ℕ) (read : List (Range ℕ
   lines : AreLines len_of chars (map bounds read)
   per : IsPerChar len_of chars old
 
-ready : (len_of : ℕ → ℕ) → HasUnits len_of → (chars : List ℕ) (sequence : LentSequence) (read : List (Range ℕ)) (old : List BidiClass) → read ≡ lent_runs sequence → AreLines len_of chars (map bounds (lent_runs sequence))
+ready : (len_of : ℕ → ℕ) → HasUnits len_of → (chars : List ℕ) (sequence : LentSequence) (read : List (Range ℕ)) (old : List BidiClass)
+    → read ≡ lent_runs sequence → AreLines len_of chars (map bounds (lent_runs sequence))
     → is_per_char class_eq len_of chars old ≡ true → IsReady len_of chars read old
 ready len_of h chars sequence read old is lines per =
     rw is (record { ordered = grind arith; lines = lines; per = IsPerChar-from_is_per_char class_eq class_test len_of h chars old per })
 
-resolved : (len_of : ℕ → ℕ) → HasUnits len_of → (chars : List ℕ) (sequence : LentSequence) (read : List (Range ℕ)) (sos : BidiClass) → read ≡ lent_runs sequence → sos ≡ lent_sos sequence → (old c1 c2 c3 : List BidiClass) → IsReady len_of chars read old
+resolved : (len_of : ℕ → ℕ) → HasUnits len_of → (chars : List ℕ) (sequence : LentSequence) (read : List (Range ℕ)) (sos : BidiClass)
+    → read ≡ lent_runs sequence → sos ≡ lent_sos sequence → (old c1 c2 c3 : List BidiClass) → IsReady len_of chars read old
     → IsMarked (map bounds read) (carried sos) old c1 → IsWalked (len_at len_of chars) (map bounds read) sos c1 c2
     → ((u : ℕ) → in_runs (map bounds read) u ≡ true → class_at c3 u ≡ left_over (class_at c2 u)) → ((u : ℕ) → in_runs (map bounds read) u ≡ false → class_at c3 u ≡ class_at c2 u) → length c3 ≡ length c2
     → AreWeakTypesResolved len_of chars (map bounds (lent_runs sequence)) (lent_sos sequence) old c3

@@ -1,4 +1,5 @@
-use Rattle.bidi_base.proofs.Common.{◌≡◌, ℕ, List, [], ◌∷◌, ◌++◌, Option, sym, ap, ◌∙◌, arith, append-nil, append_assoc, true, option_map_or, counted_bracket, same_class, brackets_from, HasRead, class_at, Source}
+use Rattle.bidi_base.proofs.Common.{◌≡◌, ℕ, List, [], ◌∷◌, ◌++◌, Option, sym, ap, ◌∙◌, arith, append-nil, append_assoc, true}
+use Rattle.bidi_base.proofs.Common.{option_map_or, counted_bracket, same_class, brackets_from, HasRead, class_at, Source}
 use Rattle.bidi_base.specs.declared.brackets.Bracket.{Bracket}
 use Rattle.bidi_base.specs.declared.char_data.BidiClass.{BidiClass}
 use Rattle.bidi_base.specs.declared.char_data.BidiClass.TheVariants.{ON}

@@ -42,7 +42,8 @@ pub settle_rest-requires : goal.settle_rest-requires
 settle_rest-requires g c = search (rules, first_kept-requires)
 
 -- N2 is done
-resolved : (g : Over) (c : goal.After-processing_classes-2-1 g) → IsResolved g.T.TextSource.units (g.T.TextSource.characters c.args.text) (g.D.BidiDataSource.source c.args.data_source.now) c.args.levels.now c.args.original_classes.now c.args.processing_classes.now c.settle_rest.new.classes
+resolved : (g : Over) (c : goal.After-processing_classes-2-1 g)
+    → IsResolved g.T.TextSource.units (g.T.TextSource.characters c.args.text) (g.D.BidiDataSource.source c.args.data_source.now) c.args.levels.now c.args.original_classes.now c.args.processing_classes.now c.settle_rest.new.classes
     (lent_runs c.args.sequence) (lent_sos c.args.sequence) (lent_eos c.args.sequence)
 resolved g c =
     let first = (goal.at.returns-clause-resolved g c).In-Some in

@@ -12,14 +12,18 @@ ready : (g : Over) (c : After-sos-sos g) → IsReady g.T.TextSource.units (g.T.T
 ready g c = IsReady-sequence g.T.TextSource.units g.met.T.TextSource.has_units (g.T.TextSource.characters c.args.text) c.args.sequence c.runs-runs.result.now c.sos-sos.result c.args.processing_classes.now c.runs-runs.ensures c.sos-sos.ensures c.requires.per_char c.requires.fits c.requires.resolved
 
 -- what stands at the first unit that is kept
-begins : (g : Over) (c : After-eos-eos g) → IsReady g.T.TextSource.units (g.T.TextSource.characters c.args.text) c.runs-runs.result.now c.sos-sos.result c.args.processing_classes.now → c.bidi_class-embedding.result ≡ direction_of (level_at c.args.levels.now c.in-Some.first)
+begins : (g : Over) (c : After-eos-eos g)
+    → IsReady g.T.TextSource.units (g.T.TextSource.characters c.args.text) c.runs-runs.result.now c.sos-sos.result c.args.processing_classes.now
+    → c.bidi_class-embedding.result ≡ direction_of (level_at c.args.levels.now c.in-Some.first)
 begins g c r =
     let found = sym c.in-Some.is ∙ c.first_kept.ensures in
     let within : c.in-Some.first < length c.args.levels.now = omega (arith, first-within g.T.TextSource.units g.met.T.TextSource.has_units (g.T.TextSource.characters c.args.text) c.runs-runs.result.now c.sos-sos.result c.args.processing_classes.now r c.in-Some.first found, c.requires.levels) in
     c.bidi_class-embedding.ensures ∙ ap direction_of (c.index-levels-first.is ∙ get_or_default c.args.levels.now c.in-Some.first c.index-levels-first.result 0 within)
 
 -- the embedding direction is L or R
-side : (g : Over) (c : After-eos-eos g) → IsReady g.T.TextSource.units (g.T.TextSource.characters c.args.text) c.runs-runs.result.now c.sos-sos.result c.args.processing_classes.now → is_l_or_r c.bidi_class-embedding.result ≡ true
+side : (g : Over) (c : After-eos-eos g)
+    → IsReady g.T.TextSource.units (g.T.TextSource.characters c.args.text) c.runs-runs.result.now c.sos-sos.result c.args.processing_classes.now
+    → is_l_or_r c.bidi_class-embedding.result ≡ true
 side g c r = ap is_l_or_r (begins g c r) ∙ direction_of-l_or_r (level_at c.args.levels.now c.in-Some.first)
 
 pub first_kept-requires : goal.first_kept-requires
@@ -72,7 +76,9 @@ pub resolve_opposite-requires-clause-eos : goal.resolve_opposite-requires-clause
 resolve_opposite-requires-clause-eos g c = eos-side c.args.sequence c.eos-eos.result c.eos-eos.ensures
 
 -- the steps, one after the other
-resolved : (g : Over) (c : After-resolve_opposite g) → (c.bidi_class-embedding.result ≡ direction_of (level_at c.args.levels.now c.in-Some.first)) → IsReady g.T.TextSource.units (g.T.TextSource.characters c.args.text) c.runs-runs.result.now c.sos-sos.result c.args.processing_classes.now
+resolved : (g : Over) (c : After-resolve_opposite g)
+    → (c.bidi_class-embedding.result ≡ direction_of (level_at c.args.levels.now c.in-Some.first))
+    → IsReady g.T.TextSource.units (g.T.TextSource.characters c.args.text) c.runs-runs.result.now c.sos-sos.result c.args.processing_classes.now
     → IsUpToN1 g.T.TextSource.units (g.T.TextSource.characters c.args.text) (g.D.BidiDataSource.source c.args.data_source.now) c.args.levels.now c.args.original_classes.now c.args.processing_classes.now c.resolve_opposite.new.classes (lent_runs c.args.sequence) (lent_sos c.args.sequence) (lent_eos c.args.sequence)
 resolved g c embedding r =
     IsUpToN1-sequence g.T.TextSource.units (g.T.TextSource.characters c.args.text) (g.D.BidiDataSource.source c.args.data_source.now) c.args.levels.now c.args.original_classes.now c.args.processing_classes.now c.resolve_opposite.new.classes c.args.sequence c.runs-runs.result.now c.sos-sos.result c.eos-eos.result c.runs-runs.ensures c.sos-sos.ensures c.eos-eos.ensures

@@ -12,5 +12,6 @@ invariant-loop-run l =
       first_run : l.join.first_run ≤ length l.runs;
       opposite : l.join.opposite ≡ opposite_of d.embedding;
       long : length l.classes ≡ length l.fn.classes;
-      reads : (s : Unjoined) → s.runs ≡ map bounds l.runs → s.e ≡ d.embedding → s.sos ≡ d.sos → s.old ≡ l.fn.classes → IsUnderWay s l.classes l.join (start_or (map bounds l.runs) l.run (length l.fn.classes));
+      reads : (s : Unjoined) → s.runs ≡ map bounds l.runs → s.e ≡ d.embedding → s.sos ≡ d.sos → s.old ≡ l.fn.classes
+          → IsUnderWay s l.classes l.join (start_or (map bounds l.runs) l.run (length l.fn.classes));
     }

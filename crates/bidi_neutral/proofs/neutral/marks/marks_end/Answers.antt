@@ -1,4 +1,5 @@
-use Rattle.bidi_base.proofs.Common.{◌≡◌, ℕ, List, ◌+◌, ◌<◌, ◌≤◌, true, get_or, ap, ◌∙◌, arith, inl, inr, cases_lt, and_parts, length-map, take_all, is_kept_in_place, is_nsm, class_at, is_boundary, place, text_len, IsLine}
+use Rattle.bidi_base.proofs.Common.{◌≡◌, ℕ, List, ◌+◌, ◌<◌, ◌≤◌, true, get_or, ap, ◌∙◌, arith, inl, inr, cases_lt, and_parts, length-map}
+use Rattle.bidi_base.proofs.Common.{take_all, is_kept_in_place, is_nsm, class_at, is_boundary, place, text_len, IsLine}
 use Rattle.bidi_base.proofs.PlaceLemmas.{is_boundary-place, place-lt, place-mono}
 use Rattle.bidi_base.proofs.TextLemmas.{is_boundary-le}
 use Rattle.bidi_runs.proofs.CharEnds.{Begins, begins_at}
@@ -9,7 +10,8 @@ use Rattle.bidi_neutral.proofs.neutral.marks.marks_end.Goals as goal
 use Rattle.bidi_neutral.proofs.neutral.marks.marks_end.Goals.{In-loop-at}
 use Rattle.bidi_neutral.proofs.neutral.marks.marks_end.Given.{Over}
 
-line : (g : Over) (c : In-loop-at g) → IsLine g.T.TextSource.units (g.T.TextSource.characters c.args.text) (get_or c.args.runs.now c.loop-run.run-index no_range).start (get_or c.args.runs.now c.loop-run.run-index no_range).end
+line : (g : Over) (c : In-loop-at g)
+    → IsLine g.T.TextSource.units (g.T.TextSource.characters c.args.text) (get_or c.args.runs.now c.loop-run.run-index no_range).start (get_or c.args.runs.now c.loop-run.run-index no_range).end
 line g c = search (arith, line_at)
 
 inside : (g : Over) (c : In-loop-at g) → c.loop-at.at < text_len g.T.TextSource.units (g.T.TextSource.characters c.args.text)

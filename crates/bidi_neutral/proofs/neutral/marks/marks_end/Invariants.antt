@@ -15,7 +15,8 @@ invariant-loop-at g l =
     let chars = g.T.TextSource.characters l.fn.text in
     record {
       begins : is_boundary len_of chars l.at ≡ true;
-      marks : (u : ℕ) → (get_or l.runs l.run-index no_range).start ≤ u → u < l.at → (k : ℕ) → u ≡ place len_of chars k → l.from ≤ u → is_kept_in_place (class_at l.classes u) ≡ true → is_nsm (class_at l.original_classes u) ≡ true;
+      marks : (u : ℕ) → (get_or l.runs l.run-index no_range).start ≤ u → u < l.at → (k : ℕ) → u ≡ place len_of chars k → l.from ≤ u
+          → is_kept_in_place (class_at l.classes u) ≡ true → is_nsm (class_at l.original_classes u) ≡ true;
       start : (get_or l.runs l.run-index no_range).start ≤ l.at;
       from : l.from ≤ l.at;
     }

@@ -1,4 +1,5 @@
-use Rattle.bidi_base.proofs.Common.{◌≡◌, ℕ, ◌+◌, ◌≤◌, ◌&&◌, List, length, map, drop, refl, sym, subst, ap, arith, common_steps, All, and_from, is_kept_in_place, class_at, place, text_len, bounds, in_runs, AreLines}
+use Rattle.bidi_base.proofs.Common.{◌≡◌, ℕ, ◌+◌, ◌≤◌, ◌&&◌, List, length, map, drop, refl, sym, subst, ap, arith, common_steps, All}
+use Rattle.bidi_base.proofs.Common.{and_from, is_kept_in_place, class_at, place, text_len, bounds, in_runs, AreLines}
 use Rattle.std.proofs.lemmas.List.Elements.{All-drop}
 use Rattle.bidi_base.specs.declared.char_data.BidiClass.{BidiClass}
 use Rattle.bidi_base.proofs.PlaceLemmas.{is_boundary-place, place-mono}
@@ -12,7 +13,8 @@ use Rattle.bidi_runs.proofs.WalkLemmas.{forwards-in_order, part_after}
 use Rattle.bidi_neutral.proofs.neutral.pairs.set_direction.Goals as goal
 
 -- what is found and written from a bracket on needs no run that ends before it
-IsSet-later : (len_of : ℕ → ℕ) (chars : List ℕ) (later runs : List (ℕ × ℕ)) (original : List BidiClass) (d : BidiClass) (bracket inside end : ℕ) (old new : List BidiClass) → ((k : ℕ) → bracket ≤ k → in_runs later k ≡ in_runs runs k) → bracket ≤ inside
+IsSet-later : (len_of : ℕ → ℕ) (chars : List ℕ) (later runs : List (ℕ × ℕ)) (original : List BidiClass) (d : BidiClass) (bracket inside end : ℕ) (old new : List BidiClass)
+    → ((k : ℕ) → bracket ≤ k → in_runs later k ≡ in_runs runs k) → bracket ≤ inside
     → IsMarksEnd len_of chars later original old inside end → IsWrittenOver (is_seen later old) d bracket end old new → IsMarksEnd len_of chars runs original old inside end × IsWrittenOver (is_seen runs old) d bracket end old new
 IsSet-later len_of chars later runs original d bracket inside end old new same order m w =
     let alike : (k : ℕ) → bracket ≤ k → is_seen later old k ≡ is_seen runs old k = λ k from. ap
@@ -20,7 +22,8 @@ IsSet-later len_of chars later runs original d bracket inside end old new same o
     grind (arith, alike, IsWrittenOver-same_test (is_seen later old) (is_seen runs old) d bracket end old new)
 
 -- without marks behind it, a bracket is all that is written
-IsSet-unmarked : (len_of : ℕ → ℕ) (chars : List ℕ) (runs : List (ℕ × ℕ)) (original : List BidiClass) (d : BidiClass) (bracket : Place) (k : ℕ) (old new : List BidiClass) → bracket.end ≡ place len_of chars k → bracket.unit ≤ bracket.end → IsUnmarked runs original old bracket
+IsSet-unmarked : (len_of : ℕ → ℕ) (chars : List ℕ) (runs : List (ℕ × ℕ)) (original : List BidiClass) (d : BidiClass) (bracket : Place) (k : ℕ) (old new : List BidiClass)
+    → bracket.end ≡ place len_of chars k → bracket.unit ≤ bracket.end → IsUnmarked runs original old bracket
     → IsWrittenOver (λ u. is_kept_in_place (class_at old u)) d bracket.unit bracket.end old new → IsMarksEnd len_of chars runs original old (place len_of chars k) bracket.end × IsWrittenOver (is_seen runs old) d bracket.unit bracket.end old new
 IsSet-unmarked len_of chars runs original d bracket k old new ends order u w = (
   record {

@@ -4,12 +4,14 @@ use Rattle.bidi_base.specs.declared.char_data.BidiClass.{BidiClass}
 use Rattle.bidi_base.proofs.TextLemmas.{HasUnits, is_boundary-le}
 use Rattle.bidi_text.proofs.PerCharTests.{class_test}
 use Rattle.bidi_base.proofs.UnitsLemmas.{length-from_is_per_char}
-use Rattle.bidi_runs.proofs.RunReading.{IsReadTo-jump, IsReadTo-asked, IsCountedTo-start, counted-all, counted-closed, counted-closed_before, counted-end, counted-opened, counted-smaller, counted-waits}
+use Rattle.bidi_runs.proofs.RunReading.{IsReadTo-jump, IsReadTo-asked, IsCountedTo-start, counted-all, counted-closed}
+use Rattle.bidi_runs.proofs.RunReading.{counted-closed_before, counted-end, counted-opened, counted-smaller, counted-waits}
 use Rattle.bidi_runs.proofs.prepare.joining.read_run.Goals as goal
 use Rattle.bidi_runs.proofs.prepare.joining.read_run.Goals.{else-loop-at-test, then-loop-at-test+then-control-end}
 
 -- the run lies within
-within : (len_of : ℕ → ℕ) → HasUnits len_of → (chars : List ℕ) (units : List BidiClass) (start end : ℕ) → is_per_char ghosts.eq len_of chars units ≡ true → IsLine len_of chars start end → end ≤ length units
+within : (len_of : ℕ → ℕ) → HasUnits len_of → (chars : List ℕ) (units : List BidiClass) (start end : ℕ)
+    → is_per_char ghosts.eq len_of chars units ≡ true → IsLine len_of chars start end → end ≤ length units
 within len_of h chars units start end whole line = grind (arith, length-from_is_per_char, class_test, is_boundary-le) steps 400000
 
 -- a unit has a class

@@ -1,4 +1,5 @@
-use Rattle.bidi_base.proofs.Common.{◌≡◌, ℕ, ◌+◌, ◌≤◌, ◌<◌, List, [], ◌∷◌, ◌++◌, length, take, flat_map, reverse, arith, common_steps, reverse-append, reverse-reverse, sum_by-cons, take_all, nat_tests, text_len, utf16_text, utf16_len}
+use Rattle.bidi_base.proofs.Common.{◌≡◌, ℕ, ◌+◌, ◌≤◌, ◌<◌, List, [], ◌∷◌, ◌++◌, length, take, flat_map, reverse, arith, common_steps}
+use Rattle.bidi_base.proofs.Common.{reverse-append, reverse-reverse, sum_by-cons, take_all, nat_tests, text_len, utf16_text, utf16_len}
 use Rattle.std.specs.Char.Escape.{encode_utf16}
 use Rattle.std.proofs.lemmas.List.Sums.{sum_by-append}
 use Rattle.bidi_text.proofs.Utf16Lemmas.{text_len-utf16}

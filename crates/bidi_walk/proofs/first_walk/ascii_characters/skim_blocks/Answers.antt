@@ -38,7 +38,8 @@ pub meets-requires-then-meets : goal.meets-requires-then-meets
 meets-requires-then-meets g c = found-small (g.D.BidiDataSource.source c.args.data_source.now) c.in-Some.block c.args.minded c.loop-next.progress.flags _ c.write_block-found.ensures.found
 
 -- nothing of the block is minded
-passed : (g : Over) (c : goal.Joined-meets g) → IsBlockPassed (g.D.BidiDataSource.source c.args.data_source.now) c.in-Some.block c.args.minded c.loop-next.progress.flags c.if-meets.progress.flags c.if-meets.sought
+passed : (g : Over) (c : goal.Joined-meets g)
+    → IsBlockPassed (g.D.BidiDataSource.source c.args.data_source.now) c.in-Some.block c.args.minded c.loop-next.progress.flags c.if-meets.progress.flags c.if-meets.sought
 passed g c =
     let source = g.D.BidiDataSource.source c.args.data_source.now in
     let found_is = c.write_block-found.ensures.found in

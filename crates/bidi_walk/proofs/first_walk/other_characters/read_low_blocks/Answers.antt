@@ -25,7 +25,8 @@ pub slice_copy_out-class : goal.slice_copy_out-class
 slice_copy_out-class g c = omega (arith, room g (goal.at.slice_copy_out-class g c).In-Some, c.if-idle-lt-LOW_BLOCK.true, c.write_low_block-idle.auto.classes)
 
 -- the characters before the one that is sought change no flag
-same : (g : Over) (c : After-write_low_block-idle g) → flags_to (g.D.BidiDataSource.source c.args.data_source.now) c.in-Some.block c.args.progress.now.flags c.write_low_block-idle.result ≡ c.args.progress.now.flags
+same : (g : Over) (c : After-write_low_block-idle g)
+    → flags_to (g.D.BidiDataSource.source c.args.data_source.now) c.in-Some.block c.args.progress.now.flags c.write_low_block-idle.result ≡ c.args.progress.now.flags
 same g c = flags_to-same (g.D.BidiDataSource.source c.args.data_source.now) c.in-Some.block _ c.write_low_block-idle.result (λ k below.
     let is_class = c.write_low_block-idle.ensures.written k (omega (arith, below, c.write_low_block-idle.ensures.few)) (omega (arith, below)) in
     rw is_class at (c.requires.sought _ (c.write_low_block-idle.ensures.idle k below)))

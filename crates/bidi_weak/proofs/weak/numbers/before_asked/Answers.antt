@@ -1,4 +1,5 @@
-use Rattle.bidi_base.proofs.Common.{◌≡◌, ℕ, ◌+◌, ◌-◌, ◌*◌, ◌/◌, ◌%◌, ◌<◌, false, List, length, get_or, take, drop, sym, arith, inl, inr, length-take, length-drop, get_or-take, get_or-drop, cases_lt, list_any_at, fails_before_first, class_at}
+use Rattle.bidi_base.proofs.Common.{◌≡◌, ℕ, ◌+◌, ◌-◌, ◌*◌, ◌/◌, ◌%◌, ◌<◌, false, List, length, get_or, take, drop, sym, arith, inl, inr, length-take}
+use Rattle.bidi_base.proofs.Common.{length-drop, get_or-take, get_or-drop, cases_lt, list_any_at, fails_before_first, class_at}
 use Rattle.std.proofs.Math.Nat.{mod-lt}
 use Rattle.std.proofs.lemmas.Nat.{div-add-mod'}
 use Rattle.std.proofs.lemmas.List.Sums.{passes_at_first, position_or_len_is}

@@ -81,7 +81,9 @@ record AreRead (runs : List (ℕ × ℕ)) (w : Walk) (n steps first : ℕ) : Typ
   waiting : WaitsBelow runs w n
   at_most : steps ≤ first + 2 * count_below runs n + 2 * count_below runs (settled_to w n)
 
-read : (runs : List (ℕ × ℕ)) (w : Walk) (index n steps first : ℕ) → length runs ≤ index → WaitsBelow runs w (start_or runs index n) → steps ≤ first + 2 * count_below runs (start_or runs index n) + 2 * count_below runs (settled_to w (start_or runs index n)) → AreRead runs w n steps first
+read : (runs : List (ℕ × ℕ)) (w : Walk) (index n steps first : ℕ) → length runs ≤ index → WaitsBelow runs w (start_or runs index n)
+    → steps ≤ first + 2 * count_below runs (start_or runs index n) + 2 * count_below runs (settled_to w (start_or runs index n))
+    → AreRead runs w n steps first
 read runs w index n steps first past waiting at_most = grind (arith, start_or-past)
 
 pub read_run-requires-clause-waiting : goal.read_run-requires-clause-waiting

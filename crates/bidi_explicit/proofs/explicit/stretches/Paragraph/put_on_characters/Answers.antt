@@ -6,7 +6,8 @@ use Rattle.bidi_explicit.proofs.explicit.stretches.Paragraph.put_on_characters.G
 use Rattle.bidi_explicit.proofs.explicit.stretches.Paragraph.put_on_characters.Goals as goal
 use Rattle.bidi_explicit.proofs.explicit.stretches.Paragraph.put_on_characters.Goals.{After-step_over-next}
 
-next : (g : Over) (c : After-step_over-next g) → Goes g.T.TextSource.units g.met.T.TextSource.has_units (g.T.TextSource.characters c.args.self.now.text) c.args.self.now.original_classes.now c.loop-at.at c.step_over-next.result c.args.to
+next : (g : Over) (c : After-step_over-next g)
+    → Goes g.T.TextSource.units g.met.T.TextSource.has_units (g.T.TextSource.characters c.args.self.now.text) c.args.self.now.original_classes.now c.loop-at.at c.step_over-next.result c.args.to
 next g c =
     goes g.T.TextSource.units g.met.T.TextSource.has_units (g.T.TextSource.characters c.args.self.now.text) c.args.self.now.original_classes.now c.loop-at.at c.step_over-next.result c.args.to
     c.args.self.now.per_char c.loop-at.invariant.3 c.requires.ends c.loop-at-test.true (omega (arith, c.requires.within, c.args.self.now.long)) c.step_over-next.ensures.end

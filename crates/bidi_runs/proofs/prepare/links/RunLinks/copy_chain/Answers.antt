@@ -1,4 +1,5 @@
-use Rattle.bidi_base.proofs.Common.{◌≡◌, ◌<◌, ◌≤◌, ◌∙◌, ℕ, List, [], ◌∷◌, ◌++◌, None, length, map, take, drop, drop_all, take_all, sym, ap, refl, arith, get_or, get_or_default, length-append, length-map, bounds, Range}
+use Rattle.bidi_base.proofs.Common.{◌≡◌, ◌<◌, ◌≤◌, ◌∙◌, ℕ, List, [], ◌∷◌, ◌++◌, None, length, map, take, drop, drop_all, take_all, sym}
+use Rattle.bidi_base.proofs.Common.{ap, refl, arith, get_or, get_or_default, length-append, length-map, bounds, Range}
 use Rattle.bidi_runs.specs.Links.{next_run, AreLinked}
 use Rattle.bidi_runs.specs.declared.prepare.links.RunLinks.{RunLinks}
 use Rattle.bidi_runs.proofs.RunGather.{IsWholeChain, IsGathered-start, IsGathered-more, IsGathered-end, copied-kept, copied-more, copied-is}
@@ -54,7 +55,8 @@ loop-next-preserved c =
     })
 
 -- all runs of the chain came
-whole : (c : In_default) → IsWholeChain c.args.self.now (take (length c.args.self.now.next.items) c.args.runs.now.items) c.requires.linked c.args.first (length-map (take (length c.args.self.now.next.items) c.args.runs.now.items) bounds) c.loop-next.last
+whole : (c : In_default)
+    → IsWholeChain c.args.self.now (take (length c.args.self.now.next.items) c.args.runs.now.items) c.requires.linked c.args.first (length-map (take (length c.args.self.now.next.items) c.args.runs.now.items) bounds) c.loop-next.last
     (drop (length c.args.self.now.next.items) c.loop-next.runs.items)
 whole c =
     let links = c.args.self.now in

@@ -1,5 +1,6 @@
 -- One run is found as it is; several are copied.
-use Rattle.bidi_base.proofs.Common.{◌≡◌, ◌<◌, ◌≤◌, ◌+◌, ◌-◌, ℕ, List, length, map, take, drop, take_all, get_or, not, false, Option, Some, None, is_some, refl, sym, ap, ◌∙◌, arith, Range, get_or_default, length-map, length-take, length-drop, bounds}
+use Rattle.bidi_base.proofs.Common.{◌≡◌, ◌<◌, ◌≤◌, ◌+◌, ◌-◌, ℕ, List, length, map, take, drop, take_all, get_or, not, false, Option, Some, None, is_some}
+use Rattle.bidi_base.proofs.Common.{refl, sym, ap, ◌∙◌, arith, Range, get_or_default, length-map, length-take, length-drop, bounds}
 use Rattle.bidi_runs.specs.Links.{next_run, sides_at, AreLinked}
 use Rattle.bidi_runs.specs.declared.prepare.links.RunLinks.{RunLinks}
 use Rattle.bidi_runs.specs.declared.prepare.links.RunSides.{RunSides}
@@ -11,7 +12,8 @@ none_from None e = refl
 none_from (Some n) e = absurd (cc e)
 
 -- the classes at the ends of a run, as the code reads them
-side_is : (links : RunLinks) (runs : List (ℕ × ℕ)) (k : ℕ) (side : RunSides) → AreLinked links runs → k < length links.next.items → side ≡ get_or links.sides.items k side → sides_at links.sides.items k ≡ side
+side_is : (links : RunLinks) (runs : List (ℕ × ℕ)) (k : ℕ) (side : RunSides) → AreLinked links runs → k < length links.next.items
+    → side ≡ get_or links.sides.items k side → sides_at links.sides.items k ≡ side
 side_is links runs k side linked within is =
     get_or_default links.sides.items k _ side (omega (arith, within, linked.all_sides, linked.all_next)) ∙ sym is
 

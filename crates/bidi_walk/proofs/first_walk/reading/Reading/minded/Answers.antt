@@ -1,4 +1,5 @@
-use Rattle.bidi_base.proofs.Common.{◌≡◌, ◌∙◌, ◌+◌, ◌^◌, true, false, [], None, sym, ap, nil_from_length, ◌||◌, ◌&&◌, Bool, nat_lt, arith, class_number, is_strong, is_initiator, is_pdi, is_fsi, is_paragraph_separator}
+use Rattle.bidi_base.proofs.Common.{◌≡◌, ◌∙◌, ◌+◌, ◌^◌, true, false, [], None, sym, ap, nil_from_length, ◌||◌, ◌&&◌, Bool, nat_lt}
+use Rattle.bidi_base.proofs.Common.{arith, class_number, is_strong, is_initiator, is_pdi, is_fsi, is_paragraph_separator}
 use Rattle.bidi_base.specs.declared.char_data.BidiClass.{BidiClass}
 use Rattle.bidi_base.specs.declared.char_data.BidiClass.TheVariants.{L, R, AL, B, LRI, RLI, FSI, PDI}
 use Rattle.bidi_walk.specs.declared.first_walk.reading.Reading.{Reading}

@@ -1,4 +1,5 @@
-use Rattle.bidi_base.proofs.Common.{◌≡◌, ◌+◌, ◌-◌, ◌*◌, ◌<◌, ◌≤◌, ℕ, Bool, true, false, not, cond, List, length, map, get_or, drop, sym, ap, subst, ◌∙◌, arith, IsTrue, cond-false, get_or_past, is_l, class_at, bounds, are_ordered}
+use Rattle.bidi_base.proofs.Common.{◌≡◌, ◌+◌, ◌-◌, ◌*◌, ◌<◌, ◌≤◌, ℕ, Bool, true, false, not, cond, List, length, map, get_or, drop, sym, ap}
+use Rattle.bidi_base.proofs.Common.{subst, ◌∙◌, arith, IsTrue, cond-false, get_or_past, is_l, class_at, bounds, are_ordered}
 use Rattle.bidi_base.specs.declared.char_data.BidiClass.{BidiClass}
 use Rattle.bidi_text.proofs.PerCharTests.{class_test}
 use Rattle.bidi_weak.specs.declared.weak.numbers.Walk.{Walk}
@@ -25,7 +26,9 @@ settled_by p runs same i w now now1 h v held is ordered some none =
     simp (← is) (IsWrittenOver-settled p now w i h held now1 (simp same ordered) (λ t. simp same (some t)) none)
 
 -- behind what is settled
-above_settled : (w : Walk) (runs : List (ℕ × ℕ)) (held : BidiClass) (i k : ℕ) (now now1 : List BidiClass) → i ≤ k → (waits w.before ≡ true → IsWrittenOver (is_seen (drop w.first_run runs) now) held w.first i now now1) → (waits w.before ≡ false → now1 ≡ now) → class_at now1 k ≡ class_at now k
+above_settled : (w : Walk) (runs : List (ℕ × ℕ)) (held : BidiClass) (i k : ℕ) (now now1 : List BidiClass) → i ≤ k
+    → (waits w.before ≡ true → IsWrittenOver (is_seen (drop w.first_run runs) now) held w.first i now now1)
+    → (waits w.before ≡ false → now1 ≡ now) → class_at now1 k ≡ class_at now k
 above_settled w runs held i k now now1 order some none = grind arith
 
 pub returns-clause-rest : goal.returns-clause-rest
@@ -76,7 +79,8 @@ pub returns-clause-waiting : goal.returns-clause-waiting
 returns-clause-waiting g c = grind (arith, run_fits)
 
 -- and where it does not
-paid_idle : (runs : List (ℕ × ℕ)) (t : Bool) (first start end a b : ℕ) → are_ordered runs ≡ true → t ≡ false → start < end → a ≤ b + 2 * count_below runs start → a ≤ b + 2 * count_below runs (cond t first end)
+paid_idle : (runs : List (ℕ × ℕ)) (t : Bool) (first start end a b : ℕ) → are_ordered runs ≡ true → t ≡ false → start < end
+    → a ≤ b + 2 * count_below runs start → a ≤ b + 2 * count_below runs (cond t first end)
 paid_idle runs t first start end a b ordered idle order paid = omega (arith, paid, ap (count_below runs) (cond-false t first end idle), count_below-monotone 0 runs start end ordered (omega arith))
 
 pub returns-clause-at_most : goal.returns-clause-at_most

@@ -19,7 +19,8 @@ pub loop-at-preserved : goal.loop-at-preserved
 loop-at-preserved g c = grind (arith, count_settled-monotone, WaitsBelow-later, IsUnderWay-unseen, and_right)
 
 -- the turns over units that are passed over
-passed : (runs : List (ℕ × ℕ)) (w after : Walk) (i j : ℕ) → are_ordered runs ≡ true → i < j → is_other w.before ≡ true → is_other after.before ≡ true → count_below runs (settled_to w i) ≤ count_below runs (settled_to after j)
+passed : (runs : List (ℕ × ℕ)) (w after : Walk) (i j : ℕ) → are_ordered runs ≡ true → i < j → is_other w.before ≡ true
+    → is_other after.before ≡ true → count_below runs (settled_to w i) ≤ count_below runs (settled_to after j)
 passed runs w after i j ordered order before behind =
     grind (
       arith,
