@@ -1,6 +1,8 @@
 -- The order of a line's characters, from the visual runs of its units.
-use Rattle.bidi_base.proofs.Common.{◌≡◌, ℕ, ◌+◌, ◌-◌, ◌<◌, ◌≤◌, Bool, List, length, length-reverse, get_or, subst, Range, run_of, map, flat_map, reverse, if◌then◌else◌, refl, sym, ap, ◌∙◌, arith, map-id}
-use Rattle.bidi_base.proofs.Common.{le_refl, length-take-le, slice_range, take, take_all, get_or-map, length-map, flat_map-map, zero-add, between, is_odd, true, is_boundary, char_index, place, subrange}
+use Rattle.bidi_base.proofs.Common.{◌≡◌, ℕ, ◌+◌, ◌-◌, ◌<◌, ◌≤◌, Bool, List, length, length-reverse, get_or, subst, Range, run_of}
+use Rattle.bidi_base.proofs.Common.{map, flat_map, reverse, if◌then◌else◌, refl, sym, ap, ◌∙◌, arith, map-id}
+use Rattle.bidi_base.proofs.Common.{le_refl, length-take-le, slice_range, take, take_all, get_or-map, length-map, flat_map-map}
+use Rattle.bidi_base.proofs.Common.{zero-add, between, is_odd, true, is_boundary, char_index, place, subrange}
 use Rattle.bidi_base.proofs.Common.{per_char, per_unit, text_len, IsLine, IsPerChar, Run, run_level, visual_order, visual_runs, written_run, written_runs, IsLevelRun, AreVisualRuns}
 use Rattle.std.proofs.Common.{All}
 use Rattle.std.proofs.lemmas.List.Concat.{length-flat_map}

@@ -1,7 +1,10 @@
 -- The explicit pass by stretches: where no control comes the status stands still, so the characters there have one level and are under one override.
-use Rattle.bidi_base.proofs.Common.{◌≡◌, ℕ, zero, suc, ◌+◌, ◌-◌, ◌<◌, ◌≤◌, ◌^◌, Bool, true, false, not, List, [], ◌∷◌, ◌++◌, length, get_or, set, Option, Some, None, refl, sym, ap, subst, ◌∙◌, arith, inl, inr}
-use Rattle.bidi_base.proofs.Common.{length-take, eq-eqb, common_steps, cases_Bool, cases_lt, cases_eq, ext_get_or, length-replicate, get_or-append_right, is_kept, is_kept_in_place, is_removed, then_some, class_at}
-use Rattle.bidi_base.proofs.Common.{IsFirst, is_kept_at, level_at, State, start, closed, step, state_at, char_index, is_boundary, place, text_len, is_per_char, per_unit, IsPerChar, level_run_ranges, add-zero}
+use Rattle.bidi_base.proofs.Common.{◌≡◌, ℕ, zero, suc, ◌+◌, ◌-◌, ◌<◌, ◌≤◌, ◌^◌, Bool, true, false, not, List, [], ◌∷◌, ◌++◌, length}
+use Rattle.bidi_base.proofs.Common.{get_or, set, Option, Some, None, refl, sym, ap, subst, ◌∙◌, arith, inl, inr}
+use Rattle.bidi_base.proofs.Common.{length-take, eq-eqb, common_steps, cases_Bool, cases_lt, cases_eq, ext_get_or, length-replicate}
+use Rattle.bidi_base.proofs.Common.{get_or-append_right, is_kept, is_kept_in_place, is_removed, then_some, class_at}
+use Rattle.bidi_base.proofs.Common.{IsFirst, is_kept_at, level_at, State, start, closed, step, state_at, char_index, is_boundary}
+use Rattle.bidi_base.proofs.Common.{place, text_len, is_per_char, per_unit, IsPerChar, level_run_ranges, add-zero}
 use Rattle.std.specs.Prelude.{if◌then◌else◌}
 use Rattle.std.proofs.lemmas.List.{get_or-drop}
 use Rattle.bidi_base.specs.declared.char_data.BidiClass.{BidiClass}
@@ -309,7 +312,8 @@ module _ (p : Paragraph) (from to : ℕ) (stack : State) (levels : List ℕ) (cl
         class-here,
       )) cut
 
-  module _ (level : ℕ) (override : Option BidiClass) (now_levels : List ℕ) (now_classes : List BidiClass) (level_is : level ≡ stack.top.status.level) (override_is : override ≡ stack.top.status.override)
+  module _ (level : ℕ) (override : Option BidiClass) (now_levels : List ℕ) (now_classes : List BidiClass) (level_is : level ≡ stack.top.status.level)
+      (override_is : override ≡ stack.top.status.override)
       (filled_is : now_levels ≡ filled from (to - from) level levels) (over : IsOverridden override from to classes now_classes) (v : ℕ) (first : IsFirst is_kept_in_place p.original from to v) where
     -- its first kept character, if there is one, meets the run
     pub stretch-met : (some : Bool) → (some ≡ true → v < to) → (some ≡ false → to ≤ v) → (kept : Option ℕ) → kept ≡ then_some some v
@@ -322,7 +326,8 @@ module _ (p : Paragraph) (from to : ℕ) (stack : State) (levels : List ℕ) (cl
 
 -- ---- a control is read
 
-module _ (p : Paragraph) (at : ℕ) (stack : State) (levels : List ℕ) (classes : List BidiClass) (runs : List (ℕ × ℕ)) (run : OpenRun) (h : IsReadTo p at stack levels classes runs run) (inside : at < length p.original) where
+module _ (p : Paragraph) (at : ℕ) (stack : State) (levels : List ℕ) (classes : List BidiClass) (runs : List (ℕ × ℕ)) (run : OpenRun)
+    (h : IsReadTo p at stack levels classes runs run) (inside : at < length p.original) where
   control-fits : h.index < length p.chars
   control-fits = grind (arith, place-end, original_long)
 
@@ -397,7 +402,8 @@ read-start p has_units whole stack levels classes runs run new long same none fi
     let per_char = IsPerChar-from_is_per_char ghosts.eq class_test p.len_of has_units p.chars p.original whole in
     grind (arith, place-zero p.len_of p.chars, original_long p has_units per_char, IsCutTo-start p.len_of p.chars (stored p) (levels_of p))
 
-module _ (p : Paragraph) (at : ℕ) (stack : State) (levels : List ℕ) (classes : List BidiClass) (runs : List (ℕ × ℕ)) (run : OpenRun) (h : IsReadTo p at stack levels classes runs run) (past : length p.original ≤ at) where
+module _ (p : Paragraph) (at : ℕ) (stack : State) (levels : List ℕ) (classes : List BidiClass) (runs : List (ℕ × ℕ)) (run : OpenRun)
+    (h : IsReadTo p at stack levels classes runs run) (past : length p.original ≤ at) where
   all_read : h.index ≡ length (stored p)
   all_read = grind (arith, common_steps, original_long, stored_long, place-lt)
 

@@ -1,5 +1,6 @@
 -- Sequences and level runs read levels at kept characters alone.
-use Rattle.bidi_base.proofs.Common.{◌≡◌, ℕ, zero, suc, ◌<◌, true, List, [], ◌∷◌, length, map, Some, refl, arith, inl, inr, filter_agree, class_at, chain, last_or, matching_pdi, is_kept_at, kept_places}
+use Rattle.bidi_base.proofs.Common.{◌≡◌, ℕ, zero, suc, ◌<◌, true, List, [], ◌∷◌, length, map, Some, refl, arith, inl, inr}
+use Rattle.bidi_base.proofs.Common.{filter_agree, class_at, chain, last_or, matching_pdi, is_kept_at, kept_places}
 use Rattle.bidi_base.proofs.Common.{next_kept, kept_before, level_at, resumed_at, successor, is_first, start_class, end_class, sequence_from, sequences, explicit_levels, get_or-map-range_with_len}
 use Rattle.bidi_base.specs.declared.char_data.BidiClass.{BidiClass}
 use Rattle.bidi_base.specs.Sequences.{HasExplicitLevels}

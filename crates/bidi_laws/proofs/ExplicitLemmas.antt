@@ -1,5 +1,6 @@
 -- Bounds on explicit levels.
-use Rattle.bidi_base.proofs.Common.{◌≡◌, ℕ, ◌<◌, ◌≤◌, List, [], ◌∷◌, length, arith, le_refl, leb-true, cond-true, le-leb, class_at, level_at, Status, override_of, asked_level, status_inside, status_at}
+use Rattle.bidi_base.proofs.Common.{◌≡◌, ℕ, ◌<◌, ◌≤◌, List, [], ◌∷◌, length, arith, le_refl, leb-true, cond-true, le-leb}
+use Rattle.bidi_base.proofs.Common.{class_at, level_at, Status, override_of, asked_level, status_inside, status_at}
 use Rattle.bidi_base.proofs.Common.{explicit_level, explicit_class, explicit_levels, explicit_classes, processing_class, processing_classes, length-map-range_with_len, get_or-map-range_with_len}
 use Rattle.bidi_base.specs.declared.char_data.BidiClass.{BidiClass}
 

@@ -1,5 +1,6 @@
 -- A matching PDI stands inside the same isolates and embeddings as its initiator, and so has its explicit level.
-use Rattle.bidi_base.proofs.Common.{◌≡◌, ℕ, zero, suc, ◌<◌, true, false, cond, eqb, List, ◌∷◌, length, get_or, Option, Some, None, arith, eqb-true, sum_by-cons, is_pdi, is_paragraph_separator, chain, first_or}
+use Rattle.bidi_base.proofs.Common.{◌≡◌, ℕ, zero, suc, ◌<◌, true, false, cond, eqb, List, ◌∷◌, length, get_or, Option, Some, None}
+use Rattle.bidi_base.proofs.Common.{arith, eqb-true, sum_by-cons, is_pdi, is_paragraph_separator, chain, first_or}
 use Rattle.bidi_base.proofs.Common.{is_initiator_at, is_pdi_at, matching_pdi, open_at, status_at, explicit_level, explicit_levels, RunSequence, level_at, successor, sequence_from, sequences}
 use Rattle.bidi_base.specs.declared.char_data.BidiClass.{BidiClass}
 use Rattle.bidi_laws.proofs.IsolatesLemmas.{initiators_apart, matching_pdi-IsLeast, matching_pdi-is_pdi}

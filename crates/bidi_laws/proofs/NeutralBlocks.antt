@@ -1,5 +1,6 @@
 -- N1 and N2 block by block.
-use Rattle.bidi_base.proofs.Common.{◌≡◌, ℕ, suc, ◌+◌, ◌-◌, ◌<◌, ◌≤◌, true, cond, List, ◌∷◌, length, get_or, take, drop, replicate, reverse, unwrap_or, sym, ap, subst, ◌∙◌, arith, inl, inr, cases_lt, drop_more}
+use Rattle.bidi_base.proofs.Common.{◌≡◌, ℕ, suc, ◌+◌, ◌-◌, ◌<◌, ◌≤◌, true, cond, List, ◌∷◌, length, get_or, take, drop, replicate}
+use Rattle.bidi_base.proofs.Common.{reverse, unwrap_or, sym, ap, subst, ◌∙◌, arith, inl, inr, cases_lt, drop_more}
 use Rattle.bidi_base.proofs.Common.{drop_all, get_or_past, get_or_default, list_all_at, list_all, as_direction, has_direction, is_neutral, is_weak_resolved, same_class, nearest_direction, n1_rule}
 use Rattle.bidi_base.specs.declared.char_data.BidiClass.{BidiClass}
 use Rattle.bidi_base.specs.declared.char_data.BidiClass.TheVariants.{L, ON}

@@ -1,5 +1,6 @@
 -- What a program's list of runs is: runs are ranges there.
-use Rattle.bidi_base.proofs.Common.{◌≡◌, ℕ, ◌+◌, ◌<◌, ◌≤◌, ◌++◌, false, List, [], ◌∷◌, map, length, get_or, take, refl, sym, subst, le_refl, ◌∙◌, arith, rules, common_steps, Range, get_or-map, length-map}
+use Rattle.bidi_base.proofs.Common.{◌≡◌, ℕ, ◌+◌, ◌<◌, ◌≤◌, ◌++◌, false, List, [], ◌∷◌, map, length, get_or, take, refl, sym}
+use Rattle.bidi_base.proofs.Common.{subst, le_refl, ◌∙◌, arith, rules, common_steps, Range, get_or-map, length-map}
 use Rattle.bidi_base.proofs.Common.{length-range_with_len, IsPermutation-refl, has_rtl, indexes, at_places, visual_order, IsVisualOrder, Run, run_of, level_runs, run_level, visual_runs, AreVisualRuns}
 use Rattle.std.proofs.Common.{All}
 use Rattle.bidi_lines.proofs.Ordered.{visual_order-still, none_odd}

@@ -1,6 +1,7 @@
 -- A list of the indexes in which the pairs stand as the levels ask is the visual order.
 use Rattle.bidi_base.proofs.Common.{◌≡◌, ℕ, ◌+◌, ◌<◌, false, true, List, length, get_or, AllPairs, sym, subst, ◌∙◌, arith, inl, inr, eq-eqb, rules, IsPermutation, cases_order, get_or_default}
-use Rattle.bidi_base.proofs.Common.{length-range_with_len, get_or-range_with_len, IsPermutation-refl, length_permutation, list_any_at, has_rtl, indexes, stands_left, visual_order, IsVisualOrder, order_by_reversals}
+use Rattle.bidi_base.proofs.Common.{length-range_with_len, get_or-range_with_len, IsPermutation-refl, length_permutation, list_any_at}
+use Rattle.bidi_base.proofs.Common.{has_rtl, indexes, stands_left, visual_order, IsVisualOrder, order_by_reversals}
 use Rattle.bidi_laws.proofs.OrderLemmas.{stands_left-before, stands_left-after}
 use Rattle.bidi_laws.proofs.VisualOrderLemmas.{visual_order-unique}
 use Rattle.bidi_lines.specs.Arranged.{IsEven, StandsLeft, IsArranged, NoneIsOdd}

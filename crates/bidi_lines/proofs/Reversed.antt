@@ -1,6 +1,8 @@
 -- What the annex's reversals leave: each pair stands as the levels between its items ask.
-use Rattle.bidi_base.proofs.Common.{◌≡◌, ℕ, zero, suc, ◌+◌, ◌-◌, ◌<◌, ◌≤◌, fold, get_or, nat_lt, max, List, [], ◌∷◌, ◌++◌, length, AllPairs, Contains, arith, ◌⊎◌, inl, inr, eqb-true, le_refl, ap, min, add-zero, suc-add}
-use Rattle.bidi_base.proofs.Common.{cases_lt, cases_Bool, IsPermutation, All-cons, All-nil, All-tail, filter_passes, AllPairs-cons, length-range_with_len, get_or-range_with_len, All-permutation, Contains-permutation}
+use Rattle.bidi_base.proofs.Common.{◌≡◌, ℕ, zero, suc, ◌+◌, ◌-◌, ◌<◌, ◌≤◌, fold, get_or, nat_lt, max, List, [], ◌∷◌, ◌++◌, length}
+use Rattle.bidi_base.proofs.Common.{AllPairs, Contains, arith, ◌⊎◌, inl, inr, eqb-true, le_refl, ap, min, add-zero, suc-add}
+use Rattle.bidi_base.proofs.Common.{cases_lt, cases_Bool, IsPermutation, All-cons, All-nil, All-tail, filter_passes, AllPairs-cons}
+use Rattle.bidi_base.proofs.Common.{length-range_with_len, get_or-range_with_len, All-permutation, Contains-permutation}
 use Rattle.bidi_base.proofs.Common.{IsPermutation-refl, IsPermutation-trans, IsPermutation-cons, IsPermutation-append_right, IsPermutation-middle, is_odd, indexes, least, order_by_reversals}
 use Rattle.std.proofs.Common.{filter, All}
 use Rattle.std.proofs.Math.Nat.{add-suc}

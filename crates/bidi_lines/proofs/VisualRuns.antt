@@ -1,7 +1,10 @@
 -- The level runs in the visual order of their levels, written out, are the visual order of the units.
-use Rattle.bidi_base.proofs.Common.{◌≡◌, ℕ, zero, suc, ◌+◌, ◌-◌, ◌<◌, ◌≤◌, max, true, List, [], ◌∷◌, map, flat_map, length, get_or, AllPairs, refl, ap, subst, arith, inl, inr, range_with_len, IsPermutation, cases_lt}
-use Rattle.bidi_base.proofs.Common.{cases_order, both_ways, cases_Bool, get_or-map, length-map, same_lists, get_or_default, flat_map-map, length-range_with_len, get_or-range_with_len, length-map-range_with_len}
-use Rattle.bidi_base.proofs.Common.{get_or-map-range_with_len, All-tail, All-map, All-permutation, IsPermutation-refl, IsPermutation-sym, IsPermutation-trans, IsPermutation-reverse, is_odd, between, indexes, at_places}
+use Rattle.bidi_base.proofs.Common.{◌≡◌, ℕ, zero, suc, ◌+◌, ◌-◌, ◌<◌, ◌≤◌, max, true, List, [], ◌∷◌, map, flat_map, length, get_or}
+use Rattle.bidi_base.proofs.Common.{AllPairs, refl, ap, subst, arith, inl, inr, range_with_len, IsPermutation, cases_lt}
+use Rattle.bidi_base.proofs.Common.{cases_order, both_ways, cases_Bool, get_or-map, length-map, same_lists, get_or_default}
+use Rattle.bidi_base.proofs.Common.{flat_map-map, length-range_with_len, get_or-range_with_len, length-map-range_with_len}
+use Rattle.bidi_base.proofs.Common.{get_or-map-range_with_len, All-tail, All-map, All-permutation, IsPermutation-refl, IsPermutation-sym}
+use Rattle.bidi_base.proofs.Common.{IsPermutation-trans, IsPermutation-reverse, is_odd, between, indexes, at_places}
 use Rattle.bidi_base.proofs.Common.{least_between, stands_left, visual_order, IsVisualOrder, Run, level_runs, run_level, visual_runs, written_run, written_runs, IsLevelRun, AreVisualRuns}
 use Rattle.std.proofs.Common.{All}
 use Rattle.std.proofs.lemmas.List.Sorted.{IsPermutation-map}

@@ -1,5 +1,6 @@
 -- The steps of N0 and N1 over a sequence, one after the other.
-use Rattle.bidi_base.proofs.Common.{◌≡◌, ℕ, ◌+◌, ◌<◌, ◌≤◌, Bool, true, false, ◌&&◌, if◌then◌else◌, List, [], ◌∷◌, length, map, find, slice_get, Option, Some, None, refl, sym, ap, ◌∙◌, arith, ◌⊎◌, rules}
+use Rattle.bidi_base.proofs.Common.{◌≡◌, ℕ, ◌+◌, ◌<◌, ◌≤◌, Bool, true, false, ◌&&◌, if◌then◌else◌, List, [], ◌∷◌, length, map}
+use Rattle.bidi_base.proofs.Common.{find, slice_get, Option, Some, None, refl, sym, ap, ◌∙◌, arith, ◌⊎◌, rules}
 use Rattle.bidi_base.proofs.Common.{All, list_all, Range, cases_Bool, cases_lt, and_parts, and_left, and_right, nil_from_length, length-map, get_or_past, length-range_with_len}
 use Rattle.bidi_base.proofs.Common.{get_or-map-range_with_len, bracket_pairs, is_l_or_r, is_kept_in_place, is_weak_resolved, direction_of, n0, n1_rule, n1_n2, n2_rule, neutral_classes, at_places}
 use Rattle.bidi_base.proofs.Common.{class_at, first_or, indexes, level_at, Source, place, text_len, is_per_char, per_unit, IsPerChar, bounds, in_runs, kept_in_place, units_in_runs, AreLines}
@@ -108,7 +109,8 @@ neutral_classes-none level sos eos source brackets = search (rules, nil_from_len
 abbrev pub IsUpToN1 : (ℕ → ℕ) → List ℕ → Source → List ℕ → List BidiClass → List BidiClass → List BidiClass → List (Range ℕ) → BidiClass → BidiClass → Type 0
 IsUpToN1 len_of chars source levels original old new runs sos eos = AreNeutralsResolvedUpToN1 len_of chars source (map bounds runs) sos eos levels original old new
 
-module _ (len_of : ℕ → ℕ) (h : HasUnits len_of) (chars : List ℕ) (source : Source) (original old mid : List BidiClass) (runs : List (Range ℕ)) (e sos : BidiClass) (ready : IsReady len_of chars runs sos old)
+module _ (len_of : ℕ → ℕ) (h : HasUnits len_of) (chars : List ℕ) (source : Source) (original old mid : List BidiClass) (runs : List (Range ℕ))
+    (e sos : BidiClass) (ready : IsReady len_of chars runs sos old)
     (p : IsPaired len_of chars original old mid runs e sos (pairs_in len_of chars source old runs)) where
   abbrev rs : List (ℕ × ℕ)
   rs = map bounds runs

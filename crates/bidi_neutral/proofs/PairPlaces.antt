@@ -52,7 +52,8 @@ between_at : (classes : List BidiClass) (i j k : ℕ) → j ≤ length classes �
     → (get_or (slice_range classes (i + 1) j) k L ≡ class_at classes (i + 1 + k)) × (i + 1 + k < j)
 between_at classes i j k fits inside = grind (arith, length-take, get_or-take, get_or-drop)
 
-module _ (len_of : ℕ → ℕ) (h : HasUnits len_of) (chars : List ℕ) (runs : List (Range ℕ)) (sos : BidiClass) (old : List BidiClass) (ready : IsReady len_of chars runs sos old) (now : List BidiClass) (per : IsPerChar len_of chars now)
+module _ (len_of : ℕ → ℕ) (h : HasUnits len_of) (chars : List ℕ) (runs : List (Range ℕ)) (sos : BidiClass) (old : List BidiClass)
+    (ready : IsReady len_of chars runs sos old) (now : List BidiClass) (per : IsPerChar len_of chars now)
     (kept : (u : ℕ) → is_kept_in_place (class_at now u) ≡ is_kept_in_place (class_at old u)) where
   abbrev rs : List (ℕ × ℕ)
   rs = map bounds runs

@@ -33,7 +33,8 @@ marks-all : (source : List BidiClass) (b y : ℕ) → b < y → y < length sourc
 unfolding is_mark_after
 marks-all source b y less fits marks = grind (arith, every, length-take, get_or-take, get_or-drop)
 
-module _ (len_of : ℕ → ℕ) (h : HasUnits len_of) (chars : List ℕ) (original : List BidiClass) (runs : List (Range ℕ)) (sos : BidiClass) (old : List BidiClass) (ready : IsReady len_of chars runs sos old) where
+module _ (len_of : ℕ → ℕ) (h : HasUnits len_of) (chars : List ℕ) (original : List BidiClass) (runs : List (Range ℕ)) (sos : BidiClass)
+    (old : List BidiClass) (ready : IsReady len_of chars runs sos old) where
   abbrev rs : List (ℕ × ℕ)
   rs = map bounds runs
 
@@ -145,7 +146,8 @@ module _ (len_of : ℕ → ℕ) (h : HasUnits len_of) (chars : List ℕ) (origin
 
   -- ---- what a bracket and the marks behind it take
 
-  module _ (now new : List BidiClass) (per : IsPerChar len_of chars now) (kept : (u : ℕ) → is_kept_in_place (class_at now u) ≡ is_kept_in_place (class_at old u)) (d : BidiClass) (side : is_l_or_r d ≡ true)
+  module _ (now new : List BidiClass) (per : IsPerChar len_of chars now)
+      (kept : (u : ℕ) → is_kept_in_place (class_at now u) ≡ is_kept_in_place (class_at old u)) (d : BidiClass) (side : is_l_or_r d ≡ true)
       (b : ℕ) (fits : b < length ks) (from end : ℕ) (from_is : from ≡ at b) (long : length original ≡ length now) (e : IsMarksEnd len_of chars rs original now (ends b) end) (w : IsWrittenOver (is_seen rs now) d from end now new) where
     same-seen : (u : ℕ) → is_seen rs now u ≡ is_seen rs old u
     same-seen u = ap (λ t. in_runs rs u && t) (kept u)
@@ -237,7 +239,8 @@ others-any : (e : BidiClass) (cs : List BidiClass) → is_l_or_r e ≡ true → 
 others-any e [] side none = refl
 others-any e (c ∷ cs) side none = grind (arith, others-any e cs)
 
-module _ (len_of : ℕ → ℕ) (h : HasUnits len_of) (chars : List ℕ) (original : List BidiClass) (runs : List (Range ℕ)) (sos : BidiClass) (old : List BidiClass) (ready : IsReady len_of chars runs sos old)
+module _ (len_of : ℕ → ℕ) (h : HasUnits len_of) (chars : List ℕ) (original : List BidiClass) (runs : List (Range ℕ)) (sos : BidiClass)
+    (old : List BidiClass) (ready : IsReady len_of chars runs sos old)
     (e : BidiClass) (side : is_l_or_r e ≡ true) (long : length original ≡ length old) (pairs : List (ℕ × ℕ)) (nested : AreNestedPairs (length (kept_in_place len_of chars old (map bounds runs))) pairs) where
   abbrev spots : ℕ → ℕ
   spots k = at len_of h chars original runs sos old ready k

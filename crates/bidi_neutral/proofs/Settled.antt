@@ -1,5 +1,6 @@
 -- N2 over the units of a sequence, once N0 and N1 are done.
-use Rattle.bidi_base.proofs.Common.{◌≡◌, ℕ, ◌+◌, ◌<◌, ◌≤◌, true, false, List, [], ◌∷◌, length, map, find, None, refl, ◌∙◌, arith, All, Range, cases_Bool, All-head, All-tail, is_kept_in_place, direction_of}
+use Rattle.bidi_base.proofs.Common.{◌≡◌, ℕ, ◌+◌, ◌<◌, ◌≤◌, true, false, List, [], ◌∷◌, length, map, find, None, refl, ◌∙◌, arith}
+use Rattle.bidi_base.proofs.Common.{All, Range, cases_Bool, All-head, All-tail, is_kept_in_place, direction_of}
 use Rattle.bidi_base.proofs.Common.{n2_rule, neutral_classes, at_places, class_at, first_or, level_at, Source, place, is_per_char, IsPerChar, bounds, in_runs, kept_in_place, units_in_runs}
 use Rattle.bidi_base.specs.InPlace.{AreNeutralsResolved}
 use Rattle.bidi_base.specs.declared.char_data.BidiClass.{BidiClass}
@@ -47,7 +48,8 @@ resolved-none len_of h chars source levels original old runs sos eos per ready f
   per_char = per;
 }
 
-module _ (len_of : ℕ → ℕ) (h : HasUnits len_of) (chars : List ℕ) (runs : List (Range ℕ)) (sos eos : BidiClass) (source : Source) (levels : List ℕ) (original old : List BidiClass) (ready : IsReady len_of chars runs sos old)
+module _ (len_of : ℕ → ℕ) (h : HasUnits len_of) (chars : List ℕ) (runs : List (Range ℕ)) (sos eos : BidiClass) (source : Source) (levels : List ℕ)
+    (original old : List BidiClass) (ready : IsReady len_of chars runs sos old)
     (now new : List BidiClass) (up : IsUpToN1 len_of chars source levels original old now runs sos eos) where
   abbrev rs : List (ℕ × ℕ)
   rs = map bounds runs

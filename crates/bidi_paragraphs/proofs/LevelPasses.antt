@@ -1,7 +1,10 @@
 -- The passes over the units of a paragraph, put together: what they leave once some sequences are resolved, and once all are.
-use Rattle.bidi_base.proofs.Common.{◌≡◌, ℕ, Range, bounds, take_all, zero, suc, ◌+◌, ◌<◌, ◌≤◌, true, false, List, [], ◌∷◌, ◌++◌, length, get_or, take, map, Option, refl, sym, ap, ◌∙◌, arith, filter, list_all, length-map}
-use Rattle.bidi_base.proofs.Common.{get_or-map, get_or_default, get_or-append_seam, take-append_seam, length-append, map-append, is_l_or_r, length-replicate, nil_from_length, get_or-zip, length-zip, is_weak_resolved}
-use Rattle.bidi_base.proofs.Common.{class_at, at_places, first_or, stored_classes, explicit_levels, explicit_classes, processing_classes, RunSequence, level_at, has_places, sequences, weak_classes, direction_of, n2_rule}
+use Rattle.bidi_base.proofs.Common.{◌≡◌, ℕ, Range, bounds, take_all, zero, suc, ◌+◌, ◌<◌, ◌≤◌, true, false, List, [], ◌∷◌, ◌++◌, length}
+use Rattle.bidi_base.proofs.Common.{get_or, take, map, Option, refl, sym, ap, ◌∙◌, arith, filter, list_all, length-map}
+use Rattle.bidi_base.proofs.Common.{get_or-map, get_or_default, get_or-append_seam, take-append_seam, length-append, map-append}
+use Rattle.bidi_base.proofs.Common.{is_l_or_r, length-replicate, nil_from_length, get_or-zip, length-zip, is_weak_resolved}
+use Rattle.bidi_base.proofs.Common.{class_at, at_places, first_or, stored_classes, explicit_levels, explicit_classes, processing_classes}
+use Rattle.bidi_base.proofs.Common.{RunSequence, level_at, has_places, sequences, weak_classes, direction_of, n2_rule}
 use Rattle.bidi_base.proofs.Common.{neutral_classes, implicit_level, AreResolved, text_len, place, is_per_char, per_unit, per_char, AreLines, in_runs, kept_in_runs, kept_in_place}
 use Rattle.std.specs.Prelude.{zip, replicate}
 use Rattle.std.specs.List.{All}
@@ -86,7 +89,8 @@ module _ (len_of : ℕ → ℕ) (h : HasUnits len_of) (chars : List ℕ) (source
   pub AreResolvedTo-long : (seqs : List RunSequence) (units : List BidiClass) → length source ≡ length chars → AreResolvedTo seqs units → length units ≡ text_len len_of chars
   AreResolvedTo-long seqs units fits now = grind (arith, length-per_unit, length-stored_classes)
 
-  module _ (fits : length source ≡ length chars) (seqs : List RunSequence) (s : JoinedRuns) (lines : AreLines len_of chars (s.runs)) (next : IsNext source brackets stored levels classes seqs (members s)) where
+  module _ (fits : length source ≡ length chars) (seqs : List RunSequence) (s : JoinedRuns) (lines : AreLines len_of chars (s.runs))
+      (next : IsNext source brackets stored levels classes seqs (members s)) where
     abbrev runs : List (ℕ × ℕ)
     runs = s.runs
 

@@ -1,7 +1,10 @@
 -- The sequences of a paragraph, resolved in place one after another: what the classes of its characters say once some of them are.
-use Rattle.bidi_base.proofs.Common.{◌≡◌, ℕ, zero, suc, ◌<◌, Bool, true, eqb, lt-ltb, List, [], ◌∷◌, ◌++◌, length, map, get_or, take, Option, None, refl, sym, ap, ◌∙◌, arith, inl, inr, filter, list_all}
-use Rattle.bidi_base.proofs.Common.{cases_Bool, cases_eq, nat_tests, nil_from_length, list_all-map, flat_map-append, sum_by-append, count_by-le-length, has_direction, is_kept, is_l_or_r, is_kept_in_place}
-use Rattle.bidi_base.proofs.Common.{is_weak_resolved, class_at, at_places, first_or, explicit_levels, explicit_classes, processing_class, processing_classes, RunSequence, is_kept_at, level_at, has_places}
+use Rattle.bidi_base.proofs.Common.{◌≡◌, ℕ, zero, suc, ◌<◌, Bool, true, eqb, lt-ltb, List, [], ◌∷◌, ◌++◌, length, map, get_or}
+use Rattle.bidi_base.proofs.Common.{take, Option, None, refl, sym, ap, ◌∙◌, arith, inl, inr, filter, list_all}
+use Rattle.bidi_base.proofs.Common.{cases_Bool, cases_eq, nat_tests, nil_from_length, list_all-map, flat_map-append}
+use Rattle.bidi_base.proofs.Common.{sum_by-append, count_by-le-length, has_direction, is_kept, is_l_or_r, is_kept_in_place}
+use Rattle.bidi_base.proofs.Common.{is_weak_resolved, class_at, at_places, first_or, explicit_levels, explicit_classes}
+use Rattle.bidi_base.proofs.Common.{processing_class, processing_classes, RunSequence, is_kept_at, level_at, has_places}
 use Rattle.bidi_base.proofs.Common.{sequences, weak_classes, direction_of, n2_rule, neutral_classes, implicit_level, implicit_levels, resolved_levels, AreResolved}
 use Rattle.bidi_base.specs.declared.char_data.BidiClass.{BidiClass}
 use Rattle.bidi_base.specs.declared.char_data.BidiClass.TheVariants.{L}

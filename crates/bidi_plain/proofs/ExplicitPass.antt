@@ -1,5 +1,6 @@
 -- What the pass over the characters keeps, and how a character goes into it.
-use Rattle.bidi_base.proofs.Common.{◌≡◌, ℕ, ◌+◌, ◌<◌, ◌||◌, cond, List, [], ◌∷◌, ◌++◌, length, map, reverse, None, unwrap_or, refl, arith, range_with_len, list_any, is_initiator, is_paragraph_separator}
+use Rattle.bidi_base.proofs.Common.{◌≡◌, ℕ, ◌+◌, ◌<◌, ◌||◌, cond, List, [], ◌∷◌, ◌++◌, length, map, reverse, None, unwrap_or}
+use Rattle.bidi_base.proofs.Common.{refl, arith, range_with_len, list_any, is_initiator, is_paragraph_separator}
 use Rattle.bidi_base.proofs.Common.{is_removed, class_at, Status, status_inside, status_at, explicit_level, explicit_class, explicit_levels, explicit_classes, outside_isolate, left_open}
 use Rattle.std.proofs.lemmas.List.FromFn.{map-range_with_len_more}
 use Rattle.std.proofs.Math.Nat.{zero-add}

@@ -1,7 +1,10 @@
 -- The links between all level runs of a paragraph: their chains are the isolating run sequences.
-use Rattle.bidi_base.proofs.Common.{◌≡◌, ℕ, zero, suc, ◌+◌, ◌<◌, ◌≤◌, Bool, true, false, not, cond, List, [], ◌∷◌, ◌++◌, length, map, get_or, Option, Some, None, is_some, unwrap_or, refl, sym, ap, subst, ◌∙◌}
-use Rattle.bidi_base.proofs.Common.{arith, add-one, append-nil, inl, inr, filter, filter-append, range_with_len, cases_Bool, both_ways, lt-ltb, le-leb, list_any, flat_map-map, All, All-nil, All-cons, map-append}
-use Rattle.bidi_base.proofs.Common.{IsPermutation, length-map, indexes, is_l_or_r, last_or, holds_number, chain, is_kept_at, kept_before, next_kept, have_one_level, successor, is_first, start_class, end_class}
+use Rattle.bidi_base.proofs.Common.{◌≡◌, ℕ, zero, suc, ◌+◌, ◌<◌, ◌≤◌, Bool, true, false, not, cond, List, [], ◌∷◌, ◌++◌, length}
+use Rattle.bidi_base.proofs.Common.{map, get_or, Option, Some, None, is_some, unwrap_or, refl, sym, ap, subst, ◌∙◌}
+use Rattle.bidi_base.proofs.Common.{arith, add-one, append-nil, inl, inr, filter, filter-append, range_with_len, cases_Bool}
+use Rattle.bidi_base.proofs.Common.{both_ways, lt-ltb, le-leb, list_any, flat_map-map, All, All-nil, All-cons, map-append}
+use Rattle.bidi_base.proofs.Common.{IsPermutation, length-map, indexes, is_l_or_r, last_or, holds_number, chain, is_kept_at}
+use Rattle.bidi_base.proofs.Common.{kept_before, next_kept, have_one_level, successor, is_first, start_class, end_class}
 use Rattle.bidi_base.proofs.Common.{sequence_from, sequences, has_places, place, IsLine, AreLines, are_ordered_from, are_ordered, level_run_ranges, chars_in_runs, kept_in_runs}
 use Rattle.std.specs.Prelude.{flat_map}
 use Rattle.std.proofs.lemmas.List.Sorted.{IsPermutation-map}
@@ -212,7 +215,8 @@ module _ (classes : List BidiClass) (levels : List ℕ) (links : RunLinks) (whol
 
   -- ---- the sequences, of runs as ranges of units
 
-  module _ (paragraph : ℕ) (sides : AreSides classes levels paragraph (count classes levels) links.sides.items) (len_of : ℕ → ℕ) (h : HasUnits len_of) (chars : List ℕ) (long : length classes ≡ length chars)
+  module _ (paragraph : ℕ) (sides : AreSides classes levels paragraph (count classes levels) links.sides.items) (len_of : ℕ → ℕ)
+      (h : HasUnits len_of) (chars : List ℕ) (long : length classes ≡ length chars)
       (runs : List (ℕ × ℕ)) (runs_are : runs ≡ level_run_ranges len_of chars classes levels) where
     all_runs : length runs ≡ n
     all_runs = ap length runs_are ∙ length-level_run_ranges len_of chars classes levels

@@ -322,7 +322,8 @@ module _ (classes : List BidiClass) (levels : List ℕ) where
   }
 
   -- one more run with a kept character comes: the first of them is f, the last l
-  module _ (paragraph n : ℕ) (next : List ℕ) (sides : List RunSides) (waits : List (Option ℕ)) (before : ℕ) (g : Option ℕ) (f l : ℕ) (within : n < count classes levels) (linked : IsLinkedTo paragraph n next sides waits before)
+  module _ (paragraph n : ℕ) (next : List ℕ) (sides : List RunSides) (waits : List (Option ℕ)) (before : ℕ) (g : Option ℕ) (f l : ℕ)
+      (within : n < count classes levels) (linked : IsLinkedTo paragraph n next sides waits before)
       (first : IsFirst classes (cut classes levels n) (cut classes levels (n + 1)) f) (last : IsLast classes (cut classes levels n) (cut classes levels (n + 1)) l) (g_is : g ≡ waiting_for (class_at classes (cut classes levels n)) waits) where
     abbrev a : ℕ
     a = cut classes levels n
@@ -391,7 +392,9 @@ module _ (classes : List BidiClass) (levels : List ℕ) where
               (inside_run classes levels j (head classes levels n) whole.rest whole.run.steps member (λ e. other (e ∙ sym whole.final ∙ last_member)))
         ]
 
-    module _ (level after : ℕ) (sos eos : BidiClass) (level_is : level ≡ level_at levels l) (after_is : after ≡ level_beyond classes levels paragraph l (cut classes levels (n + 1))) (sos_is : sos ≡ direction_of (max level before)) (eos_is : eos ≡ direction_of (max level after)) where
+    module _ (level after : ℕ) (sos eos : BidiClass) (level_is : level ≡ level_at levels l)
+        (after_is : after ≡ level_beyond classes levels paragraph l (cut classes levels (n + 1))) (sos_is : sos ≡ direction_of (max level before))
+        (eos_is : eos ≡ direction_of (max level after)) where
       sos_start : sos ≡ start_class paragraph classes levels f
       unfolding start_class
       sos_start = simp (sos_is, level_is, one_level classes levels paragraph a b f l range first last, linked.level_before, kept_before-first classes levels paragraph a b f range first)

@@ -1,5 +1,6 @@
 -- A sequence's runs, as the links lead to them one after another.
-use Rattle.bidi_base.proofs.Common.{◌≡◌, ℕ, zero, suc, ◌+◌, ◌-◌, ◌<◌, ◌≤◌, List, [], ◌∷◌, ◌++◌, length, map, get_or, Option, Some, None, refl, sym, ap, ◌∙◌, arith, append-nil, append_assoc, drop-cons, take}
+use Rattle.bidi_base.proofs.Common.{◌≡◌, ℕ, zero, suc, ◌+◌, ◌-◌, ◌<◌, ◌≤◌, List, [], ◌∷◌, ◌++◌, length, map, get_or, Option, Some}
+use Rattle.bidi_base.proofs.Common.{None, refl, sym, ap, ◌∙◌, arith, append-nil, append_assoc, drop-cons, take}
 use Rattle.bidi_base.proofs.Common.{drop, take-append-le, drop-append-le, get_or-take, subst, is_some, unwrap_or, IsTrue, get_or_default, Range, map-append, get_or-map, last_or, chain, bounds}
 use Rattle.bidi_base.proofs.ChainLemmas.{chain-None}
 use Rattle.bidi_base.proofs.Lists.{last_or-append}

@@ -1,7 +1,10 @@
 -- The loop over the level runs of a text: the run that comes, what has been joined before it, and what then.
-use Rattle.bidi_base.proofs.Common.{◌≡◌, ℕ, ◌+◌, ◌-◌, ◌<◌, ◌≤◌, Bool, true, false, cond, eqb, max, List, [], ◌∷◌, ◌++◌, length, map, get_or, take, Option, refl, sym, ap, subst, ◌∙◌, arith, length-append, rules}
-use Rattle.bidi_base.proofs.Common.{common_steps, IfSome, All, list_any, Range, both_ways, length-map, get_or-map, get_or_default, get_or_past, nil_from_length, take_more, All-nil, All-cons, list_any_at}
-use Rattle.bidi_base.proofs.Common.{IsPermutation-refl, is_initiator, direction_of, class_at, is_initiator_at, is_kept_at, level_at, is_l_or_r, Some, None, IsTrue, lt-ltb, le-leb, suc, zero, sequences}
+use Rattle.bidi_base.proofs.Common.{◌≡◌, ℕ, ◌+◌, ◌-◌, ◌<◌, ◌≤◌, Bool, true, false, cond, eqb, max, List, [], ◌∷◌, ◌++◌, length, map}
+use Rattle.bidi_base.proofs.Common.{get_or, take, Option, refl, sym, ap, subst, ◌∙◌, arith, length-append, rules}
+use Rattle.bidi_base.proofs.Common.{common_steps, IfSome, All, list_any, Range, both_ways, length-map, get_or-map, get_or_default}
+use Rattle.bidi_base.proofs.Common.{get_or_past, nil_from_length, take_more, All-nil, All-cons, list_any_at}
+use Rattle.bidi_base.proofs.Common.{IsPermutation-refl, is_initiator, direction_of, class_at, is_initiator_at, is_kept_at}
+use Rattle.bidi_base.proofs.Common.{level_at, is_l_or_r, Some, None, IsTrue, lt-ltb, le-leb, suc, zero, sequences}
 use Rattle.bidi_base.proofs.Common.{run_starts, waiting_for, place, text_len, per_unit, per_char, is_per_char, is_boundary, IsLine, bounds, kept_in_runs, level_run_ranges, AreLines}
 use Rattle.std.specs.Prelude.{flat_map, IsPermutation}
 use Rattle.bidi_base.specs.Units.{is_run_sequence}
@@ -44,7 +47,8 @@ abbrev pub cut : (ℕ → ℕ) → List ℕ → List BidiClass → List ℕ → 
 cut len_of chars units unit_levels n = get_or (cuts (per_char L len_of chars units) (per_char 0 len_of chars unit_levels)) n 0
 
 -- these runs have come; where no class opens an isolate nothing waits
-pub record AreLinkedSoFar (len_of : ℕ → ℕ) (chars : List ℕ) (units : List BidiClass) (unit_levels : List ℕ) (paragraph : ℕ) (reads : Bool) (came : List (Range ℕ)) (links : RunLinks) (before : ℕ) : Type 0 where
+pub record AreLinkedSoFar (len_of : ℕ → ℕ) (chars : List ℕ) (units : List BidiClass) (unit_levels : List ℕ) (paragraph : ℕ) (reads : Bool)
+    (came : List (Range ℕ)) (links : RunLinks) (before : ℕ) : Type 0 where
   pub so_far : IsLinkedTo (per_char L len_of chars units) (per_char 0 len_of chars unit_levels) paragraph (length came) links.next.items links.sides.items links.waiting before
   pub quiet : reads ≡ false → links.waiting ≡ []
 
@@ -151,7 +155,8 @@ module _ (len_of : ℕ → ℕ) (h : HasUnits len_of) (chars : List ℕ) (units 
     AreLinkedSoFar-start reads links next sides waiting = record { so_far = rw (next, sides, waiting) (IsLinkedTo-start classes levels paragraph); quiet = λ _. waiting }
 
     -- a run with a kept character comes
-    module _ (reads : Bool) (came : List (Range ℕ)) (run : Range ℕ) (links : RunLinks) (before kept_end : ℕ) (g : Option ℕ) (state : AreLinkedSoFar len_of chars units unit_levels paragraph reads came links before) (next : IsNext (length came) run)
+    module _ (reads : Bool) (came : List (Range ℕ)) (run : Range ℕ) (links : RunLinks) (before kept_end : ℕ) (g : Option ℕ)
+        (state : AreLinkedSoFar len_of chars units unit_levels paragraph reads came links before) (next : IsNext (length came) run)
         (more_runs : length came < length runs) (e : IsKeptEnd units run.start run.end kept_end) (some : ¬ (kept_end ≡ run.start)) (g_is : g ≡ waiting_for (class_at units run.start) links.waiting) where
       abbrev a : ℕ
       a = cut len_of chars units unit_levels (length came)
@@ -175,7 +180,8 @@ module _ (len_of : ℕ → ℕ) (h : HasUnits len_of) (chars : List ℕ) (units 
       pub waiting_fits : IfSome g (λ r. r < length links.next.items)
       waiting_fits = waiting-fits classes levels paragraph (length came) links.next.items links.sides.items links.waiting before g first.0 last.index within state.so_far first.1 last.unit.is_last g_at
 
-      module _ (level after : ℕ) (sos eos : BidiClass) (level_is : level ≡ get_or unit_levels (kept_end - 1) level) (after_is : after ≡ level_after_run paragraph (class_at units (kept_end - 1)) unit_levels run.end) (sos_is : sos ≡ direction_of (max level before))
+      module _ (level after : ℕ) (sos eos : BidiClass) (level_is : level ≡ get_or unit_levels (kept_end - 1) level)
+          (after_is : after ≡ level_after_run paragraph (class_at units (kept_end - 1)) unit_levels run.end) (sos_is : sos ≡ direction_of (max level before))
           (eos_is : eos ≡ direction_of (max level after)) (more : RunLinks) (next_is : more.next.items ≡ with_link g links.next.items) (sides_are : more.sides.items ≡ with_sides g sos eos links.sides.items) where
         -- past the run stands the next one, or nothing
         past_end : cond (eqb run.end (length unit_levels)) paragraph (level_at unit_levels run.end) ≡ cond (eqb (cut len_of chars units unit_levels (length came + 1)) (length (per_char L len_of chars units))) paragraph (level_at (per_char 0 len_of chars unit_levels) (cut len_of chars units unit_levels (length came + 1)))

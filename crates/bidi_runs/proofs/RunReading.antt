@@ -67,7 +67,8 @@ pub record IsCountedTo (len_of : ℕ → ℕ) (chars : List ℕ) (units : List B
   pub read : IsReadTo len_of chars units start end last s old (waits ++ replicate n None) at
   pub few : n ≤ at
 
-module _ (len_of : ℕ → ℕ) (h : HasUnits len_of) (chars : List ℕ) (units : List BidiClass) (whole : is_per_char ghosts.eq len_of chars units ≡ true) (start end last s : ℕ) (line : IsLine len_of chars start end) (boundary : is_boundary len_of chars last ≡ true) where
+module _ (len_of : ℕ → ℕ) (h : HasUnits len_of) (chars : List ℕ) (units : List BidiClass) (whole : is_per_char ghosts.eq len_of chars units ≡ true)
+    (start end last s : ℕ) (line : IsLine len_of chars start end) (boundary : is_boundary len_of chars last ≡ true) where
   abbrev first : ℕ
   first = char_index len_of chars start
 

@@ -58,7 +58,8 @@ module _ (len_of : ℕ → ℕ) (h : HasUnits len_of) (chars : List ℕ) (classe
   pub unit_run : (k a b : ℕ) (r : ℕ × ℕ) → IsRunAt k a b r → IsUnitRun a b r.0 r.1
   unit_run k a b r run = grind (arith, place-lt, place-le)
 
-  module _ (units : List BidiClass) (unit_levels : List ℕ) (same : length levels ≡ length chars) (units_is : units ≡ per_unit len_of chars classes) (levels_is : unit_levels ≡ per_unit len_of chars levels) where
+  module _ (units : List BidiClass) (unit_levels : List ℕ) (same : length levels ≡ length chars) (units_is : units ≡ per_unit len_of chars classes)
+      (levels_is : unit_levels ≡ per_unit len_of chars levels) where
     pub class_of_unit : (m : ℕ) → m < length chars → get_or units (place len_of chars m) L ≡ class_at classes m
     class_of_unit m fits = ap (λ us. get_or us (place len_of chars m) L) units_is ∙ get_or-per_unit-place len_of h chars classes m L long fits
 

@@ -80,7 +80,8 @@ unfolding kept_in_place
 kept_in_place-alike len_of chars old new runs same = grind arith
 
 -- at the units of the characters that are seen stands an answer for each, and nothing else was written
-module _ (len_of : ℕ → ℕ) (h : HasUnits len_of) (chars : List ℕ) (old : List BidiClass) (per : IsPerChar len_of chars old) (runs : List (ℕ × ℕ)) (lines : AreLines len_of chars runs) (ordered : are_ordered runs ≡ true)
+module _ (len_of : ℕ → ℕ) (h : HasUnits len_of) (chars : List ℕ) (old : List BidiClass) (per : IsPerChar len_of chars old) (runs : List (ℕ × ℕ))
+    (lines : AreLines len_of chars runs) (ordered : are_ordered runs ≡ true)
     (within : All (λ r. r.1 ≤ length old) runs) (new answers : List BidiClass) (many : length answers ≡ length (kept_in_place len_of chars old runs))
     (is : at_places L new (filter (λ u. is_kept_in_place (class_at old u)) (units_in_runs runs)) ≡ per_unit len_of (at_places 0 chars (kept_in_place len_of chars old runs)) answers) where
   pub answered-IsPerChar : length new ≡ length old → ((u : ℕ) → is_seen runs old u ≡ false → class_at new u ≡ class_at old u) → IsPerChar len_of chars new
@@ -92,7 +93,8 @@ module _ (len_of : ℕ → ℕ) (h : HasUnits len_of) (chars : List ℕ) (old : 
       stays u differ = grind (arith, not_seen, seen_units-is, length-from_IsPerChar len_of chars old per, in_runs-within len_of h chars runs lines u)
 
 -- a rule that commutes with repetition was applied to the units that are seen, and nothing else was written
-module _ (len_of : ℕ → ℕ) (h : HasUnits len_of) (chars : List ℕ) (old : List BidiClass) (per : IsPerChar len_of chars old) (runs : List (ℕ × ℕ)) (lines : AreLines len_of chars runs) (ordered : are_ordered runs ≡ true)
+module _ (len_of : ℕ → ℕ) (h : HasUnits len_of) (chars : List ℕ) (old : List BidiClass) (per : IsPerChar len_of chars old) (runs : List (ℕ × ℕ))
+    (lines : AreLines len_of chars runs) (ordered : are_ordered runs ≡ true)
     (within : All (λ r. r.1 ≤ length old) runs) (rule : List BidiClass → List BidiClass) (keeps : (cs : List BidiClass) → length (rule cs) ≡ length cs)
     (commutes : (ds : List ℕ) (cs : List BidiClass) → HaveUnits len_of ds → length cs ≡ length ds → rule (per_unit len_of ds cs) ≡ per_unit len_of ds (rule cs))
     (new : List BidiClass) (is : at_places L new (seen_units runs old) ≡ rule (at_places L old (seen_units runs old))) where

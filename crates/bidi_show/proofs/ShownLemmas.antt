@@ -1,6 +1,8 @@
 -- The lines that `show` prints, piece by piece.
-use Rattle.bidi_base.proofs.Common.{◌≡◌, ℕ, ◌+◌, ◌-◌, ◌<◌, ◌≤◌, List, [], ◌∷◌, ◌++◌, true, false, length, get_or, take, flat_map, decimal, refl, append_assoc, arith, inl, inr, cases_Bool, common_steps, codes}
-use Rattle.bidi_base.proofs.Common.{slice_range, len_utf8, chars, IsUtf8, take_all, take_more, flat_map_more, is_paragraph_separator, ends_with_separator, Source, place, text_len, subrange, per_char, IsLine}
+use Rattle.bidi_base.proofs.Common.{◌≡◌, ℕ, ◌+◌, ◌-◌, ◌<◌, ◌≤◌, List, [], ◌∷◌, ◌++◌, true, false, length, get_or, take, flat_map}
+use Rattle.bidi_base.proofs.Common.{decimal, refl, append_assoc, arith, inl, inr, cases_Bool, common_steps, codes}
+use Rattle.bidi_base.proofs.Common.{slice_range, len_utf8, chars, IsUtf8, take_all, take_more, flat_map_more}
+use Rattle.bidi_base.proofs.Common.{is_paragraph_separator, ends_with_separator, Source, place, text_len, subrange, per_char, IsLine}
 use Rattle.bidi_base.proofs.PlaceLemmas.{line_places, place-slice_range, IsLine-places}
 use Rattle.bidi_base.proofs.TextLemmas.{is_boundary-le}
 use Rattle.bidi_base.proofs.PerUnit.{length-per_char, get_or-per_char}

@@ -1,7 +1,10 @@
 -- Lines of printable ASCII are shown unchanged, if lines are not cut and go from left to right.
-use Rattle.bidi_base.proofs.Common.{◌≡◌, ◌∙◌, ℕ, zero, suc, ◌+◌, ◌-◌, ◌<◌, ◌≤◌, ◌++◌, ◌==◌, ◌&&◌, Bool, true, false, not, List, [], ◌∷◌, Some, length, length-drop, get_or-drop, map, take, drop, get_or, replicate, flat_map}
-use Rattle.bidi_base.proofs.Common.{refl, sym, ap, subst, arith, nat_tests, and_parts, or_parts, cases_Bool, inl, inr, length-map, length-replicate, append_assoc, append-nil, not-true, take_all, take_more, take-append-drop}
-use Rattle.bidi_base.proofs.Common.{drop_more, drop-drop, codes, list_all, list_any, slice_range, range_with_len, encode_utf8, chars, len_utf8, IsUtf8, IsUtf8-past_char, is_paragraph_separator, has_rtl, is_odd, is_reset}
+use Rattle.bidi_base.proofs.Common.{◌≡◌, ◌∙◌, ℕ, zero, suc, ◌+◌, ◌-◌, ◌<◌, ◌≤◌, ◌++◌, ◌==◌, ◌&&◌, Bool, true, false, not, List, [], ◌∷◌}
+use Rattle.bidi_base.proofs.Common.{Some, length, length-drop, get_or-drop, map, take, drop, get_or, replicate, flat_map}
+use Rattle.bidi_base.proofs.Common.{refl, sym, ap, subst, arith, nat_tests, and_parts, or_parts, cases_Bool, inl, inr, length-map}
+use Rattle.bidi_base.proofs.Common.{length-replicate, append_assoc, append-nil, not-true, take_all, take_more, take-append-drop}
+use Rattle.bidi_base.proofs.Common.{drop_more, drop-drop, codes, list_all, list_any, slice_range, range_with_len, encode_utf8, chars}
+use Rattle.bidi_base.proofs.Common.{len_utf8, IsUtf8, IsUtf8-past_char, is_paragraph_separator, has_rtl, is_odd, is_reset}
 use Rattle.bidi_base.proofs.Common.{is_removed, line_levels, line_levels_after, stored_classes, stored_levels, paragraph_level, level_by, text_len, char_index, may_turn, is_strong, IsCharBoundary}
 use Rattle.std.proofs.Math.Seq.{take-add}
 use Rattle.std.proofs.lemmas.List.Sums.{take_while-cons}

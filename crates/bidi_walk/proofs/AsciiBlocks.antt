@@ -40,7 +40,8 @@ module _ (source : Source) (block : List ℕ) (start : ℕ) (old : List BidiClas
   pub IsWritten-none : IsWritten source block start old 0 old (record { bits = 0 })
   IsWritten-none = record { kept = grind arith; written = λ k none. absurd (omega (arith, none)); found_is = refl }
 
-  module _ (i : ℕ) (new : List BidiClass) (found : ClassSet) (h : IsWritten source block start old i new found) (within : start + i < length new) (class : BidiClass) (is : class ≡ source.class_of (get_or block i 0)) where
+  module _ (i : ℕ) (new : List BidiClass) (found : ClassSet) (h : IsWritten source block start old i new found) (within : start + i < length new)
+      (class : BidiClass) (is : class ≡ source.class_of (get_or block i 0)) where
     pub IsWritten-more : IsWritten source block start old (i + 1) (set new (start + i) class) (with found class)
     IsWritten-more = record {
       kept = take-set-le start new (start + i) class (omega arith) ∙ h.kept;

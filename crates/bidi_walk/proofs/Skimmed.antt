@@ -1,6 +1,8 @@
 -- Characters on which nothing but the flags depends, read one after another.
-use Rattle.bidi_base.proofs.Common.{Bool, None, Option, inl, inr, cases_lt, class_at, take_more, get_or, subst, zero, suc, ◌≡◌, ℕ, ◌+◌, ◌-◌, ◌<◌, ◌≤◌, true, false, List, [], ◌∷◌, ◌++◌, length, take, drop, map, Some}
-use Rattle.bidi_base.proofs.Common.{set, refl, sym, ap, ◌∙◌, arith, add-one, append_assoc, length-take, length-drop, drop-append_seam, take-append-add, map-append, length-map, take-append-le, take-append-drop}
+use Rattle.bidi_base.proofs.Common.{Bool, None, Option, inl, inr, cases_lt, class_at, take_more, get_or, subst, zero, suc, ◌≡◌, ℕ, ◌+◌}
+use Rattle.bidi_base.proofs.Common.{◌-◌, ◌<◌, ◌≤◌, true, false, List, [], ◌∷◌, ◌++◌, length, take, drop, map, Some}
+use Rattle.bidi_base.proofs.Common.{set, refl, sym, ap, ◌∙◌, arith, add-one, append_assoc, length-take, length-drop}
+use Rattle.bidi_base.proofs.Common.{drop-append_seam, take-append-add, map-append, length-map, take-append-le, take-append-drop}
 use Rattle.bidi_base.proofs.Common.{nat_tests, All-nil, All-append, All-push, sum_by-append, sum_by-cons, Source, text_len, char_at, ascii_of, ascii_at, char_index, is_boundary, subrange, IsLine}
 use Rattle.std.specs.Prelude.{replicate, MatchOption}
 use Rattle.std.proofs.Math.Nat.{add_assoc}
@@ -291,7 +293,8 @@ module _ (source : Source) (len_of : ℕ → ℕ) (minded : BidiClass → Bool) 
 
 -- ---- a block of characters one unit long whose classes are there already
 
-module _ (source : Source) (len_of : ℕ → ℕ) (minded : BidiClass → Bool) (units : HasUnits len_of) (chars : List ℕ) (from at : ℕ) (begins : is_boundary len_of chars from ≡ true) (old new : List BidiClass)
+module _ (source : Source) (len_of : ℕ → ℕ) (minded : BidiClass → Bool) (units : HasUnits len_of) (chars : List ℕ) (from at : ℕ)
+    (begins : is_boundary len_of chars from ≡ true) (old new : List BidiClass)
     (was now : ParagraphFlags) (h : IsSkimmed source len_of minded (ahead len_of chars from) from at old new was now) (block : List ℕ) (fits : at + 16 ≤ length new)
     (there : (k : ℕ) → k < 16 → Some (get_or block k 0, 1) ≡ char_at len_of chars (at + k)) where
   pub IsSkimmed-part : (n : ℕ) → n ≤ 16 → ((k : ℕ) → k < 16 → k ≤ n → class_at new (at + k) ≡ source.class_of (get_or block k 0)) → ((k : ℕ) → k < n → minded (class_at new (at + k)) ≡ false)
@@ -312,7 +315,8 @@ module _ (source : Source) (len_of : ℕ → ℕ) (minded : BidiClass → Bool) 
 
 -- ---- the same of ASCII characters, all of them idle
 
-module _ (source : Source) (len_of : ℕ → ℕ) (minded : BidiClass → Bool) (units : HasUnits len_of) (chars : List ℕ) (from at : ℕ) (begins : is_boundary len_of chars from ≡ true) (old new : List BidiClass)
+module _ (source : Source) (len_of : ℕ → ℕ) (minded : BidiClass → Bool) (units : HasUnits len_of) (chars : List ℕ) (from at : ℕ)
+    (begins : is_boundary len_of chars from ≡ true) (old new : List BidiClass)
     (was now : ParagraphFlags) (h : IsSkimmed source len_of minded (ahead len_of chars from) from at old new was now) (block : List ℕ) (fits : at + 16 ≤ length new)
     (ascii : (k : ℕ) → k < 16 → Some (get_or block k 0) ≡ ascii_at len_of chars (at + k)) (classes : (k : ℕ) → k < 16 → class_at new (at + k) ≡ source.class_of (get_or block k 0))
     (idle : (k : ℕ) → k < 16 → minded (class_at new (at + k)) ≡ false) where
@@ -322,7 +326,8 @@ module _ (source : Source) (len_of : ℕ → ℕ) (minded : BidiClass → Bool) 
 
 -- ---- a block that is handed on by itself
 
-module _ (len_of : ℕ → ℕ) (units : HasUnits len_of) (chars : List ℕ) (start end : ℕ) (begins : is_boundary len_of chars start ≡ true) (order : start ≤ end) (boundary : is_boundary len_of chars end ≡ true) where
+module _ (len_of : ℕ → ℕ) (units : HasUnits len_of) (chars : List ℕ) (start end : ℕ) (begins : is_boundary len_of chars start ≡ true)
+    (order : start ≤ end) (boundary : is_boundary len_of chars end ≡ true) where
   pub block-line : IsLine len_of chars start end
   block-line = record { ordered = order; begins = begins; ends = boundary }
 

@@ -1,5 +1,6 @@
 -- The walk over a text from one character to the next on which more than the flags depends.
-use Rattle.bidi_base.proofs.Common.{◌≡◌, ℕ, ◌+◌, ◌≤◌, false, List, [], ◌∷◌, ◌++◌, length, take, drop, map, refl, sym, ap, subst, ◌∙◌, arith, append_assoc, length-append, length-drop, length-take, Option, All, Range}
+use Rattle.bidi_base.proofs.Common.{◌≡◌, ℕ, ◌+◌, ◌≤◌, false, List, [], ◌∷◌, ◌++◌, length, take, drop, map, refl, sym, ap, subst, ◌∙◌}
+use Rattle.bidi_base.proofs.Common.{arith, append_assoc, length-append, length-drop, length-take, Option, All, Range}
 use Rattle.bidi_base.proofs.Common.{add-zero, take-append_seam, drop-append_seam, map-append, length-map, take-take, drop-drop, All-tail, sum_by-append, sum_by-cons, Source, text_len, place, per_unit}
 use Rattle.std.specs.Prelude.{replicate}
 use Rattle.std.proofs.lemmas.List.{append-nil}

@@ -1,5 +1,6 @@
 -- The units of some ranges below a unit, as they are counted and paid for by a walk, and the characters that begin in them.
-use Rattle.bidi_base.proofs.Common.{◌≡◌, ℕ, zero, suc, ◌+◌, ◌-◌, ◌*◌, ◌<◌, ◌≤◌, List, [], ◌∷◌, length, true, false, get_or, take, drop, arith, length-append, length-take, length-drop, flat_map-append, All}
+use Rattle.bidi_base.proofs.Common.{◌≡◌, ℕ, zero, suc, ◌+◌, ◌-◌, ◌*◌, ◌<◌, ◌≤◌, List, [], ◌∷◌, length, true, false, get_or, take}
+use Rattle.bidi_base.proofs.Common.{drop, arith, length-append, length-take, length-drop, flat_map-append, All}
 use Rattle.bidi_base.proofs.Common.{slice_range, cond-true, cond-false, All-head, All-tail, char_index, IsLine, are_ordered, are_ordered_from, chars_in_runs, units_in_runs, AreLines, take_more}
 use Rattle.bidi_base.proofs.PlaceLemmas.{line_places, place-sum}
 use Rattle.bidi_base.proofs.TextLemmas.{HasUnits, length-le-text_len}

@@ -1,5 +1,6 @@
 -- W1 over units, one after another.
-use Rattle.bidi_base.proofs.Common.{◌≡◌, ℕ, zero, suc, ◌+◌, ◌-◌, ◌<◌, ◌≤◌, Bool, true, false, List, [], ◌∷◌, ◌++◌, length, map, get_or, set, refl, sym, ap, ◌∙◌, arith, inl, inr, append_assoc, append-nil}
+use Rattle.bidi_base.proofs.Common.{◌≡◌, ℕ, zero, suc, ◌+◌, ◌-◌, ◌<◌, ◌≤◌, Bool, true, false, List, [], ◌∷◌, ◌++◌, length, map}
+use Rattle.bidi_base.proofs.Common.{get_or, set, refl, sym, ap, ◌∙◌, arith, inl, inr, append_assoc, append-nil}
 use Rattle.bidi_base.proofs.Common.{length-take, length-drop, get_or-set_same, get_or-set_other, All, filter, slice_range, list_any, range_with_len, Range, All-nil, All-cons, All-head, All-tail}
 use Rattle.bidi_base.proofs.Common.{list_any_at, cases_eq, cases_Bool, both_ways, and_parts, and_left, are_ordered, bounds, in_runs, is_kept_in_place, is_nsm, at_places, class_at, carried}
 use Rattle.std.proofs.Common.{length-set}

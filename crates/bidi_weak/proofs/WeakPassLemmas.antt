@@ -1,5 +1,6 @@
 -- The pass from the front gives W1 to W7.
-use Rattle.bidi_base.proofs.Common.{◌≡◌, ℕ, zero, suc, Bool, true, false, not, if◌then◌else◌, List, [], ◌∷◌, ◌++◌, replicate, refl, sym, ap, ◌∙◌, append-nil, arith, rules, is_strong, is_nsm, is_et, is_en}
+use Rattle.bidi_base.proofs.Common.{◌≡◌, ℕ, zero, suc, Bool, true, false, not, if◌then◌else◌, List, [], ◌∷◌, ◌++◌, replicate}
+use Rattle.bidi_base.proofs.Common.{refl, sym, ap, ◌∙◌, append-nil, arith, rules, is_strong, is_nsm, is_et, is_en}
 use Rattle.bidi_base.proofs.Common.{is_l, is_l_or_r, nearest, nearest_is, in_context, carried, w1_rule, w2_rule, w3_rule, w4_rule, w5_rule, w6_rule, w7_rule, w1, w3, w6, weak_classes}
 use Rattle.bidi_base.specs.declared.char_data.BidiClass.{BidiClass}
 use Rattle.bidi_base.specs.declared.char_data.BidiClass.TheVariants.{L, R, EN, ES, ET, AN, CS, ON}

@@ -1,6 +1,8 @@
 -- The levels of a text, written paragraph by paragraph.
-use Rattle.bidi_base.proofs.Common.{◌≡◌, Option, ℕ, ◌+◌, ◌-◌, ◌<◌, ◌≤◌, List, [], ◌∷◌, ◌++◌, length, get_or, take, drop, map, refl, subst, ◌∙◌, append_assoc, append-nil, arith, length-append, zero-add, take-append_seam}
-use Rattle.bidi_base.proofs.Common.{drop-append-add, Range, All, IfSome, slice_range, get_or-map, take_more, drop_more, drop-drop, length-map, flat_map-map, sum_by-append, map-map, paragraph_level, stored_classes}
+use Rattle.bidi_base.proofs.Common.{◌≡◌, Option, ℕ, ◌+◌, ◌-◌, ◌<◌, ◌≤◌, List, [], ◌∷◌, ◌++◌, length, get_or, take, drop, map, refl, subst}
+use Rattle.bidi_base.proofs.Common.{◌∙◌, append_assoc, append-nil, arith, length-append, zero-add, take-append_seam}
+use Rattle.bidi_base.proofs.Common.{drop-append-add, Range, All, IfSome, slice_range, get_or-map, take_more, drop_more, drop-drop}
+use Rattle.bidi_base.proofs.Common.{length-map, flat_map-map, sum_by-append, map-map, paragraph_level, stored_classes}
 use Rattle.bidi_base.proofs.Common.{HasOwnUnits, AreLevelsFrom, ranges_from, Source, levels_in, stored_levels, text_classes, text_levels, paragraph_levels, text_len, subrange, per_unit, IsLine}
 use Rattle.bidi_text_lines.proofs.RunText.{flat_map-same_on}
 use Rattle.std.specs.Prelude.{flat_map}
@@ -86,7 +88,8 @@ ranges-chars len_of units front [] = refl
 ranges-chars len_of units front (piece ∷ pieces) = grind (arith, append_assoc, sum_by-append, subrange-middle, ranges-chars len_of units (front ++ piece) pieces)
 
 -- what the walk over the paragraphs of a text is given, and what it leaves
-module _ (source : Source) (base : Option ℕ) (len_of : ℕ → ℕ) (units : HasUnits len_of) (chars : List ℕ) (pieces : List (List ℕ)) (whole : joined pieces ≡ chars) (ps : List ParagraphInfo) (ranges : ranges_of ps ≡ ranges_from len_of 0 pieces)
+module _ (source : Source) (base : Option ℕ) (len_of : ℕ → ℕ) (units : HasUnits len_of) (chars : List ℕ) (pieces : List (List ℕ))
+    (whole : joined pieces ≡ chars) (ps : List ParagraphInfo) (ranges : ranges_of ps ≡ ranges_from len_of 0 pieces)
     (levels : levels_of ps ≡ paragraph_levels source base pieces) where
   pub paragraphs-Follow : Follow 0 (text_len len_of chars) ps
   paragraphs-Follow = ranges-Follow len_of 0 (text_len len_of chars) ps pieces ranges (simp (whole, zero-add))

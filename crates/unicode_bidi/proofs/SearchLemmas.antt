@@ -1,5 +1,6 @@
 -- The search for a base direction, step by step, finds what the walk over a whole text finds.
-use Rattle.bidi_base.proofs.Common.{◌≡◌, ◌∙◌, ap, ℕ, zero, suc, ◌+◌, ◌≤◌, Bool, true, false, not, ◌&&◌, ◌||◌, ◌==◌, if◌then◌else◌, List, [], ◌∷◌, ◌++◌, length, drop, map, list_any, refl, and_parts, Some}
+use Rattle.bidi_base.proofs.Common.{◌≡◌, ◌∙◌, ap, ℕ, zero, suc, ◌+◌, ◌≤◌, Bool, true, false, not, ◌&&◌, ◌||◌, ◌==◌, if◌then◌else◌}
+use Rattle.bidi_base.proofs.Common.{List, [], ◌∷◌, ◌++◌, length, drop, map, list_any, refl, and_parts, Some}
 use Rattle.bidi_base.proofs.Common.{direction_by, inl, inr, arith, cases_Bool, is_strong, is_initiator, is_pdi, is_paragraph_separator, ne_eqb, base_direction, paragraphs_of, each_separator, Source}
 use Rattle.bidi_base.specs.declared.char_data.BidiClass.{BidiClass}
 use Rattle.bidi_base.specs.declared.char_data.Direction.{Direction}
