@@ -107,6 +107,8 @@ impl TextReading {
 
     // Reads a character. Its class must be written to its code units already. `ends` tells whether the
     // paragraph ends with it.
+    //
+    // Without the hint, and that of `read`, some 15 to 30 instructions more are spent at each such character.
     #[inline(always)]
     fn meet(
         &mut self,

@@ -82,7 +82,7 @@ fn write_block<D: BidiDataSource>(
 }
 
 // Writes the classes of consecutive ASCII characters, sixteen at a time, as long as no class is in `minded`.
-// The index moves past them.
+// The index moves past them, and the flags get their classes.
 #[inline(never)]
 fn skim_blocks<D: BidiDataSource, T: TextSource>(
     data_source: &D,
