@@ -1,4 +1,4 @@
-//! What the words of a call ask for.
+//! What the arguments of a call ask for.
 ghost use Rattle.std.specs.Prelude.{◌≡◌, find, map, string_bytes};
 ghost use Rattle.bidi_arguments.specs.Commands.{asks_help, unknown_option, late_option};
 ghost use Rattle.bidi_arguments.specs.Options.{is_option};

@@ -7,7 +7,7 @@ use Rattle.bidi_explicit.specs.declared.explicit.status.StatusEntry.{StatusEntry
 abbrev pub seen : StatusEntry → Entry
 seen e = record { status = record { level = e.level; override = e.override_class }; is_isolate = e.is_isolate }
 
--- the entries of a stack, innermost first: the one on top, and those below it, of which the code has the outermost first
+-- the entries of a stack, innermost first: the one on top, then those below it, which the code keeps outermost first
 abbrev pub entries : StatusEntry → List StatusEntry → List Entry
 entries top below = seen top ∷ map seen (reverse below)
 

@@ -18,7 +18,7 @@ use bidi_text::text::TextSource;
 use std::alloc::{AllocError, Global};
 use std::ops::Range;
 
-// A line mostly ends with fewer blanks than this. More of them are read by blocks.
+// Most lines end with fewer blanks than this. Further blanks are tested 16 at a time.
 const FEW_BLANKS: usize = 8;
 
 // Sets the levels with indexes from `from` up to `to`.
@@ -57,8 +57,8 @@ fn are_blanks<C: ClassList>(classes: C, from: usize) -> bool
     all
 }
 
-// Returns the start of the blocks of 16 blanks that end the range from `from` to `to`, or `to` if there are none. Few
-// lines come here, so their callers are to hold no code of it.
+// Returns the start of the blocks of 16 blanks that end the range from `from` to `to`, or `to` if there are none. Not
+// inlined: few lines get here, and its code would slow the callers.
 #[inline(never)]
 fn blank_blocks_start<C: ClassList>(classes: C, from: usize, to: usize) -> usize
     requires begins { from ≤ to }
@@ -136,6 +136,10 @@ fn steady_end<C: ClassList>(classes: C, levels: &[Level], from: usize) -> usize
     ensures ends { result ≤ length levels.now }
     ensures steady { (k : ℕ) → from ≤ k → k < result → IsSteadyAt (C.classes classes) levels.now k }
 {
+    // In a stretch of removed units with another level, the pass stops at each of them.
+    if from < levels.len() && is_break(classes.class_at(from), levels[from - 1], levels[from]) {
+        return from;
+    }
     let mut at = from;
     while levels.len() - at >= 16 {
         let count = first_break(classes, levels, at);
@@ -160,7 +164,7 @@ pub fn reset_levels<C: ClassList>(level: Level, classes: C, levels: &mut [Level]
     ensures { levels.new ≡ line_levels level (C.classes classes) levels.old }
 {
     let mut before = level;
-    // No separator stands from here to `at`.
+    // There is no separator from here up to `at`.
     let mut start = 0;
     let mut at = 0;
     // Each iteration reads one separator, a removed unit with the units after it that keep their levels, or a stretch

@@ -1,4 +1,4 @@
--- Blocks of code units of which X9 keeps none.
+-- Blocks of code units that X9 removes.
 use Rattle.bidi_base.proofs.Common.{◌≡◌, ℕ, ◌+◌, ◌-◌, ◌<◌, ◌≤◌, Bool, false, ◌||◌, List, [], ◌∷◌, length, get_or, take, drop, sym, ◌∙◌, arith}
 use Rattle.bidi_base.proofs.Common.{inl, inr, cases_Bool, get_or-take, length-take, length-drop, both_ways, is_kept, is_kept_at}
 use Rattle.std.proofs.lemmas.List.{get_or-drop}

@@ -20,8 +20,8 @@ turned_at bytes j =
 abbrev pub behind_two : List ℕ → List ℕ
 behind_two bytes = 0 ∷ 0 ∷ bytes
 
--- no character of two or three bytes reaches beyond an index of a text: of the two bytes before it, which stand at the
--- index and behind it in the list with two more in front, none begins one
+-- no character reaches beyond an index of a text: the byte before it begins no character of two or three bytes, and the
+-- byte before that none of three. With two bytes in front, these bytes are at the indexes `at + 1` and `at`
 pub record IsEnded (bytes : List ℕ) (at : ℕ) : Type 0 where
   pub low : slice_index_or bytes at 0 < 0xE0
   pub inside : slice_index_or bytes (at + 1) 0 < 0xC0

@@ -108,7 +108,7 @@ impl TextReading {
     // Reads a character. Its class must be written to its code units already. `ends` tells whether the
     // paragraph ends with it.
     //
-    // Without the hint, and that of `read`, some 15 to 30 instructions more are spent at each such character.
+    // Without this hint, and that of `Reading::read`, each character that is met takes 15 to 30 instructions more.
     #[inline(always)]
     fn meet(
         &mut self,

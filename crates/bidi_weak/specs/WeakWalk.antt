@@ -77,7 +77,7 @@ units p low high = seen_from p.runs p.old low high
 abbrev pub AreAlike : List BidiClass → ℕ → ℕ → Type 0
 AreAlike units from to = (k : ℕ) → from ≤ k → k < to → class_at units k ≡ class_at units from
 
--- two for each unit of some runs, which is how many turns a loop over the runs and their units takes at most
+-- two for each unit of some runs: the maximum of iterations of a loop over the runs and their units
 abbrev pub two_a_unit : List (Range ℕ) → ℕ
 two_a_unit runs = 2 * length (units_in_runs (map bounds runs))
 

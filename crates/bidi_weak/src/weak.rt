@@ -164,12 +164,12 @@ fn has_marks_or_numbers(runs: &[LevelRun], classes: &[BidiClass]) -> bool
 /// How many code units are tested together.
 const WIDE: usize = 32;
 
-/// Fewer code units than this are tested one by one.
+/// Fewer code units than this are tested and changed one by one.
 const MANY: usize = 8;
 
 /// The classes of a run's code units, as far as there are any. If the run has [`WIDE`] code units or more,
-/// classes after it are added up to the next multiple of [`WIDE`], so that none is tested by itself. A
-/// shorter run is often next to a number of another sequence, which must not be found.
+/// classes after it are added up to the next multiple of [`WIDE`], so that none is tested by itself. After a
+/// shorter run, a number of another sequence is often near. To find it would only cost a walk.
 fn wide_part_of<'c>(classes: &'c [BidiClass], run: &LevelRun) -> &'c [BidiClass]
     ensures { result.now ≡ wide_part_of classes.now (bounds run.now) }
 {

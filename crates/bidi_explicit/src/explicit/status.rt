@@ -74,7 +74,7 @@ impl StatusEntry {
 /// The levels on the stack ascend up to 125, so at most 125 entries are below the one on top.
 #[derive(Drop)]
 pub struct StatusStack {
-    /// The entry on top. Each character reads it, so it is not in the list.
+    /// The entry on top. Each control and each stretch reads it, so it is not in the list.
     top: StatusEntry,
     /// The entries below it, outermost first.
     below: ArrayVec<StatusEntry, 125>,
@@ -153,7 +153,7 @@ impl StatusStack {
     /// Reads a control: closes what it closes, answers by the status at it, and opens what it opens. The steps that
     /// pop the stack are charged to the popped entries.
     ///
-    /// One test of the class decides all of that.
+    /// One `match` on the class chooses all of that.
     #[inline(always)]
     #[tactic(auto, using(crate::proofs::StackLemmas::entry_counts))]
     pub fn read<S: Ledger>(

@@ -54,7 +54,7 @@ impl ClassTest for For {
     }
 }
 
-/// Classes but BN that don't stand for this direction. A stretch of the direction goes on over BN.
+/// Classes other than BN that do not stand for this direction. BN does not end a stretch of the direction.
 #[derive(Clone, Copy, Debug)]
 pub struct KeptNotFor(pub BidiClass);
 

@@ -63,8 +63,8 @@ fn kept_end_by_blocks(classes: &[BidiClass], start: usize, end: usize) -> usize
 // How many code units are tested at once.
 const BLOCK: usize = 16;
 
-// Goes back from `end` to `start`, by blocks of which X9 removes all code units. Returns where the last of these
-// blocks begins.
+// Goes back from `end` towards `start` over blocks in which X9 removes every code unit. Returns the start of the first
+// such block, or `end` if there is none.
 fn before_removed_blocks(classes: &[BidiClass], start: usize, end: usize) -> usize
     requires ordered { start ≤ end }
     requires inside { end ≤ length classes.now }

@@ -147,8 +147,8 @@ fn turn_character(bytes: &[u8], out: &mut [u8], at: usize) -> usize
     3
 }
 
-// Writes the characters of a short text in reverse order, one by one. Returns whether it could: if some character has
-// four bytes, `out` holds any bytes.
+// Writes the characters of a short text in reverse order, one by one. Returns `false` if some character has four bytes.
+// `out` may then hold any bytes.
 pub(super) fn turn_characters(bytes: &[u8], out: &mut [u8]) -> bool
     requires { length out.old ≡ length bytes.now }
     ensures short { IsTrue result → (j : ℕ) → j < length bytes.now → slice_index bytes.now j < 0xF0 }

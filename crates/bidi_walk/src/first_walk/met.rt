@@ -2,7 +2,7 @@
 
 use bidi_base::char_data::BidiClass;
 
-/// A character that was read, and whose class matters to the paragraph.
+/// A character at which a search stops.
 #[derive(Clone, Copy)]
 pub(super) struct Met {
     pub(super) start: usize,

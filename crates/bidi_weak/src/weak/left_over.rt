@@ -11,8 +11,7 @@ use bidi_base::char_data::BidiClass::{self, AL, CS, ES, ET, ON, R};
 use bidi_runs::prepare::{LevelRun, Steps};
 use std::sync::ledger::Ledger;
 
-/// Changes each class in the runs by itself. A function of its own, since the loops over numbers would
-/// otherwise lose registers to these.
+/// Changes each class in the runs by itself. Not inlined: the loops over numbers would lose registers.
 #[inline(never)]
 pub fn change<S: Ledger>(runs: &[LevelRun], classes: &mut [BidiClass], steps: &mut Steps<S>)
     requires ordered { IsTrue (are_ordered (map bounds runs.now)) }
@@ -78,7 +77,7 @@ fn change_at(classes: &mut [BidiClass], unit: usize)
     }
 }
 
-/// Whether W3 and W6 leave a class as it is.
+/// Whether W3 and W6 leave a class unchanged.
 fn stays(class: BidiClass) -> bool
     ensures { IsTrue result → left_over class ≡ class }
 {
