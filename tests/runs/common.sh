@@ -1,4 +1,4 @@
-# What tests/program and tests/files share: a folder for their work, and how a run is told.
+# What tests/bidi_show and tests/bidi share: a folder for their work, and how a run is told.
 work=$(mktemp -d) || exit 1
 trap 'rm -rf "$work"' EXIT
 failures=0
