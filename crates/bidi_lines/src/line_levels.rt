@@ -127,8 +127,8 @@ fn first_break<C: ClassList>(classes: C, levels: &[Level], from: usize) -> usize
     first_other(marks.as_slice(), 0, 0)
 }
 
-// Returns the first index from `from` on at which the pass of L1 stops, or the number of units if there is none.
-fn steady_end<C: ClassList>(classes: C, levels: &[Level], from: usize) -> usize
+// Returns what `steady_end` returns, and tests 16 units at once from the start.
+fn steady_end_by_blocks<C: ClassList>(classes: C, levels: &[Level], from: usize) -> usize
     requires same_len { length levels.now ≡ length (C.classes classes) }
     requires begins { 0 < from }
     requires ends { from ≤ length levels.now }
@@ -136,10 +136,6 @@ fn steady_end<C: ClassList>(classes: C, levels: &[Level], from: usize) -> usize
     ensures ends { result ≤ length levels.now }
     ensures steady { (k : ℕ) → from ≤ k → k < result → IsSteadyAt (C.classes classes) levels.now k }
 {
-    // In a stretch of removed units with another level, the pass stops at each of them.
-    if from < levels.len() && is_break(classes.class_at(from), levels[from - 1], levels[from]) {
-        return from;
-    }
     let mut at = from;
     while levels.len() - at >= 16 {
         let count = first_break(classes, levels, at);
@@ -152,6 +148,22 @@ fn steady_end<C: ClassList>(classes: C, levels: &[Level], from: usize) -> usize
         at += 1;
     }
     at
+}
+
+// Returns the first index from `from` on at which the pass of L1 stops, or the number of units if there is none. The
+// first unit is tested by itself: in a stretch of removed units that get another level, the pass stops at each.
+fn steady_end<C: ClassList>(classes: C, levels: &[Level], from: usize) -> usize
+    requires same_len { length levels.now ≡ length (C.classes classes) }
+    requires begins { 0 < from }
+    requires ends { from ≤ length levels.now }
+    ensures begins { from ≤ result }
+    ensures ends { result ≤ length levels.now }
+    ensures steady { (k : ℕ) → from ≤ k → k < result → IsSteadyAt (C.classes classes) levels.now k }
+{
+    if from == levels.len() || is_break(classes.class_at(from), levels[from - 1], levels[from]) {
+        return from;
+    }
+    steady_end_by_blocks(classes, levels, from)
 }
 
 /// Applies L1 to the levels of a line.

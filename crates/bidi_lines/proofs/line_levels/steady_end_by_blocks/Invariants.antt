@@ -1,6 +1,6 @@
 use Rattle.bidi_base.proofs.Common.{ℕ, ◌-◌, ◌<◌, ◌≤◌, length}
 use Rattle.bidi_lines.specs.Stops.{IsSteadyAt}
-use Rattle.bidi_lines.proofs.line_levels.steady_end.Given as goal
+use Rattle.bidi_lines.proofs.line_levels.steady_end_by_blocks.Given as goal
 
 abbrev pub invariant-loop-at : goal.invariant-loop-at
 invariant-loop-at g l = record {
