@@ -7,7 +7,6 @@ pub mod LineUtf8
 pub mod RunLengths
 pub mod RunText
 pub mod ShownUnits
-pub mod ShortRuns
 pub mod ShownLines
 pub mod StillLine
 pub mod StoredLine

@@ -27,22 +27,22 @@ get_or-turned_bytes far near (b ∷ bs) (suc j) fits = simp (get_or-turned_bytes
 
 -- ---- what stands in the place of a byte
 
-pub first_of_three : (far near x next later : ℕ) → 0xE0 ≤ x → turned_byte far near x next later ≡ later
+first_of_three : (far near x next later : ℕ) → 0xE0 ≤ x → turned_byte far near x next later ≡ later
 first_of_three far near x next later big = grind arith
 
-pub first_of_two : (far near x next later : ℕ) → 0xC0 ≤ x → x < 0xE0 → turned_byte far near x next later ≡ next
+first_of_two : (far near x next later : ℕ) → 0xC0 ≤ x → x < 0xE0 → turned_byte far near x next later ≡ next
 first_of_two far near x next later big small = grind arith
 
-pub last_of_two : (far near x next later : ℕ) → 0xC0 ≤ near → near < 0xE0 → x < 0xC0 → turned_byte far near x next later ≡ near
+last_of_two : (far near x next later : ℕ) → 0xC0 ≤ near → near < 0xE0 → x < 0xC0 → turned_byte far near x next later ≡ near
 last_of_two far near x next later big small last = grind arith
 
-pub second_of_three : (far near x next later : ℕ) → far < 0xE0 → 0xE0 ≤ near → x < 0xC0 → turned_byte far near x next later ≡ x
+second_of_three : (far near x next later : ℕ) → far < 0xE0 → 0xE0 ≤ near → x < 0xC0 → turned_byte far near x next later ≡ x
 second_of_three far near x next later low big second = grind arith
 
-pub last_of_three : (far near x next later : ℕ) → 0xE0 ≤ far → near < 0xC0 → x < 0xC0 → turned_byte far near x next later ≡ far
+last_of_three : (far near x next later : ℕ) → 0xE0 ≤ far → near < 0xC0 → x < 0xC0 → turned_byte far near x next later ≡ far
 last_of_three far near x next later big second last = grind arith
 
-pub only_one : (far near x next later : ℕ) → far < 0xE0 → near < 0xC0 → x < 0xC0 → turned_byte far near x next later ≡ x
+only_one : (far near x next later : ℕ) → far < 0xE0 → near < 0xC0 → x < 0xC0 → turned_byte far near x next later ≡ x
 only_one far near x next later low inside small = grind arith
 
 -- ---- the bytes of a character

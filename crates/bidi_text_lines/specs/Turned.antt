@@ -1,5 +1,5 @@
 -- The units of a text whose characters stand last first, each with its units in their own order.
-use Rattle.std.specs.Prelude.{ℕ, ◌<◌, ◌+◌, ◌&&◌, nat_le, nat_lt, if◌then◌else◌, List, ◌∷◌, slice_index_or}
+use Rattle.std.specs.Prelude.{ℕ, ◌+◌, ◌&&◌, nat_le, nat_lt, if◌then◌else◌, List, ◌∷◌, slice_index_or}
 
 -- what stands in the place of a byte when the list is turned round: the byte itself, or the one with which it changes
 -- places, which is one or two before or behind it. `far` and `near` stand before it, `next` and `later` behind it
@@ -19,9 +19,3 @@ turned_at bytes j =
 -- the bytes of a text, before which two others stand
 abbrev pub behind_two : List ℕ → List ℕ
 behind_two bytes = 0 ∷ 0 ∷ bytes
-
--- no character reaches beyond an index of a text: the byte before it begins no character of two or three bytes, and the
--- byte before that none of three. With two bytes in front, these bytes are at the indexes `at + 1` and `at`
-pub record IsEnded (bytes : List ℕ) (at : ℕ) : Type 0 where
-  pub low : slice_index_or bytes at 0 < 0xE0
-  pub inside : slice_index_or bytes (at + 1) 0 < 0xC0

@@ -1,8 +1,8 @@
-// Reverses the characters of UTF-8: a short run character by character, and a long one by a loop that handles many bytes
-// at once. That loop decodes no character: each byte's neighbours tell which byte goes to its mirrored place.
-ghost use Rattle.std.specs.Prelude.{◌≡◌, ℕ, ◌+◌, ◌-◌, ◌<◌, ◌≤◌, IsTrue, nat_lt, length, slice_index, slice_index_or, if◌then◌else◌};
+// Reverses the characters of UTF-8 by a loop that handles many bytes at once. It decodes no character: each byte's
+// neighbours tell which byte goes to its mirrored place.
+ghost use Rattle.std.specs.Prelude.{◌≡◌, ℕ, ◌+◌, ◌-◌, ◌<◌, ◌≤◌, nat_lt, length, slice_index, slice_index_or, if◌then◌else◌};
 ghost use Rattle.std.specs.List.{list_all};
-ghost use Rattle.bidi_text_lines.specs.Turned.{turned_byte, turned_at, behind_two, IsEnded};
+ghost use Rattle.bidi_text_lines.specs.Turned.{turned_byte, turned_at, behind_two};
 
 // The minimum first byte of a character of two, three and four bytes.
 const OF_TWO: u8 = 0xC0;
@@ -107,63 +107,6 @@ fn turn_ends(bytes: &[u8], out: &mut [u8], from: usize, to: usize)
             byte_behind(bytes, at, 2),
         );
     }
-}
-
-// Writes the character of one to three bytes that begins at an index to its mirrored place. Returns its length, or 0 if
-// no such character is there.
-fn turn_character(bytes: &[u8], out: &mut [u8], at: usize) -> usize
-    requires same_len { length out.old ≡ length bytes.now }
-    requires inside { at < length bytes.now }
-    requires ended { IsEnded (behind_two bytes.now) at }
-    ensures within { at + result ≤ length bytes.now }
-    ensures ended { 0 < result → IsEnded (behind_two bytes.now) (at + result) }
-    ensures short { (j : ℕ) → at ≤ j → j < at + result → slice_index bytes.now j < 0xF0 }
-    ensures turned { (j : ℕ) → at ≤ j → j < at + result
-        → slice_index out.new (length bytes.now - 1 - j) ≡ turned_at (behind_two bytes.now) j }
-    ensures before { (j : ℕ) → j < at
-        → slice_index out.new (length bytes.now - 1 - j) ≡ slice_index out.old (length bytes.now - 1 - j) }
-{
-    let len = bytes.len();
-    let first = bytes[at];
-    if first < OF_TWO {
-        out[len - 1 - at] = first;
-        return 1;
-    }
-    if len - at < 2 || bytes[at + 1] >= OF_TWO {
-        return 0;
-    }
-    let second = bytes[at + 1];
-    if first < OF_THREE {
-        out[len - 1 - at] = second;
-        out[len - 1 - (at + 1)] = first;
-        return 2;
-    }
-    if len - at < 3 || bytes[at + 2] >= OF_TWO || first >= OF_FOUR {
-        return 0;
-    }
-    out[len - 1 - at] = bytes[at + 2];
-    out[len - 1 - (at + 1)] = second;
-    out[len - 1 - (at + 2)] = first;
-    3
-}
-
-// Writes the characters of a short text in reverse order, one by one. Returns `false` if some character has four bytes.
-// `out` may then hold any bytes.
-pub(super) fn turn_characters(bytes: &[u8], out: &mut [u8]) -> bool
-    requires { length out.old ≡ length bytes.now }
-    ensures short { IsTrue result → (j : ℕ) → j < length bytes.now → slice_index bytes.now j < 0xF0 }
-    ensures turned { IsTrue result → (j : ℕ) → j < length bytes.now
-        → slice_index out.new (length bytes.now - 1 - j) ≡ turned_at (behind_two bytes.now) j }
-{
-    let mut at = 0;
-    while at < bytes.len() {
-        let count = turn_character(bytes, out, at);
-        if count == 0 {
-            return false;
-        }
-        at += count;
-    }
-    true
 }
 
 // Writes the characters of a text in reverse order. No character may have four bytes.

@@ -5,16 +5,13 @@ ghost use Rattle.std.specs.Str.{chars};
 ghost use Rattle.bidi_base.specs.Analysed.{IsLineOf, IsTextOfLine, StaysInOrder};
 
 use super::LineText;
-use super::turned::{are_short, turn_characters, turn_round};
+use super::turned::{are_short, turn_round};
 use crate::analysed::Analysed;
 use bidi_base::level::Level;
 use bidi_text::text::{StrText, TextSource};
 use std::alloc::{AllocError, Global};
 use std::borrow::CowStr;
 use std::ops::Range;
-
-// A run of up to this many bytes is reversed character by character.
-const SHORT: usize = 32;
 
 // Writes the characters of a text in reverse order, one by one.
 fn write_chars_reversed(text: &str, out: &mut [u8])
@@ -44,9 +41,6 @@ impl<'t> LineText for StrText<'t> {
     fn reverse_run(self, run: Range<usize>, out: &mut [u8]) {
         let text = self.subrange(run).as_str();
         let bytes = text.as_bytes();
-        if bytes.len() <= SHORT && turn_characters(bytes, out) {
-            return;
-        }
         if are_short(bytes) {
             turn_round(bytes, out);
         } else {
