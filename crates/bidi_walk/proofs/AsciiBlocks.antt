@@ -52,15 +52,15 @@ module _ (source : Source) (block : List ℕ) (start : ℕ) (old : List BidiClas
       found_is = ap (λ more. with more class) h.found_is ∙ ap (with (set_of_first source block i)) is ∙ ap (set_of_first source block) (sym (add-one i));
     }
 
--- ---- a block of which nothing is minded
+-- ---- a block without a stop class
 
 -- and the set of what is sought was made anew
-pub record IsBlockPassed (source : Source) (block : List ℕ) (minded : ClassSet) (old new : ParagraphFlags) (sought : ClassSet) : Type 0 where
-  pub idle : (k : ℕ) → k < 16 → has minded (source.class_of (get_or block k 0)) ≡ false
+pub record IsBlockPassed (source : Source) (block : List ℕ) (stop_classes : ClassSet) (old new : ParagraphFlags) (sought : ClassSet) : Type 0 where
+  pub idle : (k : ℕ) → k < 16 → has stop_classes (source.class_of (get_or block k 0)) ≡ false
   pub turns : flags_to source block old 16 ≡ new
-  pub are : AreSought sought minded new
+  pub are : AreSought sought stop_classes new
 
-module _ (source : Source) (block : List ℕ) (minded : ClassSet) (flags : ParagraphFlags) (found : ClassSet) (found_is : found ≡ set_of_first source block 16) where
+module _ (source : Source) (block : List ℕ) (stop_classes : ClassSet) (flags : ParagraphFlags) (found : ClassSet) (found_is : found ≡ set_of_first source block 16) where
   pub found-small : found.bits < 2 ^ 23
   found-small = subst (λ (set : ClassSet). set.bits < 2 ^ 23) (sym found_is) (set_of_first-small source block 16)
 
@@ -69,17 +69,17 @@ module _ (source : Source) (block : List ℕ) (minded : ClassSet) (flags : Parag
       any_of-apart set (has found) none (source.class_of (get_or block k 0)) (subst (λ (all : ClassSet). has all (source.class_of (get_or block k 0)) ≡ true) (sym found_is) (set_of_first-has source block 16 k below))
 
   -- a block of other classes than those that are sought
-  pub IsBlockPassed-other : (sought : ClassSet) → AreSought sought minded flags → any_of sought (has found) ≡ false → IsBlockPassed source block minded flags flags sought
+  pub IsBlockPassed-other : (sought : ClassSet) → AreSought sought stop_classes flags → any_of sought (has found) ≡ false → IsBlockPassed source block stop_classes flags flags sought
   IsBlockPassed-other sought are none = record {
-    idle = λ k below. other-idle sought minded flags are _ (apart sought none k below);
-    turns = flags_to-same source block flags 16 (λ k below. other-same sought minded flags are _ (apart sought none k below));
+    idle = λ k below. other-idle sought stop_classes flags are _ (apart sought none k below);
+    turns = flags_to-same source block flags 16 (λ k below. other-same sought stop_classes flags are _ (apart sought none k below));
     are = are;
   }
 
-  pub IsBlockPassed-noted : (sought : ClassSet) → AreSought sought minded (with_set flags found) → any_of minded (has found) ≡ false
-      → IsBlockPassed source block minded flags (with_set flags found) sought
+  pub IsBlockPassed-noted : (sought : ClassSet) → AreSought sought stop_classes (with_set flags found) → any_of stop_classes (has found) ≡ false
+      → IsBlockPassed source block stop_classes flags (with_set flags found) sought
   IsBlockPassed-noted sought are none = record {
-    idle = apart minded none;
+    idle = apart stop_classes none;
     turns = flags_to-set source block flags 16 ∙ ap (with_set flags) (sym found_is);
     are = are;
   }

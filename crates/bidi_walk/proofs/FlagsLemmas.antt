@@ -29,11 +29,11 @@ with_class-same flags c there = grind (arith, with-same)
 
 -- the classes of a set, and those that are missing
 abbrev pub AreSought : ClassSet → ClassSet → ParagraphFlags → Type 0
-AreSought sought minded flags = (c : BidiClass) → has sought c ≡ (has minded c || is_missing flags c)
+AreSought sought stop_classes flags = (c : BidiClass) → has sought c ≡ (has stop_classes c || is_missing flags c)
 
-module _ (sought minded : ClassSet) (flags : ParagraphFlags) (are : AreSought sought minded flags) (c : BidiClass) (other : has sought c ≡ false) where
-  -- any other class is not minded, and changes no flag
-  pub other-idle : has minded c ≡ false
+module _ (sought stop_classes : ClassSet) (flags : ParagraphFlags) (are : AreSought sought stop_classes flags) (c : BidiClass) (other : has sought c ≡ false) where
+  -- any other class is no stop class, and changes no flag
+  pub other-idle : has stop_classes c ≡ false
   other-idle = grind (arith, are c)
 
   pub other-same : with_class flags c ≡ flags
@@ -72,10 +72,10 @@ with_set-with : (flags : ParagraphFlags) (set : ClassSet) (c : BidiClass) → wi
 with_set-with flags set c = elim (cases_Bool (is_counted c)) [
   | inl counted ↦
       let there : bit_at counted_set.bits (class_number c) ≡ 1 = grind (arith, nat_tests, counted_set-has c) in
-      simp counted (λ i. record { met = record { bits = one_more_bit flags.met.bits set.bits counted_set.bits (class_number c) there i } })
+      simp counted (λ i. record { seen = record { bits = one_more_bit flags.seen.bits set.bits counted_set.bits (class_number c) there i } })
   | inr other ↦
       let none = bit_of (bit_at counted_set.bits (class_number c)) _ (bit_at-lt counted_set.bits (class_number c)) (counted_set-has c) other in
-      simp other (λ i. record { met = record { bits = no_more_bit flags.met.bits set.bits counted_set.bits (class_number c) none i } })
+      simp other (λ i. record { seen = record { bits = no_more_bit flags.seen.bits set.bits counted_set.bits (class_number c) none i } })
 ]
 
 -- the flags with those of the first n characters of a block
@@ -84,7 +84,7 @@ flags_to source block flags zero = flags
 flags_to source block flags (suc n) = with_class (flags_to source block flags n) (source.class_of (get_or block n 0))
 
 pub flags_to-set : (source : Source) (block : List ℕ) (flags : ParagraphFlags) (n : ℕ) → flags_to source block flags n ≡ with_set flags (set_of_first source block n)
-flags_to-set source block flags zero = λ i. record { met = record { bits = sym (no_bits flags.met.bits counted_set.bits) i } }
+flags_to-set source block flags zero = λ i. record { seen = record { bits = sym (no_bits flags.seen.bits counted_set.bits) i } }
 flags_to-set source block flags (suc n) =
     let class = source.class_of (get_or block n 0) in
     ap (λ more. with_class more class) (flags_to-set source block flags n) ∙ with_set-with flags (set_of_first source block n) class
@@ -101,32 +101,32 @@ abbrev IsOfCounted : (BidiClass → Bool) → Type 0
 IsOfCounted test = (c : BidiClass) → is_counted c ≡ false → test c ≡ false
 
 module _ (test : BidiClass → Bool) (of_counted : IsOfCounted test) where
-  one_more : (flags : ParagraphFlags) (c : BidiClass) → any_of (with_class flags c).met test ≡ (any_of flags.met test || test c)
+  one_more : (flags : ParagraphFlags) (c : BidiClass) → any_of (with_class flags c).seen test ≡ (any_of flags.seen test || test c)
   one_more flags c = grind (arith, any_of-with)
 
-  all_more : (flags : ParagraphFlags) (classes : List BidiClass) → any_of (with_classes flags classes).met test ≡ (any_of flags.met test || list_any test classes)
+  all_more : (flags : ParagraphFlags) (classes : List BidiClass) → any_of (with_classes flags classes).seen test ≡ (any_of flags.seen test || list_any test classes)
   all_more flags [] = simp or-false
   all_more flags (c ∷ classes) = simp (all_more (with_class flags c) classes, one_more, or_assoc)
 
-  pub any_of-flags_of : (classes : List BidiClass) → any_of (flags_of classes).met test ≡ list_any test classes
+  pub any_of-flags_of : (classes : List BidiClass) → any_of (flags_of classes).seen test ≡ list_any test classes
   any_of-flags_of classes = grind (arith, all_more, any_of-empty)
 
 -- ---- the tests of the flags
 
 module _ (flags : ParagraphFlags) (classes : List BidiClass) (is : flags ≡ flags_of classes) where
-  pub has_isolates-flags : any_of flags.met is_initiator ≡ list_any is_initiator classes
+  pub has_isolates-flags : any_of flags.seen is_initiator ≡ list_any is_initiator classes
   has_isolates-flags = grind (arith, any_of-flags_of)
 
-  pub is_pure_ltr-flags : not (any_of flags.met may_turn) ≡ is_pure_ltr classes
+  pub is_pure_ltr-flags : not (any_of flags.seen may_turn) ≡ is_pure_ltr classes
   is_pure_ltr-flags = grind (arith, any_of-flags_of)
 
-  pub is_flat-flags : not (any_of flags.met is_opener) ≡ is_flat classes
+  pub is_flat-flags : not (any_of flags.seen is_opener) ≡ is_flat classes
   is_flat-flags = grind (arith, any_of-flags_of)
 
-  pub has_removed-flags : any_of flags.met is_removed ≡ list_any is_removed classes
+  pub has_removed-flags : any_of flags.seen is_removed ≡ list_any is_removed classes
   has_removed-flags = grind (arith, any_of-flags_of)
 
-  pub keeps_to-flags : (level : ℕ) → not (any_of flags.met (may_leave level)) ≡ keeps_to level classes
+  pub keeps_to-flags : (level : ℕ) → not (any_of flags.seen (may_leave level)) ≡ keeps_to level classes
   keeps_to-flags level = grind (arith, any_of-flags_of)
 
 -- a paragraph that may leave its level is not empty

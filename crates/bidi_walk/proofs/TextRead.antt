@@ -19,11 +19,11 @@ use Rattle.bidi_laws.proofs.ReadingLemmas.{char_units, char_units-take, met_unit
 use Rattle.bidi_laws.proofs.StoredSteps.{stored_classes-nil, deciding_class-push, deciding_class-nil, open_initiators, open_initiators-push}
 use Rattle.bidi_laws.proofs.StoredSteps.{met_by, stored_classes-push, length-stored_classes, length-met_by, open_initiators-below}
 use Rattle.bidi_walk.specs.declared.paragraph_flags.ParagraphFlags.{ParagraphFlags}
-use Rattle.bidi_walk.specs.declared.first_walk.reading.Reading.{Reading}
-use Rattle.bidi_walk.specs.declared.first_walk.TextReading.{TextReading}
-use Rattle.bidi_walk.specs.declared.first_walk.reading.Undecided.{Undecided}
+use Rattle.bidi_walk.specs.declared.first_walk.paragraph_state.ParagraphState.{ParagraphState}
+use Rattle.bidi_walk.specs.declared.first_walk.TextState.{TextState}
+use Rattle.bidi_walk.specs.declared.first_walk.paragraph_state.Undecided.{Undecided}
 use Rattle.bidi_walk.specs.declared.paragraph_info.ParagraphInfo.{ParagraphInfo}
-use Rattle.bidi_walk.specs.FirstWalk.{waiting, depth_after, undecided_after, deciding_after, classes_after, is_decided, minds, with_flags, IsFresh, IsReadBy, StopsCounting, IsClosed}
+use Rattle.bidi_walk.specs.FirstWalk.{waiting, depth_after, undecided_after, deciding_after, classes_after, is_decided, stops_at, with_flags, IsFresh, IsReadBy, StopsCounting, IsClosed}
 use Rattle.bidi_walk.specs.ParagraphInfo.{ranges_of, levels_of}
 use Rattle.bidi_walk.specs.ParagraphFlags.{flags_of, paragraph_flags, with_class}
 use Rattle.bidi_walk.specs.SplitRule.{ends_by, ends_after, pieces_by}
@@ -35,7 +35,7 @@ use Rattle.bidi_walk.proofs.Undecided.{undecided_from, waits_of, fsi_at, waiting
 use Rattle.bidi_walk.proofs.Undecided.{deeper, undecided_after-deeper, classes_after-deeper, deciding_after-deeper, counted_after, none_counted, All-deeper}
 
 -- one more character was read, of this class and with these units: k isolates were not counted, and then `after`
-pub record IsCountedOn (class : BidiClass) (range : Range ℕ) (k after : ℕ) (old new : Reading) : Type 0 where
+pub record IsCountedOn (class : BidiClass) (range : Range ℕ) (k after : ℕ) (old new : ParagraphState) : Type 0 where
   pub start : new.start ≡ old.start
   pub decided : 0 < after → is_some new.deciding ≡ true
   pub depth : new.depth + after ≡ depth_after class (old.depth + k)
@@ -52,8 +52,8 @@ uncounted_after class depth k = if is_pdi class && (depth == 0) then k - 1 else 
 abbrev pub uncounted_idle : BidiClass → ℕ → ℕ
 uncounted_idle class k = depth_after class k
 
-module _ (class : BidiClass) (range : Range ℕ) (k : ℕ) (old : Reading) where
-  pub IsCountedOn-read : (new : Reading) → (0 < k → is_some old.deciding ≡ true) → All (λ (u : Undecided). 0 < u.depth) old.undecided.items → (old.depth ≡ 0 → old.undecided.items ≡ [])
+module _ (class : BidiClass) (range : Range ℕ) (k : ℕ) (old : ParagraphState) where
+  pub IsCountedOn-read : (new : ParagraphState) → (0 < k → is_some old.deciding ≡ true) → All (λ (u : Undecided). 0 < u.depth) old.undecided.items → (old.depth ≡ 0 → old.undecided.items ≡ [])
       → IsReadBy class range old new → IsCountedOn class range k (uncounted_after class old.depth k) old new
   IsCountedOn-read new decided counted empty read = record {
     start = read.start;
@@ -65,7 +65,7 @@ module _ (class : BidiClass) (range : Range ℕ) (k : ℕ) (old : Reading) where
     turns = read.turns;
   }
 
-  pub IsCountedOn-idle : minds old class ≡ false → (0 < k → is_some old.deciding ≡ true) → All (λ (u : Undecided). 0 < u.depth) old.undecided.items → (old.depth ≡ 0 → old.undecided.items ≡ [])
+  pub IsCountedOn-idle : stops_at old class ≡ false → (0 < k → is_some old.deciding ≡ true) → All (λ (u : Undecided). 0 < u.depth) old.undecided.items → (old.depth ≡ 0 → old.undecided.items ≡ [])
       → IsCountedOn class range k (uncounted_idle class k) old (with_flags old (with_class old.flags class))
   IsCountedOn-idle idle decided counted empty = record {
     start = refl;
@@ -108,7 +108,7 @@ pub record Seen : Type 0 where
   pub paragraphs : List ParagraphInfo
   pub flags : List ParagraphFlags
 
-abbrev pub seen : List BidiClass → TextReading → Seen
+abbrev pub seen : List BidiClass → TextState → Seen
 seen units walk = record { units = units; paragraphs = walk.paragraphs.items; flags = walk.flags.items }
 
 module _ (source : Source) (len_of : ℕ → ℕ) (chars : List ℕ) where
@@ -120,23 +120,23 @@ module _ (source : Source) (len_of : ℕ → ℕ) (chars : List ℕ) where
   units_after done q = char_units len_of chars (length (joined done) + q)
 
   -- `done` are the paragraphs that have ended, and `current` is the one that is read
-  pub record IsTextRead (base : Option ℕ) (n : ℕ) (done : List (List ℕ)) (current : List ℕ) (found : Seen) (reading : Reading) : Type 0 where
+  pub record IsTextRead (base : Option ℕ) (n : ℕ) (done : List (List ℕ)) (current : List ℕ) (found : Seen) (state : ParagraphState) : Type 0 where
     pub whole : joined done ++ current ≡ take n chars
     pub sized : length found.units ≡ text_len len_of chars
     pub classes : take (place len_of chars n) found.units ≡ per_unit len_of (take n chars) (text_classes source done ++ stored_classes (classes_of current))
     pub ranges : ranges_of found.paragraphs ≡ ranges_from len_of 0 done
     pub levels : levels_of found.paragraphs ≡ paragraph_levels source base done
     pub flags : found.flags ≡ paragraph_flags source done
-    pub start : reading.start ≡ text_len len_of (joined done)
+    pub start : state.start ≡ text_len len_of (joined done)
     -- so many of the isolates that are open are not counted, once the paragraph's level is decided
     pub uncounted : ℕ
-    pub decided : 0 < uncounted → is_some reading.deciding ≡ true
-    pub depth : reading.depth + uncounted ≡ length (open_initiators (classes_of current))
-    pub undecided : map (deeper uncounted) reading.undecided.items
+    pub decided : 0 < uncounted → is_some state.deciding ≡ true
+    pub depth : state.depth + uncounted ≡ length (open_initiators (classes_of current))
+    pub undecided : map (deeper uncounted) state.undecided.items
         ≡ undecided_from (units_after done) 0 (stored_classes (classes_of current)) (open_initiators (classes_of current))
-    pub counted : All (λ (u : Undecided). 0 < u.depth) reading.undecided.items
-    pub deciding : reading.deciding ≡ deciding_class (classes_of current)
-    pub turns : reading.flags ≡ flags_of (classes_of current)
+    pub counted : All (λ (u : Undecided). 0 < u.depth) state.undecided.items
+    pub deciding : state.deciding ≡ deciding_class (classes_of current)
+    pub turns : state.flags ≡ flags_of (classes_of current)
 
   -- and once all of them have ended
   pub record IsTextDone (base : Option ℕ) (n : ℕ) (done : List (List ℕ)) (found : Seen) : Type 0 where
@@ -148,9 +148,9 @@ module _ (source : Source) (len_of : ℕ → ℕ) (chars : List ℕ) where
     pub flags : found.flags ≡ paragraph_flags source done
 
   -- the next paragraph begins
-  pub IsTextRead-fresh : (base : Option ℕ) (n : ℕ) (done : List (List ℕ)) (found : Seen) (reading : Reading) → IsTextDone base n done found
-      → IsFresh reading (place len_of chars n) → IsTextRead base n done [] found reading
-  IsTextRead-fresh base n done found reading h fresh = record {
+  pub IsTextRead-fresh : (base : Option ℕ) (n : ℕ) (done : List (List ℕ)) (found : Seen) (state : ParagraphState) → IsTextDone base n done found
+      → IsFresh state (place len_of chars n) → IsTextRead base n done [] found state
+  IsTextRead-fresh base n done found state h fresh = record {
     whole = grind (arith, h.whole, append-nil);
     sized = h.sized;
     classes = grind (arith, h.classes, append-nil, stored_classes-nil);
@@ -168,9 +168,9 @@ module _ (source : Source) (len_of : ℕ → ℕ) (chars : List ℕ) where
   }
 
   -- the isolates that are open are not counted any more
-  pub IsTextRead-stop_counting : (base : Option ℕ) (n : ℕ) (done : List (List ℕ)) (current : List ℕ) (found : Seen) (reading new : Reading)
-      → IsTextRead base n done current found reading → StopsCounting reading new → IsTextRead base n done current found new
-  IsTextRead-stop_counting base n done current found reading new h less = record {
+  pub IsTextRead-stop_counting : (base : Option ℕ) (n : ℕ) (done : List (List ℕ)) (current : List ℕ) (found : Seen) (state new : ParagraphState)
+      → IsTextRead base n done current found state → StopsCounting state new → IsTextRead base n done current found new
+  IsTextRead-stop_counting base n done current found state new h less = record {
     whole = h.whole;
     sized = h.sized;
     classes = h.classes;
@@ -178,49 +178,49 @@ module _ (source : Source) (len_of : ℕ → ℕ) (chars : List ℕ) where
     levels = h.levels;
     flags = h.flags;
     start = less.start ∙ h.start;
-    uncounted = if is_decided reading then reading.depth + h.uncounted else h.uncounted;
+    uncounted = if is_decided state then state.depth + h.uncounted else h.uncounted;
     decided = grind (arith, h.decided);
     depth = grind (arith, h.depth);
-    undecided = simp less.undecided (same_undecided (reading.undecided.items) refl);
+    undecided = simp less.undecided (same_undecided (state.undecided.items) refl);
     counted = rw less.undecided h.counted;
     deciding = less.deciding ∙ h.deciding;
     turns = less.turns ∙ h.turns;
   }
     where
       -- there is none, if it is decided
-      same_undecided : (us : List Undecided) → us ≡ reading.undecided.items
-          → map (deeper (if is_decided reading then reading.depth + h.uncounted else h.uncounted)) us ≡ undecided_from (units_after done) 0 (stored_classes (classes_of current)) (open_initiators (classes_of current))
+      same_undecided : (us : List Undecided) → us ≡ state.undecided.items
+          → map (deeper (if is_decided state then state.depth + h.uncounted else h.uncounted)) us ≡ undecided_from (units_after done) 0 (stored_classes (classes_of current)) (open_initiators (classes_of current))
       same_undecided [] e = grind (arith, h.undecided)
       same_undecided (u ∷ us) e = grind (arith, h.undecided)
 
   -- ---- the end of a paragraph
 
-  module _ (base : Option ℕ) (n : ℕ) (done : List (List ℕ)) (current : List ℕ) (found : Seen) (reading : Reading) (h : IsTextRead base n done current found reading) where
+  module _ (base : Option ℕ) (n : ℕ) (done : List (List ℕ)) (current : List ℕ) (found : Seen) (state : ParagraphState) (h : IsTextRead base n done current found state) where
     -- where it is read to
     read_to : place len_of chars n ≡ text_len len_of (joined done) + text_len len_of current
     read_to = ap (text_len len_of) (sym h.whole) ∙ sum_by-append len_of (joined done) current
 
     -- it is not empty exactly if it begins before the end
-    pub current-some : HasUnits len_of → reading.start < place len_of chars n → 0 < length current
+    pub current-some : HasUnits len_of → state.start < place len_of chars n → 0 < length current
     current-some units order = grind (arith, common_steps)
 
-    pub current-none : HasUnits len_of → place len_of chars n ≤ reading.start → current ≡ []
+    pub current-none : HasUnits len_of → place len_of chars n ≤ state.start → current ≡ []
     current-none units order = nil_from_length current (omega (arith, length-le-text_len len_of units current, h.start, read_to))
 
     pub IsTextDone-close : (closed : Seen) (end : ℕ) → end ≡ place len_of chars n → closed.units ≡ found.units
-        → IsClosed base reading end found.paragraphs found.flags closed.paragraphs closed.flags → IsTextDone base n (done ++ current ∷ []) closed
+        → IsClosed base state end found.paragraphs found.flags closed.paragraphs closed.flags → IsTextDone base n (done ++ current ∷ []) closed
     unfolding text_classes paragraph_levels paragraph_level paragraph_flags
     IsTextDone-close closed end here same ended =
         grind (arith, flat_map-append, map-append, append-nil, read_to, ranges_from-push)
 
-  pub IsTextDone-none : (base : Option ℕ) (n : ℕ) (done : List (List ℕ)) (current : List ℕ) (found : Seen) (reading : Reading)
-      → current ≡ [] → IsTextRead base n done current found reading → IsTextDone base n done found
-  IsTextDone-none base n done current found reading none h = grind (arith, append-nil, stored_classes-nil)
+  pub IsTextDone-none : (base : Option ℕ) (n : ℕ) (done : List (List ℕ)) (current : List ℕ) (found : Seen) (state : ParagraphState)
+      → current ≡ [] → IsTextRead base n done current found state → IsTextDone base n done found
+  IsTextDone-none base n done current found state none h = grind (arith, append-nil, stored_classes-nil)
 
   -- ---- one more character
 
-  module _ (units : HasUnits len_of) (base : Option ℕ) (n : ℕ) (done : List (List ℕ)) (current : List ℕ) (found : Seen) (reading : Reading)
-      (within : n < length chars) (h : IsTextRead base n done current found reading) where
+  module _ (units : HasUnits len_of) (base : Option ℕ) (n : ℕ) (done : List (List ℕ)) (current : List ℕ) (found : Seen) (state : ParagraphState)
+      (within : n < length chars) (h : IsTextRead base n done current found state) where
     long : length (joined done) + length current ≡ n
     long = omega (arith, length-append (joined done) current, ap length h.whole, length-take n chars)
 
@@ -228,19 +228,19 @@ module _ (source : Source) (len_of : ℕ → ℕ) (chars : List ℕ) where
     units_within : (q : ℕ) → q < length (classes_of current) → ((units_after done q).start < (units_after done q).end) × ((units_after done q).end ≤ place len_of chars n)
     units_within q below = grind (arith, long, length-map, place-lt)
 
-    pub open_within : All (λ (u : Undecided). (u.units.start ≤ u.units.end) × (u.units.end ≤ length found.units)) reading.undecided.items
-    open_within = All-deeper (λ units. (units.start ≤ units.end) × (units.end ≤ length found.units)) h.uncounted reading.undecided.items
+    pub open_within : All (λ (u : Undecided). (u.units.start ≤ u.units.end) × (u.units.end ≤ length found.units)) state.undecided.items
+    open_within = All-deeper (λ units. (units.start ≤ units.end) × (units.end ≤ length found.units)) h.uncounted state.undecided.items
         (rw h.undecided (All-undecided (λ u. (u.units.start ≤ u.units.end) × (u.units.end ≤ length found.units)) (units_after done) 0 (stored_classes (classes_of current)) (open_initiators (classes_of current))
         (λ k d inside depth. grind (arith, units_within (get_or (open_initiators (classes_of current)) k d), open_initiators-below (classes_of current) k d inside, h.sized, place-le len_of chars n))))
 
     -- where none is counted, none is undecided
-    pub undecided-none : reading.depth ≡ 0 → reading.undecided.items ≡ []
+    pub undecided-none : state.depth ≡ 0 → state.undecided.items ≡ []
     undecided-none none =
         let deep = depths (units_after done) 0 (stored_classes (classes_of current)) (open_initiators (classes_of current)) in
-        none_counted h.uncounted reading.undecided.items (rw h.undecided (λ i d inside. omega (arith, deep i d inside, h.depth, none))) h.counted
+        none_counted h.uncounted state.undecided.items (rw h.undecided (λ i d inside. omega (arith, deep i d inside, h.depth, none))) h.counted
 
     -- and there are no more of them than units
-    pub depth-le : reading.depth ≤ place len_of chars n
+    pub depth-le : state.depth ≤ place len_of chars n
     depth-le = grind (arith, open_initiators-few, length-map, long, length-take, length-le-text_len)
 
     module _ (c : ℕ) (is_char : get_or chars n 0 ≡ c) (class : BidiClass) (is_class : class ≡ source.class_of c) where
@@ -278,10 +278,10 @@ module _ (source : Source) (len_of : ℕ → ℕ) (chars : List ℕ) where
           )
 
       -- what the innermost open isolate makes of them
-      met : (o : Option ℕ) → innermost (open_initiators so_far) ≡ o
+      stop : (o : Option ℕ) → innermost (open_initiators so_far) ≡ o
           → met_units class (option_map (units_after done) o) read_units ≡ per_unit len_of (take n chars) (text_classes source done ++ met_by class o (stored_classes so_far))
-      met None e = h.classes
-      met (Some q) e = grind (
+      stop None e = h.classes
+      stop (Some q) e = grind (
         arith,
         h.classes,
         index-below q e,
@@ -307,13 +307,13 @@ module _ (source : Source) (len_of : ℕ → ℕ) (chars : List ℕ) where
 
         after : (o : Option ℕ) → innermost (open_initiators so_far) ≡ o
             → take (place len_of chars (n + 1)) (classes_after class (waits_of (units_after done) so_far class o) drawn) ≡ per_unit len_of (take n chars) (text_classes source done ++ met_by class o (stored_classes so_far)) ++ row
-        after None e = grind (arith, drawn_is, met None e)
-        after (Some q) e = grind (arith, index-below q e, units_within q, class-at q, take-after (fsi_at (units_after done) so_far class q), drawn_is, met (Some q) e)
+        after None e = grind (arith, drawn_is, stop None e)
+        after (Some q) e = grind (arith, index-below q e, units_within q, class-at q, take-after (fsi_at (units_after done) so_far class q), drawn_is, stop (Some q) e)
 
-        IsTextRead-on : (range : Range ℕ) (longer : Seen) (new : Reading) (uncounted : ℕ) → range ≡ char_units len_of chars n
-            → longer.units ≡ classes_after class (waiting (reading.depth + h.uncounted) (map (deeper h.uncounted) reading.undecided.items)) drawn
+        IsTextRead-on : (range : Range ℕ) (longer : Seen) (new : ParagraphState) (uncounted : ℕ) → range ≡ char_units len_of chars n
+            → longer.units ≡ classes_after class (waiting (state.depth + h.uncounted) (map (deeper h.uncounted) state.undecided.items)) drawn
             → length longer.units ≡ length found.units → longer.paragraphs ≡ found.paragraphs → longer.flags ≡ found.flags
-            → IsCountedOn class range h.uncounted uncounted reading new → IsTextRead base (n + 1) done (current ++ c ∷ []) longer new
+            → IsCountedOn class range h.uncounted uncounted state new → IsTextRead base (n + 1) done (current ++ c ∷ []) longer new
         IsTextRead-on range longer new uncounted is_range is_longer same_length same_paragraphs same_flags read =
             let pushed = map-append source.class_of current (c ∷ []) in
             record {
@@ -334,77 +334,77 @@ module _ (source : Source) (len_of : ℕ → ℕ) (chars : List ℕ) where
             }
 
         -- a character on whose class something depends
-        pub IsTextRead-more : (range : Range ℕ) (longer : Seen) (new : Reading) → range ≡ char_units len_of chars n
-            → longer.units ≡ classes_after class (waiting reading.depth reading.undecided.items) drawn
-            → length longer.units ≡ length found.units → longer.paragraphs ≡ found.paragraphs → longer.flags ≡ found.flags → IsReadBy class range reading new → IsTextRead base (n + 1) done (current ++ c ∷ []) longer new
+        pub IsTextRead-more : (range : Range ℕ) (longer : Seen) (new : ParagraphState) → range ≡ char_units len_of chars n
+            → longer.units ≡ classes_after class (waiting state.depth state.undecided.items) drawn
+            → length longer.units ≡ length found.units → longer.paragraphs ≡ found.paragraphs → longer.flags ≡ found.flags → IsReadBy class range state new → IsTextRead base (n + 1) done (current ++ c ∷ []) longer new
         IsTextRead-more range longer new is_range is_longer same_length same_paragraphs same_flags read =
-            IsTextRead-on range longer new (uncounted_after class reading.depth h.uncounted) is_range
-            (is_longer ∙ sym (classes_after-deeper class h.uncounted reading.depth reading.undecided.items drawn))
-            same_length same_paragraphs same_flags (IsCountedOn-read class range h.uncounted reading new h.decided h.counted undecided-none read)
+            IsTextRead-on range longer new (uncounted_after class state.depth h.uncounted) is_range
+            (is_longer ∙ sym (classes_after-deeper class h.uncounted state.depth state.undecided.items drawn))
+            same_length same_paragraphs same_flags (IsCountedOn-read class range h.uncounted state new h.decided h.counted undecided-none read)
 
         -- a character on whose class nothing depends but the flags
-        pub IsTextRead-idle : (longer : Seen) → minds reading class ≡ false → longer.units ≡ drawn → longer.paragraphs ≡ found.paragraphs → longer.flags ≡ found.flags
-            → IsTextRead base (n + 1) done (current ++ c ∷ []) longer (with_flags reading (with_class reading.flags class))
+        pub IsTextRead-idle : (longer : Seen) → stops_at state class ≡ false → longer.units ≡ drawn → longer.paragraphs ≡ found.paragraphs → longer.flags ≡ found.flags
+            → IsTextRead base (n + 1) done (current ++ c ∷ []) longer (with_flags state (with_class state.flags class))
         IsTextRead-idle longer idle is_longer same_paragraphs same_flags =
             let range : Range ℕ = char_units len_of chars n in
-            IsTextRead-on range longer (with_flags reading (with_class reading.flags class)) (uncounted_idle class h.uncounted) refl
-            (is_longer ∙ idle-classes reading class range idle undecided-none drawn ∙ sym (classes_after-deeper class h.uncounted reading.depth reading.undecided.items drawn))
-            (ap length is_longer ∙ drawn_long) same_paragraphs same_flags (IsCountedOn-idle class range h.uncounted reading idle h.decided h.counted undecided-none)
+            IsTextRead-on range longer (with_flags state (with_class state.flags class)) (uncounted_idle class h.uncounted) refl
+            (is_longer ∙ idle-classes state class range idle undecided-none drawn ∙ sym (classes_after-deeper class h.uncounted state.depth state.undecided.items drawn))
+            (ap length is_longer ∙ drawn_long) same_paragraphs same_flags (IsCountedOn-idle class range h.uncounted state idle h.decided h.counted undecided-none)
 
   -- ---- the whole walk
 
-  pub record IsRead (split : Option SplitRule) (base : Option ℕ) (n : ℕ) (found : Seen) (reading : Reading) : Type 0 where
+  pub record IsRead (split : Option SplitRule) (base : Option ℕ) (n : ℕ) (found : Seen) (state : ParagraphState) : Type 0 where
     pub done : List (List ℕ)
     pub current : List ℕ
     pub cut : IsCut (ends_after split source) chars done current (drop n chars)
     pub one : split ≡ None → done ≡ []
-    pub read : IsTextRead base n done current found reading
+    pub read : IsTextRead base n done current found state
 
-  pub IsRead-start : (split : Option SplitRule) (base : Option ℕ) (found : Seen) (reading : Reading)
-      → length found.units ≡ text_len len_of chars → found.paragraphs ≡ [] → found.flags ≡ [] → IsFresh reading 0
-      → IsRead split base 0 found reading
+  pub IsRead-start : (split : Option SplitRule) (base : Option ℕ) (found : Seen) (state : ParagraphState)
+      → length found.units ≡ text_len len_of chars → found.paragraphs ≡ [] → found.flags ≡ [] → IsFresh state 0
+      → IsRead split base 0 found state
   unfolding text_classes paragraph_levels paragraph_flags
-  IsRead-start split base found reading sized no_paragraphs no_flags fresh =
+  IsRead-start split base found state sized no_paragraphs no_flags fresh =
       let none : IsTextDone base 0 [] found = grind arith in
-      let read = IsTextRead-fresh base 0 [] found reading none fresh in
+      let read = IsTextRead-fresh base 0 [] found state none fresh in
       record { done = []; current = []; cut = IsCut-start (ends_after split source) chars; one = λ e. refl; read = read }
 
   -- the paragraph goes on
-  pub IsRead-on : (split : Option SplitRule) (base : Option ℕ) (n c : ℕ) (found : Seen) (reading : Reading) (longer : Seen) (after : Reading) (h : IsRead split base n found reading)
+  pub IsRead-on : (split : Option SplitRule) (base : Option ℕ) (n c : ℕ) (found : Seen) (state : ParagraphState) (longer : Seen) (after : ParagraphState) (h : IsRead split base n found state)
       → drop n chars ≡ c ∷ drop (n + 1) chars
       → IsTextRead base (n + 1) h.done (h.current ++ c ∷ []) longer after → ends_after split source c (drop (n + 1) chars) ≡ false → IsRead split base (n + 1) longer after
-  IsRead-on split base n c found reading longer after h next read on =
+  IsRead-on split base n c found state longer after h next read on =
       let cut = IsCut-more (ends_after split source) chars h.done h.current c (drop (n + 1) chars) on (rw next at h.cut) in
       record { done = h.done; current = h.current ++ c ∷ []; cut = cut; one = h.one; read = read }
 
   -- or it ends, and the next one begins
-  pub IsRead-stop : (split : Option SplitRule) (base : Option ℕ) (n c : ℕ) (found : Seen) (reading : Reading) (closed : Seen) (after : Reading) (h : IsRead split base n found reading)
+  pub IsRead-stop : (split : Option SplitRule) (base : Option ℕ) (n c : ℕ) (found : Seen) (state : ParagraphState) (closed : Seen) (after : ParagraphState) (h : IsRead split base n found state)
       → drop n chars ≡ c ∷ drop (n + 1) chars
       → IsTextDone base (n + 1) (h.done ++ (h.current ++ c ∷ []) ∷ []) closed → IsFresh after (place len_of chars (n + 1)) → ends_after split source c (drop (n + 1) chars) ≡ true → IsRead split base (n + 1) closed after
-  IsRead-stop split base n c found reading closed after h next ended fresh stop =
+  IsRead-stop split base n c found state closed after h next ended fresh stop =
       let done = h.done ++ (h.current ++ c ∷ []) ∷ [] in
       let cut = IsCut-stop (ends_after split source) chars h.done h.current c (drop (n + 1) chars) stop (rw next at h.cut) in
       let read = IsTextRead-fresh base (n + 1) done closed after ended fresh in
       record { done = done; current = []; cut = cut; one = λ e. absurd (cc (e, stop)); read = read }
 
   -- at the end of the text, what is left is the last paragraph
-  module _ (units : HasUnits len_of) (base : Option ℕ) (n : ℕ) (found : Seen) (reading : Reading) (all : n ≡ length chars) where
-    ended : (split : Option SplitRule) (h : IsRead split base n found reading) → IsCut (ends_after split source) chars h.done h.current []
+  module _ (units : HasUnits len_of) (base : Option ℕ) (n : ℕ) (found : Seen) (state : ParagraphState) (all : n ≡ length chars) where
+    ended : (split : Option SplitRule) (h : IsRead split base n found state) → IsCut (ends_after split source) chars h.done h.current []
     ended split h = rw (drop_all n chars (omega arith)) at h.cut
 
     -- it is not empty, or the only one
-    pub IsRead-last : (split : Option SplitRule) (h : IsRead split base n found reading)
-        → (is_none split ≡ true) ⊎ (reading.start < place len_of chars n) → h.done ++ h.current ∷ [] ≡ pieces_by split source chars
+    pub IsRead-last : (split : Option SplitRule) (h : IsRead split base n found state)
+        → (is_none split ≡ true) ⊎ (state.start < place len_of chars n) → h.done ++ h.current ∷ [] ≡ pieces_by split source chars
     IsRead-last None h last = grind (arith, h.one refl, h.read.whole, take_all)
     IsRead-last (Some rule) h (inl e) = absurd (cc e)
     IsRead-last (Some rule) h (inr order) =
-        sym (IsCut-last (ends_by rule source) chars h.done h.current (current-some base n h.done h.current found reading h.read units order) (ended (Some rule) h))
+        sym (IsCut-last (ends_by rule source) chars h.done h.current (current-some base n h.done h.current found state h.read units order) (ended (Some rule) h))
 
-    pub IsRead-none : (split : Option SplitRule) (h : IsRead split base n found reading) → is_none split ≡ false
-        → place len_of chars n ≤ reading.start → (h.current ≡ []) × (h.done ≡ pieces_by split source chars)
+    pub IsRead-none : (split : Option SplitRule) (h : IsRead split base n found state) → is_none split ≡ false
+        → place len_of chars n ≤ state.start → (h.current ≡ []) × (h.done ≡ pieces_by split source chars)
     IsRead-none None h some order = absurd (cc some)
     IsRead-none (Some rule) h some order =
-        let none = current-none base n h.done h.current found reading h.read units order in
+        let none = current-none base n h.done h.current found state h.read units order in
         (none, sym (IsCut-none (ends_by rule source) chars h.done (rw none at (ended (Some rule) h))))
 
   -- ---- what the walk answers

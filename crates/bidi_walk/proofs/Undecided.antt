@@ -12,7 +12,7 @@ use Rattle.bidi_laws.proofs.StoredSteps.{innermost-map, onto_later, resolved-str
 use Rattle.bidi_laws.proofs.StoredSteps.{open_initiators-below, met_by, length-met_by, stored_classes-push, length-stored_classes}
 use Rattle.bidi_walk.proofs.ClassSets.{apart_eqb}
 use Rattle.bidi_walk.specs.FirstWalk.{at_depth, waiting, depth_after, undecided_after, deciding_after, classes_after}
-use Rattle.bidi_walk.specs.declared.first_walk.reading.Undecided.{Undecided}
+use Rattle.bidi_walk.specs.declared.first_walk.paragraph_state.Undecided.{Undecided}
 
 -- of the open initiators those that are FSI by their stored class so far, where k isolates stand around them
 abbrev pub undecided_from : (ℕ → Range ℕ) → ℕ → List BidiClass → List ℕ → List Undecided
@@ -204,9 +204,9 @@ module _ (units : ℕ → Range ℕ) (cs : List BidiClass) (c : BidiClass) where
       decided : (o : Option ℕ) → innermost qs ≡ o → undecided_from units 0 (met_by c o stored) qs ≡ undecided_from units 0 stored (outer qs)
       decided None e = simp (innermost-none qs e)
       decided (Some q) e =
-          let met : List BidiClass = met_by c (Some q) stored in
+          let stop : List BidiClass = met_by c (Some q) stored in
           let apart : All (λ (p : ℕ). p < q) (outer qs) = (before_last 0 (outer qs) q (rw (cut q e) at (Ascend-open cs))).1 in
-          let here : is_fsi (class_at met q) ≡ false = grind (
+          let here : is_fsi (class_at stop q) ≡ false = grind (
             arith,
             strong,
             get_or-set_same,
@@ -214,8 +214,8 @@ module _ (units : ℕ → Range ℕ) (cs : List BidiClass) (c : BidiClass) where
             length-stored_classes,
             resolved-strong c strong,
           ) in
-          ap (undecided_from units 0 met) (cut q e) ∙ simp (undecided-push units 0 met (outer qs) q, here, append-nil)
-          (undecided-agree units 0 stored met (outer qs) (λ i d within. grind (arith, apart i d within, get_or-set_other)))
+          ap (undecided_from units 0 stop) (cut q e) ∙ simp (undecided-push units 0 stop (outer qs) q, here, append-nil)
+          (undecided-agree units 0 stored stop (outer qs) (λ i d within. grind (arith, apart i d within, get_or-set_other)))
 
   pub undecided-more : undecided_from units 0 (stored_classes (cs ++ c ∷ [])) (open_initiators (cs ++ c ∷ [])) ≡ undecided_after c (units n) (length qs) before
   undecided-more = grind (

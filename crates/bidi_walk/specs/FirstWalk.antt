@@ -12,10 +12,10 @@ use Rattle.bidi_walk.specs.ClassSet.{has, with}
 use Rattle.bidi_walk.specs.ParagraphFlags.{with_class, with_classes, flags_of}
 use Rattle.bidi_walk.specs.ParagraphInfo.{ranges_of, levels_of}
 use Rattle.bidi_walk.specs.declared.class_set.ClassSet.{ClassSet}
-use Rattle.bidi_walk.specs.declared.first_walk.met.Met.{Met}
+use Rattle.bidi_walk.specs.declared.first_walk.stop.Stop.{Stop}
 use Rattle.bidi_walk.specs.declared.first_walk.progress.Progress.{Progress}
-use Rattle.bidi_walk.specs.declared.first_walk.reading.Reading.{Reading}
-use Rattle.bidi_walk.specs.declared.first_walk.reading.Undecided.{Undecided}
+use Rattle.bidi_walk.specs.declared.first_walk.paragraph_state.ParagraphState.{ParagraphState}
+use Rattle.bidi_walk.specs.declared.first_walk.paragraph_state.Undecided.{Undecided}
 use Rattle.bidi_walk.specs.declared.paragraph_flags.ParagraphFlags.{ParagraphFlags}
 use Rattle.bidi_walk.specs.declared.paragraph_info.ParagraphInfo.{ParagraphInfo}
 
@@ -50,25 +50,25 @@ classes_after class (Some u) classes = if is_strong class then filled u.units (r
 
 -- no character can decide anything before the next FSI: the level of the paragraph is decided, and so is the direction of
 -- each open FSI
-abbrev pub is_decided : Reading → Bool
+abbrev pub is_decided : ParagraphState → Bool
 is_decided r = is_some r.deciding && (length r.undecided.items == 0)
 
 -- a strong character, if it came next, would decide something
-abbrev pub wants_strong : Reading → Bool
+abbrev pub wants_strong : ParagraphState → Bool
 wants_strong r = is_some (waiting r.depth r.undecided.items) || (r.depth == 0 && is_none r.deciding)
 
 -- a character of this class, if it came next, would change something other than the flags
-abbrev pub minds : Reading → BidiClass → Bool
-minds r c =
+abbrev pub stops_at : ParagraphState → BidiClass → Bool
+stops_at r c =
     (is_paragraph_separator c || (is_fsi c || (is_initiator c && not (is_decided r))))
     || ((is_strong c && wants_strong r) || (is_pdi c && nat_lt 0 r.depth))
 
 -- the paragraph with other flags
-abbrev pub with_flags : Reading → ParagraphFlags → Reading
+abbrev pub with_flags : ParagraphState → ParagraphFlags → ParagraphState
 with_flags r flags = record { start = r.start; depth = r.depth; undecided = r.undecided; deciding = r.deciding; flags = flags }
 
 -- a paragraph of which nothing is read
-pub record IsFresh (r : Reading) (start : ℕ) : Type 0 where
+pub record IsFresh (r : ParagraphState) (start : ℕ) : Type 0 where
   pub here : r.start ≡ start
   pub depth : r.depth ≡ 0
   pub undecided : r.undecided.items ≡ []
@@ -76,7 +76,7 @@ pub record IsFresh (r : Reading) (start : ℕ) : Type 0 where
   pub turns : r.flags ≡ flags_of []
 
 -- one more character was read, of this class and with these units
-pub record IsReadBy (class : BidiClass) (range : Range ℕ) (old new : Reading) : Type 0 where
+pub record IsReadBy (class : BidiClass) (range : Range ℕ) (old new : ParagraphState) : Type 0 where
   pub start : new.start ≡ old.start
   pub depth : new.depth ≡ depth_after class old.depth
   pub undecided : new.undecided.items ≡ undecided_after class range old.depth old.undecided.items
@@ -84,7 +84,7 @@ pub record IsReadBy (class : BidiClass) (range : Range ℕ) (old new : Reading) 
   pub turns : new.flags ≡ with_class old.flags class
 
 -- if the state is decided, the number of open isolates becomes 0
-pub record StopsCounting (old new : Reading) : Type 0 where
+pub record StopsCounting (old new : ParagraphState) : Type 0 where
   pub start : new.start ≡ old.start
   pub depth : new.depth ≡ (if is_decided old then 0 else old.depth)
   pub undecided : new.undecided.items ≡ old.undecided.items
@@ -92,7 +92,7 @@ pub record StopsCounting (old new : Reading) : Type 0 where
   pub turns : new.flags ≡ old.flags
 
 -- the paragraph that was read ends at a unit
-pub record IsClosed (base : Option ℕ) (r : Reading) (end : ℕ) (old : List ParagraphInfo)
+pub record IsClosed (base : Option ℕ) (r : ParagraphState) (end : ℕ) (old : List ParagraphInfo)
     (old_flags : List ParagraphFlags) (new : List ParagraphInfo) (new_flags : List ParagraphFlags) : Type 0 where
   pub ranges : ranges_of new ≡ ranges_of old ++ (r.start, end) ∷ []
   pub levels : levels_of new ≡ levels_of old ++ unwrap_or base (level_by r.deciding) ∷ []
@@ -102,9 +102,9 @@ pub record IsClosed (base : Option ℕ) (r : Reading) (end : ℕ) (old : List Pa
 abbrev pub ahead : (ℕ → ℕ) → List ℕ → ℕ → List ℕ
 ahead len_of chars u = drop (char_index len_of chars u) chars
 
--- none of these characters has a class that is minded
+-- no class of these characters is a stop class
 abbrev pub AreIdle : Source → (BidiClass → Bool) → List ℕ → Type 0
-AreIdle source minded cs = All (λ c. minded (source.class_of c) ≡ false) cs
+AreIdle source stop_classes cs = All (λ c. stop_classes (source.class_of c) ≡ false) cs
 
 -- from one unit up to another these characters were read: their classes were written, and what stands before is
 -- as it was
@@ -113,26 +113,26 @@ pub record AreWritten (source : Source) (len_of : ℕ → ℕ) (read : List ℕ)
   pub classes : take to new ≡ take from old ++ per_unit len_of read (map source.class_of read)
 
 -- the first of the characters that come were read, and nothing but the flags depends on them
-pub record IsSkimmed (source : Source) (len_of : ℕ → ℕ) (minded : BidiClass → Bool) (coming : List ℕ) (from to : ℕ)
+pub record IsSkimmed (source : Source) (len_of : ℕ → ℕ) (stop_classes : BidiClass → Bool) (coming : List ℕ) (from to : ℕ)
     (old new : List BidiClass) (was is : ParagraphFlags) : Type 0 where
   pub read : List ℕ
   pub rest : List ℕ
   pub joined : coming ≡ read ++ rest
-  pub idle : AreIdle source minded read
+  pub idle : AreIdle source stop_classes read
   pub written : AreWritten source len_of read from to old new
   pub turns : is ≡ with_classes was (map source.class_of read)
 
--- they were read up to one on whose class more may depend
-pub record IsMet (source : Source) (len_of : ℕ → ℕ) (minded : BidiClass → Bool) (coming : List ℕ) (from : ℕ) (met : Met)
+-- they were read up to a stop: a character on whose class more may depend
+pub record IsStop (source : Source) (len_of : ℕ → ℕ) (stop_classes : BidiClass → Bool) (coming : List ℕ) (from : ℕ) (stop : Stop)
     (old new : List BidiClass) (was is : ParagraphFlags) : Type 0 where
   pub read : List ℕ
   pub rest : List ℕ
-  pub joined : coming ≡ read ++ met.c ∷ rest
-  pub idle : AreIdle source minded read
-  pub begins : met.start ≡ from + text_len len_of read
-  pub long : met.len ≡ len_of met.c
-  pub class : met.class ≡ source.class_of met.c
-  pub written : AreWritten source len_of (read ++ met.c ∷ []) from (met.start + len_of met.c) old new
+  pub joined : coming ≡ read ++ stop.c ∷ rest
+  pub idle : AreIdle source stop_classes read
+  pub begins : stop.start ≡ from + text_len len_of read
+  pub long : stop.len ≡ len_of stop.c
+  pub class : stop.class ≡ source.class_of stop.c
+  pub written : AreWritten source len_of (read ++ stop.c ∷ []) from (stop.start + len_of stop.c) old new
   pub turns : is ≡ with_classes was (map source.class_of read)
 
 -- what a reader of a text requires of the index at which it begins, and of the classes that it writes to
@@ -144,11 +144,11 @@ pub record CanReadOn (len_of : ℕ → ℕ) (chars : List ℕ) (from : ℕ) (cla
 abbrev pub HasEachChange : ClassSet → ParagraphFlags → Type 0
 HasEachChange sought flags = (c : BidiClass) → has sought c ≡ false → with_class flags c ≡ flags
 
--- what it leaves: it has read up to a character whose class is minded, which it returns, or else up to an index
-abbrev pub IsReadOn : Source → (ℕ → ℕ) → List ℕ → (BidiClass → Bool) → Progress → Option Met → Progress → List BidiClass → List BidiClass → Type 0
-IsReadOn source len_of chars minded from result to old new =
-    MatchOption result (IsSkimmed source len_of minded (ahead len_of chars from.at) from.at to.at old new from.flags to.flags)
-    (λ met. IsMet source len_of minded (ahead len_of chars from.at) from.at met old new from.flags to.flags)
+-- what it leaves: it has read up to a stop, which it returns, or else up to an index
+abbrev pub IsReadOn : Source → (ℕ → ℕ) → List ℕ → (BidiClass → Bool) → Progress → Option Stop → Progress → List BidiClass → List BidiClass → Type 0
+IsReadOn source len_of chars stop_classes from result to old new =
+    MatchOption result (IsSkimmed source len_of stop_classes (ahead len_of chars from.at) from.at to.at old new from.flags to.flags)
+    (λ stop. IsStop source len_of stop_classes (ahead len_of chars from.at) from.at stop old new from.flags to.flags)
 
 -- the set of the classes of the first k of some characters
 abbrev pub set_of_first : Source → List ℕ → ℕ → ClassSet

@@ -23,7 +23,7 @@ is_counted _ = true
 
 -- a counted class that is not in the flags
 abbrev pub is_missing : ParagraphFlags → BidiClass → Bool
-is_missing flags c = is_counted c && not (has flags.met c)
+is_missing flags c = is_counted c && not (has flags.seen c)
 
 -- the set of the counted classes
 abbrev pub counted_set : ClassSet
@@ -33,11 +33,11 @@ counted_set =
 
 -- the flags with those of some more characters, given by the set of their classes
 abbrev pub with_set : ParagraphFlags → ClassSet → ParagraphFlags
-with_set flags classes = record { met = either flags.met (both classes counted_set) }
+with_set flags classes = record { seen = either flags.seen (both classes counted_set) }
 
 -- the flags with those of one more character
 abbrev pub with_class : ParagraphFlags → BidiClass → ParagraphFlags
-with_class flags c = if is_counted c then record { met = with flags.met c } else flags
+with_class flags c = if is_counted c then record { seen = with flags.seen c } else flags
 
 abbrev pub with_classes : ParagraphFlags → List BidiClass → ParagraphFlags
 with_classes flags [] = flags
@@ -45,7 +45,7 @@ with_classes flags (c ∷ classes) = with_classes (with_class flags c) classes
 
 -- the flags of a paragraph, by its source classes: those of them that are counted
 abbrev pub flags_of : List BidiClass → ParagraphFlags
-flags_of classes = with_classes (record { met = record { bits = 0 } }) classes
+flags_of classes = with_classes (record { seen = record { bits = 0 } }) classes
 
 -- those of the paragraphs of a text, given by their characters
 unfoldable pub paragraph_flags : Source → List (List ℕ) → List ParagraphFlags

@@ -40,7 +40,7 @@ impl ClassSet {
     };
 
     /// The classes that always change the state of a paragraph: B, and FSI, whose isolate decides its direction.
-    pub(crate) const ALWAYS_MINDED: ClassSet = ClassSet {
+    pub(crate) const ALWAYS_STOPS: ClassSet = ClassSet {
         bits: 1 << BidiClass::FSI as u32 | 1 << BidiClass::B as u32,
     };
 

@@ -6,8 +6,8 @@ ghost use Rattle.bidi_base.specs.Paragraphs.{begins_with_line_feed, ranges_from}
 ghost use Rattle.bidi_base.specs.Stored.{text_classes, paragraph_levels};
 ghost use Rattle.bidi_base.specs.Text.{place as place_of, text_len, per_unit};
 ghost use Rattle.bidi_walk.specs.ClassSet.{has};
-ghost use Rattle.bidi_walk.specs.FirstWalk.{classes_after, minds, waiting, with_flags, CanReadOn, IsClosed, IsFresh, IsReadBy, IsReadOn, StopsCounting};
-ghost use Rattle.bidi_walk.specs.declared.first_walk.reading.Reading.{Reading};
+ghost use Rattle.bidi_walk.specs.FirstWalk.{classes_after, stops_at, waiting, with_flags, CanReadOn, IsClosed, IsFresh, IsReadBy, IsReadOn, StopsCounting};
+ghost use Rattle.bidi_walk.specs.declared.first_walk.paragraph_state.ParagraphState.{ParagraphState};
 ghost use Rattle.bidi_walk.specs.ParagraphInfo.{ranges_of, levels_of};
 ghost use Rattle.bidi_walk.specs.ParagraphFlags.{paragraph_flags};
 ghost use Rattle.bidi_walk.specs.SplitRule.{ends_after, pieces_by};
@@ -26,17 +26,17 @@ use std::alloc::{AllocError, Global};
 use std::ops::Range;
 
 mod ascii_characters;
-mod met;
 mod other_characters;
+mod paragraph_state;
 mod progress;
-mod reading;
+mod stop;
 mod unit_classes;
 
 use ascii_characters::skim;
-use met::Met;
 use other_characters::{read_next, read_on};
+use paragraph_state::{ParagraphState, level_of_class};
 use progress::Progress;
-use reading::{Reading, level_of_class};
+use stop::Stop;
 use unit_classes::AT_ONCE;
 
 /// The paragraphs that the pass over a text finds. A single paragraph needs no allocation.
@@ -63,18 +63,18 @@ impl FoundParagraphs {
 
 // The state of the pass, which reads one paragraph after another.
 #[derive(Drop)]
-struct TextReading {
+struct TextState {
     base: Option<Level>,
-    reading: Reading,
+    state: ParagraphState,
     paragraphs: SmallVec<ParagraphInfo, 1>,
     flags: SmallVec<ParagraphFlags, 1>,
 }
 
-impl TextReading {
+impl TextState {
     // Starts before the text. The paragraphs reuse the memory of earlier ones.
-    fn new(alloc: Global, base: Option<Level>, memory: FoundParagraphs) -> TextReading
+    fn new(alloc: Global, base: Option<Level>, memory: FoundParagraphs) -> TextState
         ensures base { result.base ≡ base }
-        ensures reading { IsFresh result.reading 0 }
+        ensures state { IsFresh result.state 0 }
         ensures paragraphs { result.paragraphs.items ≡ [] }
         ensures flags { result.flags.items ≡ [] }
     {
@@ -82,9 +82,9 @@ impl TextReading {
         paragraphs.clear();
         let mut flags = memory.flags;
         flags.clear();
-        TextReading {
+        TextState {
             base,
-            reading: Reading::new(alloc),
+            state: ParagraphState::new(alloc),
             paragraphs,
             flags,
         }
@@ -92,25 +92,25 @@ impl TextReading {
 
     // Ends the current paragraph at a code unit.
     fn close(&mut self, end: usize) -> Result<(), AllocError>
-        requires { self.old.reading.start ≤ end }
-        ensures closed { OnOk result (IsClosed self.old.base self.old.reading end self.old.paragraphs.items
+        requires { self.old.state.start ≤ end }
+        ensures closed { OnOk result (IsClosed self.old.base self.old.state end self.old.paragraphs.items
             self.old.flags.items self.new.paragraphs.items self.new.flags.items) }
-        ensures reading { self.new.reading ≡ self.old.reading }
+        ensures state { self.new.state ≡ self.old.state }
         ensures base { self.new.base ≡ self.old.base }
     {
-        let level = self.base.unwrap_or(level_of_class(self.reading.deciding));
+        let level = self.base.unwrap_or(level_of_class(self.state.deciding));
         self.paragraphs
-            .push(ParagraphInfo::from_range(self.reading.start..end, level))?;
-        self.flags.push(self.reading.flags)?;
+            .push(ParagraphInfo::from_range(self.state.start..end, level))?;
+        self.flags.push(self.state.flags)?;
         Ok(())
     }
 
     // Reads a character. Its class must be written to its code units already. `ends` tells whether the
     // paragraph ends with it.
     //
-    // Without this hint, and that of `Reading::read`, each character that is met takes 15 to 30 instructions more.
+    // Without this hint, and that of `ParagraphState::read`, each stop takes 15 to 30 instructions more.
     #[inline(always)]
-    fn meet(
+    fn read_stop(
         &mut self,
         classes: &mut [BidiClass],
         class: BidiClass,
@@ -118,75 +118,75 @@ impl TextReading {
         ends: bool,
     ) -> Result<(), AllocError>
         requires within { All (λ u. (u.units.start ≤ u.units.end) × (u.units.end ≤ length classes.old))
-            self.old.reading.undecided.items }
-        requires few { self.old.reading.depth < usize.MAX }
-        requires follows { self.old.reading.start ≤ units.end }
+            self.old.state.undecided.items }
+        requires few { self.old.state.depth < usize.MAX }
+        requires follows { self.old.state.start ≤ units.end }
         ensures classes { OnOk result (classes.new
-            ≡ classes_after class (waiting self.old.reading.depth self.old.reading.undecided.items) classes.old) }
+            ≡ classes_after class (waiting self.old.state.depth self.old.state.undecided.items) classes.old) }
         ensures on { OnOk result (ends ≡ false
-            → ((r : Reading) × IsReadBy class units self.old.reading r × StopsCounting r self.new.reading)
+            → ((r : ParagraphState) × IsReadBy class units self.old.state r × StopsCounting r self.new.state)
             × (self.new.paragraphs.items ≡ self.old.paragraphs.items)
             × (self.new.flags.items ≡ self.old.flags.items)) }
         ensures ended { OnOk result (ends ≡ true
-            → IsFresh self.new.reading units.end
-            × ((r : Reading) × IsReadBy class units self.old.reading r
+            → IsFresh self.new.state units.end
+            × ((r : ParagraphState) × IsReadBy class units self.old.state r
             × IsClosed self.old.base r units.end self.old.paragraphs.items self.old.flags.items
             self.new.paragraphs.items self.new.flags.items)) }
         ensures base { self.new.base ≡ self.old.base }
     {
         let end = units.end;
-        self.reading.read(classes, class, units)?;
+        self.state.read(classes, class, units)?;
         if ends {
             self.close(end)?;
-            self.reading.restart(end);
+            self.state.restart(end);
         } else {
-            self.reading.stop_counting();
+            self.state.stop_counting();
         }
         Ok(())
     }
 }
 
-// Writes the classes of some characters, up to one whose class is in `minded`, or would change the flags.
+// Writes the classes of some characters, up to one whose class is in `stop_classes`, or would change the flags.
 // Returns that one. If there is none, the index moves past them.
 fn read_some<D: BidiDataSource, T: TextSource>(
     data_source: &D,
     text: T,
     classes: &mut [BidiClass],
     progress: &mut Progress,
-    minded: ClassSet,
-) -> Option<Met>
+    stop_classes: ClassSet,
+) -> Option<Stop>
     requires { CanReadOn T.units (T.characters text) progress.old.at classes.old }
-    ensures met { IsReadOn (D.source data_source.now) T.units (T.characters text) (has minded) progress.old
+    ensures stop { IsReadOn (D.source data_source.now) T.units (T.characters text) (has stop_classes) progress.old
         result progress.new classes.old classes.new }
     ensures passed { result ≡ None → progress.old.at < length classes.new → progress.old.at < progress.new.at }
 {
-    if let Some(met) = skim(data_source, text, classes, progress, minded) {
-        return Some(met);
+    if let Some(stop) = skim(data_source, text, classes, progress, stop_classes) {
+        return Some(stop);
     }
-    read_on(data_source, text, classes, progress, minded)
+    read_on(data_source, text, classes, progress, stop_classes)
 }
 
-// Writes the classes of the next characters, up to the first one whose class is in `minded`, and adds the
+// Writes the classes of the next characters, up to the first one whose class is in `stop_classes`, and adds the
 // flags of those before it. Returns that one, or `None` at the text's end.
-fn seek_minded<D: BidiDataSource, T: TextSource>(
+fn seek_stop<D: BidiDataSource, T: TextSource>(
     data_source: &D,
     text: T,
     classes: &mut [BidiClass],
     progress: &mut Progress,
-    minded: ClassSet,
-) -> Option<Met>
+    stop_classes: ClassSet,
+) -> Option<Stop>
     requires { CanReadOn T.units (T.characters text) progress.old.at classes.old }
-    ensures met { IsReadOn (D.source data_source.now) T.units (T.characters text) (has minded) progress.old
+    ensures stop { IsReadOn (D.source data_source.now) T.units (T.characters text) (has stop_classes) progress.old
         result progress.new classes.old classes.new }
     ensures end { result ≡ None → progress.new.at ≡ text_len T.units (T.characters text) }
 {
     while progress.at < classes.len() {
-        if let Some(met) = read_some(data_source, text, classes, progress, minded) {
-            if minded.has(met.class) {
-                return Some(met);
+        if let Some(stop) = read_some(data_source, text, classes, progress, stop_classes) {
+            if stop_classes.has(stop.class) {
+                return Some(stop);
             }
-            progress.at = met.start + met.len;
-            progress.flags = progress.flags.with(met.class);
+            progress.at = stop.start + stop.len;
+            progress.flags = progress.flags.with(stop.class);
         }
     }
     None
@@ -199,35 +199,41 @@ const NEAR: usize = 4;
 // Writes the classes of the characters from an index on, up to the first one that would change more of the
 // paragraph's state than its flags. Returns that one, or `None` at the text's end. The flags of those before
 // it are added to the state. If `near`, returns the next character, whatever it changes.
-fn next_met<D: BidiDataSource, T: TextSource>(
+fn next_stop<D: BidiDataSource, T: TextSource>(
     data_source: &D,
     text: T,
     classes: &mut [BidiClass],
     from: usize,
-    reading: &mut Reading,
+    state: &mut ParagraphState,
     near: bool,
-) -> Option<Met>
+) -> Option<Stop>
     requires { CanReadOn T.units (T.characters text) from classes.old }
-    ensures met { IsReadOn (D.source data_source.now) T.units (T.characters text) (minds reading.old)
-        (record { at = from; flags = reading.old.flags }) result
-        (record { at = text_len T.units (T.characters text); flags = reading.new.flags }) classes.old classes.new }
-    ensures kept { reading.new ≡ with_flags reading.old reading.new.flags }
+    ensures stop { IsReadOn (D.source data_source.now) T.units (T.characters text) (stops_at state.old)
+        (record { at = from; flags = state.old.flags }) result
+        (record { at = text_len T.units (T.characters text); flags = state.new.flags }) classes.old classes.new }
+    ensures kept { state.new ≡ with_flags state.old state.new.flags }
 {
     if near && T::READS_IN_PLACE && classes.len() - from >= AT_ONCE {
         return Some(read_next(data_source, text, classes, from));
     }
     let mut progress = Progress {
         at: from,
-        flags: reading.flags,
+        flags: state.flags,
     };
-    let met = seek_minded(data_source, text, classes, &mut progress, reading.minded());
-    reading.flags = progress.flags;
-    met
+    let stop = seek_stop(
+        data_source,
+        text,
+        classes,
+        &mut progress,
+        state.stop_classes(),
+    );
+    state.flags = progress.flags;
+    stop
 }
 
 // Returns up to where characters are read one by one, once a character of this class was read, up to `end`.
-fn near_end_after(near_end: usize, end: usize, class: BidiClass, reading: &Reading) -> usize {
-    if reading.is_decided() {
+fn near_end_after(near_end: usize, end: usize, class: BidiClass, state: &ParagraphState) -> usize {
+    if state.is_decided() {
         return near_end;
     }
     if is_initiator(class) || is_pdi(class) {
@@ -303,24 +309,24 @@ pub fn walk<D: BidiDataSource, T: TextSource>(
     ensures flags { let pieces = pieces_by split (D.source data_source.now) (T.characters text) in
         IfOk result (λ i. i.flags.items ≡ paragraph_flags (D.source data_source.now) pieces) }
 {
-    let mut walk = TextReading::new(alloc, base, memory);
+    let mut walk = TextState::new(alloc, base, memory);
     let mut at = 0;
     let mut near_end = 0;
-    while let Some(met) = next_met(
+    while let Some(stop) = next_stop(
         data_source,
         text,
         classes,
         at,
-        &mut walk.reading,
+        &mut walk.state,
         at < near_end,
     ) {
-        at = met.start + met.len;
-        let ends = ends_paragraph(data_source, text, split, met.c, met.class, at);
-        walk.meet(classes, met.class, met.start..at, ends)?;
-        near_end = near_end_after(near_end, at, met.class, &walk.reading);
+        at = stop.start + stop.len;
+        let ends = ends_paragraph(data_source, text, split, stop.c, stop.class, at);
+        walk.read_stop(classes, stop.class, stop.start..at, ends)?;
+        near_end = near_end_after(near_end, at, stop.class, &walk.state);
     }
     let end = text.len();
-    if split.is_none() || walk.reading.start < end {
+    if split.is_none() || walk.state.start < end {
         walk.close(end)?;
     }
     Ok(FoundParagraphs {

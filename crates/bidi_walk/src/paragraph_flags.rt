@@ -17,7 +17,7 @@ use std::default::MadeWith;
 /// apart.
 #[derive(Clone, Copy, PartialEq, Debug)]
 pub struct ParagraphFlags {
-    pub(crate) met: ClassSet,
+    pub(crate) seen: ClassSet,
 }
 
 // The value of unused entries of a `SmallVec`.
@@ -30,7 +30,7 @@ impl MadeWith<Global> for ParagraphFlags {
 impl ParagraphFlags {
     /// The flags of a paragraph without characters.
     pub(crate) const NONE: ParagraphFlags = ParagraphFlags {
-        met: ClassSet::NONE,
+        seen: ClassSet::NONE,
     };
 
     /// Adds one more character, of this class.
@@ -39,7 +39,7 @@ impl ParagraphFlags {
     {
         if ClassSet::COUNTED.has(class) {
             ParagraphFlags {
-                met: self.met.with(class),
+                seen: self.seen.with(class),
             }
         } else {
             self
@@ -51,56 +51,56 @@ impl ParagraphFlags {
         ensures { result ≡ with_set self classes }
     {
         ParagraphFlags {
-            met: self.met.union(classes.common(ClassSet::COUNTED)),
+            seen: self.seen.union(classes.common(ClassSet::COUNTED)),
         }
     }
 
     /// Returns the classes of a set, and with them those that would change the flags.
-    pub(crate) fn sought_with(self, minded: ClassSet) -> ClassSet
-        ensures { (c : BidiClass) → has result c ≡ (has minded c || is_missing self c) }
+    pub(crate) fn sought_with(self, stop_classes: ClassSet) -> ClassSet
+        ensures { (c : BidiClass) → has result c ≡ (has stop_classes c || is_missing self c) }
     {
-        minded.union(ClassSet::COUNTED.without(self.met))
+        stop_classes.union(ClassSet::COUNTED.without(self.seen))
     }
 
     /// Returns whether no character can make the paragraph anything but left to right throughout, at level
     /// 0.
     pub fn is_pure_ltr(self) -> bool
-        ensures { result ≡ not (any_of self.met may_turn) }
+        ensures { result ≡ not (any_of self.seen may_turn) }
     {
-        !self.met.meets(ClassSet::TURNING_EVEN)
+        !self.seen.meets(ClassSet::TURNING_EVEN)
     }
 
     /// Returns whether some character is an isolate initiator.
     pub fn has_isolates(self) -> bool
-        ensures { result ≡ any_of self.met is_initiator }
+        ensures { result ≡ any_of self.seen is_initiator }
     {
-        self.met.meets(ClassSet::INITIATORS)
+        self.seen.meets(ClassSet::INITIATORS)
     }
 
     /// Returns whether no character begins an embedding or an isolate.
     pub fn is_flat(self) -> bool
-        ensures { result ≡ not (any_of self.met is_opener) }
+        ensures { result ≡ not (any_of self.seen is_opener) }
     {
-        !self.met.meets(ClassSet::OPENERS)
+        !self.seen.meets(ClassSet::OPENERS)
     }
 
     /// Returns whether no character can give the paragraph a level other than this one, if it is the
     /// paragraph level.
     pub fn keeps_to(self, level: Level) -> bool
-        ensures { result ≡ not (any_of self.met (may_leave level)) }
+        ensures { result ≡ not (any_of self.seen (may_leave level)) }
     {
         let turning = if level.is_rtl() {
             ClassSet::TURNING_ODD
         } else {
             ClassSet::TURNING_EVEN
         };
-        !self.met.meets(turning)
+        !self.seen.meets(turning)
     }
 
     /// Returns whether X9 removes some character.
     pub fn has_removed(self) -> bool
-        ensures { result ≡ any_of self.met is_removed }
+        ensures { result ≡ any_of self.seen is_removed }
     {
-        self.met.meets(ClassSet::REMOVED)
+        self.seen.meets(ClassSet::REMOVED)
     }
 }

@@ -5,8 +5,8 @@ ghost use Rattle.bidi_walk.specs.ClassSet.{has};
 ghost use Rattle.bidi_walk.specs.FirstWalk.{ahead, set_of_first, CanReadOn, HasEachChange, IsReadOn, IsSkimmed};
 ghost use Rattle.bidi_walk.specs.declared.first_walk.ascii_characters.TheConstants.{ASCII_BLOCK};
 
-use super::met::Met;
 use super::progress::Progress;
+use super::stop::Stop;
 use crate::class_set::ClassSet;
 use bidi_base::char_data::BidiClass;
 use bidi_base::data_source::BidiDataSource;
@@ -23,7 +23,7 @@ fn skim_each<D: BidiDataSource, T: TextSource>(
     progress: &mut Progress,
     limit: usize,
     sought: ClassSet,
-) -> Option<Met>
+) -> Option<Stop>
     requires place { CanReadOn T.units (T.characters text) progress.old.at classes.old }
     requires sought { HasEachChange sought progress.old.flags }
     ensures { IsReadOn (D.source data_source.now) T.units (T.characters text) (has sought) progress.old
@@ -39,7 +39,7 @@ fn skim_each<D: BidiDataSource, T: TextSource>(
         classes[start] = class;
         if sought.has(class) {
             let len = 1;
-            return Some(Met {
+            return Some(Stop {
                 start,
                 c,
                 len,
@@ -81,7 +81,7 @@ fn write_block<D: BidiDataSource>(
     found
 }
 
-// Writes the classes of consecutive ASCII characters, sixteen at a time, as long as no class is in `minded`.
+// Writes the classes of consecutive ASCII characters, sixteen at a time, as long as no class is in `stop_classes`.
 // The index moves past them, and the flags get their classes.
 #[inline(never)]
 fn skim_blocks<D: BidiDataSource, T: TextSource>(
@@ -89,16 +89,16 @@ fn skim_blocks<D: BidiDataSource, T: TextSource>(
     text: T,
     classes: &mut [BidiClass],
     progress: &mut Progress,
-    minded: ClassSet,
+    stop_classes: ClassSet,
 )
     requires { CanReadOn T.units (T.characters text) progress.old.at classes.old }
-    ensures read { IsSkimmed (D.source data_source.now) T.units (has minded)
+    ensures read { IsSkimmed (D.source data_source.now) T.units (has stop_classes)
         (ahead T.units (T.characters text) progress.old.at) progress.old.at progress.new.at classes.old classes.new
         progress.old.flags progress.new.flags }
     ensures order { progress.old.at ≤ progress.new.at }
 {
     let mut start = progress.at;
-    let mut sought = progress.flags.sought_with(minded);
+    let mut sought = progress.flags.sought_with(stop_classes);
     let mut next = text.ascii_block_at(start);
     while let Some(block) = next {
         // The next block is read before this one is written. On some processors a read waits for an earlier
@@ -106,11 +106,11 @@ fn skim_blocks<D: BidiDataSource, T: TextSource>(
         next = text.ascii_block_at(start + ASCII_BLOCK);
         let found = write_block(data_source, block, classes, start);
         if sought.meets(found) {
-            if minded.meets(found) {
+            if stop_classes.meets(found) {
                 break;
             }
             progress.flags = progress.flags.with_all(found);
-            sought = progress.flags.sought_with(minded);
+            sought = progress.flags.sought_with(stop_classes);
         }
         start += ASCII_BLOCK;
     }
@@ -118,7 +118,7 @@ fn skim_blocks<D: BidiDataSource, T: TextSource>(
 }
 
 /// Writes the classes of consecutive ASCII characters, each one code unit long, up to one whose class is in
-/// `minded`, or would change the flags.
+/// `stop_classes`, or would change the flags.
 ///
 /// Returns that one. If there is none, the index moves to the first other character, or to the end. The
 /// characters are read sixteen at a time only after many were read one by one.
@@ -127,22 +127,22 @@ pub(super) fn skim<D: BidiDataSource, T: TextSource>(
     text: T,
     classes: &mut [BidiClass],
     progress: &mut Progress,
-    minded: ClassSet,
-) -> Option<Met>
+    stop_classes: ClassSet,
+) -> Option<Stop>
     requires { CanReadOn T.units (T.characters text) progress.old.at classes.old }
-    ensures { IsReadOn (D.source data_source.now) T.units (T.characters text) (has minded) progress.old
+    ensures { IsReadOn (D.source data_source.now) T.units (T.characters text) (has stop_classes) progress.old
         result progress.new classes.old classes.new }
 {
     while progress.at < classes.len() {
         let limit = progress.at + (classes.len() - progress.at).min(ONE_BY_ONE);
-        let sought = progress.flags.sought_with(minded);
-        if let Some(met) = skim_each(data_source, text, classes, progress, limit, sought) {
-            return Some(met);
+        let sought = progress.flags.sought_with(stop_classes);
+        if let Some(stop) = skim_each(data_source, text, classes, progress, limit, sought) {
+            return Some(stop);
         }
         if progress.at < limit {
             return None;
         }
-        skim_blocks(data_source, text, classes, progress, minded);
+        skim_blocks(data_source, text, classes, progress, stop_classes);
     }
     None
 }

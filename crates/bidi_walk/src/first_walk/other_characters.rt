@@ -5,13 +5,13 @@ ghost use Rattle.bidi_base.specs.declared.char_data.BidiClass.{BidiClass};
 ghost use Rattle.bidi_base.specs.Places.{class_at};
 ghost use Rattle.bidi_base.specs.Text.{text_len, is_boundary as is_boundary_of};
 ghost use Rattle.bidi_walk.specs.ClassSet.{has};
-ghost use Rattle.bidi_walk.specs.FirstWalk.{ahead, CanReadOn, HasEachChange, IsMet, IsReadOn, IsSkimmed};
+ghost use Rattle.bidi_walk.specs.FirstWalk.{ahead, CanReadOn, HasEachChange, IsStop, IsReadOn, IsSkimmed};
 ghost use Rattle.bidi_walk.specs.declared.first_walk.unit_classes.TheConstants.{AT_ONCE};
 ghost use Rattle.bidi_walk.specs.declared.paragraph_flags.ParagraphFlags.{ParagraphFlags};
 ghost use Rattle.bidi_walk.specs.declared.first_walk.other_characters.TheConstants.{LOW_BLOCK, LOW_LIMIT};
 
-use super::met::Met;
 use super::progress::Progress;
+use super::stop::Stop;
 use super::unit_classes::{AT_ONCE, write, write_at_once};
 use crate::class_set::ClassSet;
 use bidi_base::char_data::BidiClass;
@@ -93,12 +93,12 @@ fn read_to_sought<D: BidiDataSource, T: TextSource>(
     block: T,
     classes: &mut [BidiClass],
     sought: ClassSet,
-) -> Option<Met>
+) -> Option<Stop>
     requires { text_len T.units (T.characters block) ≤ length classes.old }
     ensures { (flags : ParagraphFlags) → HasEachChange sought flags → MatchOption result
         (IsSkimmed (D.source data_source.now) T.units (has sought) (T.characters block) 0
         (text_len T.units (T.characters block)) classes.old classes.new flags flags)
-        (λ met. IsMet (D.source data_source.now) T.units (has sought) (T.characters block) 0 met classes.old classes.new
+        (λ stop. IsStop (D.source data_source.now) T.units (has sought) (T.characters block) 0 stop classes.old classes.new
         flags flags) }
 {
     for (start, c) in block.char_indices() {
@@ -106,7 +106,7 @@ fn read_to_sought<D: BidiDataSource, T: TextSource>(
         write::<T>(classes, start, c, class);
         if sought.has(class) {
             let len = T::char_len(c);
-            return Some(Met {
+            return Some(Stop {
                 start,
                 c,
                 len,
@@ -125,21 +125,21 @@ fn read_block<D: BidiDataSource, T: TextSource>(
     classes: &mut [BidiClass],
     progress: &mut Progress,
     sought: ClassSet,
-) -> Option<Met>
+) -> Option<Stop>
     requires place { CanReadOn T.units (T.characters text) progress.old.at classes.old }
     requires sought { HasEachChange sought progress.old.flags }
-    ensures met { IsReadOn (D.source data_source.now) T.units (T.characters text) (has sought) progress.old
+    ensures stop { IsReadOn (D.source data_source.now) T.units (T.characters text) (has sought) progress.old
         result progress.new classes.old classes.new }
     ensures passed { result ≡ None → progress.old.at < length classes.new → progress.old.at < progress.new.at }
 {
     let start = progress.at;
     let end = block_end(text, start);
     let block = text.subrange(start..end);
-    if let Some(met) = read_to_sought(data_source, block, &mut classes[start..], sought) {
-        let place = start + met.start;
-        return Some(Met {
+    if let Some(stop) = read_to_sought(data_source, block, &mut classes[start..], sought) {
+        let place = start + stop.start;
+        return Some(Stop {
             start: place,
-            ..met
+            ..stop
         });
     }
     progress.at = end;
@@ -153,16 +153,16 @@ pub(super) fn read_next<D: BidiDataSource, T: TextSource>(
     text: T,
     classes: &mut [BidiClass],
     start: usize,
-) -> Met
+) -> Stop
     requires place { CanReadOn T.units (T.characters text) start classes.old }
     requires room { start + AT_ONCE ≤ length classes.old }
-    ensures { (minded : BidiClass → Bool) (flags : ParagraphFlags) → IsMet (D.source data_source.now) T.units minded
+    ensures { (stop_classes : BidiClass → Bool) (flags : ParagraphFlags) → IsStop (D.source data_source.now) T.units stop_classes
         (ahead T.units (T.characters text) start) start result classes.old classes.new flags flags }
 {
     let (c, len) = text.next_at(start);
     let class = data_source.bidi_class(c);
     write_at_once::<T>(classes, start, c, class);
-    Met {
+    Stop {
         start,
         c,
         len,
@@ -184,11 +184,11 @@ fn read_in_place<D: BidiDataSource, T: TextSource>(
     progress: &mut Progress,
     limit: usize,
     sought: ClassSet,
-) -> Option<Met>
+) -> Option<Stop>
     requires place { CanReadOn T.units (T.characters text) progress.old.at classes.old }
     requires sought { HasEachChange sought progress.old.flags }
     requires room { limit + (AT_ONCE - 1) ≤ length classes.old }
-    ensures met { IsReadOn (D.source data_source.now) T.units (T.characters text) (has sought) progress.old
+    ensures stop { IsReadOn (D.source data_source.now) T.units (T.characters text) (has sought) progress.old
         result progress.new classes.old classes.new }
     ensures passed { result ≡ None → limit ≤ progress.new.at }
 {
@@ -198,7 +198,7 @@ fn read_in_place<D: BidiDataSource, T: TextSource>(
         let class = data_source.bidi_class(c);
         write_at_once::<T>(classes, start, c, class);
         if sought.has(class) {
-            return Some(Met {
+            return Some(Stop {
                 start,
                 c,
                 len,
@@ -220,10 +220,10 @@ fn read_low_blocks<D: BidiDataSource, T: TextSource>(
     classes: &mut [BidiClass],
     progress: &mut Progress,
     sought: ClassSet,
-) -> Option<Met>
+) -> Option<Stop>
     requires place { CanReadOn T.units (T.characters text) progress.old.at classes.old }
     requires sought { HasEachChange sought progress.old.flags }
-    ensures met { IsReadOn (D.source data_source.now) T.units (T.characters text) (has sought) progress.old
+    ensures stop { IsReadOn (D.source data_source.now) T.units (T.characters text) (has sought) progress.old
         result progress.new classes.old classes.new }
 {
     let mut start = progress.at;
@@ -238,7 +238,7 @@ fn read_low_blocks<D: BidiDataSource, T: TextSource>(
             let c = char_of_low(block[idle]);
             let len = 1;
             let class = classes[start];
-            return Some(Met {
+            return Some(Stop {
                 start,
                 c,
                 len,
@@ -250,7 +250,7 @@ fn read_low_blocks<D: BidiDataSource, T: TextSource>(
     None
 }
 
-/// Writes the classes of some characters, up to one whose class is in `minded`, or would change the flags.
+/// Writes the classes of some characters, up to one whose class is in `stop_classes`, or would change the flags.
 ///
 /// Returns that one. If there is none, the index moves past them. The characters are read sixteen at a time
 /// as long as the text gives such blocks, and then by index. The iterator reads texts that do not set
@@ -260,19 +260,19 @@ pub(super) fn read_on<D: BidiDataSource, T: TextSource>(
     text: T,
     classes: &mut [BidiClass],
     progress: &mut Progress,
-    minded: ClassSet,
-) -> Option<Met>
+    stop_classes: ClassSet,
+) -> Option<Stop>
     requires { CanReadOn T.units (T.characters text) progress.old.at classes.old }
-    ensures met { IsReadOn (D.source data_source.now) T.units (T.characters text) (has minded) progress.old
+    ensures stop { IsReadOn (D.source data_source.now) T.units (T.characters text) (has stop_classes) progress.old
         result progress.new classes.old classes.new }
     ensures passed { result ≡ None → progress.old.at < length classes.new → progress.old.at < progress.new.at }
 {
     let end = progress.at.saturating_add(BLOCK);
-    let sought = progress.flags.sought_with(minded);
-    if let Some(met) = read_low_blocks(data_source, text, classes, progress, sought) {
-        return Some(met);
+    let sought = progress.flags.sought_with(stop_classes);
+    if let Some(stop) = read_low_blocks(data_source, text, classes, progress, sought) {
+        return Some(stop);
     }
-    let sought = progress.flags.sought_with(minded);
+    let sought = progress.flags.sought_with(stop_classes);
     let left = classes.len() - progress.at;
     if T::READS_IN_PLACE && left >= AT_ONCE {
         let limit = end.min(classes.len() - (AT_ONCE - 1));

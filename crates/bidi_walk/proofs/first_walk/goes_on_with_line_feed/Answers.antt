@@ -6,15 +6,15 @@ use Rattle.bidi_walk.proofs.first_walk.goes_on_with_line_feed.Goals.{In-Some}
 use Rattle.bidi_walk.proofs.first_walk.goes_on_with_line_feed.Given.{Over}
 
 -- the character that begins there is the first of those that follow
-met : (g : Over) (c : In-Some g) (n : ℕ) → c.args.place ≡ place_of g.T.TextSource.units (g.T.TextSource.characters c.args.text) n
+stop : (g : Over) (c : In-Some g) (n : ℕ) → c.args.place ≡ place_of g.T.TextSource.units (g.T.TextSource.characters c.args.text) n
     → begins_with_line_feed (g.D.BidiDataSource.source c.args.data_source.now) (drop n (g.T.TextSource.characters c.args.text)) ≡ (c.in-Some.c == 0x0A && is_paragraph_separator ((g.D.BidiDataSource.source c.args.data_source.now).class_of c.in-Some.c))
-met g c n here = grind (arith, next-at)
+stop g c n here = grind (arith, next-at)
 
 pub returns-then-c-eq10 : goal.returns-then-c-eq10
-returns-then-c-eq10 g c = grind (arith, met)
+returns-then-c-eq10 g c = grind (arith, stop)
 
 pub returns-else-c-eq10 : goal.returns-else-c-eq10
-returns-else-c-eq10 g c = grind (arith, met)
+returns-else-c-eq10 g c = grind (arith, stop)
 
 pub returns-in-None : goal.returns-in-None
 returns-in-None g c = grind (arith, next-at)

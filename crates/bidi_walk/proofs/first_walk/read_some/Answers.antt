@@ -1,5 +1,5 @@
 use Rattle.bidi_base.proofs.Common.{refl, arith}
-use Rattle.bidi_walk.proofs.Skimmed.{is_boundary-skimmed, met-on}
+use Rattle.bidi_walk.proofs.Skimmed.{is_boundary-skimmed, stop-on}
 use Rattle.bidi_walk.proofs.first_walk.read_some.Goals as goal
 
 pub read_on-requires : goal.read_on-requires
@@ -8,7 +8,7 @@ read_on-requires g c = record {
   begins = is_boundary-skimmed _ _ _ _ _ _ _ _ _ _ c.in_default.ensures g.met.T.TextSource.has_units (g.T.TextSource.characters c.args.text) c.requires.begins refl;
 }
 
-pub returns-clause-met : goal.returns-clause-met
-returns-clause-met g c =
-    met-on _ _ _ _ _ _ _ _ _ _ c.in_default.ensures g.met.T.TextSource.has_units (g.T.TextSource.characters c.args.text) c.requires.begins refl
-    c.read_on.result c.read_on.new.progress.at c.read_on.new.classes c.read_on.new.progress.flags c.read_on.ensures.met
+pub returns-clause-stop : goal.returns-clause-stop
+returns-clause-stop g c =
+    stop-on _ _ _ _ _ _ _ _ _ _ c.in_default.ensures g.met.T.TextSource.has_units (g.T.TextSource.characters c.args.text) c.requires.begins refl
+    c.read_on.result c.read_on.new.progress.at c.read_on.new.classes c.read_on.new.progress.flags c.read_on.ensures.stop

@@ -2,7 +2,7 @@ use Rattle.bidi_base.proofs.Common.{arith, refl}
 use Rattle.bidi_walk.specs.ClassSet.{has}
 use Rattle.bidi_walk.specs.FirstWalk.{IsReadOn}
 use Rattle.bidi_walk.proofs.FlagsLemmas.{other-idle, other-same}
-use Rattle.bidi_walk.proofs.Skimmed.{IsSkimmed-start, is_boundary-skimmed, IsSkimmed-on, met-on-fewer}
+use Rattle.bidi_walk.proofs.Skimmed.{IsSkimmed-start, is_boundary-skimmed, IsSkimmed-on, stop-on-fewer}
 use Rattle.bidi_walk.proofs.first_walk.ascii_characters.skim.Given.{Over}
 use Rattle.bidi_walk.proofs.first_walk.ascii_characters.skim.Goals as goal
 use Rattle.bidi_walk.proofs.first_walk.ascii_characters.skim.Goals.{After-skim_each}
@@ -21,9 +21,9 @@ skim_each-requires g c = record {
 
 -- what came before the blocks was read
 each : (g : Over) (c : After-skim_each g)
-    → IsReadOn (g.D.BidiDataSource.source c.args.data_source.now) g.T.TextSource.units (g.T.TextSource.characters c.args.text) (has c.args.minded) c.args.progress.now c.skim_each.result c.skim_each.new.progress c.args.classes.now c.skim_each.new.classes
+    → IsReadOn (g.D.BidiDataSource.source c.args.data_source.now) g.T.TextSource.units (g.T.TextSource.characters c.args.text) (has c.args.stop_classes) c.args.progress.now c.skim_each.result c.skim_each.new.progress c.args.classes.now c.skim_each.new.classes
 each g c =
-    met-on-fewer _ _ _ _ _ _ _ _ _ _ c.loop-progress.invariant g.met.T.TextSource.has_units (g.T.TextSource.characters c.args.text) c.requires.begins refl (has c.sought_with-sought.result) (other-idle _ _ _ c.sought_with-sought.ensures)
+    stop-on-fewer _ _ _ _ _ _ _ _ _ _ c.loop-progress.invariant g.met.T.TextSource.has_units (g.T.TextSource.characters c.args.text) c.requires.begins refl (has c.sought_with-sought.result) (other-idle _ _ _ c.sought_with-sought.ensures)
     c.skim_each.result c.skim_each.new.progress.at c.skim_each.new.classes c.skim_each.new.progress.flags c.skim_each.ensures
 
 pub returns-in-Some : goal.returns-in-Some

@@ -32,22 +32,22 @@ pub loop-next-smaller : goal.loop-next-smaller
 loop-next-smaller g c = omega (arith, room g (goal.at.loop-next-smaller g c).In-Some, c.loop-next.auto.classes)
 
 pub meets-requires : goal.meets-requires
-meets-requires g c = found-small (g.D.BidiDataSource.source c.args.data_source.now) c.in-Some.block c.args.minded c.loop-next.progress.flags _ c.write_block-found.ensures.found
+meets-requires g c = found-small (g.D.BidiDataSource.source c.args.data_source.now) c.in-Some.block c.args.stop_classes c.loop-next.progress.flags _ c.write_block-found.ensures.found
 
 pub meets-requires-then-meets : goal.meets-requires-then-meets
-meets-requires-then-meets g c = found-small (g.D.BidiDataSource.source c.args.data_source.now) c.in-Some.block c.args.minded c.loop-next.progress.flags _ c.write_block-found.ensures.found
+meets-requires-then-meets g c = found-small (g.D.BidiDataSource.source c.args.data_source.now) c.in-Some.block c.args.stop_classes c.loop-next.progress.flags _ c.write_block-found.ensures.found
 
--- nothing of the block is minded
+-- the block has no stop class
 passed : (g : Over) (c : goal.Joined-meets g)
-    → IsBlockPassed (g.D.BidiDataSource.source c.args.data_source.now) c.in-Some.block c.args.minded c.loop-next.progress.flags c.if-meets.progress.flags c.if-meets.sought
+    → IsBlockPassed (g.D.BidiDataSource.source c.args.data_source.now) c.in-Some.block c.args.stop_classes c.loop-next.progress.flags c.if-meets.progress.flags c.if-meets.sought
 passed g c =
     let source = g.D.BidiDataSource.source c.args.data_source.now in
     let found_is = c.write_block-found.ensures.found in
     elim c.if-meets.branch [
       | then-meets+else-meets-2 w ↦
-          rw (w.progress-is, w.sought-is, w.with_all-progress.ensures) (IsBlockPassed-noted source c.in-Some.block c.args.minded c.loop-next.progress.flags _ found_is _ (rw w.with_all-progress.ensures at w.sought_with-sought-then-meets.ensures) (sym w.meets-then-meets.ensures ∙ w.if-meets-2.false))
+          rw (w.progress-is, w.sought-is, w.with_all-progress.ensures) (IsBlockPassed-noted source c.in-Some.block c.args.stop_classes c.loop-next.progress.flags _ found_is _ (rw w.with_all-progress.ensures at w.sought_with-sought-then-meets.ensures) (sym w.meets-then-meets.ensures ∙ w.if-meets-2.false))
       | else-meets w ↦
-          rw (w.progress-is, w.sought-is) (IsBlockPassed-other source c.in-Some.block c.args.minded c.loop-next.progress.flags _ found_is _ c.loop-next.invariant.2 (sym c.meets.ensures ∙ w.if-meets.false))
+          rw (w.progress-is, w.sought-is) (IsBlockPassed-other source c.in-Some.block c.args.stop_classes c.loop-next.progress.flags _ found_is _ c.loop-next.invariant.2 (sym c.meets.ensures ∙ w.if-meets.false))
     ]
 
 pub loop-next-preserved : goal.loop-next-preserved
@@ -59,9 +59,9 @@ loop-next-preserved g c =
       omega (arith, c.loop-next.invariant.0),
       c.ascii_block_at-next-in-Some.ensures,
       w.are,
-      IsSkimmed-ascii_block (g.D.BidiDataSource.source c.args.data_source.now) g.T.TextSource.units (has c.args.minded) g.met.T.TextSource.has_units (g.T.TextSource.characters c.args.text) c.args.progress.now.at c.loop-next.start c.requires.begins
+      IsSkimmed-ascii_block (g.D.BidiDataSource.source c.args.data_source.now) g.T.TextSource.units (has c.args.stop_classes) g.met.T.TextSource.has_units (g.T.TextSource.characters c.args.text) c.args.progress.now.at c.loop-next.start c.requires.begins
           c.args.classes.now c.write_block-found.new.classes _ _ kept c.in-Some.block (omega (arith, fits, c.write_block-found.auto.classes)) (bytes g (goal.at.loop-next-preserved g c).In-Some) written
-          (λ k below. ap (has c.args.minded) (written k below) ∙ w.idle k below) _ w.turns,
+          (λ k below. ap (has c.args.stop_classes) (written k below) ∙ w.idle k below) _ w.turns,
     )
 
 pub returns-clause-read : goal.returns-clause-read

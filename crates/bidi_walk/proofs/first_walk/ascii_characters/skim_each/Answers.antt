@@ -1,5 +1,5 @@
 use Rattle.bidi_base.proofs.Common.{◌∙◌, ◌<◌, Some, length, refl, sym, ap, arith}
-use Rattle.bidi_walk.proofs.Skimmed.{IsSkimmed-start, IsSkimmed-ascii, IsMet-ascii, ascii-inside}
+use Rattle.bidi_walk.proofs.Skimmed.{IsSkimmed-start, IsSkimmed-ascii, IsStop-ascii, ascii-inside}
 use Rattle.bidi_walk.proofs.first_walk.ascii_characters.skim_each.Goals as goal
 use Rattle.bidi_walk.proofs.first_walk.ascii_characters.skim_each.Given.{Over}
 use Rattle.bidi_walk.proofs.first_walk.ascii_characters.skim_each.Goals.{In-Some}
@@ -24,7 +24,7 @@ loop-start-smaller g c = omega (arith, within g (goal.at.loop-start-smaller g c)
 
 pub returns-then-has : goal.returns-then-has
 returns-then-has g c =
-    IsMet-ascii _ _ _ _ _ _ _ _ _ _ c.loop-start.invariant g.met.T.TextSource.has_units (g.T.TextSource.characters c.args.text) c.requires.place.begins refl
+    IsStop-ascii _ _ _ _ _ _ _ _ _ _ c.loop-start.invariant g.met.T.TextSource.has_units (g.T.TextSource.characters c.args.text) c.requires.place.begins refl
     c.from-c.result (ap Some c.from-c.ensures ∙ sym c.in-Some.is ∙ c.ascii_at.ensures) _ c.bidi_class-class.ensures
     (c.loop-start.auto.classes ∙ c.requires.place.sized)
 

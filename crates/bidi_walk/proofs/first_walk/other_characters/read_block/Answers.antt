@@ -1,6 +1,6 @@
 use Rattle.bidi_base.proofs.Common.{◌≤◌, length, arith, rules}
 use Rattle.bidi_base.proofs.TextLemmas.{is_boundary-le}
-use Rattle.bidi_walk.proofs.Skimmed.{block-line, block-long, block-room, IsMet-within, IsSkimmed-block, IsMet-block}
+use Rattle.bidi_walk.proofs.Skimmed.{block-line, block-long, block-room, IsStop-within, IsSkimmed-block, IsStop-block}
 use Rattle.bidi_walk.proofs.first_walk.other_characters.read_block.Goals as goal
 
 pub block_end-end-requires : goal.block_end-end-requires
@@ -26,16 +26,16 @@ read_to_sought-requires g c =
 pub overflow_add-place : goal.overflow_add-place
 overflow_add-place g c =
     let long = block-long _ g.met.T.TextSource.has_units (g.T.TextSource.characters c.args.text) c.args.progress.now.at c.block_end-end.result c.requires.place.begins c.block_end-end.ensures.order c.block_end-end.ensures.boundary _ c.subrange-block.ensures in
-    omega (arith, IsMet-within _ _ _ _ 0 c.in-Some.met _ _ _ _ (c.in-Some.ensures c.args.progress.now.flags c.requires.sought), long, c.block_end-end.type_inv)
+    omega (arith, IsStop-within _ _ _ _ 0 c.in-Some.stop _ _ _ _ (c.in-Some.ensures c.args.progress.now.flags c.requires.sought), long, c.block_end-end.type_inv)
 
-pub returns-in-Some-clause-met : goal.returns-in-Some-clause-met
-returns-in-Some-clause-met g c =
+pub returns-in-Some-clause-stop : goal.returns-in-Some-clause-stop
+returns-in-Some-clause-stop g c =
     let room = block-room _ g.met.T.TextSource.has_units (g.T.TextSource.characters c.args.text) c.args.progress.now.at c.block_end-end.result c.requires.place.begins c.block_end-end.ensures.order c.block_end-end.ensures.boundary _ c.subrange-block.ensures c.args.classes.now c.requires.place.sized in
-    IsMet-block _ g.met.T.TextSource.has_units (g.T.TextSource.characters c.args.text) c.args.progress.now.at c.block_end-end.result c.requires.place.begins c.block_end-end.ensures.order c.block_end-end.ensures.boundary
-    _ c.subrange-block.ensures c.args.classes.now c.requires.place.sized _ _ _ c.read_to_sought.new.classes _ _ _ (omega (arith, room, c.read_to_sought.auto.classes)) c.in-Some.met (c.in-Some.ensures c.args.progress.now.flags c.requires.sought)
+    IsStop-block _ g.met.T.TextSource.has_units (g.T.TextSource.characters c.args.text) c.args.progress.now.at c.block_end-end.result c.requires.place.begins c.block_end-end.ensures.order c.block_end-end.ensures.boundary
+    _ c.subrange-block.ensures c.args.classes.now c.requires.place.sized _ _ _ c.read_to_sought.new.classes _ _ _ (omega (arith, room, c.read_to_sought.auto.classes)) c.in-Some.stop (c.in-Some.ensures c.args.progress.now.flags c.requires.sought)
 
-pub returns-clause-met : goal.returns-clause-met
-returns-clause-met g c =
+pub returns-clause-stop : goal.returns-clause-stop
+returns-clause-stop g c =
     let room = block-room _ g.met.T.TextSource.has_units (g.T.TextSource.characters c.args.text) c.args.progress.now.at c.block_end-end.result c.requires.place.begins c.block_end-end.ensures.order c.block_end-end.ensures.boundary _ c.subrange-block.ensures c.args.classes.now c.requires.place.sized in
     IsSkimmed-block _ g.met.T.TextSource.has_units (g.T.TextSource.characters c.args.text) c.args.progress.now.at c.block_end-end.result c.requires.place.begins c.block_end-end.ensures.order c.block_end-end.ensures.boundary
     _ c.subrange-block.ensures c.args.classes.now c.requires.place.sized _ _ _ c.read_to_sought.new.classes _ _ _ (omega (arith, room, c.read_to_sought.auto.classes)) (c.in_default.ensures c.args.progress.now.flags c.requires.sought)

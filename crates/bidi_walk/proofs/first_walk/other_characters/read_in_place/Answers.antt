@@ -1,5 +1,5 @@
 use Rattle.bidi_base.proofs.Common.{refl, sym, ◌∙◌, arith}
-use Rattle.bidi_walk.proofs.Skimmed.{char-room, IsSkimmed-start, is_boundary-skimmed, IsSkimmed-char, IsMet-char}
+use Rattle.bidi_walk.proofs.Skimmed.{char-room, IsSkimmed-start, is_boundary-skimmed, IsSkimmed-char, IsStop-char}
 use Rattle.bidi_walk.proofs.first_walk.other_characters.read_in_place.Goals as goal
 
 pub loop-start-init : goal.loop-start-init
@@ -13,9 +13,9 @@ write_at_once-requires-clause-fits g c =
     let room = char-room _ _ _ _ _ _ _ _ _ _ c.loop-start.invariant g.met.T.TextSource.has_units (g.T.TextSource.characters c.args.text) c.requires.place.begins refl _ _ c.next_at-c.ensures in
     omega (arith, room.long, room.fits, c.requires.place.sized, c.loop-start.auto.classes)
 
-pub returns-then-has-clause-met : goal.returns-then-has-clause-met
-returns-then-has-clause-met g c =
-    IsMet-char _ _ _ _ _ _ _ _ _ _ c.loop-start.invariant g.met.T.TextSource.has_units (g.T.TextSource.characters c.args.text) c.requires.place.begins refl
+pub returns-then-has-clause-stop : goal.returns-then-has-clause-stop
+returns-then-has-clause-stop g c =
+    IsStop-char _ _ _ _ _ _ _ _ _ _ c.loop-start.invariant g.met.T.TextSource.has_units (g.T.TextSource.characters c.args.text) c.requires.place.begins refl
     _ _ c.next_at-c.ensures _ c.bidi_class-class.ensures _ c.write_at_once.ensures
 
 pub overflow_add-start : goal.overflow_add-start

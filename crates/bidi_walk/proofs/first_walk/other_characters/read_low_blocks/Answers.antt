@@ -1,7 +1,7 @@
 use Rattle.bidi_base.proofs.Common.{◌≡◌, ◌+◌, ◌≤◌, length, get_or, arith}
 use Rattle.bidi_walk.specs.ClassSet.{has}
 use Rattle.bidi_walk.proofs.FlagsLemmas.{flags_to, flags_to-same}
-use Rattle.bidi_walk.proofs.Skimmed.{char-inside, IsSkimmed-start, IsSkimmed-kept, IsSkimmed-part, IsMet-part}
+use Rattle.bidi_walk.proofs.Skimmed.{char-inside, IsSkimmed-start, IsSkimmed-kept, IsSkimmed-part, IsStop-part}
 use Rattle.bidi_walk.proofs.first_walk.other_characters.read_low_blocks.Given.{Over}
 use Rattle.bidi_walk.proofs.first_walk.other_characters.read_low_blocks.Goals as goal
 use Rattle.bidi_walk.proofs.first_walk.other_characters.read_low_blocks.Goals.{In-Some, After-write_low_block-idle}
@@ -36,9 +36,9 @@ returns-then-idle-lt-LOW_BLOCK g c =
     let at = goal.at.returns-then-idle-lt-LOW_BLOCK g c in
     let fits = room g at.In-Some in
     let kept = IsSkimmed-kept _ _ _ _ _ _ _ _ _ _ c.loop-start.invariant c.write_low_block-idle.new.classes c.write_low_block-idle.ensures.kept in
-    let met = IsMet-part (g.D.BidiDataSource.source c.args.data_source.now) g.T.TextSource.units (has c.args.sought) g.met.T.TextSource.has_units (g.T.TextSource.characters c.args.text) c.args.progress.now.at c.loop-start.start c.requires.place.begins
+    let stop = IsStop-part (g.D.BidiDataSource.source c.args.data_source.now) g.T.TextSource.units (has c.args.sought) g.met.T.TextSource.has_units (g.T.TextSource.characters c.args.text) c.args.progress.now.at c.loop-start.start c.requires.place.begins
     c.args.classes.now c.write_low_block-idle.new.classes _ _ kept c.in-Some.block (omega (arith, fits, c.write_low_block-idle.auto.classes)) c.in-Some.ensures.characters c.write_low_block-idle.result c.if-idle-lt-LOW_BLOCK.true c.write_low_block-idle.ensures.written c.write_low_block-idle.ensures.idle in
-    record { met = rw c.char_of_low-c.ensures (rw (same g at.After-write_low_block-idle) at met) }
+    record { stop = rw c.char_of_low-c.ensures (rw (same g at.After-write_low_block-idle) at stop) }
 
 pub loop-start-smaller : goal.loop-start-smaller
 loop-start-smaller g c = omega (arith, room g (goal.at.loop-start-smaller g c).In-Some, c.if-idle-lt-LOW_BLOCK.false, c.write_low_block-idle.ensures.few, c.loop-start.auto.classes)

@@ -3,7 +3,7 @@ use Rattle.bidi_base.proofs.TextLemmas.{is_boundary-le}
 use Rattle.bidi_walk.specs.ClassSet.{has}
 use Rattle.bidi_walk.specs.FirstWalk.{IsReadOn}
 use Rattle.bidi_walk.proofs.FlagsLemmas.{other-idle, other-same}
-use Rattle.bidi_walk.proofs.Skimmed.{is_boundary-skimmed, met-on-fewer, fewer}
+use Rattle.bidi_walk.proofs.Skimmed.{is_boundary-skimmed, stop-on-fewer, fewer}
 use Rattle.bidi_walk.proofs.first_walk.other_characters.read_on.Given.{Over}
 use Rattle.bidi_walk.proofs.first_walk.other_characters.read_on.Goals as goal
 use Rattle.bidi_walk.proofs.first_walk.other_characters.read_on.Goals.{After-read_low_blocks}
@@ -13,11 +13,11 @@ read_low_blocks-requires-clause-sought g c = other-same _ _ _ c.sought_with-soug
 
 -- what the blocks gave was read
 blocks : (g : Over) (c : After-read_low_blocks g)
-    → IsReadOn (g.D.BidiDataSource.source c.args.data_source.now) g.T.TextSource.units (g.T.TextSource.characters c.args.text) (has c.args.minded) c.args.progress.now c.read_low_blocks.result c.read_low_blocks.new.progress c.args.classes.now c.read_low_blocks.new.classes
-blocks g c = fewer _ _ _ _ (other-idle _ _ _ c.sought_with-sought.ensures) _ _ _ _ _ _ _ c.read_low_blocks.result c.read_low_blocks.ensures.met
+    → IsReadOn (g.D.BidiDataSource.source c.args.data_source.now) g.T.TextSource.units (g.T.TextSource.characters c.args.text) (has c.args.stop_classes) c.args.progress.now c.read_low_blocks.result c.read_low_blocks.new.progress c.args.classes.now c.read_low_blocks.new.classes
+blocks g c = fewer _ _ _ _ (other-idle _ _ _ c.sought_with-sought.ensures) _ _ _ _ _ _ _ c.read_low_blocks.result c.read_low_blocks.ensures.stop
 
-pub returns-in-Some-clause-met : goal.returns-in-Some-clause-met
-returns-in-Some-clause-met g c = rw c.in-Some.is at (blocks g (goal.at.returns-in-Some-clause-met g c).After-read_low_blocks)
+pub returns-in-Some-clause-stop : goal.returns-in-Some-clause-stop
+returns-in-Some-clause-stop g c = rw c.in-Some.is at (blocks g (goal.at.returns-in-Some-clause-stop g c).After-read_low_blocks)
 
 pub overflow_sub-left : goal.overflow_sub-left
 overflow_sub-left g c =
@@ -35,11 +35,11 @@ read_in_place-requires-clause-place g c = record {
 pub read_in_place-requires-clause-sought : goal.read_in_place-requires-clause-sought
 read_in_place-requires-clause-sought g c = other-same _ _ _ c.sought_with-sought-2.ensures
 
-pub returns-then-left-ge-AT_ONCE-clause-met : goal.returns-then-left-ge-AT_ONCE-clause-met
-returns-then-left-ge-AT_ONCE-clause-met g c =
-    let h = rw c.in_default.is at (blocks g (goal.at.returns-then-left-ge-AT_ONCE-clause-met g c).After-read_low_blocks) in
-    met-on-fewer _ _ _ _ _ _ _ _ _ _ h g.met.T.TextSource.has_units (g.T.TextSource.characters c.args.text) c.requires.begins refl (has c.sought_with-sought-2.result) (other-idle _ _ _ c.sought_with-sought-2.ensures)
-    c.read_in_place.result c.read_in_place.new.progress.at c.read_in_place.new.classes c.read_in_place.new.progress.flags c.read_in_place.ensures.met
+pub returns-then-left-ge-AT_ONCE-clause-stop : goal.returns-then-left-ge-AT_ONCE-clause-stop
+returns-then-left-ge-AT_ONCE-clause-stop g c =
+    let h = rw c.in_default.is at (blocks g (goal.at.returns-then-left-ge-AT_ONCE-clause-stop g c).After-read_low_blocks) in
+    stop-on-fewer _ _ _ _ _ _ _ _ _ _ h g.met.T.TextSource.has_units (g.T.TextSource.characters c.args.text) c.requires.begins refl (has c.sought_with-sought-2.result) (other-idle _ _ _ c.sought_with-sought-2.ensures)
+    c.read_in_place.result c.read_in_place.new.progress.at c.read_in_place.new.classes c.read_in_place.new.progress.flags c.read_in_place.ensures.stop
 
 pub read_block-requires : goal.read_block-requires
 read_block-requires g c = record {
@@ -51,8 +51,8 @@ read_block-requires g c = record {
   sought = other-same _ _ _ c.sought_with-sought-2.ensures;
 }
 
-pub returns-else-READS_IN_PLACE-clause-met : goal.returns-else-READS_IN_PLACE-clause-met
-returns-else-READS_IN_PLACE-clause-met g c =
-    let h = rw c.in_default.is at (blocks g (goal.at.returns-else-READS_IN_PLACE-clause-met g c).After-read_low_blocks) in
-    met-on-fewer _ _ _ _ _ _ _ _ _ _ h g.met.T.TextSource.has_units (g.T.TextSource.characters c.args.text) c.requires.begins refl (has c.sought_with-sought-2.result) (other-idle _ _ _ c.sought_with-sought-2.ensures)
-    c.read_block.result c.read_block.new.progress.at c.read_block.new.classes c.read_block.new.progress.flags c.read_block.ensures.met
+pub returns-else-READS_IN_PLACE-clause-stop : goal.returns-else-READS_IN_PLACE-clause-stop
+returns-else-READS_IN_PLACE-clause-stop g c =
+    let h = rw c.in_default.is at (blocks g (goal.at.returns-else-READS_IN_PLACE-clause-stop g c).After-read_low_blocks) in
+    stop-on-fewer _ _ _ _ _ _ _ _ _ _ h g.met.T.TextSource.has_units (g.T.TextSource.characters c.args.text) c.requires.begins refl (has c.sought_with-sought-2.result) (other-idle _ _ _ c.sought_with-sought-2.ensures)
+    c.read_block.result c.read_block.new.progress.at c.read_block.new.classes c.read_block.new.progress.flags c.read_block.ensures.stop

@@ -1,6 +1,6 @@
 use Rattle.bidi_base.proofs.Common.{◌≡◌, ◌∙◌, ◌+◌, ℕ, List, length, drop, refl, sym, arith, rules, length_push, place}
 use Rattle.bidi_base.proofs.PlaceLemmas.{CharTurn, index_turn, index_end, place-end}
-use Rattle.bidi_walk.proofs.Skimmed.{IsSkimmed-start, IsSkimmed-more, IsMet-next}
+use Rattle.bidi_walk.proofs.Skimmed.{IsSkimmed-start, IsSkimmed-more, IsStop-next}
 use Rattle.bidi_walk.proofs.first_walk.other_characters.read_to_sought.Given.{Over}
 use Rattle.bidi_walk.proofs.first_walk.other_characters.read_to_sought.Goals as goal
 use Rattle.bidi_walk.proofs.first_walk.other_characters.read_to_sought.Goals.{In-Some}
@@ -24,7 +24,7 @@ pub returns-then-has : goal.returns-then-has
 returns-then-has g c flags each =
     let w = turn_of g (goal.at.returns-then-has g c).In-Some in
     let h = c.loop-start.invariant.2 flags each in
-    IsMet-next _ _ _ _ _ _ _ _ _ _ h.0 _ (drop (length c.loop-start.yielded + 1) (g.T.TextSource.characters c.args.block)) c.write.new.classes (h.1 ∙ w.next) w.at_place c.bidi_class-class.ensures c.char_len-len.ensures c.write.ensures
+    IsStop-next _ _ _ _ _ _ _ _ _ _ h.0 _ (drop (length c.loop-start.yielded + 1) (g.T.TextSource.characters c.args.block)) c.write.new.classes (h.1 ∙ w.next) w.at_place c.bidi_class-class.ensures c.char_len-len.ensures c.write.ensures
 
 pub loop-start-preserved : goal.loop-start-preserved
 unfolding IsSkimmed-more

@@ -2,10 +2,10 @@ use Rattle.bidi_base.proofs.Common.{◌≡◌, ◌∙◌, ◌+◌, ◌^◌, true
 use Rattle.bidi_base.proofs.Common.{arith, class_number, is_strong, is_initiator, is_pdi, is_fsi, is_paragraph_separator}
 use Rattle.bidi_base.specs.declared.char_data.BidiClass.{BidiClass}
 use Rattle.bidi_base.specs.declared.char_data.BidiClass.TheVariants.{L, R, AL, B, LRI, RLI, FSI, PDI}
-use Rattle.bidi_walk.specs.declared.first_walk.reading.Reading.{Reading}
+use Rattle.bidi_walk.specs.declared.first_walk.paragraph_state.ParagraphState.{ParagraphState}
 use Rattle.bidi_walk.specs.ClassSet.{has}
 use Rattle.bidi_walk.specs.FirstWalk.{waiting, is_decided, wants_strong}
-use Rattle.bidi_walk.proofs.first_walk.reading.Reading.minded.Goals as goal
+use Rattle.bidi_walk.proofs.first_walk.paragraph_state.ParagraphState.stop_classes.Goals as goal
 
 -- what is in each set
 bounds : (k : BidiClass) → has (record { bits = 2 ^ class_number FSI + 2 ^ class_number B }) k ≡ (is_paragraph_separator k || is_fsi k)
@@ -21,7 +21,7 @@ closing : (k : BidiClass) → has (record { bits = 2 ^ class_number PDI }) k ≡
 closing k = grind arith
 
 -- where the state is decided, no strong character decides anything
-quiet : (r : Reading) → is_decided r ≡ true → wants_strong r ≡ false
+quiet : (r : ParagraphState) → is_decided r ≡ true → wants_strong r ≡ false
 quiet r decided =
     let none : r.undecided.items ≡ [] = nil_from_length r.undecided.items (grind arith) in
     let waits : waiting r.depth r.undecided.items ≡ None = ap (waiting r.depth) none in

@@ -1,8 +1,8 @@
 use Rattle.bidi_base.proofs.Common.{◌≤◌, length, sym}
 use Rattle.bidi_laws.proofs.ReadingLemmas.{innermost-All}
-use Rattle.bidi_walk.specs.declared.first_walk.reading.Undecided.{Undecided}
+use Rattle.bidi_walk.specs.declared.first_walk.paragraph_state.Undecided.{Undecided}
 use Rattle.bidi_walk.proofs.Undecided.{waiting-innermost}
-use Rattle.bidi_walk.proofs.first_walk.reading.Reading.decide.Goals as goal
+use Rattle.bidi_walk.proofs.first_walk.paragraph_state.ParagraphState.decide.Goals as goal
 
 pub resolve-requires : goal.resolve-requires
 resolve-requires c =

@@ -2,10 +2,10 @@ use Rattle.bidi_base.proofs.Common.{◌∙◌, ◌+◌, refl, sym, arith}
 use Rattle.bidi_walk.specs.ClassSet.{has}
 use Rattle.bidi_walk.specs.FirstWalk.{ahead, IsSkimmed}
 use Rattle.bidi_walk.specs.ParagraphFlags.{with_class}
-use Rattle.bidi_walk.proofs.Skimmed.{IsSkimmed-start, is_boundary-skimmed, within-skimmed, IsSkimmed-on, IsMet-on, IsSkimmed-met}
-use Rattle.bidi_walk.proofs.first_walk.seek_minded.Given.{Over}
-use Rattle.bidi_walk.proofs.first_walk.seek_minded.Goals as goal
-use Rattle.bidi_walk.proofs.first_walk.seek_minded.Goals.{Else-has}
+use Rattle.bidi_walk.proofs.Skimmed.{IsSkimmed-start, is_boundary-skimmed, within-skimmed, IsSkimmed-on, IsStop-on, IsSkimmed-stop}
+use Rattle.bidi_walk.proofs.first_walk.seek_stop.Given.{Over}
+use Rattle.bidi_walk.proofs.first_walk.seek_stop.Goals as goal
+use Rattle.bidi_walk.proofs.first_walk.seek_stop.Goals.{Else-has}
 
 pub loop-progress-init : goal.loop-progress-init
 loop-progress-init g c = IsSkimmed-start _ _ _ _ _ _ _
@@ -16,17 +16,17 @@ read_some-requires g c = record {
   begins = is_boundary-skimmed _ _ _ _ _ _ _ _ _ _ c.loop-progress.invariant g.met.T.TextSource.has_units (g.T.TextSource.characters c.args.text) c.requires.begins refl;
 }
 
-pub returns-then-has-clause-met : goal.returns-then-has-clause-met
-returns-then-has-clause-met g c =
-    IsMet-on _ _ _ _ _ _ _ _ _ _ c.loop-progress.invariant g.met.T.TextSource.has_units (g.T.TextSource.characters c.args.text) c.requires.begins refl c.in-Some.met c.read_some.new.classes _ c.in-Some.ensures.met
+pub returns-then-has-clause-stop : goal.returns-then-has-clause-stop
+returns-then-has-clause-stop g c =
+    IsStop-on _ _ _ _ _ _ _ _ _ _ c.loop-progress.invariant g.met.T.TextSource.has_units (g.T.TextSource.characters c.args.text) c.requires.begins refl c.in-Some.stop c.read_some.new.classes _ c.in-Some.ensures.stop
 
 -- a character that changes only the flags is read too
 passed : (g : Over) (c : Else-has g)
-    → IsSkimmed (g.D.BidiDataSource.source c.args.data_source.now) g.T.TextSource.units (has c.args.minded) (ahead g.T.TextSource.units (g.T.TextSource.characters c.args.text) c.args.progress.now.at) c.args.progress.now.at (c.in-Some.met.start + c.in-Some.met.len) c.args.classes.now c.read_some.new.classes
-    c.args.progress.now.flags (with_class c.read_some.new.progress.flags c.in-Some.met.class)
+    → IsSkimmed (g.D.BidiDataSource.source c.args.data_source.now) g.T.TextSource.units (has c.args.stop_classes) (ahead g.T.TextSource.units (g.T.TextSource.characters c.args.text) c.args.progress.now.at) c.args.progress.now.at (c.in-Some.stop.start + c.in-Some.stop.len) c.args.classes.now c.read_some.new.classes
+    c.args.progress.now.flags (with_class c.read_some.new.progress.flags c.in-Some.stop.class)
 passed g c =
-    let met = IsMet-on _ _ _ _ _ _ _ _ _ _ c.loop-progress.invariant g.met.T.TextSource.has_units (g.T.TextSource.characters c.args.text) c.requires.begins refl c.in-Some.met c.read_some.new.classes _ c.in-Some.ensures.met in
-    IsSkimmed-met _ _ (has c.args.minded) _ _ c.in-Some.met _ _ _ _ met (sym c.has.ensures ∙ c.if-has.false)
+    let stop = IsStop-on _ _ _ _ _ _ _ _ _ _ c.loop-progress.invariant g.met.T.TextSource.has_units (g.T.TextSource.characters c.args.text) c.requires.begins refl c.in-Some.stop c.read_some.new.classes _ c.in-Some.ensures.stop in
+    IsSkimmed-stop _ _ (has c.args.stop_classes) _ _ c.in-Some.stop _ _ _ _ stop (sym c.has.ensures ∙ c.if-has.false)
 
 pub overflow_add-progress : goal.overflow_add-progress
 overflow_add-progress g c =
@@ -38,7 +38,7 @@ loop-progress-preserved-in-Some g c = rw c.with-progress.ensures (passed g (goal
 
 pub loop-progress-preserved : goal.loop-progress-preserved
 loop-progress-preserved g c =
-    IsSkimmed-on _ _ _ _ _ _ _ _ _ _ c.loop-progress.invariant g.met.T.TextSource.has_units (g.T.TextSource.characters c.args.text) c.requires.begins refl _ _ _ c.in_default.ensures.met
+    IsSkimmed-on _ _ _ _ _ _ _ _ _ _ c.loop-progress.invariant g.met.T.TextSource.has_units (g.T.TextSource.characters c.args.text) c.requires.begins refl _ _ _ c.in_default.ensures.stop
 
 pub returns-clause-end : goal.returns-clause-end
 returns-clause-end g c none =

@@ -4,7 +4,7 @@ use bidi_base::char_data::BidiClass;
 
 /// A character at which a search stops.
 #[derive(Clone, Copy)]
-pub(super) struct Met {
+pub(super) struct Stop {
     pub(super) start: usize,
     pub(super) c: char,
     /// How many code units it has.

@@ -6,7 +6,7 @@ ghost use Rattle.bidi_base.specs.Classes.{is_strong as is_strong_class};
 ghost use Rattle.bidi_base.specs.Isolates.{level_by, resolved_fsi};
 ghost use Rattle.bidi_base.specs.Reading.{outer, filled};
 ghost use Rattle.bidi_walk.specs.ClassSet.{has};
-ghost use Rattle.bidi_walk.specs.FirstWalk.{waiting, deciding_after, classes_after, is_decided, wants_strong, minds, IsFresh, IsReadBy, StopsCounting};
+ghost use Rattle.bidi_walk.specs.FirstWalk.{waiting, deciding_after, classes_after, is_decided, wants_strong, stops_at, IsFresh, IsReadBy, StopsCounting};
 
 use crate::class_set::ClassSet;
 use crate::paragraph_flags::ParagraphFlags;
@@ -59,7 +59,7 @@ struct Undecided {
 
 /// The paragraph that is being read.
 #[derive(Drop)]
-pub(super) struct Reading {
+pub(super) struct ParagraphState {
     /// The code unit at which it begins.
     pub(super) start: usize,
     // The number of open isolates. Isolates that were open at any time in a decided state are not counted.
@@ -71,12 +71,12 @@ pub(super) struct Reading {
     pub(super) flags: ParagraphFlags,
 }
 
-impl Reading {
+impl ParagraphState {
     /// Starts before the text.
-    pub(super) fn new(alloc: Global) -> Reading
+    pub(super) fn new(alloc: Global) -> ParagraphState
         ensures { IsFresh result 0 }
     {
-        Reading {
+        ParagraphState {
             start: 0,
             depth: 0,
             undecided: Vec::new(alloc),
@@ -130,14 +130,14 @@ impl Reading {
 
     /// Returns the classes that would change more of this state than the flags if a character of one came
     /// next.
-    pub(super) fn minded(&self) -> ClassSet
-        ensures { (c : BidiClass) → has result c ≡ minds self.now c }
+    pub(super) fn stop_classes(&self) -> ClassSet
+        ensures { (c : BidiClass) → has result c ≡ stops_at self.now c }
     {
         let closing = ClassSet::CLOSING.when(self.depth > 0);
         if self.is_decided() {
-            return ClassSet::ALWAYS_MINDED.union(closing);
+            return ClassSet::ALWAYS_STOPS.union(closing);
         }
-        ClassSet::ALWAYS_MINDED
+        ClassSet::ALWAYS_STOPS
             .union(ClassSet::INITIATORS)
             .union(ClassSet::STRONG.when(self.wants_strong()))
             .union(closing)
@@ -156,7 +156,7 @@ impl Reading {
         requires few { self.old.depth < usize.MAX }
         ensures classes { OnOk result (classes.new
             ≡ classes_after class (waiting self.old.depth self.old.undecided.items) classes.old) }
-        ensures reading { OnOk result (IsReadBy class units self.old self.new) }
+        ensures state { OnOk result (IsReadBy class units self.old self.new) }
     {
         self.flags = self.flags.with(class);
         if is_strong(class) {
