@@ -11,7 +11,7 @@ use Rattle.bidi_weak.specs.WeakWalk.{settled_to, WaitsBelow}
 use Rattle.bidi_runs.proofs.WalkLemmas.{are_ordered-front, are_ordered-take}
 use Rattle.bidi_runs.proofs.CountBelow.{length-between, count_below-cons, count_below-none, count_below-monotone, count_below-parts}
 
-units-cons : (r : ℕ × ℕ) (runs : List (ℕ × ℕ)) → length (units_in_runs (r ∷ runs)) ≡ (r.1 - r.0) + length (units_in_runs runs)
+pub units-cons : (r : ℕ × ℕ) (runs : List (ℕ × ℕ)) → length (units_in_runs (r ∷ runs)) ≡ (r.1 - r.0) + length (units_in_runs runs)
 units-cons r runs = grind (arith, length-append, length-between) steps 400000
 
 -- of the units of one range each counts

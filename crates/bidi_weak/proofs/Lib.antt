@@ -1,5 +1,6 @@
 pub mod CountedUnits
 pub mod FoldAny
+pub mod TestedRuns
 pub mod WeakMarks
 pub mod WeakPassLemmas
 pub mod WeakText

@@ -17,11 +17,12 @@ use bidi_runs::written::is_kept_in_place;
 use std::sync::ledger::Ledger;
 
 /// Applies W1 to the code units of some runs that are not BN.
-pub fn resolve_marks<S: Ledger>(
+pub fn resolve_marks<S: Ledger, L: Ledger>(
     runs: &[LevelRun],
     sos: BidiClass,
     classes: &mut [BidiClass],
     steps: &mut Steps<S>,
+    looked: &mut Steps<L>,
 )
     requires ordered { IsTrue (are_ordered (map bounds runs.now)) }
     requires within { All (λ r. r.1 ≤ length classes.old) (map bounds runs.now) }
@@ -29,8 +30,9 @@ pub fn resolve_marks<S: Ledger>(
     ensures marked { IsMarked (map bounds runs.now) (carried sos) classes.old classes.new }
     ensures at_least { steps.old ≤ steps.new }
     ensures at_most { steps.new ≤ steps.old + two_a_unit runs.now }
+    ensures looked { looked.new ≤ looked.old + two_a_unit runs.now }
 {
-    if !has_marks(runs, classes) {
+    if !has_marks(runs, classes, looked) {
         return;
     }
     let mut last = sos;
@@ -41,16 +43,26 @@ pub fn resolve_marks<S: Ledger>(
 }
 
 /// Whether the runs have a nonspacing mark.
-fn has_marks(runs: &[LevelRun], classes: &[BidiClass]) -> bool
-    ensures { result ≡ is_any is_nsm runs.now classes.now }
+fn has_marks<L: Ledger>(runs: &[LevelRun], classes: &[BidiClass], looked: &mut Steps<L>) -> bool
+    requires { IsTrue (are_ordered (map bounds runs.now)) }
+    ensures answer { result ≡ is_any is_nsm runs.now classes.now }
+    ensures looked { looked.new ≤ looked.old + two_a_unit runs.now }
 {
-    runs.iter().any(|run| is_mark_in(part_of(classes, run)))
+    for run in runs {
+        looked.tick();
+        if is_mark_in(part_of(classes, run), looked) {
+            return true;
+        }
+    }
+    false
 }
 
 /// Whether one of the classes is NSM. Tests all of them, many at once.
-fn is_mark_in(classes: &[BidiClass]) -> bool
-    ensures { result ≡ is_any_of is_nsm classes.now }
+fn is_mark_in<L: Ledger>(classes: &[BidiClass], looked: &mut Steps<L>) -> bool
+    ensures answer { result ≡ is_any_of is_nsm classes.now }
+    ensures looked { looked.new ≡ looked.old + length classes.now }
 {
+    looked.tick_by(classes.len());
     classes
         .iter()
         .fold(false, |found, class| found | is_nsm(*class))

@@ -10,7 +10,7 @@ ghost use Rattle.bidi_base.specs.Text.{text_len, IsPerChar};
 ghost use Rattle.bidi_base.specs.Units.{bounds, are_ordered, units_in_runs, AreLines};
 ghost use Rattle.bidi_runs.specs.ExplicitPass.{filled};
 ghost use Rattle.bidi_weak.specs.WeakPass.{is_asked, is_number, is_other, next_before, still_to_come, strengthened, waits};
-ghost use Rattle.bidi_weak.specs.WeakWalk.{is_any, is_any_of, len_at, settled_to, AreAlike, IsWalked, IsWhole};
+ghost use Rattle.bidi_weak.specs.WeakWalk.{is_any, is_any_of, len_at, settled_to, AreAlike, IsWalked, IsWhole, two_a_unit};
 ghost use Rattle.bidi_weak.specs.WeakWalk.{Passes, Reads, ReadsTo, WaitsBelow};
 ghost use Rattle.bidi_runs.specs.Written.{count_below, is_seen, IsWrittenOver};
 
@@ -40,12 +40,13 @@ struct Walk {
 
 /// Applies W2, W4, W5 and W7 to the code units of some runs that are not BN. None of them has NSM.
 /// Separators and terminators that do not become numbers keep their class or get ON. AL stays.
-pub fn resolve_numbers<T: TextSource, S: Ledger>(
+pub fn resolve_numbers<T: TextSource, S: Ledger, L: Ledger>(
     text: T,
     runs: &[LevelRun],
     sos: BidiClass,
     classes: &mut [BidiClass],
     steps: &mut Steps<S>,
+    looked: &mut Steps<L>,
 )
     requires ordered { IsTrue (are_ordered (map bounds runs.now)) }
     requires lines { AreLines T.units (T.characters text) (map bounds runs.now) }
@@ -53,8 +54,9 @@ pub fn resolve_numbers<T: TextSource, S: Ledger>(
     ensures walked { IsWalked (len_at T.units (T.characters text)) (map bounds runs.now) sos classes.old classes.new }
     ensures at_least { steps.old ≤ steps.new }
     ensures at_most { steps.new ≤ steps.old + 4 * length (units_in_runs (map bounds runs.now)) }
+    ensures looked { looked.new ≤ looked.old + 36 * length (units_in_runs (map bounds runs.now)) }
 {
-    if !has_numbers(runs, classes) {
+    if !has_numbers(runs, classes, looked) {
         return;
     }
     let mut walk = Walk {
@@ -65,25 +67,35 @@ pub fn resolve_numbers<T: TextSource, S: Ledger>(
     };
     for run in 0..runs.len() {
         steps.tick();
-        walk.read_run(text, runs, run, classes, steps);
+        walk.read_run(text, runs, run, classes, steps, looked);
     }
     let end = classes.len();
     walk.settle(runs, classes, end, ON, steps);
 }
 
 /// Whether the runs have a number.
-fn has_numbers(runs: &[LevelRun], classes: &[BidiClass]) -> bool
-    ensures { result ≡ is_any is_number runs.now classes.now }
+fn has_numbers<L: Ledger>(runs: &[LevelRun], classes: &[BidiClass], looked: &mut Steps<L>) -> bool
+    requires { IsTrue (are_ordered (map bounds runs.now)) }
+    ensures answer { result ≡ is_any is_number runs.now classes.now }
+    ensures looked { looked.new ≤ looked.old + two_a_unit runs.now }
 {
-    runs.iter().any(|run| is_number_in(part_of(classes, run)))
+    for run in runs {
+        looked.tick();
+        if is_number_in(part_of(classes, run), looked) {
+            return true;
+        }
+    }
+    false
 }
 
 /// Whether one of the classes is a number. Tests all of them, many at once. The compiler vectorizes the
 /// loop only in a function of its own.
 #[inline(never)]
-fn is_number_in(classes: &[BidiClass]) -> bool
-    ensures { result ≡ is_any_of is_number classes.now }
+fn is_number_in<L: Ledger>(classes: &[BidiClass], looked: &mut Steps<L>) -> bool
+    ensures answer { result ≡ is_any_of is_number classes.now }
+    ensures looked { looked.new ≡ looked.old + length classes.now }
 {
+    looked.tick_by(classes.len());
     classes
         .iter()
         .fold(false, |found, class| found | is_number(*class))
@@ -98,13 +110,14 @@ pub fn is_number(class: BidiClass) -> bool
 
 impl Walk {
     /// Reads the code units of the run at the index `run`.
-    fn read_run<T: TextSource, S: Ledger>(
+    fn read_run<T: TextSource, S: Ledger, L: Ledger>(
         &mut self,
         text: T,
         runs: &[LevelRun],
         run: usize,
         classes: &mut [BidiClass],
         steps: &mut Steps<S>,
+        looked: &mut Steps<L>,
     )
         requires ordered { IsTrue (are_ordered (map bounds runs.now)) }
         requires waiting { WaitsBelow (map bounds runs.now) self.old (get_or (map bounds runs.now) run (0, 0)).0 }
@@ -120,13 +133,15 @@ impl Walk {
         ensures at_most { let r = get_or (map bounds runs.now) run (0, 0) in
             steps.new + 1 + 2 * count_below (map bounds runs.now) (settled_to self.old r.0)
             ≤ steps.old + 2 * (r.1 - r.0) + 2 * count_below (map bounds runs.now) (settled_to self.new r.1) }
+        ensures looked { let r = get_or (map bounds runs.now) run (0, 0) in
+            looked.new ≤ looked.old + 34 * (r.1 - r.0) }
     {
         let end = runs[run].end;
         let mut at = runs[run].start;
         while at < end {
             steps.tick();
             if self.passes_over(classes[at]) {
-                at = self.pass_over(classes, at, end);
+                at = self.pass_over(classes, at, end, looked);
                 continue;
             }
             let next = self.stretch_end(text, classes, at, end, steps);
@@ -147,7 +162,13 @@ impl Walk {
 
     /// Passes over the code unit at `at` and those after it whose class does not matter (see `is_asked`),
     /// before `end`. Returns where they end.
-    fn pass_over(&mut self, classes: &[BidiClass], at: usize, end: usize) -> usize
+    fn pass_over<L: Ledger>(
+        &mut self,
+        classes: &[BidiClass],
+        at: usize,
+        end: usize,
+        looked: &mut Steps<L>,
+    ) -> usize
         requires other { is_other self.old.before ≡ true }
         requires first { is_asked (class_at classes.now at) ≡ false }
         requires some { at < end }
@@ -157,9 +178,10 @@ impl Walk {
         ensures other { is_other self.new.before ≡ true }
         ensures first_run { self.new.first_run ≡ self.old.first_run }
         ensures passes { Passes at result end self.old self.new classes.now }
+        ensures looked { looked.new ≤ looked.old + 2 * (result - at) + 32 }
     {
-        let next = at + 1 + before_asked(&classes[at + 1..end]);
-        self.strong = last_strong(&classes[at..next]).unwrap_or(self.strong);
+        let next = at + 1 + before_asked(&classes[at + 1..end], looked);
+        self.strong = last_strong(&classes[at..next], looked).unwrap_or(self.strong);
         next
     }
 
@@ -287,52 +309,68 @@ fn is_asked(class: BidiClass) -> bool
     is_number(class) | (class == ET)
 }
 
-/// The number of classes before the first for which `is_asked` holds, or of all.
-fn before_asked(classes: &[BidiClass]) -> usize
+/// The number of classes before the first for which `is_asked` holds, or of all. Looks at that class, at those
+/// before it, and at no more than [`WIDE`] others.
+fn before_asked<L: Ledger>(classes: &[BidiClass], looked: &mut Steps<L>) -> usize
     ensures count { result ≡ position_or_len is_asked classes.now }
     ensures within { result ≤ length classes.now }
+    ensures looked_at_least { looked.old + result ≤ looked.new }
+    ensures looked_at_most { looked.new ≤ looked.old + result + 33 }
 {
-    let idle = WIDE * idle_pieces(classes);
-    idle + before_near(&classes[idle..])
+    let idle = WIDE * idle_pieces(classes, looked);
+    idle + before_near(&classes[idle..], looked)
 }
 
 /// Counts like [`before_asked`], but class by class.
-fn before_near(classes: &[BidiClass]) -> usize
+fn before_near<L: Ledger>(classes: &[BidiClass], looked: &mut Steps<L>) -> usize
     ensures count { result ≡ position_or_len is_asked classes.now }
     ensures within { result ≤ length classes.now }
+    ensures looked { looked.new ≡ looked.old + min (result + 1) (length classes.now) }
 {
-    classes
+    let before = classes
         .iter()
         .take_while(|class| !is_asked(**class))
-        .count()
+        .count();
+    looked.tick_by((before + 1).min(classes.len()));
+    before
 }
 
 /// The number of pieces of [`WIDE`] classes before the first piece in which `is_asked` holds for a class.
-fn idle_pieces(classes: &[BidiClass]) -> usize
+fn idle_pieces<L: Ledger>(classes: &[BidiClass], looked: &mut Steps<L>) -> usize
     ensures within { result * 32 ≤ length classes.now }
     ensures idle { (k : ℕ) → k < result → is_any_of is_asked (take 32 (drop (k * 32) classes.now)) ≡ false }
+    ensures looked_at_least { looked.old + 32 * result ≤ looked.new }
+    ensures looked_at_most { looked.new ≤ looked.old + 32 * (result + 1) }
 {
-    classes
-        .chunks_exact(WIDE)
-        .take_while(|piece| !is_asked_in(piece))
-        .count()
+    let pieces = classes.len() / WIDE;
+    for piece in 0..pieces {
+        let start = WIDE * piece;
+        if is_asked_in(&classes[start..start + WIDE], looked) {
+            return piece;
+        }
+    }
+    pieces
 }
 
 /// Whether `is_asked` holds for one of the classes. Tests all of them, many at once. The compiler
 /// vectorizes the loop only in a function of its own.
 #[inline(never)]
-fn is_asked_in(classes: &[BidiClass]) -> bool
-    ensures { result ≡ is_any_of is_asked classes.now }
+fn is_asked_in<L: Ledger>(classes: &[BidiClass], looked: &mut Steps<L>) -> bool
+    ensures answer { result ≡ is_any_of is_asked classes.now }
+    ensures looked { looked.new ≡ looked.old + length classes.now }
 {
+    looked.tick_by(classes.len());
     classes
         .iter()
         .fold(false, |found, class| found | is_asked(*class))
 }
 
-/// The last strong class in the slice.
-fn last_strong(classes: &[BidiClass]) -> Option<BidiClass>
-    ensures { result ≡ find is_strong (reverse classes.now) }
+/// The last strong class in the slice. Stops there, and counts all classes.
+fn last_strong<L: Ledger>(classes: &[BidiClass], looked: &mut Steps<L>) -> Option<BidiClass>
+    ensures answer { result ≡ find is_strong (reverse classes.now) }
+    ensures looked { looked.new ≡ looked.old + length classes.now }
 {
+    looked.tick_by(classes.len());
     classes
         .iter()
         .rev()

@@ -48,7 +48,7 @@ returns-clause-marked g c = grind (arith, common_steps, start_or-past)
 
 pub returns-then-not-has_marks-clause-marked : goal.returns-then-not-has_marks-clause-marked
 returns-then-not-has_marks-clause-marked g c =
-    IsMarked-none c.args.runs.now (carried c.args.sos) c.args.classes.now (is_any-none is_nsm c.args.runs.now c.args.classes.now c.requires.within (sym c.has_marks.ensures ∙ c.if-not-has_marks.true))
+    IsMarked-none c.args.runs.now (carried c.args.sos) c.args.classes.now (is_any-none is_nsm c.args.runs.now c.args.classes.now c.requires.within (sym c.has_marks.ensures.answer ∙ c.if-not-has_marks.true))
 
 pub returns-clause-at_most : goal.returns-clause-at_most
 returns-clause-at_most g c = grind (arith, length-map, take_all)

@@ -15,7 +15,7 @@ idle_at : (piece : List BidiClass) (k : ℕ) → is_any_of is_asked piece ≡ fa
 idle_at piece k none inside = grind (arith, fold_any, list_any_at) steps 400000
 
 pub returns-clause-count : goal.returns-clause-count
-returns-clause-count c =
+returns-clause-count g c =
     let xs = c.args.classes.now in
     let n = c.idle_pieces-idle.result in
     let rest = take (length xs - 32 * n) (drop (32 * n) xs) in

@@ -5,7 +5,7 @@ use Rattle.bidi_weak.proofs.WeakWalkLemmas.{IsUnderWay-passes_all}
 use Rattle.bidi_weak.proofs.weak.numbers.Walk.pass_over.Goals as goal
 
 pub returns-clause-passes : goal.returns-clause-passes
-returns-clause-passes c p run fits starts ends h =
+returns-clause-passes g c p run fits starts ends h =
     let i = c.args.at in
     let end = c.args.end in
     let now = c.args.classes.now in
@@ -24,4 +24,4 @@ returns-clause-passes c p run fits starts ends h =
           let place : i + 1 + j ≡ k = omega arith in
           simp (get_or-take (end - (i + 1)) (drop (i + 1) now) j L (omega arith), get_or-drop, place) at (fails_before_first is_asked part j L (omega (arith, c.before_asked.ensures.count)))
     ] in
-    rw (c.unwrap_or-self.ensures, c.last_strong.ensures) (simp to at (IsUnderWay-passes_all p now w i run n h fits starts (omega arith) (omega (arith, c.requires.inside)) c.requires.other none))
+    rw (c.unwrap_or-self.ensures, c.last_strong.ensures.answer) (simp to at (IsUnderWay-passes_all p now w i run n h fits starts (omega arith) (omega (arith, c.requires.inside)) c.requires.other none))
