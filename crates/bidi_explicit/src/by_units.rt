@@ -4,7 +4,7 @@ ghost use Rattle.std.specs.Prelude.{◌+◌, ◌*◌, ◌≤◌, length, map, On
 ghost use Rattle.bidi_base.specs.InPlace.{AreExplicitLevels, CanFindExplicitLevels};
 ghost use Rattle.bidi_base.specs.Units.{bounds};
 
-use crate::explicit::{Paragraph, Stride, compute_by, compute_fresh};
+use crate::explicit::{Paragraph, Stride, compute_fresh, compute_searching};
 use bidi_base::char_data::BidiClass;
 use bidi_base::level::Level;
 use bidi_runs::prepare::{LevelRunVec, Steps};
@@ -61,5 +61,6 @@ pub fn compute_counted<T: TextSource, S: Ledger>(
     ensures at_most { OnOk result (steps.new ≤ steps.old + 4 * length original_classes.now) }
 {
     let paragraph = Paragraph::new(text, para_level, Stride::CodeUnit, original_classes);
-    compute_by(&paragraph, levels, processing_classes, runs, steps)
+    let blank = Blank::new(1);
+    compute_searching::<T, S, Brand>(&paragraph, levels, processing_classes, runs, steps, blank)
 }

@@ -225,7 +225,12 @@ impl<'p, T: TextSource> Paragraph<'p, T> {
 
     // The end of the stretch without controls that begins at `from`. Counts one step for each of its
     // characters or code units.
-    fn stretch_end<S: Ledger>(&self, from: usize, steps: &mut Steps<S>) -> usize
+    fn stretch_end<S: Ledger, L: Ledger>(
+        &self,
+        from: usize,
+        steps: &mut Steps<S>,
+        looked: &mut Steps<L>,
+    ) -> usize
         requires begins { IsStart T.units (T.characters self.now.text) from }
         requires inside { from < length self.now.original_classes.now }
         requires plain { is_control (class_at self.now.original_classes.now from) ≡ false }
@@ -233,22 +238,26 @@ impl<'p, T: TextSource> Paragraph<'p, T> {
         ensures begins { IsStart T.units (T.characters self.now.text) result }
         ensures steps { steps.new + count_to self.now.stride T.units (T.characters self.now.text) from
             ≡ steps.old + count_to self.now.stride T.units (T.characters self.now.text) result }
+        ensures looked { looked.new ≤ looked.old + 6 * (result - from) }
     {
         let classes = self.original_classes;
         match self.stride {
-            Stride::CodeUnit => units::next_after(Control, classes, from, classes.len(), steps),
+            Stride::CodeUnit => {
+                units::next_after(Control, classes, from, classes.len(), steps, looked)
+            }
             Stride::Character => self.next_character(Control, from, classes.len(), steps),
         }
     }
 
     // The first character from `from` on and before `to` whose class passes a test, or else `to`. Counts
     // one step for each character or code unit passed over.
-    fn next_passing<C: ClassTest, S: Ledger>(
+    fn next_passing<C: ClassTest, S: Ledger, L: Ledger>(
         &self,
         test: C,
         from: usize,
         to: usize,
         steps: &mut Steps<S>,
+        looked: &mut Steps<L>,
     ) -> usize
         requires begins { IsStart T.units (T.characters self.now.text) from }
         requires ends { IsStart T.units (T.characters self.now.text) to }
@@ -258,9 +267,11 @@ impl<'p, T: TextSource> Paragraph<'p, T> {
         ensures begins { IsStart T.units (T.characters self.now.text) result }
         ensures steps { steps.new + count_to self.now.stride T.units (T.characters self.now.text) from
             ≡ steps.old + count_to self.now.stride T.units (T.characters self.now.text) result }
+        ensures looked { looked.new ≤ looked.old + 6 * (to - from) }
     {
+        let classes = self.original_classes;
         match self.stride {
-            Stride::CodeUnit => units::next_passing(test, self.original_classes, from, to, steps),
+            Stride::CodeUnit => units::next_passing(test, classes, from, to, steps, looked),
             Stride::Character => self.next_character(test, from, to, steps),
         }
     }
@@ -319,13 +330,14 @@ impl<'p, T: TextSource> Paragraph<'p, T> {
     }
 
     /// Reads the characters from an index up to the next control.
-    pub fn read_stretch<S: Ledger>(
+    pub fn read_stretch<S: Ledger, L: Ledger>(
         &self,
         from: usize,
         status: StatusEntry,
         levels: &mut [Level],
         classes: &mut [BidiClass],
         steps: &mut Steps<S>,
+        looked: &mut Steps<L>,
     ) -> Progress
         requires inside { from < length self.now.original_classes.now }
         requires plain { is_control (class_at self.now.original_classes.now from) ≡ false }
@@ -343,11 +355,12 @@ impl<'p, T: TextSource> Paragraph<'p, T> {
             ≤ steps.new + char_index T.units (T.characters self.now.text) from }
         ensures at_most { steps.new + 3 * count_to self.now.stride T.units (T.characters self.now.text) from
             ≤ steps.old + 3 * count_to self.now.stride T.units (T.characters self.now.text) result.end }
+        ensures looked { looked.new ≤ looked.old + 12 * (result.end - from) }
     {
-        let end = self.stretch_end(from, steps);
+        let end = self.stretch_end(from, steps, looked);
         write_level(levels, from, end, status.level);
         self.write_override(classes, from, end, status.override_class, steps);
-        let first_kept = self.next_passing(Kept, from, end, steps);
+        let first_kept = self.next_passing(Kept, from, end, steps, looked);
         Progress {
             end,
             level: status.level,

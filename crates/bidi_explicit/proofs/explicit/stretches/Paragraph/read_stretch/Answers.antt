@@ -23,4 +23,5 @@ returns g c =
         c.next_passing-first_kept.ensures.steps,
       );
       at_most = grind (arith, count-le);
+      looked = grind arith;
     }
