@@ -1,5 +1,6 @@
 pub mod CountedUnits
 pub mod FoldAny
+pub mod OwedUnits
 pub mod TestedRuns
 pub mod WeakMarks
 pub mod WeakPassLemmas

@@ -142,9 +142,9 @@ fn resolve_weak_searching<T: TextSource, S: Ledger, L: Ledger>(
 // Like [`resolve_weak_lent`], and keeps both counts: `steps` of loop iterations, and `looked` of the code
 // units that searches look at.
 //
-// Searches look at no more than 41 code units for each code unit of the runs. Three tests for marks and
-// numbers take seven of them, and the walk over numbers 34. It can look at a piece of [`WIDE`] code units to
-// pass over one.
+// Searches look at no more than 19 code units for each code unit of the runs. Three tests for marks and
+// numbers take seven of these, and the walk over numbers twelve. The walk can look at a piece of [`WIDE`]
+// code units to pass over one. But then it reads at least two others before it passes over one again.
 fn resolve_weak_lent_counted<T: TextSource, S: Ledger, L: Ledger>(
     text: T,
     sequence: LentSequence<'_>,
@@ -159,7 +159,7 @@ fn resolve_weak_lent_counted<T: TextSource, S: Ledger, L: Ledger>(
         + length (chars_in_runs T.units (T.characters text) (map bounds (lent_runs sequence.entry)))
         ≤ steps.new }
     ensures at_most { steps.new ≤ steps.old + 8 * length (units_in_runs (map bounds (lent_runs sequence.entry))) }
-    ensures looked { looked.new ≤ looked.old + 41 * length (units_in_runs (map bounds (lent_runs sequence.entry))) }
+    ensures looked { looked.new ≤ looked.old + 19 * length (units_in_runs (map bounds (lent_runs sequence.entry))) }
 {
     let runs = sequence.runs();
     let sos = sequence.sos();
@@ -184,7 +184,7 @@ fn resolve_marks_and_numbers<T: TextSource, S: Ledger, L: Ledger>(
         × IsWalked (len_at T.units (T.characters text)) (map bounds runs.now) sos marked classes.new }
     ensures at_least { steps.old ≤ steps.new }
     ensures at_most { steps.new ≤ steps.old + 6 * length (units_in_runs (map bounds runs.now)) }
-    ensures looked { looked.new ≤ looked.old + 41 * length (units_in_runs (map bounds runs.now)) }
+    ensures looked { looked.new ≤ looked.old + 19 * length (units_in_runs (map bounds runs.now)) }
 {
     if has_marks_or_numbers(runs, classes, looked) {
         resolve_marks(runs, sos, classes, steps, looked);

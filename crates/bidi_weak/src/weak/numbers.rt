@@ -54,7 +54,7 @@ pub fn resolve_numbers<T: TextSource, S: Ledger, L: Ledger>(
     ensures walked { IsWalked (len_at T.units (T.characters text)) (map bounds runs.now) sos classes.old classes.new }
     ensures at_least { steps.old ≤ steps.new }
     ensures at_most { steps.new ≤ steps.old + 4 * length (units_in_runs (map bounds runs.now)) }
-    ensures looked { looked.new ≤ looked.old + 36 * length (units_in_runs (map bounds runs.now)) }
+    ensures looked { looked.new ≤ looked.old + 14 * length (units_in_runs (map bounds runs.now)) }
 {
     if !has_numbers(runs, classes, looked) {
         return;
@@ -134,7 +134,7 @@ impl Walk {
             steps.new + 1 + 2 * count_below (map bounds runs.now) (settled_to self.old r.0)
             ≤ steps.old + 2 * (r.1 - r.0) + 2 * count_below (map bounds runs.now) (settled_to self.new r.1) }
         ensures looked { let r = get_or (map bounds runs.now) run (0, 0) in
-            looked.new ≤ looked.old + 34 * (r.1 - r.0) }
+            looked.new ≤ looked.old + 12 * (r.1 - r.0) }
     {
         let end = runs[run].end;
         let mut at = runs[run].start;
@@ -178,7 +178,8 @@ impl Walk {
         ensures other { is_other self.new.before ≡ true }
         ensures first_run { self.new.first_run ≡ self.old.first_run }
         ensures passes { Passes at result end self.old self.new classes.now }
-        ensures looked { looked.new ≤ looked.old + 2 * (result - at) + 32 }
+        ensures asked { result < end → is_asked (class_at classes.now result) ≡ true }
+        ensures looked { looked.new ≤ looked.old + 2 * (result - at) + min 32 (end - at) }
     {
         let next = at + 1 + before_asked(&classes[at + 1..end], looked);
         self.strong = last_strong(&classes[at..next], looked).unwrap_or(self.strong);
@@ -230,6 +231,8 @@ impl Walk {
         requires some { stretch.start < stretch.end }
         requires inside { stretch.end ≤ length classes.old }
         ensures waiting { WaitsBelow (map bounds runs.now) self.new stretch.end }
+        ensures before { self.new.before
+            ≡ next_before (strengthened self.old.strong (class_at classes.old stretch.start)) self.old.before }
         ensures rest { (k : ℕ) → stretch.end ≤ k → class_at classes.new k ≡ class_at classes.old k }
         ensures long { length classes.new ≡ length classes.old }
         ensures reads { Reads (map bounds runs.now) run stretch.start stretch.end self.old self.new classes.old
@@ -315,7 +318,7 @@ fn before_asked<L: Ledger>(classes: &[BidiClass], looked: &mut Steps<L>) -> usiz
     ensures count { result ≡ position_or_len is_asked classes.now }
     ensures within { result ≤ length classes.now }
     ensures looked_at_least { looked.old + result ≤ looked.new }
-    ensures looked_at_most { looked.new ≤ looked.old + result + 33 }
+    ensures looked_at_most { looked.new ≤ looked.old + result + 1 + min 32 (length classes.now) }
 {
     let idle = WIDE * idle_pieces(classes, looked);
     idle + before_near(&classes[idle..], looked)
@@ -340,7 +343,7 @@ fn idle_pieces<L: Ledger>(classes: &[BidiClass], looked: &mut Steps<L>) -> usize
     ensures within { result * 32 ≤ length classes.now }
     ensures idle { (k : ℕ) → k < result → is_any_of is_asked (take 32 (drop (k * 32) classes.now)) ≡ false }
     ensures looked_at_least { looked.old + 32 * result ≤ looked.new }
-    ensures looked_at_most { looked.new ≤ looked.old + 32 * (result + 1) }
+    ensures looked_at_most { looked.new ≤ looked.old + min (32 * (result + 1)) (length classes.now) }
 {
     let pieces = classes.len() / WIDE;
     for piece in 0..pieces {

@@ -1,4 +1,5 @@
 use Rattle.bidi_base.proofs.Common.{◌≡◌, ◌+◌, ◌-◌, ◌<◌, ◌≤◌, ℕ, false, take, drop, arith, inl, inr, length-take, length-drop, get_or-take, get_or-drop, cases_lt, fails_before_first, class_at}
+use Rattle.std.proofs.lemmas.List.Sums.{passes_at_first}
 use Rattle.bidi_base.specs.declared.char_data.BidiClass.TheVariants.{L}
 use Rattle.bidi_weak.specs.WeakPass.{is_asked}
 use Rattle.bidi_weak.proofs.WeakWalkLemmas.{IsUnderWay-passes_all}
@@ -25,3 +26,14 @@ returns-clause-passes g c p run fits starts ends h =
           simp (get_or-take (end - (i + 1)) (drop (i + 1) now) j L (omega arith), get_or-drop, place) at (fails_before_first is_asked part j L (omega (arith, c.before_asked.ensures.count)))
     ] in
     rw (c.unwrap_or-self.ensures, c.last_strong.ensures.answer) (simp to at (IsUnderWay-passes_all p now w i run n h fits starts (omega arith) (omega (arith, c.requires.inside)) c.requires.other none))
+
+pub returns-clause-asked : goal.returns-clause-asked
+returns-clause-asked g c below =
+    let first = c.args.at + 1 in
+    let size = c.args.end - first in
+    let now = c.args.classes.now in
+    let part = take size (drop first now) in
+    let more = c.before_asked.result in
+    let inside : more < size = omega (arith, below) in
+    let found = passes_at_first is_asked part L (omega (arith, c.before_asked.ensures.count, inside, length-take size (drop first now), length-drop first now, c.requires.inside)) in
+    simp (← c.before_asked.ensures.count, get_or-take size (drop first now) more L inside, get_or-drop) at found

@@ -1,4 +1,4 @@
-use Rattle.bidi_base.proofs.Common.{◌≡◌, ◌<◌, ◌≤◌, ℕ, true, List, arith, and_right, get_or-map, length-map, are_ordered}
+use Rattle.bidi_base.proofs.Common.{◌≡◌, ◌<◌, ◌≤◌, ℕ, true, List, map, bounds, arith, and_right, class_at, get_or-map, length-map, are_ordered}
 use Rattle.bidi_weak.specs.declared.weak.numbers.Walk.{Walk}
 use Rattle.bidi_weak.specs.WeakPass.{is_other}
 use Rattle.bidi_weak.specs.WeakWalk.{settled_to}
@@ -7,6 +7,7 @@ use Rattle.bidi_runs.proofs.CountBelow.{count_below-monotone}
 use Rattle.bidi_weak.proofs.CountedUnits.{count_settled-monotone, settled_to-idle, WaitsBelow-later}
 use Rattle.bidi_runs.proofs.InRuns.{run_some}
 use Rattle.bidi_weak.proofs.WeakWalkLemmas.{other-free, IsUnderWay-unseen}
+use Rattle.bidi_weak.proofs.OwedUnits.{owed-removed}
 use Rattle.bidi_weak.proofs.weak.numbers.Walk.read_run.Goals as goal
 
 pub loop-at-init : goal.loop-at-init
@@ -16,7 +17,23 @@ pub loop-at-preserved-then-is_kept_in_place : goal.loop-at-preserved-then-is_kep
 loop-at-preserved-then-is_kept_in_place g c = grind (arith, length-map)
 
 pub loop-at-preserved : goal.loop-at-preserved
-loop-at-preserved g c = grind (arith, count_settled-monotone, WaitsBelow-later, IsUnderWay-unseen, and_right)
+loop-at-preserved g c =
+    let owed = owed-removed c.loop-at.self.before (class_at c.loop-at.classes c.loop-at.at) (grind arith) (grind arith) in
+    let settled = count_settled-monotone (map bounds c.args.runs.now) c.loop-at.self c.loop-at.at c.stretch_end-next.result c.requires.ordered (omega arith) in
+    record {
+      starts = grind arith;
+      ends = grind arith;
+      end = grind arith;
+      long = grind arith;
+      waiting = grind (arith, WaitsBelow-later);
+      rest = grind arith;
+      reads = grind (arith, IsUnderWay-unseen, and_right);
+      at_least = grind arith;
+      at_most = omega (arith, settled);
+      ended = λ done. omega (arith, settled);
+      looked = grind arith;
+      owed = λ inside. grind arith;
+    }
 
 -- the turns over units that are passed over
 passed : (runs : List (ℕ × ℕ)) (w after : Walk) (i j : ℕ) → are_ordered runs ≡ true → i < j → is_other w.before ≡ true
