@@ -4,7 +4,7 @@ use Rattle.bidi_base.proofs.Common.{drop, arith, length-append, length-take, len
 use Rattle.bidi_base.proofs.Common.{slice_range, cond-true, cond-false, All-head, All-tail, char_index, IsLine, are_ordered, are_ordered_from, chars_in_runs, units_in_runs, AreLines, take_more}
 use Rattle.bidi_base.proofs.PlaceLemmas.{line_places, place-sum}
 use Rattle.bidi_base.proofs.TextLemmas.{HasUnits, length-le-text_len}
-use Rattle.bidi_weak.specs.declared.weak.numbers.Walk.{Walk}
+use Rattle.bidi_weak.specs.declared.weak.w2_w4_w5_w7.Walk.{Walk}
 use Rattle.bidi_weak.specs.WeakPass.{waits}
 use Rattle.bidi_runs.specs.Written.{count_below}
 use Rattle.bidi_weak.specs.WeakWalk.{settled_to, WaitsBelow}

@@ -1,7 +1,7 @@
 -- The units that the searches of the walk have looked at, where they have not been paid for yet. Each unit that is read pays for twelve.
-use Rattle.bidi_base.proofs.Common.{◌≡◌, ℕ, ◌≤◌, Bool, true, false, not, ◌&&◌, if◌then◌else◌, is_kept_in_place, arith}
+use Rattle.bidi_base.proofs.Common.{◌≡◌, ℕ, ◌≤◌, false, not, ◌&&◌, if◌then◌else◌, is_kept_in_place, arith}
 use Rattle.bidi_base.specs.declared.char_data.BidiClass.{BidiClass}
-use Rattle.bidi_weak.specs.declared.weak.steps.Before.{Before}
+use Rattle.bidi_weak.specs.declared.weak.before.Before.{Before}
 use Rattle.bidi_weak.specs.WeakPass.{is_asked, is_other}
 
 -- as many as may be owed before a unit of this class: none where it can be passed over, so that a search begins

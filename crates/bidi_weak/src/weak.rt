@@ -12,19 +12,19 @@ ghost use Rattle.bidi_runs.specs.RunSequence.{lent_runs, lent_sos, runs as runs_
 ghost use Rattle.bidi_weak.specs.WeakPass.{is_mark_or_number};
 ghost use Rattle.bidi_weak.specs.WeakWalk.{is_any_of, is_any_wide, len_at, part_of, wide_part_of, IsMarked, IsWalked};
 
-mod left_over;
-mod marks;
-mod numbers;
-mod steps;
+mod before;
+mod w1;
+mod w2_w4_w5_w7;
+mod w3_w6;
 
 use bidi_base::char_data::BidiClass::{self, NSM};
 use bidi_runs::prepare::{IsolatingRunSequence, LentSequence, LevelRun, Steps};
 use bidi_text::text::TextSource;
-use left_over::change;
-use marks::resolve_marks;
-use numbers::{is_number, resolve_numbers};
 use std::marker::Brand;
 use std::sync::ledger::{Blank, Ledger};
+use w1::resolve_marks;
+use w2_w4_w5_w7::{is_number, resolve_numbers};
+use w3_w6::resolve_w3_w6;
 
 /// The classes of a run's code units, as far as there are any.
 fn part_of<'c>(classes: &'c [BidiClass], run: &LevelRun) -> &'c [BidiClass]
@@ -164,7 +164,7 @@ fn resolve_weak_lent_counted<T: TextSource, S: Ledger, L: Ledger>(
     let runs = sequence.runs();
     let sos = sequence.sos();
     resolve_marks_and_numbers(text, runs, sos, processing_classes, steps, looked);
-    change(runs, processing_classes, steps);
+    resolve_w3_w6(runs, processing_classes, steps);
 }
 
 /// Applies W1, and then W2, W4, W5 and W7. They matter only if there are nonspacing marks or numbers.
