@@ -196,7 +196,7 @@ pub(crate) fn compute_fresh<T: TextSource, S: Ledger>(
 }
 
 // Calls [`compute_by`] with a new count of code units that searches look at.
-pub(crate) fn compute_searching<T: TextSource, S: Ledger, L: Ledger>(
+fn compute_searching<T: TextSource, S: Ledger, L: Ledger>(
     paragraph: &Paragraph<'_, T>,
     levels: &mut [Level],
     processing_classes: &mut [BidiClass],
