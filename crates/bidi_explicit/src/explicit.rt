@@ -284,7 +284,15 @@ pub(crate) fn compute_by<T: TextSource, S: Ledger, L: Ledger>(
         let progress = if is_control(original_classes[at]) {
             paragraph.read_control(at, &mut stack, levels, processing_classes, steps)
         } else {
-            paragraph.read_stretch(at, stack.top(), levels, processing_classes, steps, looked)
+            let stretch = paragraph.read_stretch(
+                at,
+                stack.top(),
+                processing_classes,
+                steps,
+                looked,
+            );
+            write_level(levels, at, stretch.end, stretch.level);
+            stretch
         };
         run.meet(runs, &progress)?;
         at = progress.end;

@@ -60,7 +60,8 @@ pub fn resolve_weak<T: TextSource>(
 /// There is at least one iteration for each character in the runs, and at most eight for each code unit. A
 /// character that depends on a later one waits until that is read. The passes never search ahead, so they
 /// do not pass over a stretch of BN for each code unit before it. Calls of the text and of the library
-/// count as no iterations.
+/// count as no iterations, and neither do the tests for marks and numbers. A second count, which the call
+/// opens itself, has the code units that these look at.
 pub fn resolve_weak_counted<T: TextSource, S: Ledger>(
     text: T,
     sequence: &IsolatingRunSequence,

@@ -9,13 +9,14 @@ ghost use Rattle.bidi_base.specs.Search.{IsFirst};
 ghost use Rattle.bidi_base.specs.StatusMachine.{State};
 ghost use Rattle.bidi_base.specs.Text.{char_index, is_per_char, place, text_len};
 ghost use Rattle.bidi_base.specs.Units.{bounds};
+ghost use Rattle.bidi_runs.specs.ExplicitPass.{filled};
 ghost use Rattle.bidi_explicit.specs.Control.{is_control};
 ghost use Rattle.bidi_explicit.specs.ExplicitStretches.{paragraph_of, run_met, runs_met, IsOverridden, IsReadTo, IsStart, IsUnread, ReadsOn};
 ghost use Rattle.bidi_explicit.specs.Status.{entry_count, seen};
 ghost use Rattle.bidi_explicit.specs.Stride.{count_to};
 
 use super::status::{StatusEntry, StatusStack};
-use super::{Stride, cut_run, units, write_class, write_control, write_level};
+use super::{Stride, cut_run, units, write_class, write_control};
 use bidi_base::char_data::BidiClass::{self, B, BN, FSI, LRE, LRI, LRO, PDF, PDI, RLE, RLI, RLO};
 use bidi_base::level::Level;
 use bidi_base::search::ClassTest;
@@ -68,7 +69,8 @@ impl ClassTest for Kept {
 pub struct Progress {
     /// The index after that part.
     pub end: usize,
-    level: Level,
+    /// Its level.
+    pub level: Level,
     /// The first code unit of the part that X9 keeps.
     first_kept: Option<usize>,
 }
@@ -329,12 +331,12 @@ impl<'p, T: TextSource> Paragraph<'p, T> {
         }
     }
 
-    /// Reads the characters from an index up to the next control.
+    /// Reads the characters from an index up to the next control. The caller writes their level, which is the
+    /// same for all of them.
     pub fn read_stretch<S: Ledger, L: Ledger>(
         &self,
         from: usize,
         status: StatusEntry,
-        levels: &mut [Level],
         classes: &mut [BidiClass],
         steps: &mut Steps<S>,
         looked: &mut Steps<L>,
@@ -342,13 +344,14 @@ impl<'p, T: TextSource> Paragraph<'p, T> {
         requires inside { from < length self.now.original_classes.now }
         requires plain { is_control (class_at self.now.original_classes.now from) ≡ false }
         requires begins { IsStart T.units (T.characters self.now.text) from }
-        requires levels { length levels.old ≡ length self.now.original_classes.now }
         requires classes { length classes.old ≡ length self.now.original_classes.now }
         requires unread { IsUnread self.now.original_classes.now classes.old from }
-        ensures read { (stack : State) → seen status ≡ stack.top
+        ensures read { (stack : State) (levels written : List ℕ) → seen status ≡ stack.top
+            → written ≡ filled from (result.end - from) result.level levels
             → ReadsOn (paragraph_of T.units (T.characters self.now.text) self.now.level self.now.original_classes.now)
-            from stack levels.old classes.old result stack levels.new classes.new }
+            from stack levels classes.old result stack written classes.new }
         ensures some { from < result.end }
+        ensures within { result.end ≤ length self.now.original_classes.now }
         ensures more { count_to self.now.stride T.units (T.characters self.now.text) from
             < count_to self.now.stride T.units (T.characters self.now.text) result.end }
         ensures at_least { steps.old + char_index T.units (T.characters self.now.text) result.end
@@ -358,7 +361,6 @@ impl<'p, T: TextSource> Paragraph<'p, T> {
         ensures looked { looked.new ≤ looked.old + 12 * (result.end - from) }
     {
         let end = self.stretch_end(from, steps, looked);
-        write_level(levels, from, end, status.level);
         self.write_override(classes, from, end, status.override_class, steps);
         let first_kept = self.next_passing(Kept, from, end, steps, looked);
         Progress {

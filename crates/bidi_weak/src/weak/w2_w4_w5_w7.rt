@@ -25,6 +25,13 @@ use bidi_text::text::TextSource;
 use std::ops::Range;
 use std::sync::ledger::Ledger;
 
+/// The level runs of a sequence, and the text that they are of.
+#[derive(Drop)]
+struct TextRuns<'r, T: TextSource> {
+    text: T,
+    runs: &'r [LevelRun],
+}
+
 /// What a pass over a sequence knows of the code units that it has read.
 #[derive(Clone, Copy, Debug)]
 struct Walk {
@@ -65,9 +72,10 @@ pub fn resolve_numbers<T: TextSource, S: Ledger, L: Ledger>(
         first: 0,
         first_run: 0,
     };
+    let sequence = TextRuns { text, runs };
     for run in 0..runs.len() {
         steps.tick();
-        walk.read_run(text, runs, run, classes, steps, looked);
+        walk.read_run(&sequence, run, classes, steps, looked);
     }
     let end = classes.len();
     walk.settle(runs, classes, end, ON, steps);
@@ -112,30 +120,30 @@ impl Walk {
     /// Reads the code units of the run at the index `run`.
     fn read_run<T: TextSource, S: Ledger, L: Ledger>(
         &mut self,
-        text: T,
-        runs: &[LevelRun],
+        sequence: &TextRuns<'_, T>,
         run: usize,
         classes: &mut [BidiClass],
         steps: &mut Steps<S>,
         looked: &mut Steps<L>,
     )
-        requires ordered { IsTrue (are_ordered (map bounds runs.now)) }
-        requires waiting { WaitsBelow (map bounds runs.now) self.old (get_or (map bounds runs.now) run (0, 0)).0 }
-        requires run { run < length runs.now }
-        requires inside { (get_or (map bounds runs.now) run (0, 0)).1 ≤ length classes.old }
-        requires whole { let r = get_or (map bounds runs.now) run (0, 0) in
-            (u : ℕ) → r.0 ≤ u → u < r.1 → IsWhole (len_at T.units (T.characters text)) classes.old r.1 u }
-        ensures waiting { WaitsBelow (map bounds runs.now) self.new (get_or (map bounds runs.now) run (0, 0)).1 }
-        ensures reads { let r = get_or (map bounds runs.now) run (0, 0) in
-            ReadsTo (len_at T.units (T.characters text)) (map bounds runs.now) r.0 r.1 self.old self.new classes.old
+        requires ordered { IsTrue (are_ordered (map bounds sequence.now.runs.now)) }
+        requires waiting { WaitsBelow (map bounds sequence.now.runs.now) self.old (get_or (map bounds sequence.now.runs.now) run (0, 0)).0 }
+        requires run { run < length sequence.now.runs.now }
+        requires inside { (get_or (map bounds sequence.now.runs.now) run (0, 0)).1 ≤ length classes.old }
+        requires whole { let r = get_or (map bounds sequence.now.runs.now) run (0, 0) in
+            (u : ℕ) → r.0 ≤ u → u < r.1 → IsWhole (len_at T.units (T.characters sequence.now.text)) classes.old r.1 u }
+        ensures waiting { WaitsBelow (map bounds sequence.now.runs.now) self.new (get_or (map bounds sequence.now.runs.now) run (0, 0)).1 }
+        ensures reads { let r = get_or (map bounds sequence.now.runs.now) run (0, 0) in
+            ReadsTo (len_at T.units (T.characters sequence.now.text)) (map bounds sequence.now.runs.now) r.0 r.1 self.old self.new classes.old
             classes.new }
         ensures at_least { steps.old ≤ steps.new }
-        ensures at_most { let r = get_or (map bounds runs.now) run (0, 0) in
-            steps.new + 1 + 2 * count_below (map bounds runs.now) (settled_to self.old r.0)
-            ≤ steps.old + 2 * (r.1 - r.0) + 2 * count_below (map bounds runs.now) (settled_to self.new r.1) }
-        ensures looked { let r = get_or (map bounds runs.now) run (0, 0) in
+        ensures at_most { let r = get_or (map bounds sequence.now.runs.now) run (0, 0) in
+            steps.new + 1 + 2 * count_below (map bounds sequence.now.runs.now) (settled_to self.old r.0)
+            ≤ steps.old + 2 * (r.1 - r.0) + 2 * count_below (map bounds sequence.now.runs.now) (settled_to self.new r.1) }
+        ensures looked { let r = get_or (map bounds sequence.now.runs.now) run (0, 0) in
             looked.new ≤ looked.old + 12 * (r.1 - r.0) }
     {
+        let TextRuns { text, runs } = *sequence;
         let end = runs[run].end;
         let mut at = runs[run].start;
         while at < end {

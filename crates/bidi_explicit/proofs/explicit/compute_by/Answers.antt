@@ -12,8 +12,8 @@ loop-at-init g c = grind (arith, read-start, index-zero, count-zero)
 pub read_control-progress-requires-clause-read : goal.read_control-progress-requires-clause-read
 read_control-progress-requires-clause-read g c = (map bounds c.loop-at.runs.items, c.loop-at.run, c.loop-at.invariant.0)
 
-pub read_stretch-progress-requires-clause-begins : goal.read_stretch-progress-requires-clause-begins
-read_stretch-progress-requires-clause-begins g c = search (rules, read-begins)
+pub read_stretch-stretch-requires-clause-begins : goal.read_stretch-stretch-requires-clause-begins
+read_stretch-stretch-requires-clause-begins g c = search (rules, read-begins)
 
 pub loop-at-preserved : goal.loop-at-preserved
 loop-at-preserved g c = elim c.if-is_control.branch [
@@ -24,7 +24,7 @@ loop-at-preserved g c = elim c.if-is_control.branch [
     grind arith,
   )
   | else-is_control w ↦ (
-    simp (w.levels-is, w.processing_classes-is, w.stack-is, w.progress-is, c.in_ok-meet.ensures.runs, c.in_ok-meet.ensures.run) (w.read_stretch-progress.ensures.read _ w.top.ensures _ _ c.loop-at.invariant.0),
+    simp (w.levels-is, w.processing_classes-is, w.stack-is, w.progress-is, c.in_ok-meet.ensures.runs, c.in_ok-meet.ensures.run) (w.read_stretch-stretch.ensures.read _ _ _ w.top.ensures w.write_level.ensures _ _ c.loop-at.invariant.0),
     grind arith,
     grind arith,
     grind arith,

@@ -19,7 +19,7 @@ loop-at-preserved-then-is_kept_in_place g c = grind (arith, length-map)
 pub loop-at-preserved : goal.loop-at-preserved
 loop-at-preserved g c =
     let owed = owed-removed c.loop-at.self.before (class_at c.loop-at.classes c.loop-at.at) (grind arith) (grind arith) in
-    let settled = count_settled-monotone (map bounds c.args.runs.now) c.loop-at.self c.loop-at.at c.stretch_end-next.result c.requires.ordered (omega arith) in
+    let settled = count_settled-monotone (map bounds c.args.sequence.now.runs.now) c.loop-at.self c.loop-at.at c.stretch_end-next.result c.requires.ordered (omega arith) in
     record {
       starts = grind arith;
       ends = grind arith;
