@@ -1,5 +1,6 @@
 -- Tests of all units of some runs: what those so far answer, and how many units they look at.
-use Rattle.bidi_base.proofs.Common.{◌≡◌, ℕ, zero, suc, ◌+◌, ◌-◌, ◌*◌, ◌/◌, ◌<◌, ◌≤◌, Bool, true, false, List, [], ◌∷◌, length, map, get_or, min, take, drop, arith, inl, inr, cases_lt, Range, list_any, bounds, are_ordered, units_in_runs}
+use Rattle.bidi_base.proofs.Common.{◌≡◌, ℕ, zero, suc, ◌+◌, ◌-◌, ◌*◌, ◌/◌, ◌<◌, ◌≤◌, Bool, true, false, List, [], ◌∷◌, length, map}
+use Rattle.bidi_base.proofs.Common.{get_or, min, take, drop, arith, inl, inr, cases_lt, Range, list_any, bounds, are_ordered, units_in_runs}
 use Rattle.bidi_base.proofs.Common.{get_or-map, length-map, length-take, length-drop, refl}
 use Rattle.std.proofs.Math.Nat.{div-mul-le_self}
 use Rattle.std.proofs.lemmas.List.Folds.{list_any_more}
