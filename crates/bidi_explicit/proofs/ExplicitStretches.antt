@@ -414,6 +414,9 @@ module _ (p : Paragraph) (at : ℕ) (stack : State) (levels : List ℕ) (classes
   read-count CodeUnit = grind (arith, h.begins, h.within, place-le p.len_of p.chars h.index, original_long p h.has_units h.per_char)
   read-count Character = read-all
 
+  pub read-units : at ≡ length p.original
+  read-units = read-count CodeUnit
+
   pub read-levels : levels ≡ per_unit p.len_of p.chars (levels_of p)
   read-levels =
       ext_get_or 0 levels _ (h.levels_long ∙ sym (length-per_unit p.len_of p.chars (levels_of p) (levels_long p h.has_units h.per_char)))

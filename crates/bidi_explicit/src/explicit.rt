@@ -185,7 +185,45 @@ pub(crate) fn compute_fresh<T: TextSource, S: Ledger>(
         paragraph.now.original_classes.now levels.new processing_classes.new (map bounds runs.new.items)) }
 {
     let mut steps = Steps::<S>::new(blank);
-    compute_by(paragraph, levels, processing_classes, runs, &mut steps)
+    compute_searching::<T, S, Brand>(
+        paragraph,
+        levels,
+        processing_classes,
+        runs,
+        &mut steps,
+        Blank::new(1),
+    )
+}
+
+// Calls [`compute_by`] with a new count of code units that searches look at.
+fn compute_searching<T: TextSource, S: Ledger, L: Ledger>(
+    paragraph: &Paragraph<'_, T>,
+    levels: &mut [Level],
+    processing_classes: &mut [BidiClass],
+    runs: &mut LevelRunVec,
+    steps: &mut Steps<S>,
+    blank: Blank,
+) -> Result<(), AllocError>
+    requires paragraph { CanFindExplicitLevels T.units (T.characters paragraph.now.text) paragraph.now.level
+        paragraph.now.original_classes.now levels.old processing_classes.old (map bounds runs.old.items) }
+    requires name { blank.name ≡ L.name }
+    requires parts { blank.parts ≡ L.parts }
+    requires one { blank.parts ≡ 1 }
+    ensures found { OnOk result (AreExplicitLevels T.units (T.characters paragraph.now.text) paragraph.now.level
+        paragraph.now.original_classes.now levels.new processing_classes.new (map bounds runs.new.items)) }
+    ensures at_least { OnOk result (steps.old + length (T.characters paragraph.now.text) ≤ steps.new) }
+    ensures at_most { OnOk result (steps.new ≤ steps.old + 4 * count_of paragraph.now.stride
+        (length paragraph.now.original_classes.now) (length (T.characters paragraph.now.text))) }
+{
+    let mut looked = Steps::<L>::new(blank);
+    compute_by(
+        paragraph,
+        levels,
+        processing_classes,
+        runs,
+        steps,
+        &mut looked,
+    )
 }
 
 /// Like [`compute`], and counts each loop iteration in `steps`, including those of the functions it calls.
@@ -211,17 +249,21 @@ pub fn compute_counted<T: TextSource, S: Ledger>(
     ensures at_most { OnOk result (steps.new ≤ steps.old + 4 * length (T.characters text)) }
 {
     let paragraph = Paragraph::new(text, para_level, Stride::Character, original_classes);
-    compute_by(&paragraph, levels, processing_classes, runs, steps)
+    let blank = Blank::new(1);
+    compute_searching::<T, S, Brand>(&paragraph, levels, processing_classes, runs, steps, blank)
 }
 
-// The pass in both forms. Counts each loop iteration, and each code unit or character that a search passes
-// over.
-pub(crate) fn compute_by<T: TextSource, S: Ledger>(
+// The pass in both forms. Counts in `steps` each loop iteration, and each code unit or character that a
+// search passes over. Counts in `looked` the code units that searches of several at once look at. These are
+// no more than twelve for each code unit of the paragraph: six to find the end of its stretch, and six to
+// find the first code unit that X9 keeps.
+pub(crate) fn compute_by<T: TextSource, S: Ledger, L: Ledger>(
     paragraph: &Paragraph<'_, T>,
     levels: &mut [Level],
     processing_classes: &mut [BidiClass],
     runs: &mut LevelRunVec,
     steps: &mut Steps<S>,
+    looked: &mut Steps<L>,
 ) -> Result<(), AllocError>
     requires { CanFindExplicitLevels T.units (T.characters paragraph.now.text) paragraph.now.level
         paragraph.now.original_classes.now levels.old processing_classes.old (map bounds runs.old.items) }
@@ -230,6 +272,7 @@ pub(crate) fn compute_by<T: TextSource, S: Ledger>(
     ensures at_least { OnOk result (steps.old + length (T.characters paragraph.now.text) ≤ steps.new) }
     ensures at_most { OnOk result (steps.new ≤ steps.old + 4 * count_of paragraph.now.stride
         (length paragraph.now.original_classes.now) (length (T.characters paragraph.now.text))) }
+    ensures looked { OnOk result (looked.new ≤ looked.old + 12 * length paragraph.now.original_classes.now) }
 {
     let original_classes = paragraph.original_classes;
     let units = original_classes.len();
@@ -241,7 +284,15 @@ pub(crate) fn compute_by<T: TextSource, S: Ledger>(
         let progress = if is_control(original_classes[at]) {
             paragraph.read_control(at, &mut stack, levels, processing_classes, steps)
         } else {
-            paragraph.read_stretch(at, stack.top(), levels, processing_classes, steps)
+            let stretch = paragraph.read_stretch(
+                at,
+                stack.top(),
+                processing_classes,
+                steps,
+                looked,
+            );
+            write_level(levels, at, stretch.end, stretch.level);
+            stretch
         };
         run.meet(runs, &progress)?;
         at = progress.end;

@@ -19,7 +19,7 @@ use bidi_base::classes::is_removed;
 use bidi_base::data_source::BidiDataSource;
 use bidi_base::level::Level;
 use bidi_base::search::{ClassTest, first_passing};
-use bidi_explicit::by_units;
+use bidi_explicit::by_units::{self, StoredParagraph};
 use bidi_rules::implicit::{NeutralResolver, resolve_levels, resolve_weak_lent};
 use bidi_rules::prepare::{LentSequence, LevelRunVec, RunLinks};
 use bidi_text::text::TextSource;
@@ -81,7 +81,6 @@ impl LevelResolver {
     /// Finds the explicit levels, and the sequences (X1 to X10).
     fn prepare<D: BidiDataSource, T: TextSource>(
         &mut self,
-        alloc: Global,
         paragraph: &ClassifiedParagraph<D, T>,
         levels: &mut [Level],
     ) -> Result<(), AllocError>
@@ -109,11 +108,13 @@ impl LevelResolver {
         self.classes.extend_from_slice(original_classes)?;
         self.runs.clear();
         self.runs.reserve_exact(FEW_RUNS)?;
-        by_units::compute(
-            alloc,
-            paragraph.text,
-            paragraph.level,
+        let stored = StoredParagraph {
+            text: paragraph.text,
+            level: paragraph.level,
             original_classes,
+        };
+        by_units::compute(
+            &stored,
             levels,
             self.classes.as_mut_slice(),
             &mut self.runs,
@@ -181,7 +182,6 @@ impl LevelResolver {
     /// Finds the levels of all characters that X9 keeps, in any paragraph, by X1 to I2 without N2.
     fn resolve_nested<D: BidiDataSource, T: TextSource>(
         &mut self,
-        alloc: Global,
         paragraph: &ClassifiedParagraph<D, T>,
         levels: &mut [Level],
     ) -> Result<(), AllocError>
@@ -189,7 +189,7 @@ impl LevelResolver {
         ensures per_char { OnOk result (ArePerChar paragraph.now ⟦<Level as PartialEq>⟧.eq levels.new) }
         ensures resolved { OnOk result (AreOfRules paragraph.now levels.new) }
     {
-        self.prepare(alloc, paragraph, levels)?;
+        self.prepare(paragraph, levels)?;
         let links = &self.links;
         let runs = &mut self.runs;
         let classes = self.classes.as_mut_slice();
@@ -217,7 +217,6 @@ impl LevelResolver {
     /// Finds the levels of all characters that X9 keeps, in a paragraph that is not empty.
     fn resolve<D: BidiDataSource, T: TextSource>(
         &mut self,
-        alloc: Global,
         paragraph: &ClassifiedParagraph<D, T>,
         levels: &mut [Level],
     ) -> Result<(), AllocError>
@@ -229,7 +228,7 @@ impl LevelResolver {
         if paragraph.flags.is_flat() {
             self.resolve_flat(paragraph, levels)
         } else {
-            self.resolve_nested(alloc, paragraph, levels)
+            self.resolve_nested(paragraph, levels)
         }
     }
 
@@ -239,7 +238,6 @@ impl LevelResolver {
     /// anything.
     pub fn write_levels<D: BidiDataSource, T: TextSource>(
         &mut self,
-        alloc: Global,
         paragraph: &ClassifiedParagraph<D, T>,
         levels: &mut [Level],
     ) -> Result<(), AllocError>
@@ -252,7 +250,7 @@ impl LevelResolver {
             levels.fill(paragraph.level);
             return Ok(());
         }
-        self.resolve(alloc, paragraph, levels)?;
+        self.resolve(paragraph, levels)?;
         if paragraph.flags.has_removed() {
             fill_removed(paragraph.level, paragraph.original_classes, levels);
         }

@@ -4,7 +4,7 @@ ghost use Rattle.std.specs.Prelude.{◌≡◌, [], length, IfOk};
 
 use bidi_base::char_data::BidiClass;
 use bidi_base::level::{LTR_LEVEL, Level, RTL_LEVEL};
-use bidi_explicit::by_units::{compute, compute_counted};
+use bidi_explicit::by_units::{StoredParagraph, compute, compute_counted};
 use bidi_runs::prepare::{LevelRunVec, Steps};
 use bidi_text::text::{StrText, is_per_char};
 use std::alloc::{AllocError, Global};
@@ -122,11 +122,13 @@ fn worked_paragraph(rt: HostRuntime) -> Result<(), Fail> {
     let classes = paragraph.classes.as_slice();
     let mut found = Found::new(rt.alloc(), classes)?;
     assert!(rt; is_per_char(text, classes));
-    compute(
-        rt.alloc(),
+    let stored = StoredParagraph {
         text,
-        LTR_LEVEL,
-        classes,
+        level: LTR_LEVEL,
+        original_classes: classes,
+    };
+    compute(
+        &stored,
         found.levels.as_mut_slice(),
         found.classes.as_mut_slice(),
         &mut found.runs,
@@ -135,13 +137,13 @@ fn worked_paragraph(rt: HostRuntime) -> Result<(), Fail> {
     Ok(())
 }
 
-// Runs the counted pass, with the count that this blank opens.
-fn compute_by<S: Ledger>(
-    alloc: Global,
+// Runs the counted pass, with the counts that these blanks open.
+fn compute_by<S: Ledger, L: Ledger>(
     text: StrText,
     classes: &[BidiClass],
     found: &mut Found,
     blank: Blank,
+    other: Blank,
 ) -> Result<(), Fail>
     requires levels { length found.old.levels.items ≡ length classes.now }
     requires classes { found.old.classes.items ≡ classes.now }
@@ -149,20 +151,27 @@ fn compute_by<S: Ledger>(
     requires name { blank.name ≡ S.name }
     requires parts { blank.parts ≡ S.parts }
     requires one { blank.parts ≡ 1 }
+    requires other_name { other.name ≡ L.name }
+    requires other_parts { other.parts ≡ L.parts }
+    requires other_one { other.parts ≡ 1 }
 {
     let mut steps = Steps::<S>::new(blank);
+    let mut looked = Steps::<L>::new(other);
     if !is_per_char(text, classes) {
         return Err(Fail::from("classes differ within a character"));
     }
-    compute_counted(
-        alloc,
+    let stored = StoredParagraph {
         text,
-        LTR_LEVEL,
-        classes,
+        level: LTR_LEVEL,
+        original_classes: classes,
+    };
+    compute_counted(
+        &stored,
         found.levels.as_mut_slice(),
         found.classes.as_mut_slice(),
         &mut found.runs,
         &mut steps,
+        &mut looked,
     )?;
     Ok(())
 }
@@ -173,7 +182,7 @@ fn worked_paragraph_counted(rt: HostRuntime) -> Result<(), Fail> {
     let text = StrText::new(paragraph.text.as_str());
     let classes = paragraph.classes.as_slice();
     let mut found = Found::new(rt.alloc(), classes)?;
-    compute_by::<Brand>(rt.alloc(), text, classes, &mut found, Blank::new(1))?;
+    compute_by::<Brand, Brand>(text, classes, &mut found, Blank::new(1), Blank::new(1))?;
     compare(&rt, &found, &paragraph);
     Ok(())
 }

@@ -7,7 +7,7 @@ use crate::counted;
 use crate::units::{ExplicitUnits, ParagraphUnits, copied, per_unit};
 use bidi_base::char_data::BidiClass;
 use bidi_base::level::Level;
-use bidi_explicit::by_units;
+use bidi_explicit::by_units::{self, StoredParagraph};
 use bidi_rules::explicit::compute;
 use bidi_rules::prepare::{IsolatingRunSequence, isolating_run_sequences};
 use bidi_text::text::{StrText, is_per_char};
@@ -79,11 +79,13 @@ fn compute_by_units(
         return Err(RowFault::Line(0, Why::OtherText));
     }
     let mut units = ExplicitUnits::new(alloc, classes)?;
-    by_units::compute(
-        alloc,
+    let stored = StoredParagraph {
         text,
         level,
-        classes,
+        original_classes: classes,
+    };
+    by_units::compute(
+        &stored,
         units.levels.as_mut_slice(),
         units.classes.as_mut_slice(),
         &mut units.runs,

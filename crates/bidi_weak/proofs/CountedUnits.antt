@@ -4,14 +4,14 @@ use Rattle.bidi_base.proofs.Common.{drop, arith, length-append, length-take, len
 use Rattle.bidi_base.proofs.Common.{slice_range, cond-true, cond-false, All-head, All-tail, char_index, IsLine, are_ordered, are_ordered_from, chars_in_runs, units_in_runs, AreLines, take_more}
 use Rattle.bidi_base.proofs.PlaceLemmas.{line_places, place-sum}
 use Rattle.bidi_base.proofs.TextLemmas.{HasUnits, length-le-text_len}
-use Rattle.bidi_weak.specs.declared.weak.numbers.Walk.{Walk}
+use Rattle.bidi_weak.specs.declared.weak.w2_w4_w5_w7.Walk.{Walk}
 use Rattle.bidi_weak.specs.WeakPass.{waits}
 use Rattle.bidi_runs.specs.Written.{count_below}
 use Rattle.bidi_weak.specs.WeakWalk.{settled_to, WaitsBelow}
 use Rattle.bidi_runs.proofs.WalkLemmas.{are_ordered-front, are_ordered-take}
 use Rattle.bidi_runs.proofs.CountBelow.{length-between, count_below-cons, count_below-none, count_below-monotone, count_below-parts}
 
-units-cons : (r : ℕ × ℕ) (runs : List (ℕ × ℕ)) → length (units_in_runs (r ∷ runs)) ≡ (r.1 - r.0) + length (units_in_runs runs)
+pub units-cons : (r : ℕ × ℕ) (runs : List (ℕ × ℕ)) → length (units_in_runs (r ∷ runs)) ≡ (r.1 - r.0) + length (units_in_runs runs)
 units-cons r runs = grind (arith, length-append, length-between) steps 400000
 
 -- of the units of one range each counts

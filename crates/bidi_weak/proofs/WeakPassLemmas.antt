@@ -4,8 +4,8 @@ use Rattle.bidi_base.proofs.Common.{refl, sym, ap, ◌∙◌, append-nil, arith,
 use Rattle.bidi_base.proofs.Common.{is_l, is_l_or_r, nearest, nearest_is, in_context, carried, w1_rule, w2_rule, w3_rule, w4_rule, w5_rule, w6_rule, w7_rule, w1, w3, w6, weak_classes}
 use Rattle.bidi_base.specs.declared.char_data.BidiClass.{BidiClass}
 use Rattle.bidi_base.specs.declared.char_data.BidiClass.TheVariants.{L, R, EN, ES, ET, AN, CS, ON}
-use Rattle.bidi_weak.specs.declared.weak.steps.Before.{Before}
-use Rattle.bidi_weak.specs.declared.weak.steps.Before.TheVariants.{Other, European, Arabic, Terminators, EuropeanSeparator, ArabicSeparator}
+use Rattle.bidi_weak.specs.declared.weak.before.Before.{Before}
+use Rattle.bidi_weak.specs.declared.weak.before.Before.TheVariants.{Other, European, Arabic, Terminators, EuropeanSeparator, ArabicSeparator}
 use Rattle.bidi_base.proofs.PlacesLemmas.{nearest-more}
 use Rattle.bidi_weak.specs.WeakPass.{marked, after_w1, strengthened, strong_up_to, after_w3, waits, is_beside_european, w7_by, after_w7}
 

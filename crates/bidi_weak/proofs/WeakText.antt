@@ -1,10 +1,10 @@
 -- The weak passes over the units of a text: what stands at the characters once all are done.
 use Rattle.bidi_base.proofs.Common.{◌≡◌, ℕ, zero, suc, ◌+◌, ◌-◌, ◌<◌, ◌≤◌, Bool, true, false, List, [], length, map, get_or, refl, sym, ap, ◌∙◌, arith, inl, inr, All, filter}
 use Rattle.bidi_base.proofs.Common.{range_with_len, cases_Bool, cases_eq, and_parts, and_left, and_right, length-map, is_kept_in_place, at_places, class_at, carried, w1_rule, w1}
-use Rattle.bidi_base.proofs.Common.{weak_classes, is_per_char, place, per_unit, IsLine, IsPerChar, are_ordered, in_runs, kept_in_place, units_in_runs, AreLines}
+use Rattle.bidi_base.proofs.Common.{weak_classes, place, per_unit, IsLine, IsPerChar, are_ordered, in_runs, kept_in_place, units_in_runs, AreLines}
 use Rattle.bidi_base.specs.InPlace.{AreWeakTypesResolved}
 use Rattle.bidi_base.specs.declared.char_data.BidiClass.{BidiClass}
-use Rattle.bidi_base.specs.declared.char_data.BidiClass.TheVariants.{L, BN}
+use Rattle.bidi_base.specs.declared.char_data.BidiClass.TheVariants.{L}
 use Rattle.bidi_base.proofs.PlaceLemmas.{char_at-place, line_places, place-more, place-mono, unit_of}
 use Rattle.bidi_base.proofs.TextLemmas.{HasUnits, is_boundary-le}
 use Rattle.bidi_base.proofs.UnitsLemmas.{length-from_IsPerChar, is_per_char-from_IsPerChar}
@@ -14,7 +14,7 @@ use Rattle.bidi_laws.proofs.ResolvedLemmas.{length-weak_classes}
 use Rattle.bidi_laws.proofs.StoredLemmas.{length-at_places}
 use Rattle.bidi_laws.proofs.RepeatedPlaces.{read_units-is, read_units-new, kept_in_place-AreIndexes, AreIndexes, units_of_chars}
 use Rattle.bidi_laws.proofs.RepeatedRules.{w1-per_unit}
-use Rattle.bidi_weak.specs.declared.weak.steps.Before.TheVariants.{Other}
+use Rattle.bidi_weak.specs.declared.weak.before.Before.TheVariants.{Other}
 use Rattle.bidi_weak.specs.WeakPass.{left_over}
 use Rattle.bidi_weak.specs.WeakWalk.{len_at, IsWhole, IsMarked, IsWalked}
 use Rattle.bidi_runs.specs.Written.{is_seen, seen_units}

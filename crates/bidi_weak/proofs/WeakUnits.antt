@@ -6,8 +6,8 @@ use Rattle.bidi_base.specs.declared.char_data.BidiClass.{BidiClass}
 use Rattle.bidi_base.specs.declared.char_data.BidiClass.TheVariants.{L, ET, ON}
 use Rattle.bidi_laws.proofs.RepeatedPlaces.{AreIndexes, units_of_chars}
 use Rattle.bidi_base.proofs.TextLemmas.{HasUnits}
-use Rattle.bidi_weak.specs.declared.weak.steps.Before.{Before}
-use Rattle.bidi_weak.specs.declared.weak.steps.Before.TheVariants.{Other, Terminators}
+use Rattle.bidi_weak.specs.declared.weak.before.Before.{Before}
+use Rattle.bidi_weak.specs.declared.weak.before.Before.TheVariants.{Other, Terminators}
 use Rattle.bidi_weak.specs.WeakPass.{strengthened, strong_up_to, after_w3, waits, joins, next_before, settled, resolved, w7_by, is_after_l, after_w7, left_over, is_number, still_to_come, walked}
 use Rattle.bidi_weak.proofs.WeakPassLemmas.{replicate-onto}
 

@@ -7,9 +7,9 @@ use Rattle.bidi_base.specs.declared.char_data.BidiClass.{BidiClass}
 use Rattle.bidi_base.specs.declared.char_data.BidiClass.TheVariants.{L, ON}
 use Rattle.bidi_base.proofs.PlacesLemmas.{nearest-more}
 use Rattle.bidi_laws.proofs.StoredLemmas.{at_places-append}
-use Rattle.bidi_weak.specs.declared.weak.numbers.Walk.{Walk}
-use Rattle.bidi_weak.specs.declared.weak.steps.Before.{Before}
-use Rattle.bidi_weak.specs.declared.weak.steps.Before.TheVariants.{Other}
+use Rattle.bidi_weak.specs.declared.weak.w2_w4_w5_w7.Walk.{Walk}
+use Rattle.bidi_weak.specs.declared.weak.before.Before.{Before}
+use Rattle.bidi_weak.specs.declared.weak.before.Before.TheVariants.{Other}
 use Rattle.bidi_weak.specs.WeakPass.{is_asked, is_other, strengthened, strong_up_to, waits, joins, next_before, settled, resolved, w7_by, left_over, is_number, still_to_come, walked}
 use Rattle.bidi_weak.specs.WeakWalk.{Pass, seen, units, IsUnderWay, IsStretch, IsWalked}
 use Rattle.bidi_runs.specs.Written.{is_seen, seen_units, IsWrittenOver}

@@ -5,8 +5,8 @@ use Rattle.bidi_base.specs.declared.char_data.BidiClass.{BidiClass}
 use Rattle.bidi_base.specs.declared.char_data.BidiClass.TheVariants.{L, R, AL, EN, ES, ET, AN, CS, NSM, ON}
 use Rattle.bidi_base.specs.Classes.{is_strong, is_al, is_l, is_nsm}
 use Rattle.bidi_base.specs.Weak.{carried}
-use Rattle.bidi_weak.specs.declared.weak.steps.Before.{Before}
-use Rattle.bidi_weak.specs.declared.weak.steps.Before.TheVariants.{Other, European, EuropeanTerminators, Arabic, Terminators, EuropeanSeparator, ArabicSeparator}
+use Rattle.bidi_weak.specs.declared.weak.before.Before.{Before}
+use Rattle.bidi_weak.specs.declared.weak.before.Before.TheVariants.{Other, European, EuropeanTerminators, Arabic, Terminators, EuropeanSeparator, ArabicSeparator}
 
 -- W1, where a mark takes m
 abbrev pub marked : BidiClass → BidiClass → BidiClass

@@ -9,8 +9,8 @@ use Rattle.bidi_base.specs.Classes.{is_kept_in_place}
 use Rattle.bidi_base.specs.Places.{at_places, class_at}
 use Rattle.bidi_base.specs.Text.{char_at}
 use Rattle.bidi_base.specs.Units.{bounds, units_in_runs}
-use Rattle.bidi_weak.specs.declared.weak.numbers.Walk.{Walk}
-use Rattle.bidi_weak.specs.declared.weak.steps.Before.TheVariants.{Other}
+use Rattle.bidi_weak.specs.declared.weak.w2_w4_w5_w7.Walk.{Walk}
+use Rattle.bidi_weak.specs.declared.weak.before.Before.TheVariants.{Other}
 use Rattle.bidi_runs.specs.Written.{is_seen, seen_from, seen_units}
 use Rattle.bidi_weak.specs.WeakPass.{after_w1, strengthened, next_before, waits, left_over, still_to_come, walked}
 

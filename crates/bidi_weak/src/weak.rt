@@ -12,19 +12,19 @@ ghost use Rattle.bidi_runs.specs.RunSequence.{lent_runs, lent_sos, runs as runs_
 ghost use Rattle.bidi_weak.specs.WeakPass.{is_mark_or_number};
 ghost use Rattle.bidi_weak.specs.WeakWalk.{is_any_of, is_any_wide, len_at, part_of, wide_part_of, IsMarked, IsWalked};
 
-mod left_over;
-mod marks;
-mod numbers;
-mod steps;
+mod before;
+mod w1;
+mod w2_w4_w5_w7;
+mod w3_w6;
 
 use bidi_base::char_data::BidiClass::{self, NSM};
 use bidi_runs::prepare::{IsolatingRunSequence, LentSequence, LevelRun, Steps};
 use bidi_text::text::TextSource;
-use left_over::change;
-use marks::resolve_marks;
-use numbers::{is_number, resolve_numbers};
 use std::marker::Brand;
 use std::sync::ledger::{Blank, Ledger};
+use w1::resolve_marks;
+use w2_w4_w5_w7::{is_number, resolve_numbers};
+use w3_w6::resolve_w3_w6;
 
 /// The classes of a run's code units, as far as there are any.
 fn part_of<'c>(classes: &'c [BidiClass], run: &LevelRun) -> &'c [BidiClass]
@@ -60,7 +60,8 @@ pub fn resolve_weak<T: TextSource>(
 /// There is at least one iteration for each character in the runs, and at most eight for each code unit. A
 /// character that depends on a later one waits until that is read. The passes never search ahead, so they
 /// do not pass over a stretch of BN for each code unit before it. Calls of the text and of the library
-/// count as no iterations.
+/// count as no iterations, and neither do the tests for marks and numbers. A second count, which the call
+/// opens itself, has the code units that these look at.
 pub fn resolve_weak_counted<T: TextSource, S: Ledger>(
     text: T,
     sequence: &IsolatingRunSequence,
@@ -75,7 +76,8 @@ pub fn resolve_weak_counted<T: TextSource, S: Ledger>(
         ≤ steps.new }
     ensures at_most { steps.new ≤ steps.old + 8 * length (units_in_runs (map bounds (runs_of sequence.now))) }
 {
-    resolve_weak_lent_counted(text, sequence.lend(), processing_classes, steps)
+    let lent = sequence.lend();
+    resolve_weak_searching::<T, S, Brand>(text, lent, processing_classes, steps, Blank::new(1))
 }
 
 /// Like [`resolve_weak`], for a sequence that borrows its runs.
@@ -106,15 +108,50 @@ fn resolve_weak_fresh<T: TextSource, S: Ledger>(
         (lent_sos sequence.entry) processing_classes.old processing_classes.new }
 {
     let mut steps = Steps::<S>::new(blank);
-    resolve_weak_lent_counted(text, sequence, processing_classes, &mut steps)
+    resolve_weak_searching::<T, S, Brand>(
+        text,
+        sequence,
+        processing_classes,
+        &mut steps,
+        Blank::new(1),
+    )
 }
 
-// Like [`resolve_weak_lent`], and counts each loop iteration in `steps`.
-fn resolve_weak_lent_counted<T: TextSource, S: Ledger>(
+// Calls [`resolve_weak_lent_counted`] with a new count of code units that searches look at.
+fn resolve_weak_searching<T: TextSource, S: Ledger, L: Ledger>(
     text: T,
     sequence: LentSequence<'_>,
     processing_classes: &mut [BidiClass],
     steps: &mut Steps<S>,
+    blank: Blank,
+)
+    requires sequence { CanResolveWeakTypes T.units (T.characters text) (map bounds (lent_runs sequence)) processing_classes.old }
+    requires name { blank.name ≡ L.name }
+    requires parts { blank.parts ≡ L.parts }
+    requires one { blank.parts ≡ 1 }
+    ensures resolved { AreWeakTypesResolved T.units (T.characters text) (map bounds (lent_runs sequence.entry))
+        (lent_sos sequence.entry) processing_classes.old processing_classes.new }
+    ensures at_least { steps.old
+        + length (chars_in_runs T.units (T.characters text) (map bounds (lent_runs sequence.entry)))
+        ≤ steps.new }
+    ensures at_most { steps.new ≤ steps.old + 8 * length (units_in_runs (map bounds (lent_runs sequence.entry))) }
+{
+    let mut looked = Steps::<L>::new(blank);
+    resolve_weak_lent_counted(text, sequence, processing_classes, steps, &mut looked)
+}
+
+// Like [`resolve_weak_lent`], and keeps both counts: `steps` of loop iterations, and `looked` of the code
+// units that searches look at.
+//
+// Searches look at no more than 19 code units for each code unit of the runs. Three tests for marks and
+// numbers take seven of these, and the walk over numbers twelve. The walk can look at a piece of [`WIDE`]
+// code units to pass over one. But then it reads at least two others before it passes over one again.
+fn resolve_weak_lent_counted<T: TextSource, S: Ledger, L: Ledger>(
+    text: T,
+    sequence: LentSequence<'_>,
+    processing_classes: &mut [BidiClass],
+    steps: &mut Steps<S>,
+    looked: &mut Steps<L>,
 )
     requires { CanResolveWeakTypes T.units (T.characters text) (map bounds (lent_runs sequence)) processing_classes.old }
     ensures resolved { AreWeakTypesResolved T.units (T.characters text) (map bounds (lent_runs sequence.entry))
@@ -123,20 +160,22 @@ fn resolve_weak_lent_counted<T: TextSource, S: Ledger>(
         + length (chars_in_runs T.units (T.characters text) (map bounds (lent_runs sequence.entry)))
         ≤ steps.new }
     ensures at_most { steps.new ≤ steps.old + 8 * length (units_in_runs (map bounds (lent_runs sequence.entry))) }
+    ensures looked { looked.new ≤ looked.old + 19 * length (units_in_runs (map bounds (lent_runs sequence.entry))) }
 {
     let runs = sequence.runs();
     let sos = sequence.sos();
-    resolve_marks_and_numbers(text, runs, sos, processing_classes, steps);
-    change(runs, processing_classes, steps);
+    resolve_marks_and_numbers(text, runs, sos, processing_classes, steps, looked);
+    resolve_w3_w6(runs, processing_classes, steps);
 }
 
 /// Applies W1, and then W2, W4, W5 and W7. They matter only if there are nonspacing marks or numbers.
-fn resolve_marks_and_numbers<T: TextSource, S: Ledger>(
+fn resolve_marks_and_numbers<T: TextSource, S: Ledger, L: Ledger>(
     text: T,
     runs: &[LevelRun],
     sos: BidiClass,
     classes: &mut [BidiClass],
     steps: &mut Steps<S>,
+    looked: &mut Steps<L>,
 )
     requires ordered { IsTrue (are_ordered (map bounds runs.now)) }
     requires lines { AreLines T.units (T.characters text) (map bounds runs.now) }
@@ -146,19 +185,31 @@ fn resolve_marks_and_numbers<T: TextSource, S: Ledger>(
         × IsWalked (len_at T.units (T.characters text)) (map bounds runs.now) sos marked classes.new }
     ensures at_least { steps.old ≤ steps.new }
     ensures at_most { steps.new ≤ steps.old + 6 * length (units_in_runs (map bounds runs.now)) }
+    ensures looked { looked.new ≤ looked.old + 19 * length (units_in_runs (map bounds runs.now)) }
 {
-    if has_marks_or_numbers(runs, classes) {
-        resolve_marks(runs, sos, classes, steps);
-        resolve_numbers(text, runs, sos, classes, steps);
+    if has_marks_or_numbers(runs, classes, looked) {
+        resolve_marks(runs, sos, classes, steps, looked);
+        resolve_numbers(text, runs, sos, classes, steps, looked);
     }
 }
 
 /// Whether the runs have a nonspacing mark or a number. May also find one shortly after a long run.
-fn has_marks_or_numbers(runs: &[LevelRun], classes: &[BidiClass]) -> bool
-    ensures { result ≡ is_any_wide is_mark_or_number runs.now classes.now }
+fn has_marks_or_numbers<L: Ledger>(
+    runs: &[LevelRun],
+    classes: &[BidiClass],
+    looked: &mut Steps<L>,
+) -> bool
+    requires { IsTrue (are_ordered (map bounds runs.now)) }
+    ensures answer { result ≡ is_any_wide is_mark_or_number runs.now classes.now }
+    ensures looked { looked.new ≤ looked.old + 3 * length (units_in_runs (map bounds runs.now)) }
 {
-    runs.iter()
-        .any(|run| is_mark_or_number_among(wide_part_of(classes, run)))
+    for run in runs {
+        looked.tick();
+        if is_mark_or_number_among(wide_part_of(classes, run), looked) {
+            return true;
+        }
+    }
+    false
 }
 
 /// How many code units are tested together.
@@ -184,28 +235,34 @@ fn wide_part_of<'c>(classes: &'c [BidiClass], run: &LevelRun) -> &'c [BidiClass]
 
 /// Whether one of the classes is that of a nonspacing mark or a number. Few classes are tested one by one.
 #[tactic(auto, using(crate::proofs::FoldAny::fold_any))]
-fn is_mark_or_number_among(classes: &[BidiClass]) -> bool
-    ensures { result ≡ is_any_of is_mark_or_number classes.now }
+fn is_mark_or_number_among<L: Ledger>(classes: &[BidiClass], looked: &mut Steps<L>) -> bool
+    ensures answer { result ≡ is_any_of is_mark_or_number classes.now }
+    ensures looked { looked.new ≡ looked.old + length classes.now }
 {
     if classes.len() < MANY {
-        return is_mark_or_number_near(classes);
+        return is_mark_or_number_near(classes, looked);
     }
-    is_mark_or_number_in(classes)
+    is_mark_or_number_in(classes, looked)
 }
 
-/// Whether one of the classes is that of a nonspacing mark or a number. Tests them up to the first such.
-fn is_mark_or_number_near(classes: &[BidiClass]) -> bool
-    ensures { result ≡ list_any is_mark_or_number classes.now }
+/// Whether one of the classes is that of a nonspacing mark or a number. Tests them up to the first such, and
+/// counts all of them.
+fn is_mark_or_number_near<L: Ledger>(classes: &[BidiClass], looked: &mut Steps<L>) -> bool
+    ensures answer { result ≡ list_any is_mark_or_number classes.now }
+    ensures looked { looked.new ≡ looked.old + length classes.now }
 {
+    looked.tick_by(classes.len());
     classes.iter().any(|class| is_mark_or_number(*class))
 }
 
 /// Whether one of the classes is that of a nonspacing mark or a number. Tests all of them, many at once.
 /// The compiler vectorizes the loop only in a function of its own.
 #[inline(never)]
-fn is_mark_or_number_in(classes: &[BidiClass]) -> bool
-    ensures { result ≡ is_any_of is_mark_or_number classes.now }
+fn is_mark_or_number_in<L: Ledger>(classes: &[BidiClass], looked: &mut Steps<L>) -> bool
+    ensures answer { result ≡ is_any_of is_mark_or_number classes.now }
+    ensures looked { looked.new ≡ looked.old + length classes.now }
 {
+    looked.tick_by(classes.len());
     classes
         .iter()
         .fold(false, |found, class| found | is_mark_or_number(*class))

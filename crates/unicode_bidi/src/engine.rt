@@ -79,7 +79,6 @@ struct ClassifiedText<'a, D: BidiDataSource, T: TextSource> {
 // Writes the stored levels of one paragraph. `levels` has those of the whole text.
 fn write_paragraph<D: BidiDataSource, T: TextSource>(
     resolver: &mut LevelResolver,
-    alloc: Global,
     text: &ClassifiedText<D, T>,
     paragraph: &ParagraphInfo,
     flags: ParagraphFlags,
@@ -103,13 +102,12 @@ fn write_paragraph<D: BidiDataSource, T: TextSource>(
         flags,
         original_classes: &text.original_classes[start..end],
     };
-    resolver.write_levels(alloc, &own, &mut levels[start..end])
+    resolver.write_levels(&own, &mut levels[start..end])
 }
 
 // Writes the stored levels of a text, paragraph by paragraph.
 fn write_paragraphs<D: BidiDataSource, T: TextSource>(
     resolver: &mut LevelResolver,
-    alloc: Global,
     text: &ClassifiedText<D, T>,
     paragraphs: &[ParagraphInfo],
     flags: &[ParagraphFlags],
@@ -128,7 +126,7 @@ fn write_paragraphs<D: BidiDataSource, T: TextSource>(
         paragraphs.now) }
 {
     for (index, paragraph) in paragraphs.iter().enumerate() {
-        write_paragraph(resolver, alloc, text, paragraph, flags[index], levels)?;
+        write_paragraph(resolver, text, paragraph, flags[index], levels)?;
     }
     Ok(())
 }
@@ -198,7 +196,6 @@ impl Analyser {
         };
         write_paragraphs(
             &mut self.resolver,
-            alloc,
             &classified,
             found.paragraphs.as_slice(),
             found.flags.as_slice(),

@@ -9,13 +9,14 @@ ghost use Rattle.bidi_base.specs.Search.{IsFirst};
 ghost use Rattle.bidi_base.specs.StatusMachine.{State};
 ghost use Rattle.bidi_base.specs.Text.{char_index, is_per_char, place, text_len};
 ghost use Rattle.bidi_base.specs.Units.{bounds};
+ghost use Rattle.bidi_runs.specs.ExplicitPass.{filled};
 ghost use Rattle.bidi_explicit.specs.Control.{is_control};
 ghost use Rattle.bidi_explicit.specs.ExplicitStretches.{paragraph_of, run_met, runs_met, IsOverridden, IsReadTo, IsStart, IsUnread, ReadsOn};
 ghost use Rattle.bidi_explicit.specs.Status.{entry_count, seen};
 ghost use Rattle.bidi_explicit.specs.Stride.{count_to};
 
 use super::status::{StatusEntry, StatusStack};
-use super::{Stride, cut_run, units, write_class, write_control, write_level};
+use super::{Stride, cut_run, units, write_class, write_control};
 use bidi_base::char_data::BidiClass::{self, B, BN, FSI, LRE, LRI, LRO, PDF, PDI, RLE, RLI, RLO};
 use bidi_base::level::Level;
 use bidi_base::search::ClassTest;
@@ -68,7 +69,8 @@ impl ClassTest for Kept {
 pub struct Progress {
     /// The index after that part.
     pub end: usize,
-    level: Level,
+    /// Its level.
+    pub level: Level,
     /// The first code unit of the part that X9 keeps.
     first_kept: Option<usize>,
 }
@@ -225,7 +227,12 @@ impl<'p, T: TextSource> Paragraph<'p, T> {
 
     // The end of the stretch without controls that begins at `from`. Counts one step for each of its
     // characters or code units.
-    fn stretch_end<S: Ledger>(&self, from: usize, steps: &mut Steps<S>) -> usize
+    fn stretch_end<S: Ledger, L: Ledger>(
+        &self,
+        from: usize,
+        steps: &mut Steps<S>,
+        looked: &mut Steps<L>,
+    ) -> usize
         requires begins { IsStart T.units (T.characters self.now.text) from }
         requires inside { from < length self.now.original_classes.now }
         requires plain { is_control (class_at self.now.original_classes.now from) ≡ false }
@@ -233,22 +240,26 @@ impl<'p, T: TextSource> Paragraph<'p, T> {
         ensures begins { IsStart T.units (T.characters self.now.text) result }
         ensures steps { steps.new + count_to self.now.stride T.units (T.characters self.now.text) from
             ≡ steps.old + count_to self.now.stride T.units (T.characters self.now.text) result }
+        ensures looked { looked.new ≤ looked.old + 6 * (result - from) }
     {
         let classes = self.original_classes;
         match self.stride {
-            Stride::CodeUnit => units::next_after(Control, classes, from, classes.len(), steps),
+            Stride::CodeUnit => {
+                units::next_after(Control, classes, from, classes.len(), steps, looked)
+            }
             Stride::Character => self.next_character(Control, from, classes.len(), steps),
         }
     }
 
     // The first character from `from` on and before `to` whose class passes a test, or else `to`. Counts
     // one step for each character or code unit passed over.
-    fn next_passing<C: ClassTest, S: Ledger>(
+    fn next_passing<C: ClassTest, S: Ledger, L: Ledger>(
         &self,
         test: C,
         from: usize,
         to: usize,
         steps: &mut Steps<S>,
+        looked: &mut Steps<L>,
     ) -> usize
         requires begins { IsStart T.units (T.characters self.now.text) from }
         requires ends { IsStart T.units (T.characters self.now.text) to }
@@ -258,9 +269,11 @@ impl<'p, T: TextSource> Paragraph<'p, T> {
         ensures begins { IsStart T.units (T.characters self.now.text) result }
         ensures steps { steps.new + count_to self.now.stride T.units (T.characters self.now.text) from
             ≡ steps.old + count_to self.now.stride T.units (T.characters self.now.text) result }
+        ensures looked { looked.new ≤ looked.old + 6 * (to - from) }
     {
+        let classes = self.original_classes;
         match self.stride {
-            Stride::CodeUnit => units::next_passing(test, self.original_classes, from, to, steps),
+            Stride::CodeUnit => units::next_passing(test, classes, from, to, steps, looked),
             Stride::Character => self.next_character(test, from, to, steps),
         }
     }
@@ -318,36 +331,38 @@ impl<'p, T: TextSource> Paragraph<'p, T> {
         }
     }
 
-    /// Reads the characters from an index up to the next control.
-    pub fn read_stretch<S: Ledger>(
+    /// Reads the characters from an index up to the next control. The caller writes their level, which is the
+    /// same for all of them.
+    pub fn read_stretch<S: Ledger, L: Ledger>(
         &self,
         from: usize,
         status: StatusEntry,
-        levels: &mut [Level],
         classes: &mut [BidiClass],
         steps: &mut Steps<S>,
+        looked: &mut Steps<L>,
     ) -> Progress
         requires inside { from < length self.now.original_classes.now }
         requires plain { is_control (class_at self.now.original_classes.now from) ≡ false }
         requires begins { IsStart T.units (T.characters self.now.text) from }
-        requires levels { length levels.old ≡ length self.now.original_classes.now }
         requires classes { length classes.old ≡ length self.now.original_classes.now }
         requires unread { IsUnread self.now.original_classes.now classes.old from }
-        ensures read { (stack : State) → seen status ≡ stack.top
+        ensures read { (stack : State) (levels written : List ℕ) → seen status ≡ stack.top
+            → written ≡ filled from (result.end - from) result.level levels
             → ReadsOn (paragraph_of T.units (T.characters self.now.text) self.now.level self.now.original_classes.now)
-            from stack levels.old classes.old result stack levels.new classes.new }
+            from stack levels classes.old result stack written classes.new }
         ensures some { from < result.end }
+        ensures within { result.end ≤ length self.now.original_classes.now }
         ensures more { count_to self.now.stride T.units (T.characters self.now.text) from
             < count_to self.now.stride T.units (T.characters self.now.text) result.end }
         ensures at_least { steps.old + char_index T.units (T.characters self.now.text) result.end
             ≤ steps.new + char_index T.units (T.characters self.now.text) from }
         ensures at_most { steps.new + 3 * count_to self.now.stride T.units (T.characters self.now.text) from
             ≤ steps.old + 3 * count_to self.now.stride T.units (T.characters self.now.text) result.end }
+        ensures looked { looked.new ≤ looked.old + 12 * (result.end - from) }
     {
-        let end = self.stretch_end(from, steps);
-        write_level(levels, from, end, status.level);
+        let end = self.stretch_end(from, steps, looked);
         self.write_override(classes, from, end, status.override_class, steps);
-        let first_kept = self.next_passing(Kept, from, end, steps);
+        let first_kept = self.next_passing(Kept, from, end, steps, looked);
         Progress {
             end,
             level: status.level,

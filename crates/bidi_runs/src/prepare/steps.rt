@@ -1,4 +1,4 @@
-//! A count of loop iterations that only contracts see.
+//! A count of loop iterations, or of code units that searches look at. Only contracts see it.
 
 ghost use Rattle.std.specs.Prelude.{◌≡◌, ◌+◌};
 
@@ -6,7 +6,8 @@ use std::marker::{Brand, Model};
 use std::mem::size_of;
 use std::sync::ledger::{Blank, Book, Ledger, Share};
 
-/// The number of loop iterations so far.
+/// The number of loop iterations so far. A second one of the same type has the code units that searches have
+/// looked at.
 ///
 /// Contracts see it as a number. It takes no bytes at run time, and only [`Steps::tick`] and
 /// [`Steps::tick_by`] change it. The parameter names the ledger that keeps the count.
@@ -40,14 +41,14 @@ impl<L: Ledger> Steps<L> {
         Steps { book, share }
     }
 
-    /// Counts one more iteration.
+    /// Counts one more iteration, or one more code unit.
     pub fn tick(&mut self)
         ensures { self.new ≡ self.old + 1 }
     {
         self.book.add(&mut self.share, 1);
     }
 
-    /// Counts `count` more iterations.
+    /// Counts `count` more iterations, or code units.
     pub fn tick_by(&mut self, count: usize)
         ensures { self.new ≡ self.old + count }
     {

@@ -2,7 +2,7 @@
 use Rattle.bidi_base.proofs.Common.{map, arith, rules, map-append, bounds}
 use Rattle.bidi_runs.proofs.CharEnds.{index-zero}
 use Rattle.bidi_explicit.proofs.CountLemmas.{count-one, count-zero}
-use Rattle.bidi_explicit.proofs.ExplicitStretches.{read-start, read-levels, read-classes, read-runs, read-no_runs, read-all, read-begins, read-count}
+use Rattle.bidi_explicit.proofs.ExplicitStretches.{read-start, read-levels, read-classes, read-runs, read-no_runs, read-all, read-begins, read-count, read-units}
 use Rattle.bidi_explicit.proofs.explicit.compute_by.Goals as goal
 use Rattle.bidi_explicit.proofs.explicit.compute_by.Goals.{then-is_control, else-is_control}
 
@@ -12,8 +12,8 @@ loop-at-init g c = grind (arith, read-start, index-zero, count-zero)
 pub read_control-progress-requires-clause-read : goal.read_control-progress-requires-clause-read
 read_control-progress-requires-clause-read g c = (map bounds c.loop-at.runs.items, c.loop-at.run, c.loop-at.invariant.0)
 
-pub read_stretch-progress-requires-clause-begins : goal.read_stretch-progress-requires-clause-begins
-read_stretch-progress-requires-clause-begins g c = search (rules, read-begins)
+pub read_stretch-stretch-requires-clause-begins : goal.read_stretch-stretch-requires-clause-begins
+read_stretch-stretch-requires-clause-begins g c = search (rules, read-begins)
 
 pub loop-at-preserved : goal.loop-at-preserved
 loop-at-preserved g c = elim c.if-is_control.branch [
@@ -21,9 +21,11 @@ loop-at-preserved g c = elim c.if-is_control.branch [
     simp (w.levels-is, w.processing_classes-is, w.stack-is, w.progress-is, c.in_ok-meet.ensures.runs, c.in_ok-meet.ensures.run) (w.read_control-progress.ensures.read _ _ c.loop-at.invariant.0),
     grind arith,
     grind (arith, count-one),
+    grind arith,
   )
   | else-is_control w ↦ (
-    simp (w.levels-is, w.processing_classes-is, w.stack-is, w.progress-is, c.in_ok-meet.ensures.runs, c.in_ok-meet.ensures.run) (w.read_stretch-progress.ensures.read _ w.top.ensures _ _ c.loop-at.invariant.0),
+    simp (w.levels-is, w.processing_classes-is, w.stack-is, w.progress-is, c.in_ok-meet.ensures.runs, c.in_ok-meet.ensures.run) (w.read_stretch-stretch.ensures.read _ _ _ w.top.ensures w.write_level.ensures _ _ c.loop-at.invariant.0),
+    grind arith,
     grind arith,
     grind arith,
   )
@@ -40,6 +42,7 @@ returns-in_ok-push g c =
       read-runs _ _ _ _ _ _ _ i,
       read-all _ _ _ _ _ _ _ i,
       read-count _ _ _ _ _ _ _ i,
+      read-units _ _ _ _ _ _ _ i,
     )
 
 pub returns-else-units-gt0 : goal.returns-else-units-gt0
@@ -52,4 +55,5 @@ returns-else-units-gt0 g c =
       read-no_runs _ _ _ _ _ _ _ i,
       read-all _ _ _ _ _ _ _ i,
       read-count _ _ _ _ _ _ _ i,
+      read-units _ _ _ _ _ _ _ i,
     )

@@ -12,6 +12,7 @@ invariant-loop-at g l =
     IsReadTo (paragraph_of len_of chars l.paragraph.level l.original_classes) l.at l.stack l.levels l.processing_classes (map bounds l.runs.items) l.run
     × (l.fn.steps + char_index len_of chars l.at ≤ l.steps)
     × (l.steps + entry_count l.stack ≤ l.fn.steps + (4 * count_to l.paragraph.stride len_of chars l.at + 1))
+    × (l.looked ≤ l.fn.looked + 12 * l.at)
 
 abbrev pub decreases-loop-at : goal.decreases-loop-at
 decreases-loop-at g l = l.units - l.at

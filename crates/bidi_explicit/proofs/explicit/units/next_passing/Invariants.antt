@@ -7,4 +7,5 @@ invariant-loop-near g l = record {
   fails : (k : ℕ) → l.from ≤ k → k < l.from + l.near → g.C.ClassTest.test l.test (class_at l.classes k) ≡ false;
   within : l.from + l.near ≤ l.to;
   steps : l.steps ≡ l.fn.steps + l.near;
+  looked : l.looked ≡ l.fn.looked + l.near;
 }

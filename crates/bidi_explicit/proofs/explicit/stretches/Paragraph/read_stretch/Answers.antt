@@ -10,9 +10,10 @@ returns g c =
     let chars = g.T.TextSource.characters c.args.self.now.text in
     record {
       read =
-          λ stack same runs run h. stretch-met _ _ _ _ _ _ runs run h c.stretch_end-end.ensures.first _ _ _ _ (ap (λ entry. entry.status.level) same) (ap (λ entry. entry.status.override) same)
-          c.write_level.ensures c.write_override.ensures.put _ c.next_passing-first_kept.ensures.first _ (λ e. grind arith) (λ e. grind arith) _ c.then_some.ensures;
+          λ stack levels written same is runs run h. stretch-met _ _ _ _ _ _ runs run h c.stretch_end-end.ensures.first _ _ _ _ (ap (λ entry. entry.status.level) same) (ap (λ entry. entry.status.override) same)
+          is c.write_override.ensures.put _ c.next_passing-first_kept.ensures.first _ (λ e. grind arith) (λ e. grind arith) _ c.then_some.ensures;
       some = grind arith;
+      within = grind arith;
       more = grind (arith, count-lt);
       at_least = omega (
         arith,
@@ -23,4 +24,5 @@ returns g c =
         c.next_passing-first_kept.ensures.steps,
       );
       at_most = grind (arith, count-le);
+      looked = grind arith;
     }

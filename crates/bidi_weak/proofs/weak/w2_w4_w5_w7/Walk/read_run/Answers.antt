@@ -1,0 +1,52 @@
+use Rattle.bidi_base.proofs.Common.{◌≡◌, ◌<◌, ◌≤◌, ℕ, true, List, map, bounds, arith, and_right, class_at, get_or-map, length-map, are_ordered}
+use Rattle.bidi_weak.specs.declared.weak.w2_w4_w5_w7.Walk.{Walk}
+use Rattle.bidi_weak.specs.WeakPass.{is_other}
+use Rattle.bidi_weak.specs.WeakWalk.{settled_to}
+use Rattle.bidi_runs.specs.Written.{count_below}
+use Rattle.bidi_runs.proofs.CountBelow.{count_below-monotone}
+use Rattle.bidi_weak.proofs.CountedUnits.{count_settled-monotone, settled_to-idle, WaitsBelow-later}
+use Rattle.bidi_runs.proofs.InRuns.{run_some}
+use Rattle.bidi_weak.proofs.WeakWalkLemmas.{other-free, IsUnderWay-unseen}
+use Rattle.bidi_weak.proofs.OwedUnits.{owed-removed}
+use Rattle.bidi_weak.proofs.weak.w2_w4_w5_w7.Walk.read_run.Goals as goal
+
+pub loop-at-init : goal.loop-at-init
+loop-at-init g c = grind (arith, get_or-map, run_some, length-map)
+
+pub loop-at-preserved-then-is_kept_in_place : goal.loop-at-preserved-then-is_kept_in_place
+loop-at-preserved-then-is_kept_in_place g c = grind (arith, length-map)
+
+pub loop-at-preserved : goal.loop-at-preserved
+loop-at-preserved g c =
+    let owed = owed-removed c.loop-at.self.before (class_at c.loop-at.classes c.loop-at.at) (grind arith) (grind arith) in
+    let settled = count_settled-monotone (map bounds c.args.sequence.now.runs.now) c.loop-at.self c.loop-at.at c.stretch_end-next.result c.requires.ordered (omega arith) in
+    record {
+      starts = grind arith;
+      ends = grind arith;
+      end = grind arith;
+      long = grind arith;
+      waiting = grind (arith, WaitsBelow-later);
+      rest = grind arith;
+      reads = grind (arith, IsUnderWay-unseen, and_right);
+      at_least = grind arith;
+      at_most = omega (arith, settled);
+      ended = λ done. omega (arith, settled);
+      looked = grind arith;
+      owed = λ inside. grind arith;
+    }
+
+-- the turns over units that are passed over
+passed : (runs : List (ℕ × ℕ)) (w after : Walk) (i j : ℕ) → are_ordered runs ≡ true → i < j → is_other w.before ≡ true
+    → is_other after.before ≡ true → count_below runs (settled_to w i) ≤ count_below runs (settled_to after j)
+passed runs w after i j ordered order before behind =
+    grind (
+      arith,
+      count_below-monotone 0 runs i j ordered,
+      settled_to-idle w i (other-free w.before before),
+      other-free w.before before,
+      settled_to-idle after j (other-free after.before behind),
+      other-free after.before behind,
+    )
+
+pub loop-at-preserved-then-passes_over : goal.loop-at-preserved-then-passes_over
+loop-at-preserved-then-passes_over g c = grind (arith, passed, length-map)

@@ -1,0 +1,108 @@
+//! W1: a nonspacing mark takes the class of the character before it.
+
+ghost use Rattle.std.specs.Prelude.{◌≡◌, ℕ, ◌+◌, ◌-◌, ◌<◌, ◌≤◌, true, List, length, map, All, IsTrue};
+ghost use Rattle.bidi_base.specs.declared.char_data.BidiClass.{BidiClass};
+ghost use Rattle.bidi_base.specs.Classes.{is_kept_in_place, is_l_or_r, is_nsm};
+ghost use Rattle.bidi_base.specs.Places.{class_at};
+ghost use Rattle.bidi_base.specs.Units.{bounds, are_ordered, in_runs};
+ghost use Rattle.bidi_base.specs.Weak.{carried};
+ghost use Rattle.bidi_weak.specs.WeakWalk.{is_any, is_any_of, two_a_unit, AreMarked, IsMarked};
+ghost use Rattle.bidi_runs.specs.Written.{is_seen};
+
+use super::part_of;
+use bidi_base::char_data::BidiClass::{self, FSI, LRI, ON, PDI, RLI};
+use bidi_base::classes::is_nsm;
+use bidi_runs::prepare::{LevelRun, Steps};
+use bidi_runs::written::is_kept_in_place;
+use std::sync::ledger::Ledger;
+
+/// Applies W1 to the code units of some runs that are not BN.
+pub fn resolve_marks<S: Ledger, L: Ledger>(
+    runs: &[LevelRun],
+    sos: BidiClass,
+    classes: &mut [BidiClass],
+    steps: &mut Steps<S>,
+    looked: &mut Steps<L>,
+)
+    requires ordered { IsTrue (are_ordered (map bounds runs.now)) }
+    requires within { All (λ r. r.1 ≤ length classes.old) (map bounds runs.now) }
+    requires sos { IsTrue (is_l_or_r sos) }
+    ensures marked { IsMarked (map bounds runs.now) (carried sos) classes.old classes.new }
+    ensures at_least { steps.old ≤ steps.new }
+    ensures at_most { steps.new ≤ steps.old + two_a_unit runs.now }
+    ensures looked { looked.new ≤ looked.old + two_a_unit runs.now }
+{
+    if !has_marks(runs, classes, looked) {
+        return;
+    }
+    let mut last = sos;
+    for run in runs {
+        steps.tick();
+        last = resolve_marks_in(run, last, classes, steps);
+    }
+}
+
+/// Whether the runs have a nonspacing mark.
+fn has_marks<L: Ledger>(runs: &[LevelRun], classes: &[BidiClass], looked: &mut Steps<L>) -> bool
+    requires { IsTrue (are_ordered (map bounds runs.now)) }
+    ensures answer { result ≡ is_any is_nsm runs.now classes.now }
+    ensures looked { looked.new ≤ looked.old + two_a_unit runs.now }
+{
+    for run in runs {
+        looked.tick();
+        if is_mark_in(part_of(classes, run), looked) {
+            return true;
+        }
+    }
+    false
+}
+
+/// Whether one of the classes is NSM. Tests all of them, many at once.
+fn is_mark_in<L: Ledger>(classes: &[BidiClass], looked: &mut Steps<L>) -> bool
+    ensures answer { result ≡ is_any_of is_nsm classes.now }
+    ensures looked { looked.new ≡ looked.old + length classes.now }
+{
+    looked.tick_by(classes.len());
+    classes
+        .iter()
+        .fold(false, |found, class| found | is_nsm(*class))
+}
+
+/// Applies W1 to one run after a character of the class `before`. Returns the class of the last character
+/// that is neither BN nor a mark, or `before` if there is none.
+fn resolve_marks_in<S: Ledger>(
+    run: &LevelRun,
+    before: BidiClass,
+    classes: &mut [BidiClass],
+    steps: &mut Steps<S>,
+) -> BidiClass
+    requires ordered { run.now.start ≤ run.now.end }
+    requires within { run.now.end ≤ length classes.old }
+    ensures marked { (runs : List (ℕ × ℕ)) (sos : BidiClass) (old : List BidiClass)
+        → ((k : ℕ) → run.now.start ≤ k → k < run.now.end → in_runs runs k ≡ true)
+        → AreMarked runs sos old classes.old (carried before) run.now.start
+        → AreMarked runs sos old classes.new (carried result) run.now.end }
+    ensures steps { steps.new ≡ steps.old + (run.now.end - run.now.start) }
+{
+    let mut last = before;
+    for unit in run.start..run.end {
+        steps.tick();
+        let class = classes[unit];
+        if is_nsm(class) {
+            classes[unit] = carried(last);
+        } else if is_kept_in_place(class) {
+            last = class;
+        }
+    }
+    last
+}
+
+/// The class that a nonspacing mark takes from the character before it.
+fn carried(class: BidiClass) -> BidiClass
+    ensures { result ≡ carried class }
+{
+    match class {
+        LRI | RLI | FSI | PDI => ON,
+        other => other,
+    }
+}
