@@ -79,12 +79,16 @@ fn runs_in(
     let places = places_of(alloc, text)?;
     let mut found = Vec::new(alloc);
     let fault = RowFault::Line(line, Why::TextRange);
-    for (start, end) in runs {
-        let start = places.get(*start).copied().ok_or(fault)?;
-        let end = places.get(*end).copied().ok_or(fault)?;
-        found.push((start, end))?;
+    for run in runs {
+        found.push(run_in(places.as_slice(), run).ok_or(fault)?)?;
     }
     Ok(found)
+}
+
+// Converts a run of characters to a run of code units, given where each character begins and where the last one ends.
+fn run_in(places: &[usize], run: &(usize, usize)) -> Option<(usize, usize)> {
+    let (start, end) = run;
+    Some((places.get(*start).copied()?, places.get(*end).copied()?))
 }
 
 /// Returns the runs of a field as ranges of code units. The field has ranges of a text's characters.
