@@ -6,9 +6,7 @@ ghost use Rattle.std.specs.Str.{chars};
 ghost use Rattle.bidi_base.specs.InPlace.{CanResolveNeutrals};
 ghost use Rattle.bidi_base.specs.Units.{bounds};
 
-use crate::conditions::{are_directed, are_kept, are_left, are_left_or_removed, is_side};
-use crate::explicit_levels::explicit_level;
-use crate::units::{Sequence, per_unit, sequences_of_field, whole_sequence_of};
+use crate::units::{Sequence, sequences_of_field, whole_sequence_of};
 use crate::weak_types::class_field;
 use bidi_base::char_data::BidiClass;
 use bidi_base::data_source::{BidiDataSource, BidiMatchedOpeningBracket, TableBidiData};
@@ -25,6 +23,10 @@ use bidi_vectors_format::row::Row;
 use bidi_vectors_format::source::Tables;
 use bidi_vectors_format::tally::Tally;
 use bidi_vectors_format::text::RowText;
+use bidi_vectors_resolve::conditions::{
+    are_directed, are_kept, are_left, are_left_or_removed, explicit_level, is_side,
+};
+use bidi_vectors_resolve::units::per_unit;
 use std::alloc::Global;
 
 // Returns the bracket of each character of a text, if it is one.

@@ -1,8 +1,7 @@
 //! Rows of the weak types (W1 to W7), over lists and in place.
 
-use crate::conditions::{are_kept, is_side};
 use crate::counted;
-use crate::units::{per_unit, resolve_weak_units, runs_of_field, whole_sequence_of};
+use crate::units::{resolve_weak_units, runs_of_field, whole_sequence_of};
 use bidi_base::char_data::BidiClass::{self, BN, L};
 use bidi_plain::plain::weak;
 use bidi_rules::prepare::IsolatingRunSequence;
@@ -13,6 +12,8 @@ use bidi_vectors_format::fault::{RowFault, Why};
 use bidi_vectors_format::row::Row;
 use bidi_vectors_format::tally::Tally;
 use bidi_vectors_format::text::RowText;
+use bidi_vectors_resolve::conditions::{are_kept, is_side};
+use bidi_vectors_resolve::units::per_unit;
 use std::alloc::Global;
 
 /// Returns the class in a field of a row.

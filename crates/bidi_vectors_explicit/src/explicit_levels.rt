@@ -1,8 +1,7 @@
 //! Rows of explicit levels (X1 to X8) and of isolating run sequences (X9, X10), over lists and in place.
 
-ghost use Rattle.std.specs.Prelude.{◌≤◌, IfOk};
+ghost use Rattle.std.specs.Prelude.{◌≤◌};
 
-use crate::conditions::has_initiator;
 use crate::explicit_pass::{Paragraph, Pass, Prepared};
 use crate::units::ExplicitUnits;
 use bidi_base::char_data::BidiClass::{self, BN};
@@ -14,24 +13,12 @@ use bidi_vectors_format::answer::{
     class_words, classes_in, level_words, levels_in, ranges_in, run_words,
 };
 use bidi_vectors_format::class::classes_of;
-use bidi_vectors_format::fault::{RowFault, Why};
-use bidi_vectors_format::item::level_of;
+use bidi_vectors_format::fault::RowFault;
 use bidi_vectors_format::row::Row;
 use bidi_vectors_format::tally::Tally;
 use bidi_vectors_format::text::RowText;
+use bidi_vectors_resolve::conditions::{explicit_level, has_initiator};
 use std::alloc::Global;
-
-/// Returns the level in a field of a row, which must be an explicit level.
-pub fn explicit_level(row: &Row<'_>, key: &str) -> Result<Level, RowFault>
-    ensures { IfOk result (λ level. level ≤ 125) }
-{
-    let field = row.field(key)?;
-    let level = level_of(field.value, field.line)?;
-    match Level::new_explicit(level.number()) {
-        Ok(level) => Ok(level),
-        Err(_) => Err(RowFault::Line(field.line, Why::ExplicitLevel)),
-    }
-}
 
 // Returns a text with one character for each class, of one and two code units by turns.
 fn letters(alloc: Global, classes: &[BidiClass]) -> Result<String, RowFault> {
