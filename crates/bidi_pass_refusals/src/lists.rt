@@ -9,7 +9,7 @@ use bidi_plain::plain::{
 use bidi_trials::texts::{CHARACTERS, LENGTH};
 use bidi_trials::trial::Fault;
 use bidi_trials::tried;
-use bidi_vectors_rules::conditions::{are_directed, are_kept, are_left, is_side};
+use bidi_vectors_resolve::conditions::{are_directed, are_kept, are_left, is_side};
 
 // The characters' classes, their classes under overrides, and their brackets.
 #[derive(Clone, Copy)]

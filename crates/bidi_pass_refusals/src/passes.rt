@@ -12,7 +12,7 @@ use bidi_text::text::{StrText, is_per_char};
 use bidi_trials::texts::{TEXT, WITHOUT_ISOLATES};
 use bidi_trials::trial::{Fault, NoAnswer};
 use bidi_trials::tried;
-use bidi_vectors_rules::conditions::{are_left_or_removed, has_initiator};
+use bidi_vectors_resolve::conditions::{are_left_or_removed, has_initiator};
 use std::alloc::Global;
 use std::marker::Brand;
 use std::sync::ledger::{Blank, Ledger};

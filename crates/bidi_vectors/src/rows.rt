@@ -42,6 +42,7 @@ fn run_row(
         || bidi_vectors_texts::run(alloc, tables, row, tally)?
         || bidi_vectors_lines::run(alloc, tables, row, tally)?
         || bidi_vectors_base::run(alloc, tables, row, tally)?
+        || bidi_vectors_explicit::run(alloc, row, tally)?
         || bidi_vectors_rules::run(alloc, tables, row, tally)?
     {
         return Ok(());

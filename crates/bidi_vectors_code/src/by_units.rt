@@ -2,6 +2,7 @@
 
 ghost use Rattle.std.specs.Prelude.{◌≡◌, [], length, IfOk};
 
+use crate::check::same;
 use bidi_base::char_data::BidiClass;
 use bidi_base::level::{LTR_LEVEL, Level, RTL_LEVEL};
 use bidi_explicit::by_units::{StoredParagraph, compute, compute_counted};
@@ -107,12 +108,15 @@ impl Found {
 
 // Compares what was found with what is known.
 fn compare(rt: &impl Abort, found: &Found, paragraph: &Paragraph) {
-    assert_eq!(rt; found.levels.as_slice(), paragraph.levels.as_slice());
-    assert_eq!(rt;
-        found.classes.as_slice(),
-        paragraph.classes_after.as_slice()
+    same(
+        rt,
+        "levels",
+        found.levels.as_slice(),
+        paragraph.levels.as_slice(),
     );
-    assert_eq!(rt; found.runs.as_slice(), RUNS.as_slice());
+    let (classes, wanted) = (found.classes.as_slice(), paragraph.classes_after.as_slice());
+    same(rt, "classes", classes, wanted);
+    same(rt, "runs", found.runs.as_slice(), RUNS.as_slice());
 }
 
 #[test]

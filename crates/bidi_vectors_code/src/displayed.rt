@@ -1,32 +1,57 @@
 //! Tests of a line as it is displayed, and of its comparison with how it reads.
 
+use crate::check::same;
 use crate::source::sample;
 use bidi_controls::displayed::{DisplayComparison, DisplayedLine};
 use bidi_terminal::Base;
+use std::process::Abort;
 use std::test::Fail;
+
+// A line with an override in it.
+const LINE: [char; 7] = ['i', '\u{202E}', 'a', '(', 'b', '\u{202C}', '!'];
+
+// Each base direction, and what is displayed of the line.
+const DISPLAYED: [(Base, [char; 5]); 2] = [
+    (Base::Ltr, ['i', 'b', '(', 'a', '!']),
+    (Base::Rtl, ['!', 'i', 'b', '(', 'a']),
+];
+
+// Displays the line in one direction after the other.
+fn check_displayed(
+    rt: &(impl Abort + AllocGlobal),
+    displayed: &mut DisplayedLine,
+    out: &mut Vec<char>,
+) -> Result<(), Fail> {
+    let source = sample()?;
+    for (base, wanted) in DISPLAYED {
+        displayed.write(rt.alloc(), &source, base, &LINE, out)?;
+        same(rt, "displayed", out.as_slice(), wanted.as_slice());
+    }
+    Ok(())
+}
 
 #[test]
 fn a_line_without_its_controls(rt: HostRuntime) -> Result<(), Fail> {
-    let alloc = rt.alloc();
+    let mut displayed = DisplayedLine::new(rt.alloc());
+    let mut out = Vec::new(rt.alloc());
+    check_displayed(&rt, &mut displayed, &mut out)
+}
+
+// Compares a line whose text is swapped and one whose text is kept with how they read.
+fn check_comparison(
+    rt: &(impl Abort + AllocGlobal),
+    comparison: &mut DisplayComparison,
+) -> Result<(), Fail> {
     let source = sample()?;
-    let line = ['i', '\u{202E}', 'a', '(', 'b', '\u{202C}', '!'];
-    let mut displayed = DisplayedLine::new(alloc);
-    let mut out = Vec::new(alloc);
-    displayed.write(alloc, &source, Base::Ltr, &line, &mut out)?;
-    assert_eq!(rt; out.as_slice(), ['i', 'b', '(', 'a', '!'].as_slice());
-    displayed.write(alloc, &source, Base::Rtl, &line, &mut out)?;
-    assert_eq!(rt; out.as_slice(), ['!', 'i', 'b', '(', 'a'].as_slice());
+    let swapped = ['a', '\u{202E}', 'b', 'c', '\u{202C}'];
+    assert!(rt; comparison.is_displayed_differently(rt.alloc(), &source, &swapped)?);
+    let kept = ['\u{5D0}', '\u{2066}', '/', 'b', '\u{2069}'];
+    assert!(rt; !comparison.is_displayed_differently(rt.alloc(), &source, &kept)?);
     Ok(())
 }
 
 #[test]
 fn a_line_and_how_it_reads(rt: HostRuntime) -> Result<(), Fail> {
-    let alloc = rt.alloc();
-    let source = sample()?;
-    let mut comparison = DisplayComparison::new(alloc);
-    let swapped = ['a', '\u{202E}', 'b', 'c', '\u{202C}'];
-    assert!(rt; comparison.is_displayed_differently(alloc, &source, &swapped)?);
-    let kept = ['\u{5D0}', '\u{2066}', '/', 'b', '\u{2069}'];
-    assert!(rt; !comparison.is_displayed_differently(alloc, &source, &kept)?);
-    Ok(())
+    let mut comparison = DisplayComparison::new(rt.alloc());
+    check_comparison(&rt, &mut comparison)
 }

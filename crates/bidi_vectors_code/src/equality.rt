@@ -1,63 +1,67 @@
 //! Tests that two results are equal exactly if their texts, classes, levels and paragraphs are equal.
 
-use crate::source::sample;
-use bidi_base::level::{LTR_LEVEL, RTL_LEVEL};
+use crate::check::same;
+use crate::source::{bidi_info, paragraph_info, sample, utf16_info};
+use bidi_terminal::Base;
+use std::alloc::Global;
 use std::test::Fail;
-use unicode_bidi::{BidiInfo, InitialInfo, ParagraphBidiInfo, utf16};
+use unicode_bidi::InitialInfo;
+
+// A text with its base direction, and whether its result is equal to that of "a b" without one.
+#[derive(Clone, Copy)]
+struct Compared(&'static str, Base, bool);
+
+const COMPARED: [Compared; 4] = [
+    Compared("a b", Base::Auto, true),
+    Compared("a b", Base::Ltr, true),
+    Compared("a b", Base::Rtl, false),
+    Compared("a c", Base::Auto, false),
+];
 
 #[test]
 fn infos(rt: HostRuntime) -> Result<(), Fail> {
-    let source = sample()?;
-    let one = BidiInfo::new_with_data_source(rt.alloc(), &source, "a b", None)?;
-    let same = BidiInfo::new_with_data_source(rt.alloc(), &source, "a b", Some(LTR_LEVEL))?;
-    let turned = BidiInfo::new_with_data_source(rt.alloc(), &source, "a b", Some(RTL_LEVEL))?;
-    let other = BidiInfo::new_with_data_source(rt.alloc(), &source, "a c", None)?;
-    assert!(rt; one == same);
-    assert!(rt; !(one == turned));
-    assert!(rt; !(one == other));
+    let one = bidi_info(rt.alloc(), "a b", Base::Auto)?;
+    for Compared(text, base, is_equal) in COMPARED {
+        let other = bidi_info(rt.alloc(), text, base)?;
+        same(&rt, text, one == other, is_equal);
+    }
     Ok(())
 }
 
 #[test]
 fn paragraph_infos(rt: HostRuntime) -> Result<(), Fail> {
-    let source = sample()?;
-    let one = ParagraphBidiInfo::new_with_data_source(rt.alloc(), &source, "a b", None)?;
-    let same = ParagraphBidiInfo::new_with_data_source(
-        rt.alloc(),
-        &source,
-        "a b",
-        Some(LTR_LEVEL),
-    )?;
-    let turned = ParagraphBidiInfo::new_with_data_source(
-        rt.alloc(),
-        &source,
-        "a b",
-        Some(RTL_LEVEL),
-    )?;
-    assert!(rt; one == same);
-    assert!(rt; !(one == turned));
+    let one = paragraph_info(rt.alloc(), "a b", Base::Auto)?;
+    for Compared(text, base, is_equal) in COMPARED {
+        let other = paragraph_info(rt.alloc(), text, base)?;
+        same(&rt, text, one == other, is_equal);
+    }
     Ok(())
+}
+
+fn initial_info(alloc: Global, text: &str, base: Base) -> Result<InitialInfo<'_>, Fail> {
+    let info = InitialInfo::new_with_data_source(alloc, &sample()?, text, base.level())?;
+    Ok(info)
 }
 
 #[test]
 fn initial_infos(rt: HostRuntime) -> Result<(), Fail> {
-    let source = sample()?;
-    let one = InitialInfo::new_with_data_source(rt.alloc(), &source, "a b", None)?;
-    let same = InitialInfo::new_with_data_source(rt.alloc(), &source, "a b", Some(LTR_LEVEL))?;
-    let turned = InitialInfo::new_with_data_source(rt.alloc(), &source, "a b", Some(RTL_LEVEL))?;
-    assert!(rt; one == same);
-    assert!(rt; !(one == turned));
+    let one = initial_info(rt.alloc(), "a b", Base::Auto)?;
+    for Compared(text, base, is_equal) in COMPARED {
+        let other = initial_info(rt.alloc(), text, base)?;
+        same(&rt, text, one == other, is_equal);
+    }
     Ok(())
 }
 
 // Two different unpaired surrogates are both U+FFFD, but the texts differ.
+const UNPAIRED: [(&[u16], bool); 2] = [(&[0xd800], true), (&[0xd801], false)];
+
 #[test]
 fn utf16_infos(rt: HostRuntime) -> Result<(), Fail> {
-    let source = sample()?;
-    let one = utf16::BidiInfo::new_with_data_source(rt.alloc(), &source, &[0xd800], None)?;
-    let same = utf16::BidiInfo::new_with_data_source(rt.alloc(), &source, &[0xd800], None)?;
-    let other = utf16::BidiInfo::new_with_data_source(rt.alloc(), &source, &[0xd801], None)?;
-    assert!(rt; one == same);
-    assert!(rt; !(one == other));
+    let one = utf16_info(rt.alloc(), &[0xd800])?;
+    for (text, is_equal) in UNPAIRED {
+        let other = utf16_info(rt.alloc(), text)?;
+        same(&rt, "surrogates", one == other, is_equal);
+    }
     Ok(())
 }

@@ -1,6 +1,9 @@
 //! Tests of lines of a given width.
 
-use crate::source::sample;
+use crate::check::same;
+use crate::source::bidi_info;
+use bidi_terminal::Base;
+use std::alloc::{AllocError, Global};
 use std::test::Fail;
 use unicode_bidi::BidiInfo;
 use unicode_bidi::layout::{CharWidth, lines};
@@ -17,20 +20,29 @@ impl CharWidth for OneEach {
     }
 }
 
+fn push_ended(shown: &mut String, line: &str) -> Result<(), AllocError> {
+    shown.push_str(line)?;
+    shown.push('|')?;
+    Ok(())
+}
+
+// Appends the lines of all paragraphs as they are displayed, with a bar after each.
+fn push_shown(alloc: Global, info: &BidiInfo<'_>, shown: &mut String) -> Result<(), AllocError> {
+    for para in info.paragraphs() {
+        for line in lines(alloc, info, para, &OneEach, 4)? {
+            let line = info.reorder_line(alloc, para, line)?;
+            push_ended(shown, line.as_str())?;
+        }
+    }
+    Ok(())
+}
+
 // Each line can be displayed without a test.
 #[test]
 fn lines_that_are_shown(rt: HostRuntime) -> Result<(), Fail> {
-    let alloc = rt.alloc();
-    let text = "\u{5D0}\u{5D1} ab\n";
-    let info = BidiInfo::new_with_data_source(alloc, &sample()?, text, None)?;
-    let mut shown = String::new(alloc);
-    for para in info.paragraphs() {
-        for line in lines(alloc, &info, para, &OneEach, 4)? {
-            let line = info.reorder_line(alloc, para, line)?;
-            shown.push_str(line.as_str())?;
-            shown.push('|')?;
-        }
-    }
-    assert_eq!(rt; shown.as_str(), "a \u{5D1}\u{5D0}|\nb|");
+    let info = bidi_info(rt.alloc(), "\u{5D0}\u{5D1} ab\n", Base::Auto)?;
+    let mut shown = String::new(rt.alloc());
+    push_shown(rt.alloc(), &info, &mut shown)?;
+    same(&rt, "lines", shown.as_str(), "a \u{5D1}\u{5D0}|\nb|");
     Ok(())
 }

@@ -1,5 +1,6 @@
 //! Tests of the constants of levels, and of error conversions.
 
+use crate::check::same;
 use bidi_base::level::{
     LTR_LEVEL, Level, MAX_EXPLICIT_DEPTH, MAX_IMPLICIT_DEPTH, RTL_LEVEL, VecError, has_rtl,
 };
@@ -8,14 +9,15 @@ use std::test::Fail;
 
 #[test]
 fn constants(rt: HostRuntime) -> Result<(), Fail> {
-    assert_eq!(rt; (LTR_LEVEL.number(), RTL_LEVEL.number()), (0, 1));
-    assert_eq!(rt; (Level::ltr(), Level::rtl()), (LTR_LEVEL, RTL_LEVEL));
-    assert_eq!(rt; (MAX_EXPLICIT_DEPTH, MAX_IMPLICIT_DEPTH), (125, 126));
-    assert_eq!(rt;
-        (Level::max_explicit_depth(), Level::max_implicit_depth()),
-        (125, 126)
-    );
-    assert_eq!(rt; u8::from(Level::new(77)?), 77);
+    same(&rt, "left to right", LTR_LEVEL.number(), 0);
+    same(&rt, "right to left", RTL_LEVEL.number(), 1);
+    same(&rt, "Level::ltr", Level::ltr(), LTR_LEVEL);
+    same(&rt, "Level::rtl", Level::rtl(), RTL_LEVEL);
+    same(&rt, "explicit", MAX_EXPLICIT_DEPTH, 125);
+    same(&rt, "implicit", MAX_IMPLICIT_DEPTH, 126);
+    same(&rt, "max_explicit_depth", Level::max_explicit_depth(), 125);
+    same(&rt, "max_implicit_depth", Level::max_implicit_depth(), 126);
+    same(&rt, "u8", u8::from(Level::new(77)?), 77);
     Ok(())
 }
 
@@ -23,7 +25,7 @@ fn constants(rt: HostRuntime) -> Result<(), Fail> {
 fn refusals(rt: HostRuntime) {
     assert!(rt; !has_rtl(&[LTR_LEVEL, LTR_LEVEL]));
     assert!(rt; has_rtl(&[LTR_LEVEL, RTL_LEVEL]));
-    assert_eq!(rt; VecError::from(AllocError), VecError::Memory);
+    same(&rt, "refused", VecError::from(AllocError), VecError::Memory);
     let refused = AllocFailed { value: LTR_LEVEL };
-    assert_eq!(rt; VecError::from(refused), VecError::Memory);
+    same(&rt, "not pushed", VecError::from(refused), VecError::Memory);
 }

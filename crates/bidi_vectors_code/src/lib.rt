@@ -4,6 +4,8 @@
 #[cfg(test)]
 mod by_units;
 #[cfg(test)]
+mod check;
+#[cfg(test)]
 mod displayed;
 #[cfg(test)]
 mod equality;

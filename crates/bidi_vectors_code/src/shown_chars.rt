@@ -1,14 +1,16 @@
 //! Tests of a value that shows lines of a list of characters.
 
+use crate::check::same;
 use bidi_base::char_data::BidiClass;
 use bidi_base::char_data::BidiClass::{L, R};
 use bidi_base::level::Level;
 use bidi_text::text::{CharsText, is_line, is_per_char};
 use bidi_text_lines::analysed::Analysed;
 use bidi_text_lines::shown_line::ShownLine;
+use std::alloc::Global;
 use std::test::Fail;
 
-// A text of two characters with its classes and levels.
+// Returns a text with these classes and levels.
 fn analysed<'t>(
     text: CharsText<'t>,
     classes: Vec<BidiClass>,
@@ -20,21 +22,41 @@ fn analysed<'t>(
     Ok(Analysed::new(text, classes, levels))
 }
 
-#[test]
-fn characters(rt: HostRuntime) -> Result<(), Fail> {
-    let alloc = rt.alloc();
-    let list = ['\u{5D0}', 'a'];
+// Returns a text of a right-to-left letter and a left-to-right letter with their classes and levels.
+fn analysed_letters(alloc: Global, text: CharsText<'_>) -> Result<Analysed<CharsText<'_>>, Fail> {
+    let levels = [Level::new(1)?, Level::new(2)?];
     let classes = vec![in alloc; R, L]?;
-    let levels = vec![in alloc; Level::new(1)?, Level::new(2)?]?;
-    let analysed = analysed(CharsText::new(&list), classes, levels)?;
+    analysed(text, classes, Vec::from_slice(alloc, &levels)?)
+}
+
+// Shows both characters as one line.
+fn show<'t>(
+    shown: &mut ShownLine<CharsText<'t>>,
+    analysed: &Analysed<CharsText<'t>>,
+    pushed: &mut Vec<char>,
+) -> Result<(), Fail> {
     let line = 0..2;
     if !is_line(analysed.text(), &line) {
         return Err(Fail::from("a line"));
     }
+    shown.show(analysed, Level::rtl(), line)?;
+    shown.push_text(pushed)?;
+    Ok(())
+}
+
+fn shown_text(alloc: Global, analysed: &Analysed<CharsText<'_>>) -> Result<Vec<char>, Fail> {
     let mut shown = ShownLine::of_text(alloc, analysed.text());
-    shown.show(&analysed, Level::rtl(), line)?;
     let mut pushed = Vec::new(alloc);
-    shown.push_text(&mut pushed)?;
-    assert_eq!(rt; pushed.as_slice(), ['a', '\u{5D0}'].as_slice());
+    show(&mut shown, analysed, &mut pushed)?;
+    Ok(pushed)
+}
+
+#[test]
+fn characters(rt: HostRuntime) -> Result<(), Fail> {
+    let alloc = rt.alloc();
+    let list = ['\u{5D0}', 'a'];
+    let analysed = analysed_letters(alloc, CharsText::new(&list))?;
+    let pushed = shown_text(alloc, &analysed)?;
+    same(&rt, "shown", pushed.as_slice(), ['a', '\u{5D0}'].as_slice());
     Ok(())
 }

@@ -2,8 +2,6 @@
 
 ghost use Rattle.std.specs.Prelude.{◌≤◌};
 
-use crate::conditions::are_directed;
-use crate::explicit_levels::explicit_level;
 use bidi_base::char_data::BidiClass;
 use bidi_base::level::Level;
 use bidi_plain::plain::implicit;
@@ -13,6 +11,7 @@ use bidi_vectors_format::class::classes_of;
 use bidi_vectors_format::fault::RowFault;
 use bidi_vectors_format::row::Row;
 use bidi_vectors_format::tally::Tally;
+use bidi_vectors_resolve::conditions::{are_directed, explicit_level};
 use std::alloc::Global;
 
 // Resolves one level for each class in place, and returns the levels and their maximum.

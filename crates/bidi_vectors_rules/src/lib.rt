@@ -1,11 +1,8 @@
-//! Rows of the rules over lists and of the passes in place: makes the calls of each row, and compares their results.
+//! Rows of the weak types, the neutrals, the implicit levels and the sequences, over lists and in place: makes the calls of
+//! each row, and compares their results.
 #![tactic(auto)]
 
-mod by_rules;
-pub mod conditions;
 mod counted;
-mod explicit_levels;
-mod explicit_pass;
 mod implicit_levels;
 mod neutrals;
 mod run_sequences;
@@ -16,7 +13,6 @@ use bidi_vectors_format::fault::RowFault;
 use bidi_vectors_format::row::Row;
 use bidi_vectors_format::source::Tables;
 use bidi_vectors_format::tally::Tally;
-pub use by_rules::resolve;
 use std::alloc::Global;
 
 /// Makes the calls of a row of the rules over this source. Returns whether the row is of such a kind.
@@ -27,8 +23,6 @@ pub fn run(
     tally: &mut Tally,
 ) -> Result<bool, RowFault> {
     match row.kind {
-        "explicit levels" => explicit_levels::run_list(alloc, row, tally)?,
-        "explicit levels in place" => explicit_levels::run_units(alloc, row, tally)?,
         "weak types" => weak_types::run_list(alloc, row, tally)?,
         "weak types in place" => weak_types::run_units(alloc, row, tally)?,
         "pairs" => neutrals::run_pairs(alloc, tables, row, tally)?,

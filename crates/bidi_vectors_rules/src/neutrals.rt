@@ -6,9 +6,7 @@ ghost use Rattle.std.specs.Str.{chars};
 ghost use Rattle.bidi_base.specs.InPlace.{CanResolveNeutrals};
 ghost use Rattle.bidi_base.specs.Units.{bounds};
 
-use crate::conditions::{are_directed, are_kept, are_left, are_left_or_removed, is_side};
-use crate::explicit_levels::explicit_level;
-use crate::units::{Sequence, per_unit, sequences_of_field, whole_sequence_of};
+use crate::units::{Sequence, sequences_of_field, whole_sequence_of};
 use crate::weak_types::class_field;
 use bidi_base::char_data::BidiClass;
 use bidi_base::data_source::{BidiDataSource, BidiMatchedOpeningBracket, TableBidiData};
@@ -25,6 +23,10 @@ use bidi_vectors_format::row::Row;
 use bidi_vectors_format::source::Tables;
 use bidi_vectors_format::tally::Tally;
 use bidi_vectors_format::text::RowText;
+use bidi_vectors_resolve::conditions::{
+    are_directed, are_kept, are_left, are_left_or_removed, explicit_level, is_side,
+};
+use bidi_vectors_resolve::units::per_unit;
 use std::alloc::Global;
 
 // Returns the bracket of each character of a text, if it is one.
@@ -152,6 +154,76 @@ impl Neutrals<'_> {
         }
         Ok(())
     }
+
+    // Resolves the neutrals by `implicit::resolve_neutral`.
+    fn resolve_alone(self, alloc: Global, classes: &mut [BidiClass]) -> Result<(), RowFault> {
+        self.check(classes)?;
+        let Neutrals {
+            text,
+            source,
+            sequence,
+            levels,
+            original,
+        } = self;
+        resolve_neutral(alloc, text, source, sequence, levels, original, classes)?;
+        Ok(())
+    }
+
+    // Resolves the neutrals by `NeutralResolver::resolve`.
+    fn resolve_by(
+        self,
+        resolver: &mut NeutralResolver,
+        classes: &mut [BidiClass],
+    ) -> Result<(), RowFault> {
+        self.check(classes)?;
+        let Neutrals {
+            text,
+            source,
+            sequence,
+            levels,
+            original,
+        } = self;
+        resolver.resolve(text, source, sequence, levels, original, classes)?;
+        Ok(())
+    }
+
+    // Resolves the neutrals by `NeutralResolver::resolve_lent`.
+    fn resolve_lent(
+        self,
+        resolver: &mut NeutralResolver,
+        classes: &mut [BidiClass],
+    ) -> Result<(), RowFault> {
+        self.check(classes)?;
+        let lent = self.sequence.lend();
+        resolver.resolve_lent(
+            self.text,
+            self.source,
+            lent,
+            self.levels,
+            self.original,
+            classes,
+        )?;
+        Ok(())
+    }
+
+    // Resolves the neutrals by `NeutralResolver::resolve_up_to_n1`.
+    fn resolve_up_to_n1(
+        self,
+        resolver: &mut NeutralResolver,
+        classes: &mut [BidiClass],
+    ) -> Result<(), RowFault> {
+        self.check(classes)?;
+        let lent = self.sequence.lend();
+        resolver.resolve_up_to_n1(
+            self.text,
+            self.source,
+            lent,
+            self.levels,
+            self.original,
+            classes,
+        )?;
+        Ok(())
+    }
 }
 
 // The call that resolves neutrals in place.
@@ -189,38 +261,12 @@ impl Call {
         classes: &mut [BidiClass],
         resolver: &mut NeutralResolver,
     ) -> Result<(), RowFault> {
-        neutrals.check(classes)?;
-        let Neutrals {
-            text,
-            source,
-            sequence,
-            levels,
-            original,
-        } = neutrals;
         match self {
-            Call::Alone => resolve_neutral(
-                alloc, text, source, sequence, levels, original, classes,
-            )?,
-            Call::ByOneResolver => resolver.resolve(
-                text, source, sequence, levels, original, classes,
-            )?,
-            Call::Lent => {
-                let mut resolver = NeutralResolver::new(alloc);
-                resolver.resolve_lent(text, source, sequence.lend(), levels, original, classes)?;
-            }
-            Call::UpToN1 => {
-                let mut resolver = NeutralResolver::new(alloc);
-                resolver.resolve_up_to_n1(
-                    text,
-                    source,
-                    sequence.lend(),
-                    levels,
-                    original,
-                    classes,
-                )?;
-            }
+            Call::Alone => neutrals.resolve_alone(alloc, classes),
+            Call::ByOneResolver => neutrals.resolve_by(resolver, classes),
+            Call::Lent => neutrals.resolve_lent(&mut NeutralResolver::new(alloc), classes),
+            Call::UpToN1 => neutrals.resolve_up_to_n1(&mut NeutralResolver::new(alloc), classes),
         }
-        Ok(())
     }
 }
 
@@ -266,22 +312,46 @@ struct Given<'a> {
 }
 
 impl Given<'_> {
+    // Resolves the neutrals of a sequence in place by this call.
+    fn resolve(
+        &self,
+        alloc: Global,
+        call: Call,
+        sequence: &Sequence,
+        units: &mut OfUnits,
+        resolver: &mut NeutralResolver,
+    ) -> Result<(), RowFault> {
+        let (sos, eos) = (sequence.sos, sequence.eos);
+        let sequence = whole_sequence_of(alloc, sequence.runs.as_slice(), sos, eos, 0)?;
+        let neutrals = Neutrals {
+            text: StrText::new(self.text),
+            source: self.source,
+            sequence: &sequence,
+            levels: units.levels.as_slice(),
+            original: units.original.as_slice(),
+        };
+        call.resolve(alloc, neutrals, units.classes.as_mut_slice(), resolver)
+    }
+
+    // Resolves the neutrals of all sequences in place by this call.
+    fn resolve_each(
+        &self,
+        alloc: Global,
+        call: Call,
+        units: &mut OfUnits,
+        resolver: &mut NeutralResolver,
+    ) -> Result<(), RowFault> {
+        for sequence in self.sequences {
+            self.resolve(alloc, call, sequence, units, resolver)?;
+        }
+        Ok(())
+    }
+
     // Resolves the neutrals of all sequences in place by this call, and returns the class of each code unit.
     fn resolved(&self, alloc: Global, call: Call) -> Result<Vec<BidiClass>, RowFault> {
         let mut units = OfUnits::new(alloc, self.text, self.before)?;
         let mut resolver = NeutralResolver::new(alloc);
-        for sequence in self.sequences {
-            let (sos, eos) = (sequence.sos, sequence.eos);
-            let sequence = whole_sequence_of(alloc, sequence.runs.as_slice(), sos, eos, 0)?;
-            let neutrals = Neutrals {
-                text: StrText::new(self.text),
-                source: self.source,
-                sequence: &sequence,
-                levels: units.levels.as_slice(),
-                original: units.original.as_slice(),
-            };
-            call.resolve(alloc, neutrals, units.classes.as_mut_slice(), &mut resolver)?;
-        }
+        self.resolve_each(alloc, call, &mut units, &mut resolver)?;
         Ok(units.classes)
     }
 
@@ -314,6 +384,17 @@ fn listed_words(
     class_words(alloc, answer.as_slice())
 }
 
+// Returns the one sequence of a whole text.
+fn whole_text(
+    alloc: Global,
+    text: &str,
+    edges: (BidiClass, BidiClass),
+) -> Result<Vec<Sequence>, RowFault> {
+    let runs = vec![in alloc; (0, text.len())]?;
+    let (sos, eos) = edges;
+    Ok(vec![in alloc; Sequence { runs, sos, eos }]?)
+}
+
 /// Runs a row of a text at level 0 that is one sequence: the rule over a list, and the passes in place.
 pub fn run_list(
     alloc: Global,
@@ -332,19 +413,17 @@ pub fn run_list(
         "without n2",
     ])?;
     let source = tables.source(row.line)?;
-    let text = RowText::of_row(alloc, row)?;
-    let (sos, eos) = (class_field(row, "sos")?, class_field(row, "eos")?);
+    let edges = (class_field(row, "sos")?, class_field(row, "eos")?);
     let before = Before::at_level_0(alloc, row)?;
-    let words = listed_words(alloc, &source, text.chars.as_slice(), (sos, eos), &before);
+    let text = RowText::of_row(alloc, row)?;
+    let words = listed_words(alloc, &source, text.chars.as_slice(), edges, &before);
     tally.agree(row, "after", "plain::neutral", words);
     let text = text.utf8.as_str();
-    let runs = vec![in alloc; (0, text.len())]?;
-    let mut whole = Vec::new(alloc);
-    whole.push(Sequence { runs, sos, eos })?;
+    let sequences = whole_text(alloc, text, edges)?;
     let given = Given {
         text,
         source: &source,
-        sequences: whole.as_slice(),
+        sequences: sequences.as_slice(),
         before: &before,
     };
     check_in_place(alloc, row, tally, &given);
@@ -371,10 +450,11 @@ pub fn run_units(
         "without n2",
     ])?;
     let source = tables.source(row.line)?;
+    let field = row.field("sequences")?;
+    let before = Before::of_row(alloc, row)?;
     let text = RowText::of_row(alloc, row)?;
     let text = text.utf8.as_str();
-    let sequences = sequences_of_field(alloc, StrText::new(text), row.field("sequences")?)?;
-    let before = Before::of_row(alloc, row)?;
+    let sequences = sequences_of_field(alloc, StrText::new(text), field)?;
     let given = Given {
         text,
         source: &source,

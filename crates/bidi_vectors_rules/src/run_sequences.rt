@@ -37,8 +37,8 @@ fn check_made(
 /// Runs a row of runs with sos and eos, and whether they make a sequence. With a text, also tests whether they fit it.
 pub fn run_sequence(alloc: Global, row: &Row<'_>, tally: &mut Tally) -> Result<(), RowFault> {
     row.has_only(&["runs", "sos", "eos", "valid", "text", "fits"])?;
-    let runs = ranges(alloc, row.field("runs")?)?;
     let (sos, eos) = (class_field(row, "sos")?, class_field(row, "eos")?);
+    let runs = ranges(alloc, row.field("runs")?)?;
     let call = "IsolatingRunSequence::new";
     match sequence_of(alloc, runs.as_slice(), sos, eos)? {
         Some(sequence) => {
@@ -73,9 +73,9 @@ fn walks(
 /// Runs a row of runs, a unit in one of them, and the units in ascending and in descending order from there.
 pub fn run_walk(alloc: Global, row: &Row<'_>, tally: &mut Tally) -> Result<(), RowFault> {
     row.has_only(&["runs", "unit", "run", "upwards", "downwards"])?;
+    let (unit, run) = (number(row.field("unit")?)?, number(row.field("run")?)?);
     let runs = ranges(alloc, row.field("runs")?)?;
     let sequence = whole_sequence_of(alloc, runs.as_slice(), R, L, row.line)?;
-    let (unit, run) = (number(row.field("unit")?)?, number(row.field("run")?)?);
     let (forwards, backwards) = walks(alloc, &sequence, unit, run)?;
     let words = number_words(alloc, forwards.as_slice());
     let call = "IsolatingRunSequence::iter_forwards_from";

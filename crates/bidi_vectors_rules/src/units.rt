@@ -1,12 +1,9 @@
-//! Lists over the code units of a text, and sequences of runs.
-
-ghost use Rattle.std.specs.Prelude.{◌≡◌, [], length, IfOk};
+//! Sequences of runs over the code units of a text.
 
 use bidi_base::char_data::BidiClass;
-use bidi_base::level::Level;
 use bidi_rules::implicit::resolve_weak;
-use bidi_rules::prepare::{IsolatingRunSequence, LevelRun, LevelRunVec};
-use bidi_text::text::{StrText, TextSource, is_per_char};
+use bidi_rules::prepare::{IsolatingRunSequence, LevelRun};
+use bidi_text::text::{StrText, is_per_char};
 use bidi_vectors_format::answer::places_of;
 use bidi_vectors_format::class::class_of;
 use bidi_vectors_format::fault::{RowFault, Why};
@@ -22,53 +19,6 @@ pub struct Sequence {
     pub eos: BidiClass,
 }
 
-/// A paragraph for the explicit pass to read: its level, its text and the stored class of each code unit.
-#[derive(Clone, Copy)]
-pub struct ParagraphUnits<'a> {
-    pub level: Level,
-    pub text: StrText<'a>,
-    pub classes: &'a [BidiClass],
-}
-
-/// What the explicit pass writes: the level and the class of each code unit, and the level runs.
-#[derive(Drop)]
-pub struct ExplicitUnits {
-    pub levels: Vec<Level>,
-    pub classes: Vec<BidiClass>,
-    pub runs: LevelRunVec,
-}
-
-impl ExplicitUnits {
-    /// Returns what a pass starts from: any levels, a copy of the stored classes, and no runs.
-    pub fn new(alloc: Global, stored: &[BidiClass]) -> Result<ExplicitUnits, RowFault>
-        ensures levels { IfOk result (λ units. length units.levels.items ≡ length stored.now) }
-        ensures classes { IfOk result (λ units. units.classes.items ≡ stored.now) }
-        ensures runs { IfOk result (λ units. units.runs.items ≡ []) }
-    {
-        Ok(ExplicitUnits {
-            levels: vec![in alloc; Level::rtl(); stored.len()]?,
-            classes: Vec::from_slice(alloc, stored)?,
-            runs: Vec::new(alloc),
-        })
-    }
-}
-
-/// Returns one entry for each code unit of a text, given one for each character.
-pub fn per_unit<T: TextSource, X: Copy>(
-    alloc: Global,
-    text: T,
-    entries: &[X],
-) -> Result<Vec<X>, RowFault> {
-    let lengths: Vec<(usize, usize)> = text.indices_lengths().collect(alloc)?;
-    let mut units = Vec::new(alloc);
-    for ((_, length), entry) in lengths.iter().zip(entries) {
-        for _ in 0..*length {
-            units.push(*entry)?;
-        }
-    }
-    Ok(units)
-}
-
 // Converts runs of characters to runs of code units of a text.
 fn runs_in(
     alloc: Global,
@@ -79,12 +29,16 @@ fn runs_in(
     let places = places_of(alloc, text)?;
     let mut found = Vec::new(alloc);
     let fault = RowFault::Line(line, Why::TextRange);
-    for (start, end) in runs {
-        let start = places.get(*start).copied().ok_or(fault)?;
-        let end = places.get(*end).copied().ok_or(fault)?;
-        found.push((start, end))?;
+    for run in runs {
+        found.push(run_in(places.as_slice(), run).ok_or(fault)?)?;
     }
     Ok(found)
+}
+
+// Converts a run of characters to a run of code units, given where each character begins and where the last one ends.
+fn run_in(places: &[usize], run: &(usize, usize)) -> Option<(usize, usize)> {
+    let (start, end) = run;
+    Some((places.get(*start).copied()?, places.get(*end).copied()?))
 }
 
 /// Returns the runs of a field as ranges of code units. The field has ranges of a text's characters.
@@ -169,15 +123,6 @@ pub fn whole_sequence_of(
         Some(sequence) => Ok(sequence),
         None => Err(RowFault::Line(line, Why::Sequence)),
     }
-}
-
-/// Returns a copy of runs.
-pub fn copied(alloc: Global, runs: &[LevelRun]) -> Result<LevelRunVec, RowFault> {
-    let mut copies = Vec::new(alloc);
-    for run in runs {
-        copies.push(run.start..run.end)?;
-    }
-    Ok(copies)
 }
 
 /// Resolves the weak types of a sequence in place. There is one class for each code unit of the text.

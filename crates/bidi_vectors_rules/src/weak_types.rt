@@ -1,10 +1,10 @@
 //! Rows of the weak types (W1 to W7), over lists and in place.
 
-use crate::conditions::{are_kept, is_side};
 use crate::counted;
-use crate::units::{per_unit, resolve_weak_units, runs_of_field, whole_sequence_of};
+use crate::units::{resolve_weak_units, runs_of_field, whole_sequence_of};
 use bidi_base::char_data::BidiClass::{self, BN, L};
 use bidi_plain::plain::weak;
+use bidi_rules::prepare::IsolatingRunSequence;
 use bidi_text::text::StrText;
 use bidi_vectors_format::answer::{class_words, per_char};
 use bidi_vectors_format::class::{class_of, classes_of};
@@ -12,6 +12,8 @@ use bidi_vectors_format::fault::{RowFault, Why};
 use bidi_vectors_format::row::Row;
 use bidi_vectors_format::tally::Tally;
 use bidi_vectors_format::text::RowText;
+use bidi_vectors_resolve::conditions::{are_kept, is_side};
+use bidi_vectors_resolve::units::per_unit;
 use std::alloc::Global;
 
 /// Returns the class in a field of a row.
@@ -52,25 +54,55 @@ fn letters(
     Ok((text, of_chars))
 }
 
-// Resolves a sequence of these runs in place, with a count and without one, and returns the class of each character.
-fn resolved(
-    alloc: Global,
-    text: &str,
-    runs: &[(usize, usize)],
+// A form of the pass in place.
+#[derive(Clone, Copy)]
+enum Form {
+    Plain,
+    Counted,
+}
+
+const FORMS: [Form; 2] = [Form::Plain, Form::Counted];
+
+impl Form {
+    fn name(self) -> &'static str {
+        match self {
+            Form::Plain => "implicit::resolve_weak",
+            Form::Counted => "implicit::resolve_weak_counted",
+        }
+    }
+
+    // Resolves the weak types of a sequence in place by this form.
+    fn resolve(
+        self,
+        text: StrText,
+        sequence: &IsolatingRunSequence,
+        classes: &mut [BidiClass],
+    ) -> Result<(), RowFault> {
+        match self {
+            Form::Plain => resolve_weak_units(text, sequence, classes),
+            Form::Counted => counted::resolve_weak(text, sequence, classes),
+        }
+    }
+}
+
+// A sequence in place: its text and its runs, its sos, and the class of each character of the text.
+#[derive(Clone, Copy)]
+struct InPlace<'a> {
+    text: &'a str,
+    runs: &'a [(usize, usize)],
     sos: BidiClass,
-    classes: &[BidiClass],
-    line: usize,
-) -> Result<(Vec<BidiClass>, Vec<BidiClass>), RowFault> {
-    let text = StrText::new(text);
-    let mut units = per_unit(alloc, text, classes)?;
-    let mut by_count = Vec::from_slice(alloc, units.as_slice())?;
-    let sequence = whole_sequence_of(alloc, runs, sos, L, line)?;
-    resolve_weak_units(text, &sequence, units.as_mut_slice())?;
-    counted::resolve_weak(text, &sequence, by_count.as_mut_slice())?;
-    Ok((
-        per_char(alloc, text, units.as_slice())?,
-        per_char(alloc, text, by_count.as_slice())?,
-    ))
+    classes: &'a [BidiClass],
+}
+
+impl InPlace<'_> {
+    // Resolves the sequence by this form, and returns the class of each character.
+    fn resolved(&self, alloc: Global, form: Form, line: usize) -> Result<Vec<BidiClass>, RowFault> {
+        let text = StrText::new(self.text);
+        let sequence = whole_sequence_of(alloc, self.runs, self.sos, L, line)?;
+        let mut units = per_unit(alloc, text, self.classes)?;
+        form.resolve(text, &sequence, units.as_mut_slice())?;
+        per_char(alloc, text, units.as_slice())
+    }
 }
 
 // Tests the rules in place on letters, and leaves out the characters between them that X9 removes.
@@ -84,12 +116,17 @@ fn check_letters(
 ) -> Result<(), RowFault> {
     let (text, before) = letters(alloc, classes, is_parted)?;
     let text = text.as_str();
-    let runs = [(0, text.len())];
-    let (plain, by_count) = resolved(alloc, text, &runs, sos, before.as_slice(), row.line)?;
-    let words = kept_words(alloc, plain.as_slice(), is_parted);
-    tally.agree(row, "after", "implicit::resolve_weak", words);
-    let words = kept_words(alloc, by_count.as_slice(), is_parted);
-    tally.agree(row, "after", "implicit::resolve_weak_counted", words);
+    let in_place = InPlace {
+        text,
+        runs: &[(0, text.len())],
+        sos,
+        classes: before.as_slice(),
+    };
+    for form in FORMS {
+        let resolved = in_place.resolved(alloc, form, row.line)?;
+        let words = kept_words(alloc, resolved.as_slice(), is_parted);
+        tally.agree(row, "after", form.name(), words);
+    }
     Ok(())
 }
 
@@ -125,16 +162,31 @@ pub fn run_list(alloc: Global, row: &Row<'_>, tally: &mut Tally) -> Result<(), R
 /// Runs a row of a text, the runs of a sequence in it, and a class for each of its characters.
 pub fn run_units(alloc: Global, row: &Row<'_>, tally: &mut Tally) -> Result<(), RowFault> {
     row.has_only(&["sos", "text", "runs", "classes", "after"])?;
-    let sos = class_field(row, "sos")?;
+    let (sos, field) = (class_field(row, "sos")?, row.field("runs")?);
+    let classes = classes_of(alloc, row.field("classes")?)?;
     let text = RowText::of_row(alloc, row)?;
     let text = text.utf8.as_str();
-    let runs = runs_of_field(alloc, StrText::new(text), row.field("runs")?)?;
-    let classes = classes_of(alloc, row.field("classes")?)?;
-    let (runs, classes) = (runs.as_slice(), classes.as_slice());
-    let (plain, by_count) = resolved(alloc, text, runs, sos, classes, row.line)?;
-    let words = class_words(alloc, plain.as_slice());
-    tally.agree(row, "after", "implicit::resolve_weak", words);
-    let words = class_words(alloc, by_count.as_slice());
-    tally.agree(row, "after", "implicit::resolve_weak_counted", words);
+    let runs = runs_of_field(alloc, StrText::new(text), field)?;
+    let in_place = InPlace {
+        text,
+        runs: runs.as_slice(),
+        sos,
+        classes: classes.as_slice(),
+    };
+    check_forms(alloc, row, tally, &in_place)
+}
+
+// Compares the result of each form of the pass with a row.
+fn check_forms(
+    alloc: Global,
+    row: &Row<'_>,
+    tally: &mut Tally,
+    in_place: &InPlace<'_>,
+) -> Result<(), RowFault> {
+    for form in FORMS {
+        let resolved = in_place.resolved(alloc, form, row.line)?;
+        let words = class_words(alloc, resolved.as_slice());
+        tally.agree(row, "after", form.name(), words);
+    }
     Ok(())
 }

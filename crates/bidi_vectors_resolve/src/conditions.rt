@@ -1,12 +1,16 @@
-//! Tests of the conditions that the calls require of lists of classes.
+//! Tests of the conditions that the calls require of levels and of lists of classes.
 
-ghost use Rattle.std.specs.Prelude.{◌≡◌, not, ◌||◌};
+ghost use Rattle.std.specs.Prelude.{◌≡◌, ◌≤◌, not, ◌||◌, IfOk};
 ghost use Rattle.std.specs.List.{list_all, list_any};
 ghost use Rattle.bidi_base.specs.Classes.{is_initiator as is_initiator_of, is_kept, is_l_or_r, is_kept_in_place, is_weak_resolved, has_direction};
 
 use bidi_base::char_data::BidiClass::{self, AN, B, BN, EN, FSI, L, LRI, ON, PDI, R, RLI, S, WS};
 use bidi_base::classes::is_initiator;
+use bidi_base::level::Level;
 use bidi_rules::prepare::not_removed_by_x9;
+use bidi_vectors_format::fault::{RowFault, Why};
+use bidi_vectors_format::item::level_of;
+use bidi_vectors_format::row::Row;
 
 /// Returns whether a class may be sos or eos.
 pub fn is_side(class: BidiClass) -> bool
@@ -72,4 +76,16 @@ pub fn has_initiator(classes: &[BidiClass]) -> bool
     ensures { result ≡ list_any is_initiator_of classes.now }
 {
     classes.iter().any(|class| is_initiator(*class))
+}
+
+/// Returns the level in a field of a row, which must be an explicit level.
+pub fn explicit_level(row: &Row<'_>, key: &str) -> Result<Level, RowFault>
+    ensures { IfOk result (λ level. level ≤ 125) }
+{
+    let field = row.field(key)?;
+    let level = level_of(field.value, field.line)?;
+    match Level::new_explicit(level.number()) {
+        Ok(level) => Ok(level),
+        Err(_) => Err(RowFault::Line(field.line, Why::ExplicitLevel)),
+    }
 }

@@ -5,7 +5,7 @@ use Rattle.bidi_base.specs.declared.char_data.BidiClass.TheVariants.{L}
 use Rattle.bidi_base.proofs.PerUnit.{length-per_char}
 use Rattle.bidi_text.proofs.StrLemmas.{has_units}
 use Rattle.bidi_explicit.proofs.ExplicitUnits.{is_per_char-explicit_levels, per_char-explicit_levels}
-use Rattle.bidi_vectors_rules.proofs.explicit_pass.prepare.Goals as goal
+use Rattle.bidi_vectors_explicit.proofs.explicit_pass.prepare.Goals as goal
 
 pub isolating_run_sequences-requires-clause-levels : goal.isolating_run_sequences-requires-clause-levels
 isolating_run_sequences-requires-clause-levels c =

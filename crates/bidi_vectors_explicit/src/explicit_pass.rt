@@ -2,9 +2,8 @@
 
 ghost use Rattle.std.specs.Prelude.{◌≤◌};
 
-use crate::conditions::has_initiator;
 use crate::counted;
-use crate::units::{ExplicitUnits, ParagraphUnits, copied, per_unit};
+use crate::units::{ExplicitUnits, ParagraphUnits, copied};
 use bidi_base::char_data::BidiClass;
 use bidi_base::level::Level;
 use bidi_explicit::by_units::{self, StoredParagraph};
@@ -12,6 +11,8 @@ use bidi_rules::explicit::compute;
 use bidi_rules::prepare::{IsolatingRunSequence, isolating_run_sequences};
 use bidi_text::text::{StrText, is_per_char};
 use bidi_vectors_format::fault::{RowFault, Why};
+use bidi_vectors_resolve::conditions::has_initiator;
+use bidi_vectors_resolve::units::per_unit;
 use std::alloc::Global;
 use std::mem::replace;
 

@@ -7,7 +7,9 @@ use bidi_base::char_data::BidiClass::{self, B, FSI, L, LRI, RLI};
 use bidi_base::classes::{is_initiator, is_pdi, is_removed, is_strong};
 use bidi_base::data_source::{BidiDataSource, BidiMatchedOpeningBracket, TableBidiData};
 use bidi_base::level::Level;
-use bidi_plain::plain::{PlainSequence, explicit_levels, implicit, neutral, sequences, weak};
+use bidi_plain::plain::{
+    Explicit, PlainSequence, explicit_levels, implicit, neutral, sequences, weak,
+};
 use bidi_vectors_format::fault::{RowFault, Why};
 use std::alloc::Global;
 
@@ -98,35 +100,54 @@ struct Characters {
 }
 
 impl Characters {
-    // Returns the levels of the characters of a sequence (W1 to W7, N0 to N2, I1 and I2).
-    fn levels_of(&self, alloc: Global, sequence: &PlainSequence) -> Result<Vec<Level>, RowFault> {
-        let (sos, eos) = (sequence.sos(), sequence.eos());
-        let classes = at(alloc, self.classes.as_slice(), sequence.places())?;
-        let brackets = at(alloc, self.brackets.as_slice(), sequence.places())?;
-        let overridden = at(alloc, self.overridden.as_slice(), sequence.places())?;
-        let levels = at(alloc, self.levels.as_slice(), sequence.places())?;
-        let level = levels.first().copied().ok_or(NO_SEQUENCE)?;
+    // Returns the characters of a sequence.
+    fn of_sequence(&self, alloc: Global, sequence: &PlainSequence) -> Result<Characters, RowFault> {
+        let places = sequence.places();
+        Ok(Characters {
+            classes: at(alloc, self.classes.as_slice(), places)?,
+            brackets: at(alloc, self.brackets.as_slice(), places)?,
+            overridden: at(alloc, self.overridden.as_slice(), places)?,
+            levels: at(alloc, self.levels.as_slice(), places)?,
+        })
+    }
+
+    // Returns the level that all characters of a sequence have.
+    fn level(&self) -> Result<Level, RowFault>
+        ensures { IfOk result (λ level. level ≤ 125) }
+    {
+        let level = self.levels.first().copied().ok_or(NO_SEQUENCE)?;
+        explicit(level.number())
+    }
+
+    // Returns the levels of these characters, which are a sequence with these sides (W1 to W7, N0 to N2, I1 and I2).
+    fn resolved(
+        &self,
+        alloc: Global,
+        sos: BidiClass,
+        eos: BidiClass,
+    ) -> Result<Vec<Level>, RowFault> {
+        let level = self.level()?;
+        let (classes, brackets) = (self.classes.as_slice(), self.brackets.as_slice());
+        let overridden = self.overridden.as_slice();
         if !is_side(sos) || !is_side(eos) {
             return Err(NO_SEQUENCE);
         }
-        if !are_kept(classes.as_slice()) || !are_kept(overridden.as_slice()) {
+        if !are_kept(classes) || !are_kept(overridden) {
             return Err(NO_SEQUENCE);
         }
         if classes.len() != overridden.len() || brackets.len() != overridden.len() {
             return Err(NO_SEQUENCE);
         }
-        let level = explicit(level.number())?;
-        let resolved = weak(alloc, sos, overridden.as_slice())?;
-        let directed = neutral(
-            alloc,
-            level,
-            sos,
-            eos,
-            classes.as_slice(),
-            brackets.as_slice(),
-            resolved.as_slice(),
-        )?;
+        let resolved = weak(alloc, sos, overridden)?;
+        let resolved = resolved.as_slice();
+        let directed = neutral(alloc, level, sos, eos, classes, brackets, resolved)?;
         Ok(implicit(alloc, level, directed.as_slice())?)
+    }
+
+    // Returns the levels of the characters of a sequence.
+    fn levels_of(&self, alloc: Global, sequence: &PlainSequence) -> Result<Vec<Level>, RowFault> {
+        let characters = self.of_sequence(alloc, sequence)?;
+        characters.resolved(alloc, sequence.sos(), sequence.eos())
     }
 }
 
@@ -183,25 +204,51 @@ fn levels_by_sequences(
     Ok(levels)
 }
 
-// Returns the stored levels of a paragraph.
-fn resolve_paragraph(
-    alloc: Global,
-    source: &TableBidiData,
-    text: &[char],
-    classes: &[BidiClass],
-    base: Option<u8>,
-) -> Result<Vec<Level>, RowFault> {
-    let para_level = explicit(paragraph_level(classes, base)?.number())?;
-    let explicit = explicit_levels(alloc, para_level, classes)?;
-    let found = sequences(alloc, para_level, classes, explicit.levels())?;
-    let characters = Characters {
-        classes: Vec::from_slice(alloc, classes)?,
-        brackets: brackets_of(alloc, source, text)?,
-        overridden: Vec::from_slice(alloc, explicit.classes())?,
-        levels: Vec::from_slice(alloc, explicit.levels())?,
-    };
-    let levels = levels_by_sequences(alloc, &characters, found.as_slice())?;
-    with_removed(alloc, para_level, classes, levels.as_slice())
+// A paragraph: its data source, and its characters with their stored classes.
+#[derive(Clone, Copy)]
+struct Paragraph<'a> {
+    source: &'a TableBidiData<'a>,
+    text: &'a [char],
+    classes: &'a [BidiClass],
+}
+
+impl Paragraph<'_> {
+    // Returns the characters after X1 to X8.
+    fn characters(&self, alloc: Global, explicit: &Explicit) -> Result<Characters, RowFault> {
+        Ok(Characters {
+            classes: Vec::from_slice(alloc, self.classes)?,
+            brackets: brackets_of(alloc, self.source, self.text)?,
+            overridden: Vec::from_slice(alloc, explicit.classes())?,
+            levels: Vec::from_slice(alloc, explicit.levels())?,
+        })
+    }
+
+    // Returns the levels of the characters, given the result of X1 to X8 and the sequences.
+    fn levels_in(
+        &self,
+        alloc: Global,
+        explicit: &Explicit,
+        sequences: &[PlainSequence],
+    ) -> Result<Vec<Level>, RowFault> {
+        let characters = self.characters(alloc, explicit)?;
+        levels_by_sequences(alloc, &characters, sequences)
+    }
+
+    // Returns the levels of the characters. Those of characters that X9 removes are not set yet.
+    fn levels(&self, alloc: Global, para_level: Level) -> Result<Vec<Level>, RowFault>
+        requires { para_level ≤ 125 }
+    {
+        let explicit = explicit_levels(alloc, para_level, self.classes)?;
+        let found = sequences(alloc, para_level, self.classes, explicit.levels())?;
+        self.levels_in(alloc, &explicit, found.as_slice())
+    }
+
+    // Returns the stored levels.
+    fn resolved(&self, alloc: Global, base: Option<u8>) -> Result<Vec<Level>, RowFault> {
+        let para_level = explicit(paragraph_level(self.classes, base)?.number())?;
+        let levels = self.levels(alloc, para_level)?;
+        with_removed(alloc, para_level, self.classes, levels.as_slice())
+    }
 }
 
 // Returns the levels, and gives each character that X9 removes the level of the character before it.
@@ -222,6 +269,41 @@ fn with_removed(
     Ok(stored)
 }
 
+// The stored classes and levels of the paragraphs that are resolved so far.
+#[derive(Drop)]
+struct Resolved {
+    classes: Vec<BidiClass>,
+    levels: Vec<Level>,
+}
+
+impl Resolved {
+    // Appends the classes and levels of a paragraph.
+    fn extend(&mut self, classes: &[BidiClass], levels: &[Level]) -> Result<(), RowFault> {
+        self.classes.extend_from_slice(classes)?;
+        self.levels.extend_from_slice(levels)?;
+        Ok(())
+    }
+
+    // Resolves the next paragraph.
+    fn push(
+        &mut self,
+        alloc: Global,
+        source: &TableBidiData,
+        text: &[char],
+        base: Option<u8>,
+    ) -> Result<(), RowFault> {
+        let classes = classes_of(alloc, source, text)?;
+        let classes = classes.as_slice();
+        let paragraph = Paragraph {
+            source,
+            text,
+            classes,
+        };
+        let levels = paragraph.resolved(alloc, base)?;
+        self.extend(classes, levels.as_slice())
+    }
+}
+
 /// Returns the stored classes and levels of a text that is split after each separator (P1), or is one paragraph.
 pub fn resolve(
     alloc: Global,
@@ -230,20 +312,18 @@ pub fn resolve(
     base: Option<u8>,
     is_cut: bool,
 ) -> Result<(Vec<BidiClass>, Vec<Level>), RowFault> {
-    let mut classes = Vec::new(alloc);
-    let mut levels = Vec::new(alloc);
+    let mut resolved = Resolved {
+        classes: Vec::new(alloc),
+        levels: Vec::new(alloc),
+    };
     let mut paragraph = Vec::new(alloc);
     let count = text.len();
     for (index, c) in text.iter().copied().enumerate() {
         paragraph.push(c)?;
         if index.saturating_add(1) == count || (is_cut && source.bidi_class(c) == B) {
-            let of_paragraph = classes_of(alloc, source, paragraph.as_slice())?;
-            let (characters, stored) = (paragraph.as_slice(), of_paragraph.as_slice());
-            let of_levels = resolve_paragraph(alloc, source, characters, stored, base)?;
-            classes.extend_from_slice(stored)?;
-            levels.extend_from_slice(of_levels.as_slice())?;
+            resolved.push(alloc, source, paragraph.as_slice(), base)?;
             paragraph.clear();
         }
     }
-    Ok((classes, levels))
+    Ok((resolved.classes, resolved.levels))
 }

@@ -1,8 +1,7 @@
 //! Rows of explicit levels (X1 to X8) and of isolating run sequences (X9, X10), over lists and in place.
 
-ghost use Rattle.std.specs.Prelude.{◌≤◌, IfOk};
+ghost use Rattle.std.specs.Prelude.{◌≤◌};
 
-use crate::conditions::has_initiator;
 use crate::explicit_pass::{Paragraph, Pass, Prepared};
 use crate::units::ExplicitUnits;
 use bidi_base::char_data::BidiClass::{self, BN};
@@ -14,24 +13,12 @@ use bidi_vectors_format::answer::{
     class_words, classes_in, level_words, levels_in, ranges_in, run_words,
 };
 use bidi_vectors_format::class::classes_of;
-use bidi_vectors_format::fault::{RowFault, Why};
-use bidi_vectors_format::item::level_of;
+use bidi_vectors_format::fault::RowFault;
 use bidi_vectors_format::row::Row;
 use bidi_vectors_format::tally::Tally;
 use bidi_vectors_format::text::RowText;
+use bidi_vectors_resolve::conditions::{explicit_level, has_initiator};
 use std::alloc::Global;
-
-/// Returns the level in a field of a row, which must be an explicit level.
-pub fn explicit_level(row: &Row<'_>, key: &str) -> Result<Level, RowFault>
-    ensures { IfOk result (λ level. level ≤ 125) }
-{
-    let field = row.field(key)?;
-    let level = level_of(field.value, field.line)?;
-    match Level::new_explicit(level.number()) {
-        Ok(level) => Ok(level),
-        Err(_) => Err(RowFault::Line(field.line, Why::ExplicitLevel)),
-    }
-}
 
 // Returns a text with one character for each class, of one and two code units by turns.
 fn letters(alloc: Global, classes: &[BidiClass]) -> Result<String, RowFault> {
@@ -52,10 +39,15 @@ fn plain_words(alloc: Global, sequences: &[PlainSequence]) -> Result<String, Row
         for place in sequence.places() {
             write!(words, "{place} ")?;
         }
-        let (sos, eos) = (sequence.sos(), sequence.eos());
-        write!(words, "{sos:?} {eos:?}")?;
+        push_sides(&mut words, sequence.sos(), sequence.eos())?;
     }
     Ok(words)
+}
+
+// Appends the sos and the eos of a sequence.
+fn push_sides(words: &mut String, sos: BidiClass, eos: BidiClass) -> Result<(), RowFault> {
+    write!(words, "{sos:?} {eos:?}")?;
+    Ok(())
 }
 
 // Appends a sequence in place as text: its characters that X9 keeps, its sos and its eos.
@@ -72,9 +64,7 @@ fn push_kept(
             }
         }
     }
-    let (sos, eos) = (sequence.sos(), sequence.eos());
-    write!(words, "{sos:?} {eos:?}")?;
-    Ok(())
+    push_sides(words, sequence.sos(), sequence.eos())
 }
 
 // Returns sequences in place as text: the characters of each that X9 keeps, its sos and its eos.
@@ -203,13 +193,26 @@ pub fn run_list(alloc: Global, row: &Row<'_>, tally: &mut Tally) -> Result<(), R
     row.has_only(&["level", "classes", "levels", "overridden", "sequences"])?;
     let level = explicit_level(row, "level")?;
     let classes = classes_of(alloc, row.field("classes")?)?;
-    let listed = listed(alloc, level, classes.as_slice())?;
+    check_list(alloc, row, tally, level, classes.as_slice())
+}
+
+// Compares the results of the rules over a list, and of the passes in place over letters, with a row.
+fn check_list(
+    alloc: Global,
+    row: &Row<'_>,
+    tally: &mut Tally,
+    level: Level,
+    classes: &[BidiClass],
+) -> Result<(), RowFault>
+    requires { level ≤ 125 }
+{
+    let listed = listed(alloc, level, classes)?;
     check_listed(alloc, row, tally, &listed);
-    let text = letters(alloc, classes.as_slice())?;
+    let text = letters(alloc, classes)?;
     let paragraph = Paragraph {
         level,
         text: text.as_str(),
-        classes: classes.as_slice(),
+        classes,
     };
     check_in_place(alloc, row, tally, &paragraph, &listed)
 }
@@ -226,11 +229,17 @@ fn sequence_words(
             words.push_str(" ; ")?;
         }
         let runs = ranges_in(alloc, text, sequence.runs())?;
-        let runs = runs.as_str();
-        let (sos, eos) = (sequence.sos(), sequence.eos());
-        write!(words, "{runs} {sos:?} {eos:?}")?;
+        push_runs(&mut words, runs.as_str())?;
+        push_sides(&mut words, sequence.sos(), sequence.eos())?;
     }
     Ok(words)
+}
+
+// Appends the runs of a sequence, before its sos and eos.
+fn push_runs(words: &mut String, runs: &str) -> Result<(), RowFault> {
+    words.push_str(runs)?;
+    words.push(' ')?;
+    Ok(())
 }
 
 // Compares the result of the passes in place on a text with a row.
@@ -264,8 +273,8 @@ pub fn run_units(alloc: Global, row: &Row<'_>, tally: &mut Tally) -> Result<(), 
         "sequences",
     ])?;
     let level = explicit_level(row, "level")?;
-    let text = RowText::of_row(alloc, row)?;
     let classes = classes_of(alloc, row.field("classes")?)?;
+    let text = RowText::of_row(alloc, row)?;
     let paragraph = Paragraph {
         level,
         text: text.utf8.as_str(),
@@ -286,8 +295,21 @@ fn check_units(
     let found = Prepared::new(alloc, paragraph, true)?;
     check_prepared(alloc, row, tally, text, &found);
     if !has_initiator(paragraph.classes) {
-        let found = Prepared::new(alloc, paragraph, false)?;
-        check_prepared(alloc, row, tally, text, &found);
+        check_without_isolates(alloc, row, tally, paragraph)?;
     }
     check_passes(alloc, row, tally, paragraph, &found.units)
+}
+
+// Compares the result of the passes in place with a row, with the flag for isolates as false.
+fn check_without_isolates(
+    alloc: Global,
+    row: &Row<'_>,
+    tally: &mut Tally,
+    paragraph: &Paragraph<'_>,
+) -> Result<(), RowFault>
+    requires { paragraph.now.level ≤ 125 }
+{
+    let found = Prepared::new(alloc, paragraph, false)?;
+    check_prepared(alloc, row, tally, StrText::new(paragraph.text), &found);
+    Ok(())
 }
