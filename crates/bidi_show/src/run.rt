@@ -4,7 +4,7 @@ ghost use Rattle.std.specs.Str.{IsUtf8};
 ghost use Rattle.bidi_base.specs.Order.{visual_order};
 ghost use Rattle.bidi_base.specs.Table.{source_of};
 ghost use Rattle.bidi_show.specs.Commands.{command_of, reads_input};
-ghost use Rattle.bidi_show.specs.Ends.{Opens, ReadsToEnd};
+ghost use Rattle.bidi_show.specs.Ends.{Opens, ReadsToEnd, TellsNotUtf8};
 ghost use Rattle.bidi_show.specs.Faults.{device_faults};
 ghost use Rattle.bidi_show.specs.Runs.{IsRunOf};
 ghost use Rattle.bidi_show.specs.Texts.{line_of, sample_source, shown_text, IsAnswer, WritesAnswer};
@@ -83,8 +83,7 @@ fn answer<R: ShowIn>(
 ) -> Result<String, ShowFault>
     ensures text { IfOk result (λ text. IsAnswer command.now (R.left input.old) (R.left input.new) (string_bytes text)) }
     ensures usage { ¬ IsErrOf result Usage }
-    ensures utf8 { IfSome (R.left input.old) (λ bytes.
-        IsErrOf result NotUtf8 ↔ (R.ended_reads input.old < R.ended_reads input.new) × ¬ (IsUtf8 bytes)) }
+    ensures utf8 { TellsNotUtf8 R.left R.ended_reads result input.old input.new }
     ensures ended { ReadsToEnd (reads_input (Some command.now)) result
         (R.ended_reads input.old) (R.ended_reads input.new) (R.left input.new) }
     ensures failed { R.failed_reads input.new ≡ R.failed_reads input.old + device_faults result }
@@ -123,8 +122,7 @@ pub fn run<R: ShowIn, W: ShowOut>(
     output: &mut W,
 ) -> Result<(), ShowFault>
     ensures usage { IsErrOf result Usage ↔ IsNone (command_of (map string_bytes words.now)) }
-    ensures utf8 { IfSome (R.left input.old) (λ bytes.
-        IsErrOf result NotUtf8 ↔ (R.ended_reads input.old < R.ended_reads input.new) × ¬ (IsUtf8 bytes)) }
+    ensures utf8 { TellsNotUtf8 R.left R.ended_reads result input.old input.new }
     ensures ended { ReadsToEnd (reads_input (command_of (map string_bytes words.now))) result
         (R.ended_reads input.old) (R.ended_reads input.new) (R.left input.new) }
     ensures device { IsErrOf result Device ↔
