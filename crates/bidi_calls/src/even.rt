@@ -38,7 +38,8 @@ fn is_even_by_bytes(bytes: &[u8], classes: &[u8], levels: &[u8]) -> bool
     even
 }
 
-// Like `is_even_by_bytes`, for the sixteen bytes from `at` on.
+// Returns whether each of the sixteen bytes from `at` on that continues a character has the class and the level of the
+// byte before it.
 fn sixteen_are_even(bytes: &[u8], classes: &[u8], levels: &[u8], at: usize) -> bool
     requires before { 0 < at }
     requires within { at + 16 ≤ length bytes.now }
@@ -55,9 +56,9 @@ fn sixteen_are_even(bytes: &[u8], classes: &[u8], levels: &[u8], at: usize) -> b
     (goes_on & (other_class | other_level)).to_bitmask() == 0
 }
 
-// Like `is_even_by_bytes`, for more than sixteen bytes. The first byte begins a character, so the blocks start at the
-// second. The last block may overlap the one before it: lines are short, and reading the rest byte by byte would cost
-// more than the blocks.
+// Returns whether each byte that continues a character has the class and the level of the byte before it. Tests blocks of
+// sixteen bytes of a longer text. The first byte begins a character, so the blocks start at the second. The last block may
+// overlap the one before it: lines are short, and reading the rest byte by byte would cost more than the blocks.
 fn is_even_by_blocks(bytes: &[u8], classes: &[u8], levels: &[u8]) -> bool
     requires some { 16 < length bytes.now }
     requires classes { length classes.now ≡ length bytes.now }

@@ -232,9 +232,12 @@ fn put_chars(chars: &[u32], levels: &[Level], runs: &[Range<usize>], out: &mut [
     }
 }
 
-/// Writes all about a line of a list of characters, as [`show_text`] does for the other encodings.
+/// Writes all about a line of a list of characters: its levels after L1, its visual runs, its character order, and its
+/// text (L2).
 ///
-/// A line of up to 256 characters with up to 16 runs needs no allocation. Writes nothing after a fault.
+/// Writes each part to its buffer, unless that buffer is empty. Also writes the number of the line's characters, and
+/// returns the number of runs. `chars` has the line's characters. A line of up to 256 characters with up to 16 runs
+/// needs no allocation. Writes nothing after a fault.
 pub fn show_chars(
     alloc: Global,
     chars: &[u32],

@@ -91,6 +91,7 @@ struct LineParagraph<'l> {
     place: usize,
     /// Its characters.
     chars: &'l [char],
+    ghost in_line: { place + length chars.now < 2 ^ 64 },
 }
 
 /// Appends the findings in a paragraph. At the index `differing`, if there is one, it is displayed differently from how
@@ -103,8 +104,7 @@ fn push_findings<D: BidiDataSource>(
     differing: Option<usize>,
     unmatched: &[bool],
 ) -> Result<(), AllocError>
-    requires room { paragraph.now.place + length paragraph.now.chars.now < 2 ^ 64 }
-    requires flags { let chars = paragraph.now.chars.now in
+    requires { let chars = paragraph.now.chars.now in
         unmatched.now ≡ map (is_unmatched (map (D.source data_source.now).class_of chars)) (indexes chars) }
     ensures { let chars = paragraph.now.chars.now in
         let classes = map (D.source data_source.now).class_of chars in
@@ -161,7 +161,6 @@ impl LineSearch {
         paragraph: &LineParagraph<'_>,
         findings: &mut Vec<Finding>,
     ) -> Result<(), AllocError>
-        requires { paragraph.now.place + length paragraph.now.chars.now < 2 ^ 64 }
         ensures { let source = D.source data_source.now in
             OnOk result (findings.new.items ≡ findings.old.items
             ++ findings_in_paragraph source wanted paragraph.now.line paragraph.now.place paragraph.now.chars.now) }

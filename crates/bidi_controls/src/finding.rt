@@ -65,7 +65,7 @@ impl Trouble {
         }
     }
 
-    /// The same in words, behind the name of the control.
+    /// Returns what is wrong with a control, as the words that follow its name in a report.
     pub fn text(self) -> &'static str
         ensures { result.now ≡ trouble_text self }
     {

@@ -1,7 +1,6 @@
 //! Where the lines of a file and the paragraphs of a text end.
 ghost use Rattle.std.specs.Prelude.{◌≡◌, ◌<◌, ◌≤◌, ◌∷◌, All, is_some, true, length, take, drop};
 ghost use Rattle.bidi_controls.specs.Controls.{control_of};
-ghost use Rattle.bidi_base.specs.Classes.{is_paragraph_separator};
 ghost use Rattle.bidi_base.specs.Paragraphs.{begins_with_line_feed, cr_lf_together};
 ghost use Rattle.bidi_bytes.specs.FileLines.{ends_file_line, file_lines_of};
 ghost use Rattle.bidi_controls.specs.Lines.{is_printable_ascii, lines_of};
@@ -12,19 +11,12 @@ use crate::control::Control;
 use bidi_base::classes::is_paragraph_separator;
 use bidi_base::data_source::BidiDataSource;
 
-/// Returns whether a character separates paragraphs.
-fn separates_paragraphs<D: BidiDataSource>(data_source: &D, c: char) -> bool
-    ensures { result ≡ is_paragraph_separator ((D.source data_source.now).class_of c) }
-{
-    is_paragraph_separator(data_source.bidi_class(c))
-}
-
 /// Returns whether a text begins with a line feed that separates paragraphs.
 fn begins_with_line_feed<D: BidiDataSource>(data_source: &D, chars: &[char]) -> bool
     ensures { result ≡ begins_with_line_feed (D.source data_source.now) chars.now }
 {
     match chars {
-        [first, ..] => *first == '\n' && separates_paragraphs(data_source, *first),
+        [first, ..] => *first == '\n' && is_paragraph_separator(data_source.bidi_class(*first)),
         [] => false,
     }
 }
@@ -33,7 +25,7 @@ fn begins_with_line_feed<D: BidiDataSource>(data_source: &D, chars: &[char]) -> 
 fn ends_paragraph<D: BidiDataSource>(data_source: &D, c: char, after: &[char]) -> bool
     ensures { result ≡ cr_lf_together (D.source data_source.now) c after.now }
 {
-    separates_paragraphs(data_source, c)
+    is_paragraph_separator(data_source.bidi_class(c))
         && !(c == '\r' && begins_with_line_feed(data_source, after))
 }
 
@@ -62,7 +54,7 @@ pub fn own_chars<'t, D: BidiDataSource>(data_source: &D, line: &'t [char]) -> &'
     ensures { result.now ≡ own_chars_of (D.source data_source.now) line.now }
 {
     for (at, c) in line.iter().enumerate() {
-        if separates_paragraphs(data_source, *c) {
+        if is_paragraph_separator(data_source.bidi_class(*c)) {
             return &line[..at];
         }
     }

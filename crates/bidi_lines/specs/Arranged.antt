@@ -20,6 +20,13 @@ pub record IsArranged (levels : List ℕ) (base from to : ℕ) (order : List ℕ
   pub high : (p : ℕ) → from ≤ p → p < to → slice_index order p < to
   pub pairs : (p q : ℕ) → from ≤ p → p < q → q < to → StandsLeft levels base (slice_index order p) (slice_index order q)
 
+-- the entries below an index, or from it on, stay as they were
+abbrev pub SameBelow : List ℕ → List ℕ → ℕ → Type 0
+SameBelow old new n = (p : ℕ) → p < n → slice_index new p ≡ slice_index old p
+
+abbrev pub SameFrom : List ℕ → List ℕ → ℕ → Type 0
+SameFrom old new n = (p : ℕ) → n ≤ p → slice_index new p ≡ slice_index old p
+
 -- each item from `from` to `to` has at least the level `base`
 abbrev pub AtLeast : List ℕ → ℕ → ℕ → ℕ → Type 0
 AtLeast levels base from to = (p : ℕ) → from ≤ p → p < to → base ≤ slice_index levels p

@@ -21,3 +21,7 @@ pub record IsSteady (c : BidiClass) (before own : ℕ) : Type 0 where
 -- the unit at an index, which is not the first one
 abbrev pub IsSteadyAt : List BidiClass → List ℕ → ℕ → Type 0
 IsSteadyAt classes levels k = IsSteady (class_at classes k) (slice_index levels (k - 1)) (slice_index levels k)
+
+-- the units from `from` up to `to`
+abbrev pub AreSteady : List BidiClass → List ℕ → ℕ → ℕ → Type 0
+AreSteady classes levels from to = (k : ℕ) → from ≤ k → k < to → IsSteadyAt classes levels k

@@ -7,7 +7,8 @@ ghost use Rattle.bidi_base.specs.Line.{is_blank, line_levels, levels_of_line, le
 ghost use Rattle.bidi_base.specs.Places.{class_at};
 ghost use Rattle.bidi_base.specs.Search.{IsFirst};
 ghost use Rattle.bidi_base.specs.Text.{text_len, per_char};
-ghost use Rattle.bidi_lines.specs.Stops.{is_stop, AreBlanks, IsSteady, IsSteadyAt};
+ghost use Rattle.bidi_lines.specs.Arranged.{SameBelow, SameFrom};
+ghost use Rattle.bidi_lines.specs.Stops.{is_stop, AreBlanks, AreSteady, IsSteady, IsSteadyAt};
 
 use crate::stored::ClassList;
 use crate::visual_order::first_other;
@@ -25,9 +26,9 @@ const FEW_BLANKS: usize = 8;
 fn write_level(levels: &mut [Level], from: usize, to: usize, level: Level)
     requires begins { from ≤ to }
     requires ends { to ≤ length levels.old }
-    ensures before { (k : ℕ) → k < from → slice_index levels.new k ≡ slice_index levels.old k }
+    ensures before { SameBelow levels.old levels.new from }
     ensures inside { (k : ℕ) → from ≤ k → k < to → slice_index levels.new k ≡ level }
-    ensures after { (k : ℕ) → to ≤ k → slice_index levels.new k ≡ slice_index levels.old k }
+    ensures after { SameFrom levels.old levels.new to }
 {
     levels[from..to].fill(level);
 }
@@ -120,7 +121,7 @@ fn first_break<C: ClassList>(classes: C, levels: &[Level], from: usize) -> usize
     requires begins { 0 < from }
     requires ends { from + 16 ≤ length levels.now }
     ensures within { result ≤ 16 }
-    ensures steady { (k : ℕ) → from ≤ k → k < from + result → IsSteadyAt (C.classes classes) levels.now k }
+    ensures steady { AreSteady (C.classes classes) levels.now from (from + result) }
 {
     let mut marks = [0u8; 16];
     mark_breaks(classes, levels, from, &mut marks);
@@ -134,7 +135,7 @@ fn steady_end_by_blocks<C: ClassList>(classes: C, levels: &[Level], from: usize)
     requires ends { from ≤ length levels.now }
     ensures begins { from ≤ result }
     ensures ends { result ≤ length levels.now }
-    ensures steady { (k : ℕ) → from ≤ k → k < result → IsSteadyAt (C.classes classes) levels.now k }
+    ensures steady { AreSteady (C.classes classes) levels.now from result }
 {
     let mut at = from;
     while levels.len() - at >= 16 {
@@ -158,7 +159,7 @@ fn steady_end<C: ClassList>(classes: C, levels: &[Level], from: usize) -> usize
     requires ends { from ≤ length levels.now }
     ensures begins { from ≤ result }
     ensures ends { result ≤ length levels.now }
-    ensures steady { (k : ℕ) → from ≤ k → k < result → IsSteadyAt (C.classes classes) levels.now k }
+    ensures steady { AreSteady (C.classes classes) levels.now from result }
 {
     if from == levels.len() || is_break(classes.class_at(from), levels[from - 1], levels[from]) {
         return from;

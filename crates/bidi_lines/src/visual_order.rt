@@ -1,13 +1,12 @@
 //! The visual order of a line (L2).
 
-ghost use Rattle.std.specs.Prelude.{◌≡◌, ◌≢◌, ℕ, ◌+◌, ◌<◌, ◌≤◌, length, slice_index, ◌==◌, if◌then◌else◌, IfOk, IsPermutation, false};
+ghost use Rattle.std.specs.Prelude.{◌≡◌, ◌≢◌, ℕ, ◌+◌, ◌<◌, ◌≤◌, length, slice_index, ◌==◌, if◌then◌else◌, IfOk, IsPermutation};
 ghost use Rattle.std.specs.List.{range_with_len};
 ghost use lib.Lanes.{chunk};
 ghost use lib.Count.{count_trailing_zeros};
-ghost use Rattle.bidi_lines.specs.Arranged.{IsArranged, AtLeast};
+ghost use Rattle.bidi_lines.specs.Arranged.{IsArranged, AtLeast, SameBelow, SameFrom};
+ghost use Rattle.bidi_lines.specs.LineOrder.{IsLineOrder};
 ghost use Rattle.bidi_base.specs.Layout.{AreInverse};
-ghost use Rattle.bidi_base.specs.Levels.{has_rtl};
-ghost use Rattle.bidi_base.specs.Order.{visual_order, IsVisualOrder, order_by_reversals};
 ghost use Rattle.bidi_base.specs.Places.{indexes};
 
 use crate::stored::LevelList;
@@ -19,8 +18,8 @@ use std::simd::prelude::*;
 fn flip(order: &mut [usize], from: usize, to: usize)
     requires begins { from ≤ to }
     requires ends { to ≤ length order.old }
-    ensures before { (p : ℕ) → p < from → slice_index order.new p ≡ slice_index order.old p }
-    ensures after { (p : ℕ) → to ≤ p → slice_index order.new p ≡ slice_index order.old p }
+    ensures before { SameBelow order.old order.new from }
+    ensures after { SameFrom order.old order.new to }
     ensures inside { (p q : ℕ) → from ≤ p → from ≤ q → p + q + 1 ≡ from + to → slice_index order.new p ≡ slice_index order.old q }
     ensures permutation { IsPermutation order.old order.new }
 {
@@ -161,8 +160,8 @@ fn arrange<L: LevelList>(levels: L, order: &mut [usize], from: usize, base: u8) 
     ensures progress { from < length (L.numbers levels) → base ≤ slice_index (L.numbers levels) from → from < result }
     ensures stops { result < length (L.numbers levels) → slice_index (L.numbers levels) result < base }
     ensures at_least { AtLeast (L.numbers levels) base from result }
-    ensures before { (p : ℕ) → p < from → slice_index order.new p ≡ slice_index order.old p }
-    ensures after { (p : ℕ) → result ≤ p → slice_index order.new p ≡ slice_index order.old p }
+    ensures before { SameBelow order.old order.new from }
+    ensures after { SameFrom order.old order.new result }
     ensures arranged { IsArranged (L.numbers levels) base from result order.new }
     ensures permutation { IsPermutation order.old order.new }
 {
@@ -202,10 +201,7 @@ fn write_indexes(order: &mut [usize])
 // unchanged.
 fn put_in_visual_order<L: LevelList>(levels: L, order: &mut [usize])
     requires { order.old ≡ range_with_len 0 (length (L.numbers levels)) }
-    ensures order { order.new ≡ visual_order (L.numbers levels) }
-    ensures visual { IsVisualOrder (L.numbers levels) order.new }
-    ensures still { has_rtl (L.numbers levels) ≡ false → order.new ≡ indexes (L.numbers levels) }
-    ensures reversals { order.new ≡ order_by_reversals (L.numbers levels) }
+    ensures { IsLineOrder (L.numbers levels) order.new }
 {
     if levels.has_rtl() {
         arrange(levels, order, 0, 0);
@@ -218,10 +214,7 @@ fn put_in_visual_order<L: LevelList>(levels: L, order: &mut [usize])
 /// is as long. Writes each index once. Does not allocate.
 pub fn write_visual_order<L: LevelList>(levels: L, order: &mut [usize])
     requires { length order.old ≡ length (L.numbers levels) }
-    ensures order { order.new ≡ visual_order (L.numbers levels) }
-    ensures visual { IsVisualOrder (L.numbers levels) order.new }
-    ensures still { has_rtl (L.numbers levels) ≡ false → order.new ≡ indexes (L.numbers levels) }
-    ensures reversals { order.new ≡ order_by_reversals (L.numbers levels) }
+    ensures { IsLineOrder (L.numbers levels) order.new }
 {
     write_indexes(order);
     put_in_visual_order(levels, order);
@@ -238,10 +231,7 @@ fn indexes_below(alloc: Global, n: usize) -> Result<Vec<usize>, AllocError>
 ///
 /// `levels` has the level of each item after L1. Allocates only the list that it returns.
 pub fn reorder_visual(alloc: Global, levels: &[Level]) -> Result<Vec<usize>, AllocError>
-    ensures order { IfOk result (λ v. v.items ≡ visual_order levels.now) }
-    ensures visual { IfOk result (λ v. IsVisualOrder levels.now v.items) }
-    ensures still { has_rtl levels.now ≡ false → IfOk result (λ v. v.items ≡ indexes levels.now) }
-    ensures reversals { IfOk result (λ v. v.items ≡ order_by_reversals levels.now) }
+    ensures { IfOk result (λ v. IsLineOrder levels.now v.items) }
 {
     let mut order = indexes_below(alloc, levels.len())?;
     put_in_visual_order(levels, order.as_mut_slice());

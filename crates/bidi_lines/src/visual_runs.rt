@@ -1,10 +1,11 @@
 //! The visual runs of a line (L2).
 
-ghost use Rattle.std.specs.Prelude.{◌≡◌, ℕ, ◌∷◌, ◌+◌, ◌<◌, ◌≤◌, ◌++◌, [], length, drop, IfOk, OnOk, OnErr, All, map};
+ghost use Rattle.std.specs.Prelude.{◌≡◌, ℕ, ◌∷◌, ◌+◌, ◌<◌, ◌≤◌, ◌++◌, [], length, IfOk, OnOk, OnErr, All, map};
 ghost use Rattle.bidi_base.specs.Display.{run_of, level_runs, run_level, visual_runs, AreVisualRuns};
 ghost use Rattle.bidi_base.specs.Line.{levels_of_line, levels_with_line};
 ghost use Rattle.bidi_base.specs.Order.{visual_order, IsVisualOrder};
 ghost use Rattle.bidi_base.specs.Places.{at_places};
+ghost use Rattle.bidi_lines.specs.Runs.{IsFirstRunEnd, StartsInLine};
 
 use crate::line_levels::levels_with_line;
 use crate::visual_order::{run_end, write_visual_order};
@@ -25,8 +26,7 @@ pub fn first_run_end(levels: &[Level]) -> usize
     requires { 0 < length levels.now }
     ensures some { 0 < result }
     ensures within { result ≤ length levels.now }
-    ensures first { (start : ℕ) → level_runs start levels.now
-        ≡ (start, start + result) ∷ level_runs (start + result) (drop result levels.now) }
+    ensures first { (start : ℕ) → IsFirstRunEnd start levels.now result }
     ensures whole { result ≡ length levels.now → (start : ℕ) → visual_runs start levels.now ≡ (start, start + result) ∷ [] }
 {
     run_end(levels, 0)
@@ -42,7 +42,7 @@ fn cut_runs(
 ) -> Result<(), AllocError>
     requires fits { start + length levels.now ≤ usize.MAX }
     requires within { first ≤ length levels.now }
-    requires first { level_runs start levels.now ≡ (start, start + first) ∷ level_runs (start + first) (drop first levels.now) }
+    requires first { IsFirstRunEnd start levels.now first }
     ensures { OnOk result (map run_of runs.new.items ≡ level_runs start levels.now) }
 {
     runs.clear();
@@ -59,7 +59,7 @@ fn cut_runs(
 // Writes the number of the level of each run.
 fn write_numbers(numbers: &mut [u8], levels: &[Level], start: usize, runs: &[Range<usize>])
     requires same_len { length numbers.old ≡ length runs.now }
-    requires within { All (λ r. start ≤ r.start × r.start < start + length levels.now) runs.now }
+    requires within { All (StartsInLine start levels.now) runs.now }
     ensures { numbers.new ≡ map (run_level start levels.now) (map run_of runs.now) }
 {
     for k in 0..runs.len() {
@@ -165,7 +165,7 @@ impl LineRuns {
     ) -> Result<(), AllocError>
         requires fits { start + length levels.now ≤ usize.MAX }
         requires within { first ≤ length levels.now }
-        requires first { level_runs start levels.now ≡ (start, start + first) ∷ level_runs (start + first) (drop first levels.now) }
+        requires first { IsFirstRunEnd start levels.now first }
         ensures runs { OnOk result (runs_of self.new ≡ visual_runs start levels.now) }
         ensures visual { OnOk result (AreVisualRuns start levels.now (runs_of self.new)) }
         ensures none { OnErr result (runs_of self.new ≡ []) }

@@ -16,6 +16,7 @@ use Rattle.bidi_base.specs.Sequences.{RunSequence, level_at, sequences}
 use Rattle.bidi_base.specs.Source.{Source}
 use Rattle.bidi_base.specs.Stored.{stored_levels}
 use Rattle.bidi_base.specs.Weak.{weak_classes}
+use Rattle.bidi_rule_stages.specs.declared.stages.Characters.{Characters}
 use Rattle.bidi_rule_stages.specs.declared.stages.Stages.{Stages}
 
 -- the classes of a sequence after W7, from the classes under overrides of the paragraph
@@ -51,6 +52,11 @@ pub record CanResolve (source : List BidiClass) (brackets : List (Option BidiMat
   pub kept : list_all is_kept (at_places L classes s.places) ≡ true
   pub source_kept : list_all is_kept (at_places L source s.places) ≡ true
   pub level : level_at levels (first_or 0 s.places) ≤ 125
+
+-- one of these characters
+abbrev pub CanResolveIn : Characters → RunSequence → Type 0
+CanResolveIn characters s =
+    CanResolve characters.source.now characters.brackets.now characters.classes.now characters.levels.now s
 
 -- ---- the stages of a paragraph
 

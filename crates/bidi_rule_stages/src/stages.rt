@@ -4,7 +4,7 @@ ghost use Rattle.bidi_base.specs.Isolates.{stored_classes};
 ghost use Rattle.bidi_base.specs.Places.{at_places, first_or};
 ghost use Rattle.bidi_base.specs.declared.char_data.BidiClass.TheVariants.{L};
 ghost use Rattle.bidi_base.specs.Sequences.{level_at};
-ghost use Rattle.bidi_rule_stages.specs.Stages.{weak_in, neutral_in, written, row_of, CanResolve, StagesFrom, AreStages};
+ghost use Rattle.bidi_rule_stages.specs.Stages.{weak_in, neutral_in, written, row_of, CanResolveIn, StagesFrom, AreStages};
 ghost use Rattle.unicode_bidi.specs.ParagraphInfo.{levels_of};
 
 use bidi_base::char_data::BidiClass;
@@ -91,7 +91,7 @@ fn weak_of(
     paragraph: Characters<'_>,
     sequence: &PlainSequence,
 ) -> Result<Vec<BidiClass>, AllocError>
-    requires { CanResolve paragraph.source.now paragraph.brackets.now paragraph.classes.now paragraph.levels.now sequence.now }
+    requires { CanResolveIn paragraph sequence.now }
     ensures classes { IfOk result (λ v. v.items ≡ weak_in paragraph.entry.classes.now sequence.now) }
     ensures long { IfOk result (λ v. length v.items ≡ length sequence.now.places) }
 {
@@ -116,8 +116,7 @@ fn neutral_of(
     sequence: &PlainSequence,
     weak: &[BidiClass],
 ) -> Result<Vec<BidiClass>, AllocError>
-    requires sequence { CanResolve paragraph.source.now paragraph.brackets.now paragraph.classes.now
-        paragraph.levels.now sequence.now }
+    requires sequence { CanResolveIn paragraph sequence.now }
     requires weak { weak.now ≡ weak_in paragraph.classes.now sequence.now }
     ensures classes { IfOk result (λ v. v.items
         ≡ neutral_in paragraph.entry.source.now paragraph.entry.brackets.now paragraph.entry.levels.now
@@ -165,8 +164,7 @@ fn resolve(
     paragraph: Characters<'_>,
     sequences: &[PlainSequence],
 ) -> Result<Resolved, AllocError>
-    requires { All (CanResolve paragraph.source.now paragraph.brackets.now paragraph.classes.now paragraph.levels.now)
-        sequences.now }
+    requires { All (CanResolveIn paragraph) sequences.now }
     ensures weak { IfOk result (λ r. r.weak.items
         ≡ row_of (weak_in paragraph.entry.classes.now) (length paragraph.entry.classes.now) sequences.now) }
     ensures neutral { IfOk result (λ r. r.neutral.items

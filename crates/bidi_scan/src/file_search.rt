@@ -127,28 +127,6 @@ impl FileSearch {
         Ok(())
     }
 
-    /// Searches lines.
-    fn push_lines(
-        &mut self,
-        alloc: Global,
-        bytes: &[u8],
-        found: &mut Vec<FoundLine>,
-    ) -> Result<(), AllocError>
-        requires { self.old.lines + length bytes.now < 2 ^ 64 }
-        ensures found { OnOk result
-            (map line_of found.new.items ≡ map line_of found.old.items ++ still_found self.old bytes.now) }
-        ensures lines { OnOk result (self.new.lines ≡ self.old.lines + length (file_lines_of (utf8_decoded bytes.now))) }
-        ensures wanted { self.new.wanted ≡ self.old.wanted }
-        ensures offset { self.new.offset ≡ self.old.offset }
-        ensures invalid { self.new.invalid ≡ self.old.invalid }
-    {
-        if holds_control(bytes) {
-            return self.push_each_line(alloc, bytes, found);
-        }
-        self.lines += count_lines(bytes);
-        Ok(())
-    }
-
     /// Notes where bytes stop being UTF-8, if no bytes before them do, and passes over them.
     fn note_bytes(&mut self, bytes: &[u8])
         requires { self.old.offset + length bytes.now < 2 ^ 64 }
@@ -181,7 +159,11 @@ impl FileSearch {
         ensures offset { OnOk result (self.new.offset ≡ self.old.offset + length bytes.now) }
     {
         self.note_bytes(bytes);
-        self.push_lines(alloc, bytes, found)
+        if holds_control(bytes) {
+            return self.push_each_line(alloc, bytes, found);
+        }
+        self.lines += count_lines(bytes);
+        Ok(())
     }
 
     /// Searches the lines that end in the next bytes of the file, and appends those in which something is found. Returns

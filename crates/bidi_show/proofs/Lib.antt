@@ -1,4 +1,5 @@
 mod ListsLemmas
 mod PieceLines
+mod ReadLemmas
 mod ShownLemmas
 mod TextsLemmas

@@ -1,6 +1,7 @@
 -- What calls of an end count.
-use Rattle.std.specs.Prelude.{◌≡◌, ℕ, ◌+◌, ◌≤◌, Bool, true, if◌then◌else◌, List, length, Option, Result, Ok, Err, ◌&&◌, nat_eq, nat_lt}
+use Rattle.std.specs.Prelude.{◌≡◌, ℕ, ◌+◌, ◌<◌, ◌≤◌, ◌↔◌, IfSome, IsErrOf, Bool, true, if◌then◌else◌, List, length, Option, Result, Ok, Err, ◌&&◌, nat_eq, nat_lt}
 use Rattle.std.specs.Io.KnownBytes.{IsAtEnd}
+use Rattle.std.specs.Str.{IsUtf8}
 use Rattle.std.specs.declared.sync.ledger.Blank.{Blank}
 use Rattle.bidi_show.specs.declared.fault.ShowFault.{ShowFault}
 use Rattle.bidi_show.specs.declared.fault.ShowFault.TheVariants.{Usage, NotUtf8, Memory, Device}
@@ -32,6 +33,11 @@ ReadsToEnd reads (Err NotUtf8) before after left = (reads ≡ true) × CameToEnd
 ReadsToEnd reads (Err Usage) before after left = after ≡ before
 ReadsToEnd reads (Err Memory) before after left = after ≤ before + 1
 ReadsToEnd reads (Err Device) before after left = after ≤ before + 1
+
+-- NotUtf8 comes exactly where reading came to the end and the bytes, if the end tells them, are not UTF-8
+abbrev pub TellsNotUtf8 : {I A : Type 0} → (I → Option (List ℕ)) → (I → ℕ) → Result A ShowFault → I → I → Type 0
+TellsNotUtf8 left ended_reads result old new =
+    IfSome (left old) (λ bytes. IsErrOf result NotUtf8 ↔ (ended_reads old < ended_reads new) × ¬ (IsUtf8 bytes))
 
 -- a ledger of this name and of so many parts can be opened by this blank, which has one part
 pub record Opens (blank : Blank) (name parts : ℕ) : Type 0 where

@@ -2,5 +2,6 @@ pub mod Commands
 pub mod Ends
 pub mod Faults
 pub mod Numbers
+pub mod Runs
 pub mod Shown
 pub mod Texts

@@ -7,12 +7,16 @@ use Rattle.bidi_base.specs.declared.char_data.BidiClass.TheVariants.{L}
 use Rattle.bidi_base.specs.Display.{Run, line_text}
 use Rattle.bidi_base.specs.Layout.{line_ranges}
 use Rattle.bidi_base.specs.Source.{Source}
-use Rattle.bidi_base.specs.Text.{text_len, subrange, per_char}
+use Rattle.bidi_base.specs.Text.{text_len, subrange, per_char, IsLine}
 use Rattle.unicode_bidi.specs.ParagraphInfo.{level_of, range_of}
 use Rattle.bidi_walk.specs.declared.paragraph_info.ParagraphInfo.{ParagraphInfo}
 use Rattle.bidi_show.specs.Texts.{heading, levels_line, text_line, without_separator, shown_line, one_column, one_at_least}
 use Rattle.bidi_show.specs.declared.command.View.{View}
 use Rattle.bidi_show.specs.declared.command.View.TheVariants.{Whole, Lines}
+
+-- its range is a line of a text of UTF-8: it cuts no character
+abbrev pub IsParagraphIn : List ℕ → ParagraphInfo → Type 0
+IsParagraphIn text p = IsLine len_utf8 (chars text) (range_of p).start (range_of p).end
 
 -- the levels of its characters, from the bytes of the text and one level a byte
 abbrev pub levels_in : List ℕ → List ℕ → ℕ → ℕ → List ℕ

@@ -1,14 +1,14 @@
 //! A run of the program.
-ghost use Rattle.std.specs.Prelude.{◌≡◌, ◌≢◌, ◌+◌, ◌<◌, ◌↔◌, true, false, map, string_bytes, IfOk, OnOk, IfErr, IfSome, IsNone, IsErrOf};
-ghost use Rattle.std.specs.Io.KnownBytes.{IsAtEnd};
+ghost use Rattle.std.specs.Prelude.{◌≡◌, ◌≢◌, ◌+◌, ◌<◌, ◌↔◌, true, false, map, string_bytes, IfOk, OnOk, IfErr, IfSome, IsNone, IsOk, IsErrOf};
 ghost use Rattle.std.specs.Str.{IsUtf8};
 ghost use Rattle.bidi_base.specs.Order.{visual_order};
 ghost use Rattle.bidi_base.specs.Table.{source_of};
 ghost use Rattle.bidi_show.specs.Commands.{command_of, reads_input};
-ghost use Rattle.bidi_show.specs.Ends.{Opens, ReadsToEnd};
+ghost use Rattle.bidi_show.specs.Ends.{Opens, ReadsToEnd, TellsNotUtf8};
 ghost use Rattle.bidi_show.specs.Faults.{device_faults};
-ghost use Rattle.bidi_show.specs.Texts.{line_of, sample_source, IsAnswer, WritesAnswer};
-ghost use Rattle.bidi_show.specs.declared.command.Command.TheVariants.{Show};
+ghost use Rattle.bidi_show.specs.Runs.{IsRunOf};
+ghost use Rattle.bidi_show.specs.Texts.{line_of, sample_source, shown_text, IsAnswer, WritesAnswer};
+ghost use Rattle.bidi_terminal.specs.Bases.{level_of_base};
 ghost use Rattle.bidi_show.specs.declared.fault.ShowFault.TheVariants.{Usage, NotUtf8, Device};
 
 use crate::command::{Command, View};
@@ -61,22 +61,15 @@ fn sample_table() -> TableBidiData<'static>
     TableBidiData::new(&sample::RANGES, &sample::BRACKETS).unwrap()
 }
 
-// The text of `show` and `lines`: the paragraphs of the input.
-fn answer_show<R: ShowIn>(
-    alloc: Global,
-    base: Base,
-    view: View,
-    input: &mut R,
-) -> Result<String, ShowFault>
-    ensures text { IfOk result (λ text. IsAnswer (Show base view) (R.left input.old) (R.left input.new) (string_bytes text)) }
+// The text of `show` and `lines`: the paragraphs of these bytes.
+fn answer_show(alloc: Global, base: Base, view: View, bytes: &[u8]) -> Result<String, ShowFault>
+    ensures text { IfOk result (λ text. string_bytes text ≡ shown_text view sample_source (level_of_base base) bytes.now) }
     ensures usage { ¬ IsErrOf result Usage }
-    ensures utf8 { IfSome (R.left input.old) (λ bytes.
-        IsErrOf result NotUtf8 ↔ (R.ended_reads input.old < R.ended_reads input.new) × ¬ (IsUtf8 bytes)) }
-    ensures ended { ReadsToEnd true result (R.ended_reads input.old) (R.ended_reads input.new) (R.left input.new) }
-    ensures failed { R.failed_reads input.new ≡ R.failed_reads input.old + device_faults result }
+    ensures utf8 { IsErrOf result NotUtf8 ↔ ¬ (IsUtf8 bytes.now) }
+    ensures valid { IsOk result → IsUtf8 bytes.now }
+    ensures device { device_faults result ≡ 0 }
 {
-    let bytes = read_all(alloc, input)?;
-    let Ok(text) = str::from_utf8(bytes.as_slice()) else {
+    let Ok(text) = str::from_utf8(bytes) else {
         return Err(ShowFault::NotUtf8);
     };
     Ok(show(alloc, &sample_table(), text, base.level(), view)?)
@@ -90,8 +83,7 @@ fn answer<R: ShowIn>(
 ) -> Result<String, ShowFault>
     ensures text { IfOk result (λ text. IsAnswer command.now (R.left input.old) (R.left input.new) (string_bytes text)) }
     ensures usage { ¬ IsErrOf result Usage }
-    ensures utf8 { IfSome (R.left input.old) (λ bytes.
-        IsErrOf result NotUtf8 ↔ (R.ended_reads input.old < R.ended_reads input.new) × ¬ (IsUtf8 bytes)) }
+    ensures utf8 { TellsNotUtf8 R.left R.ended_reads result input.old input.new }
     ensures ended { ReadsToEnd (reads_input (Some command.now)) result
         (R.ended_reads input.old) (R.ended_reads input.new) (R.left input.new) }
     ensures failed { R.failed_reads input.new ≡ R.failed_reads input.old + device_faults result }
@@ -99,7 +91,10 @@ fn answer<R: ShowIn>(
 {
     match command {
         Command::Map(levels) => Ok(answer_map(alloc, levels)?),
-        Command::Show(base, view) => answer_show(alloc, *base, *view, input),
+        Command::Show(base, view) => {
+            let bytes = read_all(alloc, input)?;
+            answer_show(alloc, *base, *view, bytes.as_slice())
+        }
     }
 }
 
@@ -127,8 +122,7 @@ pub fn run<R: ShowIn, W: ShowOut>(
     output: &mut W,
 ) -> Result<(), ShowFault>
     ensures usage { IsErrOf result Usage ↔ IsNone (command_of (map string_bytes words.now)) }
-    ensures utf8 { IfSome (R.left input.old) (λ bytes.
-        IsErrOf result NotUtf8 ↔ (R.ended_reads input.old < R.ended_reads input.new) × ¬ (IsUtf8 bytes)) }
+    ensures utf8 { TellsNotUtf8 R.left R.ended_reads result input.old input.new }
     ensures ended { ReadsToEnd (reads_input (command_of (map string_bytes words.now))) result
         (R.ended_reads input.old) (R.ended_reads input.new) (R.left input.new) }
     ensures device { IsErrOf result Device ↔
@@ -183,14 +177,7 @@ fn run_counted<F: Ledger, E: Ledger, O: Ledger, R: Read + Drop, W: Write + Drop>
     requires failed_reads { Opens blanks.failed_reads F.name F.parts }
     requires ended_reads { Opens blanks.ended_reads E.name E.parts }
     requires failed_writes { Opens blanks.failed_writes O.name O.parts }
-    ensures usage { IsErrOf result.outcome Usage ↔ IsNone (command_of (map string_bytes words.now)) }
-    ensures utf8 { IsErrOf result.outcome NotUtf8 → (reads_input (command_of (map string_bytes words.now)) ≡ true)
-        × IfSome (R.remaining reader) (λ bytes. ¬ (IsUtf8 bytes)) × IsAtEnd (R.remaining result.reader) }
-    ensures written { OnOk result.outcome (
-        IfSome (command_of (map string_bytes words.now)) (λ command.
-        WritesAnswer command (R.remaining reader) (R.remaining result.reader) (W.contents writer) (W.contents result.writer))) }
-    ensures unwritten { IfErr result.outcome (λ fault. fault ≢ Device → result.writer ≡ writer) }
-    ensures unread { reads_input (command_of (map string_bytes words.now)) ≡ false → result.reader ≡ reader }
+    ensures { IsRunOf R.remaining W.contents (map string_bytes words.now) reader writer result }
 {
     let failed_reads = Tally::<F>::new(blanks.failed_reads);
     let ended_reads = Tally::<E>::new(blanks.ended_reads);
@@ -211,14 +198,7 @@ pub fn run_over_streams<R: Read + Drop, W: Write + Drop>(
     reader: R,
     writer: W,
 ) -> Finished<R, W>
-    ensures usage { IsErrOf result.outcome Usage ↔ IsNone (command_of (map string_bytes words.now)) }
-    ensures utf8 { IsErrOf result.outcome NotUtf8 → (reads_input (command_of (map string_bytes words.now)) ≡ true)
-        × IfSome (R.remaining reader) (λ bytes. ¬ (IsUtf8 bytes)) × IsAtEnd (R.remaining result.reader) }
-    ensures written { OnOk result.outcome (
-        IfSome (command_of (map string_bytes words.now)) (λ command.
-        WritesAnswer command (R.remaining reader) (R.remaining result.reader) (W.contents writer) (W.contents result.writer))) }
-    ensures unwritten { IfErr result.outcome (λ fault. fault ≢ Device → result.writer ≡ writer) }
-    ensures unread { reads_input (command_of (map string_bytes words.now)) ≡ false → result.reader ≡ reader }
+    ensures { IsRunOf R.remaining W.contents (map string_bytes words.now) reader writer result }
 {
     let blanks = Blanks {
         failed_reads: Blank::new(1),

@@ -4,7 +4,7 @@ ghost use Rattle.std.specs.Char.{len_utf8};
 ghost use Rattle.std.specs.Str.{chars};
 ghost use Rattle.bidi_base.specs.Text.{per_char, IsLine};
 ghost use Rattle.bidi_base.specs.Display.{run_of};
-ghost use Rattle.bidi_show.specs.Shown.{layout_in, layout_text, printed_in, own_end as own_end_of};
+ghost use Rattle.bidi_show.specs.Shown.{layout_in, layout_text, printed_in, own_end as own_end_of, IsParagraphIn};
 ghost use Rattle.bidi_show.specs.Texts.{heading, levels_line, text_line, without_separator as without_separator_of, shown_line, one_column, shown_text};
 ghost use Rattle.bidi_show.specs.declared.command.View.TheVariants.{Whole};
 ghost use Rattle.unicode_bidi.specs.BidiInfo.{text as text_of, original_classes, levels as levels_of_info};
@@ -75,7 +75,7 @@ fn own_end<D: BidiDataSource>(
     info: &BidiInfo<'_>,
     paragraph: &ParagraphInfo,
 ) -> usize
-    requires { IsLine len_utf8 (chars (text_of info.now)) (range_of paragraph.now).start (range_of paragraph.now).end }
+    requires { IsParagraphIn (text_of info.now) paragraph.now }
     ensures line { IsLine len_utf8 (chars (text_of info.now)) (range_of paragraph.now).start result }
     ensures end { result
         ≡ own_end_of (D.source data_source.now) (chars (text_of info.now)) (range_of paragraph.now).start
@@ -103,7 +103,7 @@ fn push_whole<D: BidiDataSource>(
     info: &BidiInfo<'_>,
     paragraph: &ParagraphInfo,
 ) -> Result<(), AllocError>
-    requires { IsLine len_utf8 (chars (text_of info.now)) (range_of paragraph.now).start (range_of paragraph.now).end }
+    requires { IsParagraphIn (text_of info.now) paragraph.now }
     ensures { OnOk result (string_bytes out.new
         ≡ string_bytes out.old
         ++ printed_in Whole (D.source data_source.now) (text_of info.now) (original_classes info.now)
@@ -143,7 +143,7 @@ fn layout_of<D: BidiDataSource>(
     paragraph: &ParagraphInfo,
     limit: usize,
 ) -> Result<Vec<LevelRun>, AllocError>
-    requires { IsLine len_utf8 (chars (text_of info.now)) (range_of paragraph.now).start (range_of paragraph.now).end }
+    requires { IsParagraphIn (text_of info.now) paragraph.now }
     ensures lines { IfOk result (λ v. map run_of v.items
         ≡ layout_in (D.source data_source.now) limit (chars (text_of info.now)) (range_of paragraph.now).start
         (range_of paragraph.now).end) }
@@ -197,7 +197,7 @@ fn push_paragraph<D: BidiDataSource>(
     paragraph: &ParagraphInfo,
     view: View,
 ) -> Result<(), AllocError>
-    requires { IsLine len_utf8 (chars (text_of info.now)) (range_of paragraph.now).start (range_of paragraph.now).end }
+    requires { IsParagraphIn (text_of info.now) paragraph.now }
     ensures { OnOk result (string_bytes out.new
         ≡ string_bytes out.old
         ++ printed_in view (D.source data_source.now) (text_of info.now) (original_classes info.now)
@@ -221,7 +221,7 @@ fn push_paragraphs<D: BidiDataSource>(
     paragraphs: &[ParagraphInfo],
     view: View,
 ) -> Result<(), AllocError>
-    requires { All (λ p. IsLine len_utf8 (chars (text_of info.now)) (range_of p).start (range_of p).end) paragraphs.now }
+    requires { All (IsParagraphIn (text_of info.now)) paragraphs.now }
     ensures { OnOk result (string_bytes out.new
         ≡ string_bytes out.old
         ++ flat_map

@@ -1,6 +1,7 @@
 -- A paragraph whose classes and levels are known, and what is shown of its lines.
 use Rattle.std.specs.Prelude.{◌≡◌, ℕ, Bool, List, ◌++◌, map, Option, codes}
 use Rattle.std.specs.Char.{len_utf8}
+use Rattle.std.specs.Str.{chars}
 use Rattle.std.specs.declared.ops.Range.{Range}
 use Rattle.bidi_base.specs.Analysed.{AnalysedText, IsPerCharText, line_levels_per_char}
 use Rattle.bidi_base.specs.Display.{Run}
@@ -10,6 +11,7 @@ use Rattle.bidi_base.specs.Stored.{stored_levels}
 use Rattle.bidi_base.specs.Text.{per_unit, subrange}
 use Rattle.bidi_base.specs.declared.char_data.BidiClass.{BidiClass}
 use Rattle.bidi_visual.specs.Shown.{tabbed_line}
+use Rattle.bidi_shown.specs.declared.paragraph.AnalysedParagraph.{AnalysedParagraph}
 use Rattle.bidi_shown.specs.declared.paragraph.Memory.{Memory}
 
 -- the characters of a text of UTF-8, with the class and the level of each byte
@@ -19,6 +21,10 @@ analysed chars classes levels = record { len_of = len_utf8; chars = chars; class
 -- the characters of the text that was analysed last
 abbrev pub analysed_in : Memory → List ℕ → AnalysedText
 analysed_in memory chars = analysed chars memory.classes.items memory.levels.items
+
+-- those of a paragraph with its analysis
+abbrev pub text_of : AnalysedParagraph → AnalysedText
+text_of paragraph = analysed_in paragraph.memory.now (chars paragraph.text.now)
 
 -- these are the classes, the levels and the level of a paragraph
 pub record IsAnalysed (source : Source) (base : Option ℕ) (chars : List ℕ) (classes : List BidiClass) (levels : List ℕ) (level : ℕ) : Type 0 where

@@ -7,7 +7,7 @@ ghost use Rattle.bidi_columns.specs.Bounds.{IsRangeOf};
 ghost use Rattle.bidi_terminal.specs.Bases.{level_of_base};
 ghost use Rattle.bidi_visual.specs.Shown.{shown_paragraph, shown_ranges};
 ghost use Rattle.bidi_walk.specs.ParagraphInfo.{levels_of};
-ghost use Rattle.bidi_shown.specs.Paragraph.{analysed_in, shown_in, IsAnalysed};
+ghost use Rattle.bidi_shown.specs.Paragraph.{shown_in, text_of, IsAnalysed};
 
 use bidi_base::char_data::BidiClass;
 use bidi_base::data_source::BidiDataSource;
@@ -99,11 +99,10 @@ fn push_line<D: BidiDataSource>(
     line: &Range<usize>,
 ) -> Result<(), AllocError>
     requires utf8 { IsUtf8 paragraph.now.text.now }
-    requires per_char { IsPerCharText (analysed_in paragraph.now.memory.now (chars paragraph.now.text.now)) }
+    requires per_char { IsPerCharText (text_of paragraph.now) }
     requires range { IsRangeOf paragraph.now.text.now line.now }
-    ensures { let analysed = analysed_in paragraph.now.memory.now (chars paragraph.now.text.now) in
-        OnOk result (string_bytes out.new ≡ string_bytes out.old
-        ++ shown_in (D.source data_source.now) plain analysed paragraph.now.memory.now.level (run_of line.now)) }
+    ensures { OnOk result (string_bytes out.new ≡ string_bytes out.old
+        ++ shown_in (D.source data_source.now) plain (text_of paragraph.now) paragraph.now.memory.now.level (run_of line.now)) }
 {
     let memory = paragraph.memory;
     let (start, end) = (line.start, line.end);
@@ -128,11 +127,10 @@ fn push_lines<D: BidiDataSource>(
     lines: &[Range<usize>],
 ) -> Result<(), AllocError>
     requires utf8 { IsUtf8 paragraph.now.text.now }
-    requires per_char { IsPerCharText (analysed_in paragraph.now.memory.now (chars paragraph.now.text.now)) }
+    requires per_char { IsPerCharText (text_of paragraph.now) }
     requires ranges { All (IsRangeOf paragraph.now.text.now) lines.now }
-    ensures { let analysed = analysed_in paragraph.now.memory.now (chars paragraph.now.text.now) in
-        OnOk result (string_bytes out.new ≡ string_bytes out.old
-        ++ flat_map (λ r. shown_in (D.source data_source.now) plain analysed paragraph.now.memory.now.level (run_of r))
+    ensures { OnOk result (string_bytes out.new ≡ string_bytes out.old ++ flat_map
+        (λ r. shown_in (D.source data_source.now) plain (text_of paragraph.now) paragraph.now.memory.now.level (run_of r))
         lines.now) }
 {
     for line in lines {

@@ -4,6 +4,7 @@ ghost use Rattle.bidi_base.specs.Analysed.{IsLineOf, StaysInOrder};
 ghost use Rattle.bidi_base.specs.Display.{run_of};
 ghost use Rattle.bidi_base.specs.Text.{subrange, IsLine};
 ghost use Rattle.bidi_base.specs.Line.{line_levels};
+ghost use Rattle.bidi_lines.specs.Runs.{StartsInLine};
 ghost use Rattle.bidi_text_lines.specs.Written.{run_units, shown_units, line_units, AreRunsOfChars};
 
 use crate::analysed::Analysed;
@@ -61,7 +62,7 @@ pub fn write_runs<T: LineText>(
     out: &mut [T::Unit],
 )
     requires room { length out.old ≡ length levels.now }
-    requires within { All (λ r. start ≤ r.start × r.start < start + length levels.now) runs.now }
+    requires within { All (StartsInLine start levels.now) runs.now }
     requires boundaries { All (λ r. IsLine T.units (T.characters text) r.start r.end) runs.now }
     requires whole { sum_by (λ r. r.end - r.start) runs.now ≡ length levels.now }
     ensures { out.new ≡ flat_map (run_units T.units T.encode (T.characters text) (T.units_of text) start levels.now) (map run_of runs.now) }

@@ -5,6 +5,7 @@ ghost use Rattle.bidi_terminal.specs.Bases.{level_of_base};
 ghost use Rattle.bidi_unicode.specs.Unicode.{unicode_source};
 ghost use Rattle.bidi_visual.specs.Quiet.{is_quiet as is_quiet_byte, IsQuietView};
 ghost use Rattle.bidi_visual.specs.Shown.{shown_text};
+ghost use Rattle.bidi_visual.specs.declared.view.View.{View};
 
 use crate::view::View;
 use bidi_terminal::Base;
@@ -18,10 +19,9 @@ fn is_quiet(byte: u8) -> bool
 
 // Returns the number of bytes of the lines at the start of a text that have only printable ASCII, up to the last line
 // feed.
-fn quiet_lines(view: View, text: &str) -> usize
-    requires { IsQuietView view }
+fn quiet_lines(text: &str) -> usize
     ensures boundary { IsCharBoundary text.now result }
-    ensures shown { shown_text unicode_source view (chars text.now)
+    ensures shown { (view : View) → IsQuietView view → shown_text unicode_source view (chars text.now)
         ≡ take result text.now ++ shown_text unicode_source view (chars (drop result text.now)) }
 {
     let bytes = text.as_bytes();
@@ -48,5 +48,5 @@ pub fn quiet_len(view: View, text: &str) -> usize
     if view.width.is_some() || view.base == Base::Rtl {
         return 0;
     }
-    quiet_lines(view, text)
+    quiet_lines(text)
 }

@@ -1,6 +1,7 @@
 -- What the algorithm finds in a text in any encoding: its paragraphs, and the class and the level of each character.
 use Rattle.std.specs.Prelude.{◌≡◌, ℕ, Bool, true, false, List, [], ◌∷◌, Option, None, All, IfSome, IsTrue, slice_range}
 use Rattle.bidi_base.specs.contracts.char_data.BidiClassPartialEq.TheImpl.{ghosts as class_test}
+use Rattle.bidi_base.specs.contracts.level.LevelPartialEq.TheImpl.{ghosts as level_test}
 use Rattle.bidi_base.specs.declared.char_data.BidiClass.{BidiClass}
 use Rattle.bidi_base.specs.Analysed.{AnalysedText, IsAnalysis, IsParagraphAnalysis, IsPerCharText, HasCharValues, classes_of_chars, levels_of_chars}
 use Rattle.bidi_base.specs.Laws.{HasOwnUnits, AreLevelsFrom, BoundaryNeutralsAreAlike, StaysLeftToRight}
@@ -12,6 +13,13 @@ use Rattle.bidi_walk.specs.declared.paragraph_info.ParagraphInfo.{ParagraphInfo}
 use Rattle.bidi_walk.specs.declared.split_rule.SplitRule.{SplitRule}
 use Rattle.bidi_walk.specs.ParagraphInfo.{level_of, range_of, ranges_of, levels_of}
 use Rattle.bidi_walk.specs.SplitRule.{pieces_by, AreParagraphRangesBy, IsAnalysisBy}
+
+-- these classes, or these levels, one for each code unit of a text, are the same along each of its characters
+abbrev pub AreClassesPerChar : AnalysedText → List BidiClass → Type 0
+AreClassesPerChar a classes = IsTrue (is_per_char class_test.eq a.len_of a.chars classes)
+
+abbrev pub AreLevelsPerChar : AnalysedText → List ℕ → Type 0
+AreLevelsPerChar a levels = IsTrue (is_per_char level_test.eq a.len_of a.chars levels)
 
 -- ---- a text and its paragraphs
 

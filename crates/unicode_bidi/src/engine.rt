@@ -159,8 +159,11 @@ impl Analyser {
         self.found.paragraphs.as_slice()
     }
 
-    /// Analyses a text as [`analyse_with_rule`] does, in the caller's lists.
+    /// Finds the paragraphs of a text, and the class and the level of each character (P1 to I2), in the caller's
+    /// lists.
     ///
+    /// `base` is the level of every paragraph, at most 125. If it is `None`, each paragraph gets its level from its
+    /// characters (P2, P3). `rule` says where paragraphs end. Without a rule the whole text is one paragraph.
     /// Writes the class of each code unit to `classes` and its level to `levels`, which both have one entry a
     /// code unit. [`Analyser::paragraphs`] then returns the paragraphs. If an allocation fails, the two lists
     /// hold anything, and there are no paragraphs.
@@ -206,8 +209,8 @@ impl Analyser {
     }
 }
 
-// Does the work of `analyse` for a text that a rule splits into paragraphs. Without a rule the whole text is one
-// paragraph, even if it is empty.
+// Finds the paragraphs of a text, which a rule splits, and the class and the level of each character. Without a rule
+// the whole text is one paragraph, even if it is empty.
 pub(crate) fn analyse_by<D: BidiDataSource, T: TextSource>(
     alloc: Global,
     data_source: &D,
@@ -262,9 +265,12 @@ pub fn analyse<D: BidiDataSource, T: TextSource>(
     analyse_by(alloc, data_source, text, base, split)
 }
 
-/// Analyses a text as [`analyse`] does. `rule` says where its paragraphs end.
+/// Finds the paragraphs of a text, which end where `rule` says, and the class and the level of each character (P1 to
+/// I2).
 ///
-/// Without a rule the whole text is one paragraph, even an empty text.
+/// `base` is the level of every paragraph, at most 125. If it is `None`, each paragraph gets its level from its
+/// characters (P2, P3). Each FSI is resolved (X5c). Without a rule the whole text is one paragraph, even an empty
+/// text.
 pub fn analyse_with_rule<D: BidiDataSource, T: TextSource>(
     alloc: Global,
     data_source: &D,

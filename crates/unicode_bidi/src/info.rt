@@ -1,13 +1,12 @@
 // The result of the algorithm for a text.
-ghost use Rattle.std.specs.Prelude.{◌≡◌, ◌<◌, ◌≤◌, IsTrue, IfOk, IfSome, OnOk, OnErr, All, Some, map, false};
+ghost use Rattle.std.specs.Prelude.{◌≡◌, ◌<◌, ◌≤◌, IfOk, IfSome, OnOk, OnErr, All, Some, map};
 ghost use Rattle.bidi_base.specs.Analysed.{IsLineOf, AreLevelsWithLine, AreLevelsOfLine, AreRunsOfLine, levels_with_line_per_char};
 ghost use Rattle.bidi_base.specs.Display.{run_of};
 ghost use Rattle.bidi_base.specs.Levels.{has_rtl as has_rtl_of};
-ghost use Rattle.bidi_base.specs.Order.{visual_order, IsVisualOrder, order_by_reversals};
-ghost use Rattle.bidi_base.specs.Places.{indexes};
-ghost use Rattle.bidi_base.specs.Text.{is_per_char, IsLine};
+ghost use Rattle.bidi_base.specs.Text.{IsLine};
 ghost use Rattle.bidi_walk.specs.ParagraphInfo.{level_of, range_of};
-ghost use Rattle.unicode_bidi.specs.Analysed.{IsAnalysedBy, ObeysLaws};
+ghost use Rattle.bidi_lines.specs.LineOrder.{IsLineOrder};
+ghost use Rattle.unicode_bidi.specs.Analysed.{AreClassesPerChar, AreLevelsPerChar, IsAnalysedBy, ObeysLaws};
 
 use crate::engine;
 use bidi_base::char_data::BidiClass;
@@ -40,7 +39,7 @@ impl<T: TextSource> BidiInfo<T> {
     ghost use Rattle.bidi_text_lines.specs.ShownLine.{text_of as shown_text, Shows};
     ghost use Rattle.unicode_bidi.specs.BidiInfo.{analysed as analysed_of, paragraphs, original_classes, levels as levels_of_info};
 
-    // Does the work of `new_with_rule` for a text in any encoding.
+    // Finds the paragraphs of a text in any encoding, and the class and the level of each character (P1 to I2).
     pub(crate) fn of_text<D: BidiDataSource>(
         alloc: Global,
         data_source: &D,
@@ -66,8 +65,7 @@ impl<T: TextSource> BidiInfo<T> {
     /// An FSI whose isolate has a deciding character is RLI or LRI here (X5c).
     pub fn original_classes(&self) -> &[BidiClass]
         ensures classes { result.now ≡ original_classes self.now }
-        ensures per_char { let a = analysed_of self.now in
-            IsTrue (is_per_char ⟦<BidiClass as PartialEq>⟧.eq a.len_of a.chars result.now) }
+        ensures per_char { AreClassesPerChar (analysed_of self.now) result.now }
     {
         self.analysed.original_classes()
     }
@@ -78,8 +76,7 @@ impl<T: TextSource> BidiInfo<T> {
     /// the paragraph level.
     pub fn levels(&self) -> &[Level]
         ensures levels { result.now ≡ levels_of_info self.now }
-        ensures per_char { let a = analysed_of self.now in
-            IsTrue (is_per_char ⟦<Level as PartialEq>⟧.eq a.len_of a.chars result.now) }
+        ensures per_char { AreLevelsPerChar (analysed_of self.now) result.now }
     {
         self.analysed.levels()
     }
@@ -200,10 +197,7 @@ impl<T: TextSource> BidiInfo<T> {
     ///
     /// `levels` has the level of each item after L1. An item may be a code unit, a character or a run.
     pub fn reorder_visual(alloc: Global, levels: &[Level]) -> Result<Vec<usize>, AllocError>
-        ensures order { IfOk result (λ v. v.items ≡ visual_order levels.now) }
-        ensures visual { IfOk result (λ v. IsVisualOrder levels.now v.items) }
-        ensures still { has_rtl_of levels.now ≡ false → IfOk result (λ v. v.items ≡ indexes levels.now) }
-        ensures reversals { IfOk result (λ v. v.items ≡ order_by_reversals levels.now) }
+        ensures { IfOk result (λ v. IsLineOrder levels.now v.items) }
     {
         visual_order::reorder_visual(alloc, levels)
     }

@@ -26,7 +26,7 @@ pub struct InitialInfo<T: TextSource> {
 impl<T: TextSource> InitialInfo<T> {
     ghost use Rattle.unicode_bidi.specs.InitialInfo.{len_of, chars_of, original_classes, paragraphs};
 
-    // Does the work of `new_with_data_source` for a text in any encoding.
+    // Finds the paragraphs of a text in any encoding with their levels (P1 to P3), and the class of each character.
     pub(crate) fn of_text<D: BidiDataSource>(
         alloc: Global,
         data_source: &D,

@@ -1,13 +1,11 @@
 // The result of the algorithm for a text that is one paragraph.
-ghost use Rattle.std.specs.Prelude.{◌≡◌, ◌<◌, ◌≤◌, IsTrue, IfOk, IfSome, OnOk, OnErr, map, false};
+ghost use Rattle.std.specs.Prelude.{◌≡◌, ◌<◌, ◌≤◌, IfOk, IfSome, OnOk, OnErr, map};
 ghost use Rattle.bidi_base.specs.Analysed.{IsLineOf, AreLevelsWithLine, AreLevelsOfLine, AreRunsOfLine, levels_with_line_per_char};
 ghost use Rattle.bidi_base.specs.Direction.{direction_of_levels};
 ghost use Rattle.bidi_base.specs.Display.{run_of};
 ghost use Rattle.bidi_base.specs.Levels.{has_rtl as has_rtl_of};
-ghost use Rattle.bidi_base.specs.Order.{visual_order, IsVisualOrder, order_by_reversals};
-ghost use Rattle.bidi_base.specs.Places.{indexes};
-ghost use Rattle.bidi_base.specs.Text.{is_per_char};
-ghost use Rattle.unicode_bidi.specs.Analysed.{IsAnalysedAsOne, ObeysLaws};
+ghost use Rattle.bidi_lines.specs.LineOrder.{IsLineOrder};
+ghost use Rattle.unicode_bidi.specs.Analysed.{AreClassesPerChar, AreLevelsPerChar, IsAnalysedAsOne, ObeysLaws};
 
 use crate::engine;
 use bidi_base::char_data::{BidiClass, Direction};
@@ -35,7 +33,8 @@ impl<T: TextSource> ParagraphBidiInfo<T> {
     ghost use Rattle.bidi_text_lines.specs.ShownLine.{text_of as shown_text, Shows};
     ghost use Rattle.unicode_bidi.specs.ParagraphBidiInfo.{analysed as analysed_of, original_classes, levels as levels_of_info, paragraph_level, is_pure_ltr};
 
-    // Does the work of `new_with_data_source` for a text in any encoding.
+    // Finds the level of a text in any encoding that is one paragraph, and the class and the level of each character
+    // (P2 to I2).
     pub(crate) fn of_text<D: BidiDataSource>(
         alloc: Global,
         data_source: &D,
@@ -63,8 +62,7 @@ impl<T: TextSource> ParagraphBidiInfo<T> {
     /// An FSI whose isolate has a deciding character is RLI or LRI here (X5c).
     pub fn original_classes(&self) -> &[BidiClass]
         ensures classes { result.now ≡ original_classes self.now }
-        ensures per_char { let a = analysed_of self.now in
-            IsTrue (is_per_char ⟦<BidiClass as PartialEq>⟧.eq a.len_of a.chars result.now) }
+        ensures per_char { AreClassesPerChar (analysed_of self.now) result.now }
     {
         self.paragraph.original_classes()
     }
@@ -75,8 +73,7 @@ impl<T: TextSource> ParagraphBidiInfo<T> {
     /// the paragraph level.
     pub fn levels(&self) -> &[Level]
         ensures levels { result.now ≡ levels_of_info self.now }
-        ensures per_char { let a = analysed_of self.now in
-            IsTrue (is_per_char ⟦<Level as PartialEq>⟧.eq a.len_of a.chars result.now) }
+        ensures per_char { AreLevelsPerChar (analysed_of self.now) result.now }
     {
         self.paragraph.levels()
     }
@@ -205,10 +202,7 @@ impl<T: TextSource> ParagraphBidiInfo<T> {
     ///
     /// `levels` has the level of each item after L1. An item may be a code unit, a character or a run.
     pub fn reorder_visual(alloc: Global, levels: &[Level]) -> Result<Vec<usize>, AllocError>
-        ensures order { IfOk result (λ v. v.items ≡ visual_order levels.now) }
-        ensures visual { IfOk result (λ v. IsVisualOrder levels.now v.items) }
-        ensures still { has_rtl_of levels.now ≡ false → IfOk result (λ v. v.items ≡ indexes levels.now) }
-        ensures reversals { IfOk result (λ v. v.items ≡ order_by_reversals levels.now) }
+        ensures { IfOk result (λ v. IsLineOrder levels.now v.items) }
     {
         visual_order::reorder_visual(alloc, levels)
     }

@@ -63,7 +63,11 @@ impl<'t> info::BidiInfo<StrText<'t>> {
         BidiInfo::new_with_rule(alloc, data_source, text, default_para_level, rule)
     }
 
-    /// Analyses a text as `new_with_data_source` does, with paragraphs that end where `rule` says.
+    /// Finds the paragraphs of a text, which end where `rule` says, and the class and the level of each character
+    /// (P1 to I2).
+    ///
+    /// A base level, at most 125, is the level of every paragraph. Without one, each paragraph gets its level
+    /// from its characters (P2, P3). Each FSI is resolved (X5c).
     ///
     /// With `CrLfTogether`, a U+000D of class B directly before a U+000A of class B stays with it. The U+000D
     /// has the paragraph level, and closes nothing.

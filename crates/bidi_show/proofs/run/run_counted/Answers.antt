@@ -1,5 +1,13 @@
+use Rattle.bidi_base.proofs.Common.{rules}
 use Rattle.bidi_show.proofs.run.run_counted.Goals as goal
 
-pub returns-clause-written : goal.returns-clause-written
-returns-clause-written g c =
-    rw (← c.new-input.ensures.reader, ← c.new-output.ensures.writer) c.run-outcome.ensures.written
+pub returns : goal.returns
+returns g c =
+    let run = c.run-outcome.ensures in
+    record {
+      usage = run.usage;
+      utf8 = search rules;
+      written = rw (← c.new-input.ensures.reader, ← c.new-output.ensures.writer) run.written;
+      unwritten = search rules;
+      unread = search rules;
+    }

@@ -23,7 +23,7 @@ loop-at-preserved c =
             ordered = omega arith;
             quiet = simp none;
             boundary = IsCharBoundary-after_ascii text at c.utf8.text within (omega (arith, feed));
-            shown = quiet-line text end at ordered within c.args.view c.requires c.utf8.text c.loop-at.invariant.boundary feed c.loop-at.invariant.quiet c.loop-at.invariant.shown;
+            shown = λ view requires. quiet-line text end at ordered within view requires c.utf8.text c.loop-at.invariant.boundary feed c.loop-at.invariant.quiet (c.loop-at.invariant.shown view requires);
           })
       | else-byte-eq10+else-not-is_quiet w ↦
           let quiet : is_quiet (get_or text at 0) ≡ true = grind arith in

@@ -1,7 +1,8 @@
 use Rattle.bidi_base.proofs.Common.{◌≡◌, ◌≤◌, ◌++◌, true, take, drop, slice_range, list_all, chars, IsCharBoundary}
 use Rattle.bidi_unicode.specs.Unicode.{unicode_source}
-use Rattle.bidi_visual.specs.Quiet.{is_quiet}
+use Rattle.bidi_visual.specs.Quiet.{is_quiet, IsQuietView}
 use Rattle.bidi_visual.specs.Shown.{shown_text}
+use Rattle.bidi_visual.specs.declared.view.View.{View}
 use Rattle.bidi_visual.proofs.quiet.quiet_lines.Given as goal
 
 abbrev pub invariant-loop-at : goal.invariant-loop-at
@@ -9,5 +10,5 @@ invariant-loop-at l = record {
   ordered : l.end ≤ l.at;
   quiet : list_all is_quiet (slice_range l.text l.end l.at) ≡ true;
   boundary : IsCharBoundary l.text l.end;
-  shown : shown_text unicode_source l.fn.view (chars l.text) ≡ take l.end l.text ++ shown_text unicode_source l.fn.view (chars (drop l.end l.text));
+  shown : (view : View) → IsQuietView view → shown_text unicode_source view (chars l.text) ≡ take l.end l.text ++ shown_text unicode_source view (chars (drop l.end l.text));
 }

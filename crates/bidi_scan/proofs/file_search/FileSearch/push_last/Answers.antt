@@ -1,7 +1,7 @@
 use Rattle.bidi_base.proofs.Common.{◌+◌, ◌++◌, ◌∙◌, sym, ap, arith, append-nil, map}
 use Rattle.bidi_scan.specs.FileSearch.{line_of}
 use Rattle.bidi_scan.proofs.FoundLemmas.{found_from-quiet}
-use Rattle.bidi_scan.proofs.file_search.FileSearch.push_lines.Goals as goal
+use Rattle.bidi_scan.proofs.file_search.FileSearch.push_last.Goals as goal
 
 pub returns-clause-found : goal.returns-clause-found
 returns-clause-found c =
