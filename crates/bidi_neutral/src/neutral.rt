@@ -17,6 +17,7 @@ ghost use Rattle.bidi_runs.specs.RunSequence.{lent_runs, lent_sos, lent_eos, run
 mod class_tests;
 mod directions;
 mod marks;
+mod near;
 mod nearest;
 mod one_direction;
 mod pairs;

@@ -4,6 +4,7 @@ ghost use Rattle.std.specs.Prelude.{◌≡◌, ◌⊎◌, ℕ, ◌<◌, ◌≤�
 ghost use Rattle.bidi_base.specs.Classes.{is_l_or_r, is_weak_resolved, stands_for};
 ghost use Rattle.bidi_base.specs.Neutral.{n1_n2, n2_rule};
 ghost use Rattle.bidi_base.specs.Places.{at_places, class_at};
+ghost use Rattle.bidi_base.specs.Search.{IsFirst};
 ghost use Rattle.bidi_base.specs.declared.char_data.BidiClass.TheVariants.{L};
 ghost use Rattle.bidi_base.specs.Units.{bounds, are_ordered, in_runs};
 ghost use Rattle.bidi_neutral.specs.JoinPass.{IsAtOpposite, IsJoined, IsUnderWay, Unjoined};
@@ -12,6 +13,7 @@ ghost use Rattle.bidi_neutral.specs.PairWalk.{opposite_of};
 ghost use Rattle.bidi_runs.specs.Written.{is_seen, IsWrittenOver};
 
 use super::class_tests::{AnyDirection, For, KeptNotFor};
+use super::near::find_near;
 use bidi_base::char_data::BidiClass::{self, L, R};
 use bidi_base::classes::{is_neutral, stands_for};
 use bidi_base::search::first_passing;
@@ -136,6 +138,7 @@ impl Join {
             → IsAtOpposite s classes.new self.new result end }
     {
         let mut from = at;
+        let mut is_close = false;
         if self.waits {
             let next = first_passing(AnyDirection, classes, at, end);
             if next == end {
@@ -146,7 +149,39 @@ impl Join {
                 return next;
             }
             self.waits = false;
-            from = next;
+            is_close = next == at;
+            from = next + 1;
+        }
+        self.first_opposite(is_close, classes, from, end)
+    }
+
+    /// Returns the first index in `from..end` with a class of the opposite direction, or else `end`.
+    /// `is_close` tells whether it is likely near. A test of one code unit is shorter for a known direction.
+    fn first_opposite(
+        &self,
+        is_close: bool,
+        classes: &[BidiClass],
+        from: usize,
+        end: usize,
+    ) -> usize
+        requires ordered { from ≤ end }
+        requires inside { end ≤ length classes.now }
+        ensures { IsFirst (stands_for self.now.opposite) classes.now from end result }
+    {
+        if is_close {
+            match self.opposite {
+                L => {
+                    if let Some(found) = find_near(For(L), classes, from, end) {
+                        return found;
+                    }
+                }
+                R => {
+                    if let Some(found) = find_near(For(R), classes, from, end) {
+                        return found;
+                    }
+                }
+                _ => {}
+            }
         }
         first_passing(For(self.opposite), classes, from, end)
     }

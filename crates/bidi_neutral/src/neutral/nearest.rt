@@ -1,10 +1,10 @@
 //! Searches for the first kept code unit of a sequence, and for the directions next to a code unit.
 
-ghost use Rattle.std.specs.Prelude.{◌≡◌, ℕ, ◌+◌, ◌<◌, ◌≤◌, length, map, drop, take, find, All, IsTrue};
+ghost use Rattle.std.specs.Prelude.{◌≡◌, ◌≤◌, length, map, find, All, IsTrue};
 ghost use Rattle.bidi_base.specs.Classes.{is_kept_in_place};
 ghost use Rattle.bidi_base.specs.Places.{class_at};
-ghost use Rattle.bidi_base.specs.Units.{bounds, are_ordered, in_runs, units_in_runs};
-ghost use Rattle.bidi_neutral.specs.PairWalk.{IsFirstFor, IsNearestBefore};
+ghost use Rattle.bidi_base.specs.Units.{bounds, are_ordered, units_in_runs};
+ghost use Rattle.bidi_neutral.specs.PairWalk.{IsFirstFor, IsNearestBefore, IsRunOf};
 
 use super::class_tests::For;
 use bidi_base::char_data::BidiClass;
@@ -28,12 +28,22 @@ pub fn first_kept(runs: &[LevelRun], classes: &[BidiClass]) -> Option<usize>
     None
 }
 
-/// Returns the index of the first of some runs that ends after `unit`, or the number of runs.
-pub fn run_of(runs: &[LevelRun], unit: usize) -> usize
+/// Like [`run_of`], for a code unit that is likely in the run at the index `near`.
+#[inline(always)]
+pub fn run_near(runs: &[LevelRun], near: usize, unit: usize) -> usize
     requires { IsTrue (are_ordered (map bounds runs.now)) }
-    ensures within { result ≤ length runs.now }
-    ensures later { (k : ℕ) → unit ≤ k → in_runs (drop result (map bounds runs.now)) k ≡ in_runs (map bounds runs.now) k }
-    ensures upto { (k : ℕ) → k < unit → in_runs (take (result + 1) (map bounds runs.now)) k ≡ in_runs (map bounds runs.now) k }
+    ensures { IsRunOf (map bounds runs.now) unit result }
+{
+    if near < runs.len() && runs[near].start <= unit && unit < runs[near].end {
+        return near;
+    }
+    run_of(runs, unit)
+}
+
+/// Returns the index of the first of some runs that ends after `unit`, or the number of runs.
+fn run_of(runs: &[LevelRun], unit: usize) -> usize
+    requires { IsTrue (are_ordered (map bounds runs.now)) }
+    ensures { IsRunOf (map bounds runs.now) unit result }
 {
     let mut low = 0;
     let mut high = runs.len();

@@ -14,7 +14,7 @@ ghost use Rattle.bidi_runs.specs.Written.{is_seen, IsWrittenOver};
 
 use super::directions::{Directions, opposite_of};
 use super::marks::{ends_marks, marks_end};
-use super::nearest::{direction_before, first_for, run_of};
+use super::nearest::{direction_before, first_for, run_near};
 use bidi_base::char_data::BidiClass;
 use bidi_base::classes::is_nsm;
 use bidi_runs::characters::end_of;
@@ -71,9 +71,12 @@ pub fn resolve_pairs<T: TextSource>(
     } = sequence;
     let mut walk = PairWalk::new(directions.embedding);
     let mut row = Row::new(directions.embedding);
+    // A bracket is mostly in the run of the opening bracket before it.
+    let mut near = 0;
     for pair in pairs {
         let (opening, closing) = *pair;
-        let first = place_of(text, runs, opening);
+        let first = place_of(text, runs, near, opening);
+        near = first.run;
         let pair = Pair {
             opening,
             inside: first.end,
@@ -83,7 +86,7 @@ pub fn resolve_pairs<T: TextSource>(
         let taken = walk.pair_direction(directions.sos, runs, first.run, classes, pair);
         if let Some(direction) = taken {
             row.set_direction(text, sequence, classes, first, direction);
-            let last = place_of(text, runs, closing);
+            let last = place_of(text, runs, near, closing);
             row.set_direction(text, sequence, classes, last, direction);
         }
     }
@@ -100,8 +103,8 @@ struct Place {
     run: usize,
 }
 
-/// Returns the place of the bracket that begins at `unit`.
-fn place_of<T: TextSource>(text: T, runs: &[LevelRun], unit: usize) -> Place
+/// Returns the place of the bracket that begins at `unit`, which is likely in the run at the index `near`.
+fn place_of<T: TextSource>(text: T, runs: &[LevelRun], near: usize, unit: usize) -> Place
     requires ordered { IsTrue (are_ordered (map bounds runs.now)) }
     requires begins { IsTrue (is_boundary T.units (T.characters text) unit) }
     requires inside { unit < text_len T.units (T.characters text) }
@@ -112,7 +115,7 @@ fn place_of<T: TextSource>(text: T, runs: &[LevelRun], unit: usize) -> Place
     Place {
         unit,
         end: end_of(text, unit),
-        run: run_of(runs, unit),
+        run: run_near(runs, near, unit),
     }
 }
 

@@ -21,8 +21,9 @@ loop-low-preserved c =
       length-map c.args.runs.now bounds,
     )
 
-pub returns-clause-later : goal.returns-clause-later
-returns-clause-later c = grind (arith, in_runs-later) steps 400000
-
-pub returns-clause-upto : goal.returns-clause-upto
-returns-clause-upto c = grind (arith, length-map, in_runs-upto)
+pub returns : goal.returns
+returns c = record {
+  later = grind (arith, in_runs-later) steps 400000;
+  upto = grind (arith, length-map, in_runs-upto);
+  within = grind (arith, length-map);
+}
