@@ -113,12 +113,7 @@ impl LevelResolver {
             level: paragraph.level,
             original_classes,
         };
-        by_units::compute(
-            &stored,
-            levels,
-            self.classes.as_mut_slice(),
-            &mut self.runs,
-        )?;
+        by_units::compute(&stored, levels, self.classes.as_mut_slice(), &mut self.runs)?;
         self.links.link(
             paragraph.text,
             paragraph.level,
