@@ -4,7 +4,9 @@ ghost use Rattle.std.specs.Prelude.{◌≡◌, ℕ, ◌+◌, ◌<◌, ◌≤◌,
 ghost use Rattle.bidi_base.specs.declared.char_data.BidiClass.TheVariants.{L};
 ghost use Rattle.bidi_base.specs.Explicit.{explicit_levels, processing_classes};
 ghost use Rattle.bidi_base.specs.Flat.{is_flat, hidden};
+ghost use Rattle.bidi_base.specs.Classes.{is_removed};
 ghost use Rattle.bidi_base.specs.Isolates.{stored_classes};
+ghost use Rattle.bidi_base.specs.Search.{IsFirst};
 ghost use Rattle.bidi_base.specs.Sequences.{is_kept_at, sequences};
 ghost use Rattle.bidi_base.specs.Stored.{levels_in};
 ghost use Rattle.bidi_base.specs.Text.{text_len, is_per_char, per_unit, per_char};
@@ -318,6 +320,27 @@ fn write_removed(classes: &[BidiClass], levels: &mut [Level], from: usize, befor
     at
 }
 
+// Behind a removed character, the next one is often among this many code units: a letter of two code units is
+// between them.
+const NEAR: usize = 3;
+
+// The first index in `from..to` with a class that X9 removes, or else `to`. Tests the nearest code units one by
+// one before the search by blocks begins.
+#[inline(always)]
+fn next_removed(classes: &[BidiClass], from: usize, to: usize) -> usize
+    requires ordered { from ≤ to }
+    requires within { to ≤ length classes.now }
+    ensures { IsFirst is_removed classes.now from to result }
+{
+    for near in 0..NEAR {
+        let at = from + near;
+        if at == to || Removed.passes(classes[at]) {
+            return at;
+        }
+    }
+    first_passing(Removed, classes, from + NEAR, to)
+}
+
 // Gives each code unit of a character that X9 removes the level of the code unit before it. At the start it
 // gets the paragraph level.
 fn fill_removed(para_level: Level, classes: &[BidiClass], levels: &mut [Level])
@@ -333,6 +356,6 @@ fn fill_removed(para_level: Level, classes: &[BidiClass], levels: &mut [Level])
     while at < units {
         let before = level_before(para_level, levels, at);
         let end = write_removed(classes, levels, at, before);
-        at = first_passing(Removed, classes, end, units);
+        at = next_removed(classes, end, units);
     }
 }

@@ -22,7 +22,7 @@ pub loop-at-preserved : goal.loop-at-preserved
 loop-at-preserved c =
     let inv = c.loop-at.invariant in
     let w = c.write_removed-end.ensures in
-    let f = c.first_passing-at-in-loop-at.ensures in
+    let f = c.next_removed-at.ensures in
     record {
       filled = up_to _ _ _ _ c.write_removed-end.result _ f
           (AreFilled-removed _ _ _ _ _ inv.filled c.level_before-before.result c.write_removed-end.result _ (omega (arith, w.begins)) w.removed w.written c.level_before-before.ensures.front c.level_before-before.ensures.inside);
