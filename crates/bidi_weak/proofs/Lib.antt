@@ -1,7 +1,7 @@
 pub mod CountedUnits
 pub mod FoldAny
 pub mod OwedUnits
-pub mod TestedRuns
+pub mod UnitCount
 pub mod WeakMarks
 pub mod WeakPassLemmas
 pub mod WeakText

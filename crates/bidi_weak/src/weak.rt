@@ -1,6 +1,6 @@
 //! The weak types in place (W1 to W7).
 
-ghost use Rattle.std.specs.Prelude.{◌≡◌, ℕ, ◌+◌, ◌-◌, ◌*◌, ◌<◌, ◌≤◌, false, List, length, map, IsTrue};
+ghost use Rattle.std.specs.Prelude.{◌≡◌, ℕ, ◌+◌, ◌-◌, ◌*◌, ◌<◌, ◌≤◌, false, List, length, map, min, IsTrue};
 ghost use Rattle.std.specs.List.{list_any};
 ghost use Rattle.bidi_base.specs.Classes.{is_l_or_r};
 ghost use Rattle.bidi_base.specs.InPlace.{AreWeakTypesResolved, CanResolveWeakTypes};
@@ -60,8 +60,8 @@ pub fn resolve_weak<T: TextSource>(
 /// There is at least one iteration for each character in the runs, and at most eight for each code unit. A
 /// character that depends on a later one waits until that is read. The passes never search ahead, so they
 /// do not pass over a stretch of BN for each code unit before it. Calls of the text and of the library
-/// count as no iterations, and neither do the tests for marks and numbers. A second count, which the call
-/// opens itself, has the code units that these look at.
+/// count as no iterations. A second count, which the call opens itself, has the code units that calls of the
+/// library look at.
 pub fn resolve_weak_counted<T: TextSource, S: Ledger>(
     text: T,
     sequence: &IsolatingRunSequence,
@@ -143,8 +143,8 @@ fn resolve_weak_searching<T: TextSource, S: Ledger, L: Ledger>(
 // Like [`resolve_weak_lent`], and keeps both counts: `steps` of loop iterations, and `looked` of the code
 // units that searches look at.
 //
-// Searches look at no more than 19 code units for each code unit of the runs. Three tests for marks and
-// numbers take seven of these, and the walk over numbers twelve. The walk can look at a piece of [`WIDE`]
+// Searches look at no more than 16 code units for each code unit of the runs. Three tests for marks and
+// numbers take four of these, and the walk over numbers twelve. The walk can look at a piece of [`WIDE`]
 // code units to pass over one. But then it reads at least two others before it passes over one again.
 fn resolve_weak_lent_counted<T: TextSource, S: Ledger, L: Ledger>(
     text: T,
@@ -160,7 +160,7 @@ fn resolve_weak_lent_counted<T: TextSource, S: Ledger, L: Ledger>(
         + length (chars_in_runs T.units (T.characters text) (map bounds (lent_runs sequence.entry)))
         ≤ steps.new }
     ensures at_most { steps.new ≤ steps.old + 8 * length (units_in_runs (map bounds (lent_runs sequence.entry))) }
-    ensures looked { looked.new ≤ looked.old + 19 * length (units_in_runs (map bounds (lent_runs sequence.entry))) }
+    ensures looked { looked.new ≤ looked.old + 16 * length (units_in_runs (map bounds (lent_runs sequence.entry))) }
 {
     let runs = sequence.runs();
     let sos = sequence.sos();
@@ -185,7 +185,7 @@ fn resolve_marks_and_numbers<T: TextSource, S: Ledger, L: Ledger>(
         × IsWalked (len_at T.units (T.characters text)) (map bounds runs.now) sos marked classes.new }
     ensures at_least { steps.old ≤ steps.new }
     ensures at_most { steps.new ≤ steps.old + 6 * length (units_in_runs (map bounds runs.now)) }
-    ensures looked { looked.new ≤ looked.old + 19 * length (units_in_runs (map bounds runs.now)) }
+    ensures looked { looked.new ≤ looked.old + 16 * length (units_in_runs (map bounds runs.now)) }
 {
     if has_marks_or_numbers(runs, classes, looked) {
         resolve_marks(runs, sos, classes, steps, looked);
@@ -193,23 +193,30 @@ fn resolve_marks_and_numbers<T: TextSource, S: Ledger, L: Ledger>(
     }
 }
 
-/// Whether the runs have a nonspacing mark or a number. May also find one shortly after a long run.
+/// The number of code units in some runs, or `usize::MAX` if that is less. Only counts read it, so the compiler
+/// leaves it out.
+fn unit_count(runs: &[LevelRun]) -> usize
+    ensures { result ≡ min usize.MAX (length (units_in_runs (map bounds runs.now))) }
+{
+    runs.iter().fold(0, |units: usize, run| {
+        units.saturating_add(run.end.saturating_sub(run.start))
+    })
+}
+
+/// Whether the runs have a nonspacing mark or a number. May also find one shortly after a long run. Looks at no
+/// more than twice the code units of the runs, and counts that many.
 fn has_marks_or_numbers<L: Ledger>(
     runs: &[LevelRun],
     classes: &[BidiClass],
     looked: &mut Steps<L>,
 ) -> bool
-    requires { IsTrue (are_ordered (map bounds runs.now)) }
     ensures answer { result ≡ is_any_wide is_mark_or_number runs.now classes.now }
-    ensures looked { looked.new ≤ looked.old + 3 * length (units_in_runs (map bounds runs.now)) }
+    ensures looked { looked.new ≤ looked.old + 2 * length (units_in_runs (map bounds runs.now)) }
 {
-    for run in runs {
-        looked.tick();
-        if is_mark_or_number_among(wide_part_of(classes, run), looked) {
-            return true;
-        }
-    }
-    false
+    looked.tick_by(unit_count(runs));
+    looked.tick_by(unit_count(runs));
+    runs.iter()
+        .any(|run| is_mark_or_number_among(wide_part_of(classes, run)))
 }
 
 /// How many code units are tested together.
@@ -235,34 +242,28 @@ fn wide_part_of<'c>(classes: &'c [BidiClass], run: &LevelRun) -> &'c [BidiClass]
 
 /// Whether one of the classes is that of a nonspacing mark or a number. Few classes are tested one by one.
 #[tactic(auto, using(crate::proofs::FoldAny::fold_any))]
-fn is_mark_or_number_among<L: Ledger>(classes: &[BidiClass], looked: &mut Steps<L>) -> bool
-    ensures answer { result ≡ is_any_of is_mark_or_number classes.now }
-    ensures looked { looked.new ≡ looked.old + length classes.now }
+fn is_mark_or_number_among(classes: &[BidiClass]) -> bool
+    ensures { result ≡ is_any_of is_mark_or_number classes.now }
 {
     if classes.len() < MANY {
-        return is_mark_or_number_near(classes, looked);
+        return is_mark_or_number_near(classes);
     }
-    is_mark_or_number_in(classes, looked)
+    is_mark_or_number_in(classes)
 }
 
-/// Whether one of the classes is that of a nonspacing mark or a number. Tests them up to the first such, and
-/// counts all of them.
-fn is_mark_or_number_near<L: Ledger>(classes: &[BidiClass], looked: &mut Steps<L>) -> bool
-    ensures answer { result ≡ list_any is_mark_or_number classes.now }
-    ensures looked { looked.new ≡ looked.old + length classes.now }
+/// Whether one of the classes is that of a nonspacing mark or a number. Tests them up to the first such.
+fn is_mark_or_number_near(classes: &[BidiClass]) -> bool
+    ensures { result ≡ list_any is_mark_or_number classes.now }
 {
-    looked.tick_by(classes.len());
     classes.iter().any(|class| is_mark_or_number(*class))
 }
 
 /// Whether one of the classes is that of a nonspacing mark or a number. Tests all of them, many at once.
 /// The compiler vectorizes the loop only in a function of its own.
 #[inline(never)]
-fn is_mark_or_number_in<L: Ledger>(classes: &[BidiClass], looked: &mut Steps<L>) -> bool
-    ensures answer { result ≡ is_any_of is_mark_or_number classes.now }
-    ensures looked { looked.new ≡ looked.old + length classes.now }
+fn is_mark_or_number_in(classes: &[BidiClass]) -> bool
+    ensures { result ≡ is_any_of is_mark_or_number classes.now }
 {
-    looked.tick_by(classes.len());
     classes
         .iter()
         .fold(false, |found, class| found | is_mark_or_number(*class))

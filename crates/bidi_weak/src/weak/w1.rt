@@ -4,12 +4,12 @@ ghost use Rattle.std.specs.Prelude.{◌≡◌, ℕ, ◌+◌, ◌-◌, ◌<◌, �
 ghost use Rattle.bidi_base.specs.declared.char_data.BidiClass.{BidiClass};
 ghost use Rattle.bidi_base.specs.Classes.{is_kept_in_place, is_l_or_r, is_nsm};
 ghost use Rattle.bidi_base.specs.Places.{class_at};
-ghost use Rattle.bidi_base.specs.Units.{bounds, are_ordered, in_runs};
+ghost use Rattle.bidi_base.specs.Units.{bounds, are_ordered, in_runs, units_in_runs};
 ghost use Rattle.bidi_base.specs.Weak.{carried};
 ghost use Rattle.bidi_weak.specs.WeakWalk.{is_any, is_any_of, two_a_unit, AreMarked, IsMarked};
 ghost use Rattle.bidi_runs.specs.Written.{is_seen};
 
-use super::part_of;
+use super::{part_of, unit_count};
 use bidi_base::char_data::BidiClass::{self, FSI, LRI, ON, PDI, RLI};
 use bidi_base::classes::is_nsm;
 use bidi_runs::prepare::{LevelRun, Steps};
@@ -30,7 +30,7 @@ pub fn resolve_marks<S: Ledger, L: Ledger>(
     ensures marked { IsMarked (map bounds runs.now) (carried sos) classes.old classes.new }
     ensures at_least { steps.old ≤ steps.new }
     ensures at_most { steps.new ≤ steps.old + two_a_unit runs.now }
-    ensures looked { looked.new ≤ looked.old + two_a_unit runs.now }
+    ensures looked { looked.new ≤ looked.old + length (units_in_runs (map bounds runs.now)) }
 {
     if !has_marks(runs, classes, looked) {
         return;
@@ -42,27 +42,19 @@ pub fn resolve_marks<S: Ledger, L: Ledger>(
     }
 }
 
-/// Whether the runs have a nonspacing mark.
+/// Whether the runs have a nonspacing mark. Looks at no more than all code units of the runs, and counts all.
 fn has_marks<L: Ledger>(runs: &[LevelRun], classes: &[BidiClass], looked: &mut Steps<L>) -> bool
-    requires { IsTrue (are_ordered (map bounds runs.now)) }
     ensures answer { result ≡ is_any is_nsm runs.now classes.now }
-    ensures looked { looked.new ≤ looked.old + two_a_unit runs.now }
+    ensures looked { looked.new ≤ looked.old + length (units_in_runs (map bounds runs.now)) }
 {
-    for run in runs {
-        looked.tick();
-        if is_mark_in(part_of(classes, run), looked) {
-            return true;
-        }
-    }
-    false
+    looked.tick_by(unit_count(runs));
+    runs.iter().any(|run| is_mark_in(part_of(classes, run)))
 }
 
 /// Whether one of the classes is NSM. Tests all of them, many at once.
-fn is_mark_in<L: Ledger>(classes: &[BidiClass], looked: &mut Steps<L>) -> bool
-    ensures answer { result ≡ is_any_of is_nsm classes.now }
-    ensures looked { looked.new ≡ looked.old + length classes.now }
+fn is_mark_in(classes: &[BidiClass]) -> bool
+    ensures { result ≡ is_any_of is_nsm classes.now }
 {
-    looked.tick_by(classes.len());
     classes
         .iter()
         .fold(false, |found, class| found | is_nsm(*class))

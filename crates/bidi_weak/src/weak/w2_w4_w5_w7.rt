@@ -10,13 +10,13 @@ ghost use Rattle.bidi_base.specs.Text.{text_len, IsPerChar};
 ghost use Rattle.bidi_base.specs.Units.{bounds, are_ordered, units_in_runs, AreLines};
 ghost use Rattle.bidi_runs.specs.ExplicitPass.{filled};
 ghost use Rattle.bidi_weak.specs.WeakPass.{is_asked, is_number, is_other, next_before, still_to_come, strengthened, waits};
-ghost use Rattle.bidi_weak.specs.WeakWalk.{is_any, is_any_of, len_at, settled_to, AreAlike, IsWalked, IsWhole, two_a_unit};
+ghost use Rattle.bidi_weak.specs.WeakWalk.{is_any, is_any_of, len_at, settled_to, AreAlike, IsWalked, IsWhole};
 ghost use Rattle.bidi_weak.specs.WeakWalk.{Passes, Reads, ReadsTo, WaitsBelow};
 ghost use Rattle.bidi_runs.specs.Written.{count_below, is_seen, IsWrittenOver};
 
 use super::before::{Before, numbered, strengthened, strong_up_to};
 use super::w3_w6::left_over;
-use super::{WIDE, part_of};
+use super::{WIDE, part_of, unit_count};
 use bidi_base::char_data::BidiClass::{self, AN, EN, ET, ON};
 use bidi_base::classes::is_strong;
 use bidi_runs::prepare::{LevelRun, Steps};
@@ -61,7 +61,7 @@ pub fn resolve_numbers<T: TextSource, S: Ledger, L: Ledger>(
     ensures walked { IsWalked (len_at T.units (T.characters text)) (map bounds runs.now) sos classes.old classes.new }
     ensures at_least { steps.old ≤ steps.new }
     ensures at_most { steps.new ≤ steps.old + 4 * length (units_in_runs (map bounds runs.now)) }
-    ensures looked { looked.new ≤ looked.old + 14 * length (units_in_runs (map bounds runs.now)) }
+    ensures looked { looked.new ≤ looked.old + 13 * length (units_in_runs (map bounds runs.now)) }
 {
     if !has_numbers(runs, classes, looked) {
         return;
@@ -81,29 +81,21 @@ pub fn resolve_numbers<T: TextSource, S: Ledger, L: Ledger>(
     walk.settle(runs, classes, end, ON, steps);
 }
 
-/// Whether the runs have a number.
+/// Whether the runs have a number. Looks at no more than all code units of the runs, and counts all.
 fn has_numbers<L: Ledger>(runs: &[LevelRun], classes: &[BidiClass], looked: &mut Steps<L>) -> bool
-    requires { IsTrue (are_ordered (map bounds runs.now)) }
     ensures answer { result ≡ is_any is_number runs.now classes.now }
-    ensures looked { looked.new ≤ looked.old + two_a_unit runs.now }
+    ensures looked { looked.new ≤ looked.old + length (units_in_runs (map bounds runs.now)) }
 {
-    for run in runs {
-        looked.tick();
-        if is_number_in(part_of(classes, run), looked) {
-            return true;
-        }
-    }
-    false
+    looked.tick_by(unit_count(runs));
+    runs.iter().any(|run| is_number_in(part_of(classes, run)))
 }
 
 /// Whether one of the classes is a number. Tests all of them, many at once. The compiler vectorizes the
 /// loop only in a function of its own.
 #[inline(never)]
-fn is_number_in<L: Ledger>(classes: &[BidiClass], looked: &mut Steps<L>) -> bool
-    ensures answer { result ≡ is_any_of is_number classes.now }
-    ensures looked { looked.new ≡ looked.old + length classes.now }
+fn is_number_in(classes: &[BidiClass]) -> bool
+    ensures { result ≡ is_any_of is_number classes.now }
 {
-    looked.tick_by(classes.len());
     classes
         .iter()
         .fold(false, |found, class| found | is_number(*class))
@@ -346,31 +338,29 @@ fn before_near<L: Ledger>(classes: &[BidiClass], looked: &mut Steps<L>) -> usize
     before
 }
 
-/// The number of pieces of [`WIDE`] classes before the first piece in which `is_asked` holds for a class.
+/// The number of pieces of [`WIDE`] classes before the first piece in which `is_asked` holds for a class. Looks at
+/// these and at one more, if there are enough classes, and counts both.
 fn idle_pieces<L: Ledger>(classes: &[BidiClass], looked: &mut Steps<L>) -> usize
     ensures within { result * 32 ≤ length classes.now }
     ensures idle { (k : ℕ) → k < result → is_any_of is_asked (take 32 (drop (k * 32) classes.now)) ≡ false }
     ensures looked_at_least { looked.old + 32 * result ≤ looked.new }
     ensures looked_at_most { looked.new ≤ looked.old + min (32 * (result + 1)) (length classes.now) }
 {
-    let pieces = classes.len() / WIDE;
-    for piece in 0..pieces {
-        let start = WIDE * piece;
-        if is_asked_in(&classes[start..start + WIDE], looked) {
-            return piece;
-        }
-    }
-    pieces
+    let idle = classes
+        .chunks_exact(WIDE)
+        .take_while(|piece| !is_asked_in(piece))
+        .count();
+    looked.tick_by(WIDE * idle);
+    looked.tick_by(WIDE.min(classes.len() - WIDE * idle));
+    idle
 }
 
 /// Whether `is_asked` holds for one of the classes. Tests all of them, many at once. The compiler
 /// vectorizes the loop only in a function of its own.
 #[inline(never)]
-fn is_asked_in<L: Ledger>(classes: &[BidiClass], looked: &mut Steps<L>) -> bool
-    ensures answer { result ≡ is_any_of is_asked classes.now }
-    ensures looked { looked.new ≡ looked.old + length classes.now }
+fn is_asked_in(classes: &[BidiClass]) -> bool
+    ensures { result ≡ is_any_of is_asked classes.now }
 {
-    looked.tick_by(classes.len());
     classes
         .iter()
         .fold(false, |found, class| found | is_asked(*class))
