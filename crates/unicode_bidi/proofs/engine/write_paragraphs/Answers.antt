@@ -12,7 +12,7 @@ write_paragraph-requires-clause-paragraph g c =
 pub write_paragraph-requires-clause-flags : goal.write_paragraph-requires-clause-flags
 write_paragraph-requires-clause-flags g c =
     let own = own_flags (g.D.BidiDataSource.source c.args.text.now.data_source.now) g.T.TextSource.units (g.T.TextSource.characters c.args.text.now.text) in
-    let none : ParagraphFlags = record { met = record { bits = 0 } } in
+    let none : ParagraphFlags = record { seen = record { bits = 0 } } in
     ap (λ flags. get_or flags c.loop-index.index none) c.requires.flags ∙ get_or-map own c.args.paragraphs.now _ c.index-paragraphs-index.result none (omega arith) ∙ ap own (sym c.index-paragraphs-index.is)
 
 pub loop-index-preserved : goal.loop-index-preserved
