@@ -3,16 +3,14 @@
 //! A sequence with a single direction needs only N2. For other sequences the pass finds the brackets first,
 //! and then resolves all classes in place. So it makes all allocations before it writes the first class.
 
-ghost use Rattle.std.specs.Prelude.{◌≡◌, List, ◌∷◌, ◌++◌, [], ◌≤◌, length, map, IsTrue, OnOk, OnErr};
-ghost use Rattle.bidi_base.specs.Classes.{is_l_or_r, same_class};
+ghost use Rattle.std.specs.Prelude.{◌≡◌, List, ◌∷◌, ◌++◌, [], length, map, IsTrue, OnOk, OnErr};
+ghost use Rattle.bidi_base.specs.Classes.{is_l_or_r};
 ghost use Rattle.bidi_base.specs.FoundBrackets.{brackets_from};
 ghost use Rattle.bidi_base.specs.InPlace.{AreNeutralsResolved, AreNeutralsResolvedUpToN1, CanResolveNeutrals};
 ghost use Rattle.bidi_base.specs.PairSearch.{HasRead};
-ghost use Rattle.bidi_base.specs.Search.{IsFirst};
 ghost use Rattle.bidi_base.specs.Text.{text_len, IsLine};
 ghost use Rattle.bidi_base.specs.Units.{bounds, kept_in_place, AreLines};
 ghost use Rattle.bidi_base.specs.declared.brackets.Bracket.{Bracket};
-ghost use Rattle.bidi_base.specs.declared.char_data.BidiClass.TheVariants.{ON};
 ghost use Rattle.bidi_neutral.specs.NeutralPass.{pairs_in, placed_brackets, HasGatheredNothing, IsPaired, IsReady};
 ghost use Rattle.bidi_runs.specs.RunSequence.{lent_runs, lent_sos, lent_eos, runs as runs_of, sos as sos_of, eos as eos_of};
 
@@ -33,7 +31,6 @@ use bidi_runs::prepare::{IsolatingRunSequence, LentSequence, LevelRun};
 use bidi_text::text::TextSource;
 use class_tests::OtherNeutral;
 use directions::{Directions, resolve_opposite, settle_rest};
-use near::find_near;
 use nearest::first_kept;
 use one_direction::stands_alone;
 use pairs::{StoredRuns, resolve_pairs};
@@ -224,22 +221,21 @@ impl NeutralResolver {
         let end = run.end;
         let mut at = first_passing(OtherNeutral, classes, run.start, end);
         while at < end {
-            let mut is_bracket = false;
             if let Some((c, _)) = text.char_at(at) {
-                is_bracket = self.push(data_source, at, c)?;
+                self.push(data_source, at, c)?;
             }
-            at = next_neutral(is_bracket, classes, at + 1, end);
+            at = first_passing(OtherNeutral, classes, at + 1, end);
         }
         Ok(())
     }
 
-    /// Reads the character `c` of class ON, which begins at `at`, if it is a bracket. Returns whether it is.
+    /// Reads the character `c` of class ON, which begins at `at`, if it is a bracket.
     fn push<D: BidiDataSource>(
         &mut self,
         data_source: &D,
         at: usize,
         c: char,
-    ) -> Result<bool, AllocError>
+    ) -> Result<(), AllocError>
         requires { (before : List Bracket) × HasRead self.old.search before }
         ensures { (before : List Bracket) → HasRead self.old.search before → OnOk result (HasRead self.new.search (before
             ++ brackets_from at ((D.source data_source.now).bracket_of c ∷ []))) }
@@ -250,26 +246,9 @@ impl NeutralResolver {
                 opening: bracket.opening,
                 is_open: bracket.is_open,
             })?;
-            return Ok(true);
         }
-        Ok(false)
+        Ok(())
     }
-}
-
-/// Returns the first index in `from..to` with the class ON, or else `to`. If the search begins after a
-/// bracket, the next one is often near, as in a pair around a letter.
-#[inline(always)]
-fn next_neutral(after_bracket: bool, classes: &[BidiClass], from: usize, to: usize) -> usize
-    requires ordered { from ≤ to }
-    requires inside { to ≤ length classes.now }
-    ensures { IsFirst (same_class ON) classes.now from to result }
-{
-    if after_bracket {
-        if let Some(found) = find_near(OtherNeutral, classes, from, to) {
-            return found;
-        }
-    }
-    first_passing(OtherNeutral, classes, from, to)
 }
 
 /// Resolves the neutrals of a sequence in place: N0 to N2 over its characters that are not BN.

@@ -8,13 +8,13 @@ use Rattle.bidi_base.proofs.TextLemmas.{is_boundary-le}
 use Rattle.bidi_neutral.specs.NeutralPass.{unit_bracket, unit_brackets}
 use Rattle.bidi_neutral.proofs.UnitBrackets.{unit_brackets-none, unit_brackets-more, unit_brackets-line}
 use Rattle.bidi_neutral.proofs.neutral.NeutralResolver.gather_run.Goals as goal
-use Rattle.bidi_neutral.proofs.neutral.NeutralResolver.gather_run.Goals.{in-Some+in_ok-is_bracket, in_default}
+use Rattle.bidi_neutral.proofs.neutral.NeutralResolver.gather_run.Goals.{in-Some+in_ok-push, in_default}
 
 pub first_passing-at-requires-clause-inside : goal.first_passing-at-requires-clause-inside
 first_passing-at-requires-clause-inside g c = grind (arith, is_boundary-le)
 
-pub next_neutral-at-requires-clause-inside : goal.next_neutral-at-requires-clause-inside
-next_neutral-at-requires-clause-inside g c = grind (arith, is_boundary-le)
+pub first_passing-at-requires-in-loop-at-clause-inside : goal.first_passing-at-requires-in-loop-at-clause-inside
+first_passing-at-requires-in-loop-at-clause-inside g c = grind (arith, is_boundary-le)
 
 pub loop-at-init : goal.loop-at-init
 loop-at-init g c = grind (arith, unit_brackets-none, append-nil)
@@ -34,16 +34,16 @@ loop-at-preserved g c =
     let units = c.args.classes.now in
     let at = c.loop-at.at in
     let i = c.loop-at.invariant in
-    let f = c.next_neutral-at.ensures in
-    let more = unit_brackets-more len_of chars source units c.args.run.now.start at c.next_neutral-at.result i.begins (omega (arith, f.begins)) f.before in
+    let f = c.first_passing-at-in-loop-at.ensures in
+    let more = unit_brackets-more len_of chars source units c.args.run.now.start at c.first_passing-at-in-loop-at.result i.begins (omega (arith, f.begins)) f.before in
     let so_far = unit_brackets len_of chars source units c.args.run.now.start at in
     let own = unit_bracket len_of chars source units at in
     let from : Option (ℕ × ℕ) → List Bracket = λ o. option_map_or (λ e. brackets_from at (counted_bracket (class_at units at) (source.bracket_of e.0) ∷ [])) o [] in
     let gathered : (before : List Bracket) → HasRead c.loop-at.self.search before → HasRead c.match-char_at.self.search (before ++ own) =
     λ before h. elim c.match-char_at.branch [
-      | in-Some+in_ok-is_bracket w ↦
+      | in-Some+in_ok-push w ↦
           let is : _ = counted (class_at units at) (source.bracket_of w.in-Some.c) at (i.here c.loop-at-test.true) ∙ ap from (sym w.in-Some.is ∙ c.char_at.ensures) in
-          rw w.self-is (rw is at (w.in_ok-is_bracket.ensures before h))
+          rw w.self-is (rw is at (w.in_ok-push.ensures before h))
       | in_default w ↦ grind (arith, append-nil)
     ] in
     record {
