@@ -1,8 +1,8 @@
 -- The passes over the units of a paragraph, put together: what they leave once some sequences are resolved, and once all are.
 use Rattle.bidi_base.proofs.Common.{◌≡◌, ℕ, Range, bounds, take_all, zero, suc, ◌+◌, ◌<◌, ◌≤◌, true, false, List, [], ◌∷◌, ◌++◌, length}
-use Rattle.bidi_base.proofs.Common.{get_or, take, map, Option, refl, sym, ap, ◌∙◌, arith, filter, list_all, length-map}
+use Rattle.bidi_base.proofs.Common.{get_or, take, map, Option, None, refl, sym, ap, ◌∙◌, arith, filter, list_all, length-map}
 use Rattle.bidi_base.proofs.Common.{get_or-map, get_or_default, get_or-append_seam, take-append_seam, length-append, map-append}
-use Rattle.bidi_base.proofs.Common.{is_l_or_r, length-replicate, nil_from_length, get_or-zip, length-zip, is_weak_resolved}
+use Rattle.bidi_base.proofs.Common.{is_kept, is_l_or_r, length-replicate, nil_from_length, get_or-zip, length-zip, is_weak_resolved}
 use Rattle.bidi_base.proofs.Common.{class_at, at_places, first_or, stored_classes, explicit_levels, explicit_classes, processing_classes}
 use Rattle.bidi_base.proofs.Common.{RunSequence, level_at, has_places, sequences, weak_classes, direction_of, n2_rule}
 use Rattle.bidi_base.proofs.Common.{neutral_classes, implicit_level, AreResolved, text_len, place, is_per_char, per_unit, per_char, AreLines, in_runs, kept_in_runs, kept_in_place}
@@ -24,7 +24,8 @@ use Rattle.bidi_runs.specs.Joining.{JoinedRuns, characters_of}
 use Rattle.bidi_runs.specs.Links.{begins, sequence_at, sequences_before, linked_runs, linked_sequences, sequences_of, AreLinked}
 use Rattle.bidi_runs.specs.declared.prepare.links.RunLinks.{RunLinks}
 use Rattle.bidi_runs.proofs.LinkedSequences.{IsPart, linked_sequences-part, sequences_before-more, sequences_before-same}
-use Rattle.bidi_paragraphs.proofs.SequencesInPlace.{IsUnderWay, IsNext, IsWeakNext, IsWeakNext-from, weak_next-resolved, IsUnderWay-more, IsUnderWay-start, IsNext-at, AreResolved-all}
+use Rattle.bidi_paragraphs.proofs.OneLevel.{KeepLevels}
+use Rattle.bidi_paragraphs.proofs.SequencesInPlace.{IsUnderWay, IsNext, IsWeakNext, IsWeakNext-from, weak_next-resolved, IsUnderWay-more, IsUnderWay-settled, IsUnderWay-start, kept_before, IsNext-at, AreResolved-all}
 use Rattle.bidi_paragraphs.proofs.SequenceUnits.{at_places-map, at_places-place, level_at-first, kept_in_place-kept, kept_in_runs-within, stays_elsewhere}
 
 -- two values for each unit
@@ -102,6 +103,28 @@ module _ (len_of : ℕ → ℕ) (h : HasUnits len_of) (chars : List ℕ) (source
 
     as_long : (values : List BidiClass) → length values ≡ length stored → length values ≡ length chars
     as_long values long = long ∙ length-stored_classes source ∙ fits
+
+    -- its characters, their classes and their level, by its code units
+    module _ (units : List BidiClass) (now : AreResolvedTo seqs units) where
+      characters_are : kept_in_place len_of chars units runs ≡ ps
+      characters_are =
+          kept_in_place-kept len_of h chars stored now.values units runs (as_long now.values now.under_way.long) now.is (λ p there. now.under_way.read p (within p there))
+
+      classes_are : at_places L units (map (place len_of chars) ps) ≡ at_places L now.values ps
+      classes_are = at_places-place len_of h chars L now.values units ps (as_long now.values now.under_way.long) now.is (kept_in_runs-within len_of h chars stored runs)
+
+      pub kept_of_units : list_all is_kept (at_places L units (map (place len_of chars) (kept_in_place len_of chars units runs))) ≡ true
+      kept_of_units = rw (characters_are, classes_are) (kept_before source brackets stored levels classes seqs (members s) next now.values now.under_way)
+
+      -- nothing is to be done
+      pub AreResolvedTo-settled : (unit_levels : List ℕ) → unit_levels ≡ per_unit len_of chars levels
+          → (let places = map (place len_of chars) (kept_in_place len_of chars units runs) in
+          KeepLevels (level_at unit_levels (first_or 0 places)) s.sos s.eos (at_places L source ps) (at_places None brackets ps) (at_places L units places))
+          → AreResolvedTo (seqs ++ members s ∷ []) units
+      AreResolvedTo-settled unit_levels levels_is keeps =
+          let level_is = level_at-first len_of h chars levels unit_levels ps (length-explicit_levels paragraph stored ∙ as_long stored refl) levels_is (kept_in_runs-within len_of h chars stored runs) in
+          let read = rw (characters_are, classes_are, level_is) at keeps in
+          record { values = now.values; is = now.is; under_way = IsUnderWay-settled source brackets stored levels classes seqs (members s) next now.values now.under_way read }
 
     -- W1 to W7
     pub AreWeakTo-from : (old new : List BidiClass) → AreResolvedTo seqs old

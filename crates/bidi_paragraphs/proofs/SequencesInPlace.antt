@@ -14,6 +14,7 @@ use Rattle.bidi_laws.proofs.ExplicitLemmas.{class_at-explicit_classes, class_at-
 use Rattle.bidi_laws.proofs.MatchLevelsLemmas.{sequence-one_level}
 use Rattle.bidi_laws.proofs.NeutralLemmas.{neutral_classes-directed}
 use Rattle.bidi_laws.proofs.SequencePlaces.{times_in-parts, places_of, sequences-once, sequences-kept, times_in}
+use Rattle.bidi_paragraphs.proofs.OneLevel.{KeepLevels}
 use Rattle.bidi_laws.proofs.StoredLemmas.{explicit_class-kept, at_places-agree, list_all-at_places_back, explicit_classes-kept, times_in-first, times_in-later, list_all-at_places}
 
 is_kept_in_place-kept : (c : BidiClass) → is_kept c ≡ true → is_kept_in_place c ≡ true
@@ -25,31 +26,36 @@ module _ (source : List BidiClass) (brackets : List (Option BidiMatchedOpeningBr
   resolved_classes s =
       neutral_classes (level_at levels (first_or 0 s.places)) s.sos s.eos (at_places L source s.places) (at_places None brackets s.places) (weak_classes s.sos (at_places L classes s.places))
 
-  -- the direction of a sequence
-  abbrev own_direction : RunSequence → BidiClass
-  own_direction s = direction_of (level_at levels (first_or 0 s.places))
+  -- the level of a sequence
+  abbrev pub own_level : RunSequence → ℕ
+  own_level s = level_at levels (first_or 0 s.places)
 
-  -- they stand at the places of each of some sequences, but for N2
-  abbrev pub AreNeutral : List BidiClass → List RunSequence → Type 0
-  AreNeutral now [] = Unit {0}
-  AreNeutral now (s ∷ seqs) = (map (n2_rule (own_direction s)) (at_places L now s.places) ≡ resolved_classes s) × AreNeutral now seqs
+  -- at the places of each of some sequences stand classes with the same levels
+  abbrev pub HaveLevels : List BidiClass → List RunSequence → Type 0
+  HaveLevels now [] = Unit {0}
+  HaveLevels now (s ∷ seqs) = (implicit_levels (own_level s) (at_places L now s.places) ≡ implicit_levels (own_level s) (resolved_classes s)) × HaveLevels now seqs
 
-  AreNeutral-kept : (now other : List BidiClass) (seqs : List RunSequence)
-      → ((p : ℕ) → 0 < times_in (places_of seqs) p → class_at other p ≡ class_at now p) → AreNeutral now seqs → AreNeutral other seqs
-  AreNeutral-kept now other [] agree h = h
-  AreNeutral-kept now other (s ∷ seqs) agree h =
-      grind (arith, agree, at_places-agree L other now s.places, AreNeutral-kept now other seqs, sum_by-append)
+  HaveLevels-kept : (now other : List BidiClass) (seqs : List RunSequence)
+      → ((p : ℕ) → 0 < times_in (places_of seqs) p → class_at other p ≡ class_at now p) → HaveLevels now seqs → HaveLevels other seqs
+  HaveLevels-kept now other [] agree h = h
+  HaveLevels-kept now other (s ∷ seqs) agree h =
+      grind (arith, agree, at_places-agree L other now s.places, HaveLevels-kept now other seqs, sum_by-append)
 
-  AreNeutral-push : (now : List BidiClass) (seqs : List RunSequence) (s : RunSequence) → AreNeutral now seqs
-      → map (n2_rule (own_direction s)) (at_places L now s.places) ≡ resolved_classes s → AreNeutral now (seqs ++ s ∷ [])
-  AreNeutral-push now [] s h e = (e, tt)
-  AreNeutral-push now (r ∷ seqs) s h e = (h.0, AreNeutral-push now seqs s h.1 e)
+  HaveLevels-push : (now : List BidiClass) (seqs : List RunSequence) (s : RunSequence) → HaveLevels now seqs
+      → implicit_levels (own_level s) (at_places L now s.places) ≡ implicit_levels (own_level s) (resolved_classes s) → HaveLevels now (seqs ++ s ∷ [])
+  HaveLevels-push now [] s h e = (e, tt)
+  HaveLevels-push now (r ∷ seqs) s h e = (h.0, HaveLevels-push now seqs s h.1 e)
+
+  -- N2 changes no level: neither a neutral nor the direction of its level adds to it
+  implicit_levels-n2 : (level : ℕ) (cs : List BidiClass) → implicit_levels level cs ≡ implicit_levels level (map (n2_rule (direction_of level)) cs)
+  implicit_levels-n2 level [] = refl
+  implicit_levels-n2 level (c ∷ cs) = grind (arith, implicit_levels-n2 level cs)
 
   -- some sequences are resolved, and all other characters have their explicit classes, with BN for what X9 removes
   pub record IsUnderWay (seqs : List RunSequence) (now : List BidiClass) : Type 0 where
     pub long : length now ≡ length stored
     pub read : (p : ℕ) → p < length stored → is_kept_in_place (class_at now p) ≡ is_kept_at stored p
-    pub done : AreNeutral now seqs
+    pub done : HaveLevels now seqs
     pub rest : (p : ℕ) → p < length stored → is_kept_at stored p ≡ true → times_in (places_of seqs) p ≡ 0 → class_at now p ≡ class_at classes p
 
   -- a sequence whose characters stand in none of them
@@ -63,7 +69,7 @@ module _ (source : List BidiClass) (brackets : List (Option BidiMatchedOpeningBr
   pub record IsWeakNext (seqs : List RunSequence) (s : RunSequence) (now : List BidiClass) : Type 0 where
     pub long : length now ≡ length stored
     pub read : (p : ℕ) → p < length stored → is_kept_in_place (class_at now p) ≡ is_kept_at stored p
-    pub done : AreNeutral now seqs
+    pub done : HaveLevels now seqs
     pub weak : at_places L now s.places ≡ weak_classes s.sos (at_places L classes s.places)
     pub rest : (p : ℕ) → p < length stored → is_kept_at stored p ≡ true → times_in (places_of seqs) p ≡ 0 → times_in s.places p ≡ 0 → class_at now p ≡ class_at classes p
 
@@ -88,16 +94,33 @@ module _ (source : List BidiClass) (brackets : List (Option BidiMatchedOpeningBr
     all_read test reads [] h = refl
     all_read test reads (c ∷ cs) h = grind (arith, reads c, all_read test reads cs)
 
+    -- its classes are still the explicit ones
+    unchanged : (now : List BidiClass) → IsUnderWay seqs now → at_places L now s.places ≡ at_places L classes s.places
+    unchanged now h = at_places-agree L now classes s.places (λ p there. h.rest p (next.kept p there).1 (next.kept p there).0 (next.apart p there))
+
+    explicit_kept : list_all is_kept (at_places L classes s.places) ≡ true
+    explicit_kept = list_all-at_places is_kept L classes s.places (λ p there. next.explicit p there)
+
+    pub kept_before : (now : List BidiClass) → IsUnderWay seqs now → list_all is_kept (at_places L now s.places) ≡ true
+    kept_before now h = ap (list_all is_kept) (unchanged now h) ∙ explicit_kept
+
+    -- if its levels can be read off them, nothing is to be done
+    pub IsUnderWay-settled : (now : List BidiClass) → IsUnderWay seqs now
+        → KeepLevels (own_level s) s.sos s.eos (at_places L source s.places) (at_places None brackets s.places) (at_places L now s.places) → IsUnderWay (seqs ++ s ∷ []) now
+    IsUnderWay-settled now h keeps =
+        let same = ap (λ cs. implicit_levels (own_level s) (neutral_classes (own_level s) s.sos s.eos (at_places L source s.places) (at_places None brackets s.places) (weak_classes s.sos cs))) (unchanged now h) in
+        record { long = h.long; read = h.read; done = HaveLevels-push now seqs s h.done (keeps ∙ same); rest = grind (arith, h.rest, flat_map-append, sum_by-append) }
+
     weak_resolved : list_all is_weak_resolved (weak_classes s.sos (at_places L classes s.places)) ≡ true
-    weak_resolved = weak_classes-resolved s.sos (at_places L classes s.places) next.sos (list_all-at_places is_kept L classes s.places (λ p there. next.explicit p there))
+    weak_resolved = weak_classes-resolved s.sos (at_places L classes s.places) next.sos explicit_kept
 
     pub IsWeakNext-from : (old new : List BidiClass) → IsUnderWay seqs old → length new ≡ length old → StaysElsewhere s.places old new
         → at_places L new s.places ≡ weak_classes s.sos (at_places L old s.places) → IsWeakNext seqs s new
     IsWeakNext-from old new h long stays weak =
         let answer : at_places L new s.places ≡ weak_classes s.sos (at_places L classes s.places) =
-        cc (weak, at_places-agree L old classes s.places (λ p there. h.rest p (next.kept p there).1 (next.kept p there).0 (next.apart p there))) in
+        cc (weak, unchanged old h) in
         let read = read_after old new h.read stays (all_read is_weak_resolved (λ c resolved. grind arith) (at_places L new s.places) (ap (list_all is_weak_resolved) answer ∙ weak_resolved)) in
-        let done = AreNeutral-kept old new seqs (λ p there. stays p (none_of p there)) h.done in
+        let done = HaveLevels-kept old new seqs (λ p there. stays p (none_of p there)) h.done in
         record { long = long ∙ h.long; read = read; done = done; weak = answer; rest = grind (arith, stays, h.rest) }
 
     -- so N0 to N2 can go on
@@ -105,22 +128,17 @@ module _ (source : List BidiClass) (brackets : List (Option BidiMatchedOpeningBr
     weak_next-resolved now h = ap (list_all is_weak_resolved) h.weak ∙ weak_resolved
 
     pub IsUnderWay-more : (old new : List BidiClass) → IsWeakNext seqs s old → length new ≡ length old → StaysElsewhere s.places old new
-        → map (n2_rule (own_direction s)) (at_places L new s.places) ≡ neutral_classes (level_at levels (first_or 0 s.places)) s.sos s.eos (at_places L source s.places) (at_places None brackets s.places) (at_places L old s.places)
+        → map (n2_rule (direction_of (own_level s))) (at_places L new s.places) ≡ neutral_classes (level_at levels (first_or 0 s.places)) s.sos s.eos (at_places L source s.places) (at_places None brackets s.places) (at_places L old s.places)
         → IsUnderWay (seqs ++ s ∷ []) new
     IsUnderWay-more old new h long stays neutral =
-        let answer : map (n2_rule (own_direction s)) (at_places L new s.places) ≡ resolved_classes s = grind (arith, neutral, h.weak) in
-        let directed : list_all has_direction (map (n2_rule (own_direction s)) (at_places L new s.places)) ≡ true = grind (arith, answer, neutral_classes-directed, next.sos, weak_resolved) in
-        let read = read_after old new h.read stays (all_read (λ c. has_direction (n2_rule (own_direction s) c)) (λ c known. grind arith) (at_places L new s.places) (rw list_all-map at directed)) in
-        let done = AreNeutral-push new seqs s (AreNeutral-kept old new seqs (λ p there. stays p (none_of p there)) h.done) answer in
+        let answer : map (n2_rule (direction_of (own_level s))) (at_places L new s.places) ≡ resolved_classes s = grind (arith, neutral, h.weak) in
+        let directed : list_all has_direction (map (n2_rule (direction_of (own_level s))) (at_places L new s.places)) ≡ true = grind (arith, answer, neutral_classes-directed, next.sos, weak_resolved) in
+        let read = read_after old new h.read stays (all_read (λ c. has_direction (n2_rule (direction_of (own_level s)) c)) (λ c known. grind arith) (at_places L new s.places) (rw list_all-map at directed)) in
+        let done = HaveLevels-push new seqs s (HaveLevels-kept old new seqs (λ p there. stays p (none_of p there)) h.done)
+        (implicit_levels-n2 (own_level s) (at_places L new s.places) ∙ ap (implicit_levels (own_level s)) answer) in
         record { long = long ∙ h.long; read = read; done = done; rest = grind (arith, stays, h.rest, flat_map-append, sum_by-append) }
 
   -- ---- the levels
-
-  -- N2 changes no level: neither a neutral nor the direction of its level adds to it
-
-  implicit_levels-n2 : (level : ℕ) (cs : List BidiClass) → implicit_levels level cs ≡ implicit_levels level (map (n2_rule (direction_of level)) cs)
-  implicit_levels-n2 level [] = refl
-  implicit_levels-n2 level (c ∷ cs) = grind (arith, implicit_levels-n2 level cs)
 
   implicit_levels-at : (level : ℕ) (new : List ℕ) (now : List BidiClass) (ps : List ℕ)
       → ((p : ℕ) → 0 < times_in ps p → level_at new p ≡ implicit_level level (class_at now p))
@@ -133,13 +151,13 @@ module _ (source : List BidiClass) (brackets : List (Option BidiMatchedOpeningBr
   HasOneLevel s = (p : ℕ) → 0 < times_in s.places p → level_at levels p ≡ level_at levels (first_or 0 s.places)
 
   -- once all of some sequences are resolved, the implicit levels are theirs
-  pub AreResolved-from : (new : List ℕ) (now : List BidiClass) (seqs : List RunSequence) → AreNeutral now seqs → ((k : ℕ) (d : RunSequence) → k < length seqs → HasOneLevel (get_or seqs k d))
+  pub AreResolved-from : (new : List ℕ) (now : List BidiClass) (seqs : List RunSequence) → HaveLevels now seqs → ((k : ℕ) (d : RunSequence) → k < length seqs → HasOneLevel (get_or seqs k d))
       → ((p : ℕ) → 0 < times_in (places_of seqs) p → level_at new p ≡ implicit_level (level_at levels p) (class_at now p)) → AreResolved source brackets levels classes new seqs
   unfolding resolved_levels
   AreResolved-from new now [] h one implicit = tt
   AreResolved-from new now (s ∷ seqs) h one implicit =
       let later : (k : ℕ) (d : RunSequence) → k < length seqs → HasOneLevel (get_or seqs k d) = λ k d within. one (suc k) d (omega arith) in
-      grind (arith, one 0 s, later, implicit, implicit_levels-at (level_at levels (first_or 0 s.places)) new now s.places, implicit_levels-n2, AreResolved-from new now seqs, sum_by-append)
+      grind (arith, one 0 s, later, implicit, implicit_levels-at (level_at levels (first_or 0 s.places)) new now s.places, AreResolved-from new now seqs, sum_by-append)
 
   pub AreResolved-filter : (new : List ℕ) (test : RunSequence → Bool) (seqs : List RunSequence)
       → AreResolved source brackets levels classes new seqs → AreResolved source brackets levels classes new (filter test seqs)

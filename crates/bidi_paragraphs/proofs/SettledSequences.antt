@@ -1,7 +1,7 @@
--- A settled sequence is as W1 to N1 leave it.
+-- The levels of a settled sequence can be read off its classes.
 use Rattle.bidi_base.proofs.Common.{◌≡◌, ℕ, zero, suc, ◌-◌, ◌<◌, ◌≤◌, Bool, true, false, not, ◌&&◌, List, [], ◌∷◌, length, get_or, map, find, Some, refl, sym, arith, nat_lt, filter, All, list_all}
 use Rattle.bidi_base.proofs.Common.{cases_Bool, and_parts, and_from, All-head, All-tail, All-nil, All-cons, All-map, bounds}
-use Rattle.bidi_base.proofs.Common.{are_ordered, is_l_or_r, is_en, is_kept_in_place, is_weak_resolved, in_context}
+use Rattle.bidi_base.proofs.Common.{are_ordered, is_l_or_r, is_en, is_kept, is_nsm, is_kept_in_place, is_weak_resolved, in_context}
 use Rattle.bidi_base.proofs.Common.{w1_rule, w2_rule, w3_rule, w4_rule, w5_rule, w6_rule, w7_rule, weak_classes, class_at, at_places, Source, text_len, place, in_runs, units_in_runs, chars_in_runs}
 use Rattle.bidi_base.proofs.Common.{kept_in_place, AreLines, is_per_char, ◌⊎◌, inl, inr, get_or_past, first_or, indexes, n0, n1_rule, n2_rule, neutral_classes, ◌∙◌, level_at, direction_of}
 use Rattle.std.specs.Prelude.{◌==◌, filter_map, fold, Option, None}
@@ -10,14 +10,14 @@ use Rattle.bidi_base.specs.declared.data_source.BidiMatchedOpeningBracket.{BidiM
 use Rattle.bidi_base.specs.declared.char_data.BidiClass.{BidiClass}
 use Rattle.bidi_base.specs.declared.char_data.BidiClass.TheVariants.{L, AL, EN, ES, ET, AN, CS, NSM, R}
 use Rattle.bidi_base.proofs.TextLemmas.{HasUnits, is_boundary-le}
-use Rattle.bidi_text.proofs.PerCharTests.{class_eq}
-use Rattle.bidi_neutral.specs.NeutralPass.{turns_from}
-use Rattle.bidi_neutral.proofs.NeutralSteps.{IsUpToN1, IsReady-sequence}
+use Rattle.bidi_base.proofs.UnitsLemmas.{IsPerChar-from_is_per_char}
+use Rattle.bidi_text.proofs.PerCharTests.{class_eq, class_test}
+use Rattle.bidi_neutral.proofs.FirstKept.{first_kept-is, first-Some}
 use Rattle.bidi_neutral.proofs.NeutralUnits.{places_in_runs}
-use Rattle.bidi_neutral.proofs.OneDirection.{IsUpToN1-one}
 use Rattle.bidi_runs.specs.RunSequence.{lent_runs, lent_sos, lent_eos}
 use Rattle.bidi_runs.specs.declared.prepare.lent.LentSequence.{LentSequence}
-use Rattle.bidi_paragraphs.specs.Settled.{goes_along, is_directed, first_unit, HasOneDirection, HasNoNeutral}
+use Rattle.bidi_paragraphs.proofs.OneLevel.{KeepLevels, KeepLevels-one}
+use Rattle.bidi_paragraphs.specs.Settled.{raises, is_directed, first_unit, own_direction, HasOneDirection, HasNoNeutral}
 
 -- ---- W1 to W7 change numbers, terminators, separators, Arabic letters and nonspacing marks alone
 
@@ -82,14 +82,6 @@ weak_classes-idle sos classes h =
 
 -- ---- what stays and is kept
 
-along-idle : (d c : BidiClass) → is_l_or_r d ≡ true → goes_along d c ≡ true → is_kept_in_place c ≡ true → is_idle c ≡ true
-unfolding goes_along
-along-idle d c side h kept = grind arith
-
-along-keeps : (d c : BidiClass) → is_l_or_r d ≡ true → goes_along d c ≡ true → turns_from d c ≡ false
-unfolding goes_along
-along-keeps d c side h = grind arith
-
 directed-only : (c : BidiClass) → is_directed c ≡ true → is_kept_in_place c ≡ true → is_l_or_r c ≡ true
 unfolding is_directed
 directed-only c h kept = grind arith
@@ -126,17 +118,21 @@ module _ (classes : List BidiClass) (brackets : List (Option BidiMatchedOpeningB
   same_n1 e sos eos before R after h = refl
   same_n1 e sos eos before c after h = absurd (cc h)
 
-  same_n2 : (e c : BidiClass) → is_l_or_r c ≡ true → n2_rule e c ≡ c
-  same_n2 e L h = refl
-  same_n2 e R h = refl
-  same_n2 e c h = absurd (cc h)
-
-  without_neutrals : (level : ℕ) (sos eos : BidiClass) (source : List BidiClass) → map (n2_rule (direction_of level)) classes ≡ neutral_classes level sos eos source brackets classes
+  without_neutrals : (level : ℕ) (sos eos : BidiClass) (source : List BidiClass) → neutral_classes level sos eos source brackets classes ≡ classes
   unfolding neutral_classes n0
   without_neutrals level sos eos source =
-      let e = direction_of level in
-      same-mapped (n2_rule e) is_l_or_r (same_n2 e) classes all
-      ∙ sym (simp no_pairs (same-in_context (n1_rule e sos eos) is_l_or_r (same_n1 e sos eos) [] classes all))
+      simp no_pairs (same-in_context (n1_rule (direction_of level) sos eos) is_l_or_r (same_n1 (direction_of level) sos eos) [] classes all)
+
+idle-directed : (cs : List BidiClass) → list_all is_l_or_r cs ≡ true → list_all is_idle cs ≡ true
+idle-directed [] all = refl
+idle-directed (L ∷ cs) all = idle-directed cs all
+idle-directed (R ∷ cs) all = idle-directed cs all
+idle-directed (c ∷ cs) all = absurd (cc (and_parts (is_l_or_r c) (list_all is_l_or_r cs) all).0)
+
+KeepLevels-directed : (level : ℕ) (sos eos : BidiClass) (source : List BidiClass) (brackets : List (Option BidiMatchedOpeningBracket)) (classes : List BidiClass)
+    → list_all is_l_or_r classes ≡ true → KeepLevels level sos eos source brackets classes
+KeepLevels-directed level sos eos source brackets classes all =
+    simp (weak_classes-idle sos classes (idle-directed classes all), without_neutrals classes brackets all level sos eos source)
 
 -- ---- the characters of a sequence
 
@@ -186,54 +182,31 @@ module _ (len_of : ℕ → ℕ) (h : HasUnits len_of) (chars : List ℕ) (s : Le
       (filter_each (λ k. is_kept_in_place (class_at units (place len_of chars k))) (λ k. in_runs rs (place len_of chars k)) (λ k. P (place len_of chars k))
       (λ k inside kept. holds (place len_of chars k) inside kept) (chars_in_runs len_of chars rs) (places_in_runs len_of h chars rs lines))
 
-  idle-directed : (cs : List BidiClass) → list_all is_l_or_r cs ≡ true → list_all is_idle cs ≡ true
-  idle-directed [] all = refl
-  idle-directed (L ∷ cs) all = idle-directed cs all
-  idle-directed (R ∷ cs) all = idle-directed cs all
-  idle-directed (c ∷ cs) all = absurd (cc (and_parts (is_l_or_r c) (list_all is_l_or_r cs) all).0)
+  classes : List BidiClass
+  classes = at_places L units places
 
-  resolved : (cs : List BidiClass) → list_all is_idle cs ≡ true → list_all is_weak_resolved cs ≡ true
-  resolved [] all = refl
-  resolved (c ∷ cs) all = grind (arith, and_parts, and_from, resolved cs)
+  -- all classes that are kept pass a test
+  kept_pass : (test : BidiClass → Bool) → ((u : ℕ) → in_runs rs u ≡ true → is_kept_in_place (class_at units u) ≡ true → test (class_at units u) ≡ true) → list_all test (at_places L units places) ≡ true
+  kept_pass test passes = list_all-at_places test units places (at_kept (λ u. test (class_at units u) ≡ true) passes)
 
-  -- what W1 to N1 leave where they change nothing
-  pub record IsLeft (source : Source) (original : List BidiClass) : Type 0 where
-    pub weak : at_places L units places ≡ weak_classes (lent_sos s) (at_places L units places)
-    pub neutral : IsUpToN1 len_of chars source levels original units units (lent_runs s) (lent_sos s) (lent_eos s)
+  -- the first of its characters is the first unit
+  first-place : is_kept_in_place (class_at units (first_unit s)) ≡ true → first_or 0 places ≡ first_unit s
+  first-place kept =
+      first-Some places (first_unit s)
+      (sym (first_kept-is len_of h chars units (IsPerChar-from_is_per_char class_eq class_test len_of h chars units per) rs lines)
+      ∙ sym (found_first (λ u. is_kept_in_place (class_at units u)) rs (and_parts _ _ s.well_formed).0 (and_parts _ _ (and_parts _ _ s.well_formed).1).0 kept))
 
-  module _ (source : Source) (original : List BidiClass) where
-    left_one : HasOneDirection s levels units → IsLeft source original
-    left_one one =
-        let idle =
-        list_all-at_places is_idle units places
-        (at_kept (λ u. is_idle (class_at units u) ≡ true) (λ u inside kept. along-idle (lent_sos s) (class_at units u) side (one.along u inside) kept)) in
-        let ready = IsReady-sequence len_of h chars s (lent_runs s) (lent_sos s) units refl refl per lines (resolved (at_places L units places) idle) in
-        let found = found_first (λ u. is_kept_in_place (class_at units u)) rs (and_parts _ _ s.well_formed).0 ready.ordered one.kept in
-        record {
-          weak = sym (weak_classes-idle (lent_sos s) (at_places L units places) idle);
-          neutral =
-              IsUpToN1-one len_of h chars (lent_runs s) (lent_sos s) units ready (lent_sos s) side (λ u inside. along-keeps (lent_sos s) (class_at units u) side (one.along u inside))
-              source levels original (lent_eos s) (first_unit s) refl one.sides found (sym one.embedding);
-        }
-
-    left_directed : HasNoNeutral s units → IsLeft source original
-    left_directed none =
-        let directed =
-        list_all-at_places is_l_or_r units places
-        (at_kept (λ u. is_l_or_r (class_at units u) ≡ true) (λ u inside kept. directed-only (class_at units u) (none u inside) kept)) in
-        record {
-          weak = sym (weak_classes-idle (lent_sos s) (at_places L units places) (idle-directed (at_places L units places) directed));
-          neutral =
-              record {
-                kept =
-                    without_neutrals (at_places L units places) (map source.bracket_of (at_places 0 chars (kept_in_place len_of chars units rs))) directed (level_at levels (first_or 0 places)) (lent_sos s) (lent_eos s)
-                    (at_places L original places);
-                removed = λ u gone. gone;
-                outside = λ u out. refl;
-                per_char = per;
-              };
-        }
-
-    pub settled-left : HasOneDirection s levels units ⊎ HasNoNeutral s units → IsLeft source original
-    settled-left (inl one) = left_one one
-    settled-left (inr none) = left_directed none
+  -- the levels can be read off its classes
+  pub settled-keeps : (source : List BidiClass) (brackets : List (Option BidiMatchedOpeningBracket)) → HasOneDirection s levels units ⊎ HasNoNeutral s units
+      → list_all is_kept (at_places L units places) ≡ true → KeepLevels (level_at levels (first_or 0 places)) (lent_sos s) (lent_eos s) source brackets (at_places L units places)
+  settled-keeps source brackets (inl one) kept =
+      rw (sym (first-place one.kept)) at
+      (KeepLevels-one (level_at levels (first_unit s)) (lent_sos s) (lent_eos s) source brackets (at_places L units places) side
+      (elim one.sides [
+        | inl before ↦ inl before
+        | inr behind ↦ inr (behind.0, kept_pass (λ c. not (is_nsm c)) (λ u inside kept. grind (arith, behind.1 u inside)))
+      ]) kept
+      (kept_pass (λ c. not (raises (own_direction s levels) c)) (λ u inside kept. grind (arith, one.along u inside))))
+  settled-keeps source brackets (inr none) kept =
+      KeepLevels-directed (level_at levels (first_or 0 places)) (lent_sos s) (lent_eos s) source brackets (at_places L units places)
+      (kept_pass is_l_or_r (λ u inside kept. directed-only (class_at units u) (none u inside) kept))

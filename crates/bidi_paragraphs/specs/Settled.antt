@@ -1,7 +1,8 @@
--- Sequences that W1 to N1 leave as they are.
-use Rattle.std.specs.Prelude.{◌≡◌, ℕ, ◌≤◌, Bool, true, not, ◌||◌, List, All, length, map, get_or}
+-- Sequences whose levels are the same with W1 to N2 and without.
+use Rattle.std.specs.Prelude.{◌≡◌, ◌⊎◌, ℕ, ◌≤◌, Bool, true, false, not, ◌&&◌, ◌||◌, if◌then◌else◌, List, All, length, map, get_or}
 use Rattle.bidi_base.specs.declared.char_data.BidiClass.{BidiClass}
-use Rattle.bidi_base.specs.Classes.{is_kept_in_place, is_l_or_r, is_neutral, same_class}
+use Rattle.bidi_base.specs.declared.char_data.BidiClass.TheVariants.{L, R, AL, EN, AN}
+use Rattle.bidi_base.specs.Classes.{is_kept_in_place, is_l, is_l_or_r, is_nsm, same_class}
 use Rattle.bidi_base.specs.Levels.{direction_of}
 use Rattle.bidi_base.specs.Places.{class_at}
 use Rattle.bidi_base.specs.Sequences.{level_at}
@@ -9,28 +10,36 @@ use Rattle.bidi_base.specs.Units.{bounds, in_runs}
 use Rattle.bidi_runs.specs.RunSequence.{lent_runs, lent_sos, lent_eos}
 use Rattle.bidi_runs.specs.declared.prepare.lent.LentSequence.{LentSequence}
 
--- a class of a sequence of this direction: the direction itself, a neutral, or BN
-unfoldable pub goes_along : BidiClass → BidiClass → Bool
-goes_along direction c = same_class direction c || not (is_kept_in_place c) || is_neutral c
+-- a class that can raise the level of a character in a sequence of the direction d: numbers, and strong classes of the other direction
+unfoldable pub raises : BidiClass → BidiClass → Bool
+raises d c = same_class EN c || same_class AN c || (if is_l d then same_class R c || same_class AL c else same_class L c)
+
+-- such a class, or a nonspacing mark if marks count
+unfoldable pub raises_or_mark : Bool → BidiClass → BidiClass → Bool
+raises_or_mark marks d c = raises d c || (marks && is_nsm c)
 
 -- a class of a sequence without neutrals: L, R or BN
 unfoldable pub is_directed : BidiClass → Bool
 is_directed c = is_l_or_r c || not (is_kept_in_place c)
 
 -- the runs of a sequence are inside a list
-abbrev pub AreInside : LentSequence → List BidiClass → Type 0
-AreInside s classes = All (λ r. r.1 ≤ length classes) (map bounds (lent_runs s))
+abbrev pub AreInside : {X : Type 0} → LentSequence → List X → Type 0
+AreInside s units = All (λ r. r.1 ≤ length units) (map bounds (lent_runs s))
 
 -- the first unit of a sequence
 abbrev pub first_unit : LentSequence → ℕ
 first_unit s = (get_or (map bounds (lent_runs s)) 0 (0, 0)).0
 
--- the sequence begins with a character that X9 keeps, and has the direction of that character's level throughout
+-- the direction of the level there
+abbrev pub own_direction : LentSequence → List ℕ → BidiClass
+own_direction s levels = direction_of (level_at levels (first_unit s))
+
+-- the sequence begins with a character that X9 keeps, and no class raises a level; it has its direction before it, or else behind it and no mark
 pub record HasOneDirection (s : LentSequence) (levels : List ℕ) (classes : List BidiClass) : Type 0 where
-  pub sides : lent_eos s ≡ lent_sos s
   pub kept : is_kept_in_place (class_at classes (first_unit s)) ≡ true
-  pub embedding : direction_of (level_at levels (first_unit s)) ≡ lent_sos s
-  pub along : (u : ℕ) → in_runs (map bounds (lent_runs s)) u ≡ true → goes_along (lent_sos s) (class_at classes u) ≡ true
+  pub along : (u : ℕ) → in_runs (map bounds (lent_runs s)) u ≡ true → raises (own_direction s levels) (class_at classes u) ≡ false
+  pub sides : (lent_sos s ≡ own_direction s levels)
+      ⊎ ((lent_eos s ≡ own_direction s levels) × ((u : ℕ) → in_runs (map bounds (lent_runs s)) u ≡ true → is_nsm (class_at classes u) ≡ false))
 
 -- the characters of the sequence that X9 keeps are L or R
 abbrev pub HasNoNeutral : LentSequence → List BidiClass → Type 0

@@ -1,25 +1,21 @@
-//! Sequences that W1 to N1 leave as they are.
+//! Sequences whose levels are the same with W1 to N2 and without.
 
-ghost use Rattle.std.specs.Prelude.{◌≡◌, ◌⊎◌, ℕ, ◌<◌, ◌≤◌, true, length, map, All, IsTrue};
+ghost use Rattle.std.specs.Prelude.{◌≡◌, ◌⊎◌, ℕ, ◌<◌, ◌≤◌, true, false, length, map, All, IsTrue};
 ghost use Rattle.bidi_base.specs.Places.{class_at};
 ghost use Rattle.bidi_base.specs.Units.{bounds, in_runs};
-ghost use Rattle.bidi_paragraphs.specs.Settled.{AreInside, HasOneDirection, HasNoNeutral};
+ghost use Rattle.bidi_paragraphs.specs.Settled.{own_direction, AreInside, HasOneDirection, HasNoNeutral};
 ghost use Rattle.bidi_runs.specs.RunSequence.{lent_runs};
 
-use bidi_base::char_data::BidiClass::{self, BN, L, R};
-use bidi_base::classes::is_neutral;
+use bidi_base::char_data::BidiClass::{self, AL, AN, BN, EN, L, NSM, R};
 use bidi_base::level::Level;
-use bidi_base::search::ClassTest;
+use bidi_base::search::{ClassTest, first_passing};
 use bidi_rules::prepare::{LentSequence, LevelRun};
 
-/// Runs of more code units than this are left to the passes, which read them by blocks.
-const SHORT: usize = 32;
-
-/// Returns whether a look at a sequence of short runs shows that W1 to N1 change no class in it, and that N2
-/// gives its neutrals the direction of its level.
+/// Returns whether a look at a sequence shows that I1 and I2 give its classes the same levels as those after W1
+/// to N2.
 ///
-/// Most isolates and embeddings are such sequences: a name, or a few words of one language. The look takes
-/// the place of two passes.
+/// Most isolates and embeddings are such sequences: a name, or a few words of one language. So are many texts
+/// around them. The look takes the place of two passes.
 pub fn is_settled(sequence: LentSequence<'_>, levels: &[Level], classes: &[BidiClass]) -> bool
     requires inside { AreInside sequence classes.now }
     requires levels { length levels.now ≡ length classes.now }
@@ -28,84 +24,105 @@ pub fn is_settled(sequence: LentSequence<'_>, levels: &[Level], classes: &[BidiC
     has_one_direction(sequence, levels, classes) || has_no_neutral(sequence, classes)
 }
 
-/// Whether the level, sos, eos and all classes of a sequence have one direction. Neutrals do not count.
+/// Whether the direction of a sequence's level is before or behind it, and none of its classes raises a level. A
+/// mark at its start takes the class before it, so if that is the other direction, there must be no mark.
 fn has_one_direction(sequence: LentSequence<'_>, levels: &[Level], classes: &[BidiClass]) -> bool
     requires inside { AreInside sequence classes.now }
     requires levels { length levels.now ≡ length classes.now }
     ensures { IsTrue result → HasOneDirection sequence.entry levels.now classes.now }
 {
     let runs = sequence.runs();
-    let direction = sequence.sos();
-    let first = runs[0].start;
-    sequence.eos() == direction
-        && classes[first] != BN
-        && levels[first].bidi_class() == direction
-        && all_pass(GoesWith(direction), runs, classes)
+    if classes[runs[0].start] == BN {
+        return false;
+    }
+    let direction = own_direction(sequence, levels);
+    if sequence.sos() == direction {
+        none_passes(Raising::new(direction, false), runs, classes)
+    } else {
+        sequence.eos() == direction && none_passes(Raising::new(direction, true), runs, classes)
+    }
 }
 
-/// Whether all classes of a sequence are L or R.
+/// The direction of the level at the first code unit of a sequence.
+fn own_direction(sequence: LentSequence<'_>, levels: &[Level]) -> BidiClass
+    requires { AreInside sequence levels.now }
+    ensures { result ≡ own_direction sequence.entry levels.now }
+{
+    levels[sequence.runs()[0].start].bidi_class()
+}
+
+/// Whether all classes of a sequence are L, R or BN.
 fn has_no_neutral(sequence: LentSequence<'_>, classes: &[BidiClass]) -> bool
     requires { AreInside sequence classes.now }
     ensures { IsTrue result → HasNoNeutral sequence.entry classes.now }
 {
-    all_pass(Directed, sequence.runs(), classes)
+    none_passes(Undirected, sequence.runs(), classes)
 }
 
-/// Whether some runs are short, and all their classes pass a test.
-fn all_pass<C: ClassTest>(test: C, runs: &[LevelRun], classes: &[BidiClass]) -> bool
+/// Whether no class of some runs passes a test.
+fn none_passes<C: ClassTest>(test: C, runs: &[LevelRun], classes: &[BidiClass]) -> bool
     requires { All (λ r. r.1 ≤ length classes.now) (map bounds runs.now) }
-    ensures { IsTrue result → (u : ℕ) → in_runs (map bounds runs.now) u ≡ true → C.test test (class_at classes.now u) ≡ true }
+    ensures { IsTrue result → (u : ℕ) → in_runs (map bounds runs.now) u ≡ true → C.test test (class_at classes.now u) ≡ false }
 {
     for run in runs {
-        if !run_passes(test, run, classes) {
+        if one_passes(test, run, classes) {
             return false;
         }
     }
     true
 }
 
-/// Whether a run is short, and all its classes pass a test.
-fn run_passes<C: ClassTest>(test: C, run: &LevelRun, classes: &[BidiClass]) -> bool
+/// Whether a class of a run passes a test.
+fn one_passes<C: ClassTest>(test: C, run: &LevelRun, classes: &[BidiClass]) -> bool
     requires { run.now.end ≤ length classes.now }
-    ensures { IsTrue result → (u : ℕ) → run.now.start ≤ u → u < run.now.end → C.test test (class_at classes.now u) ≡ true }
+    ensures { result ≡ false → (u : ℕ) → run.now.start ≤ u → u < run.now.end → C.test test (class_at classes.now u) ≡ false }
 {
-    if run.end.saturating_sub(run.start) > SHORT {
-        return false;
-    }
-    for unit in run.start..run.end {
-        if !test.passes(classes[unit]) {
-            return false;
-        }
-    }
-    true
+    let end = run.end;
+    let start = run.start.min(end);
+    first_passing(test, classes, start, end) < end
 }
 
-/// This direction, the neutrals, and BN.
+/// The classes that can raise a level in a sequence of one direction: numbers, and strong classes of the other
+/// direction. Marks too, if they count. The test has no branch, so that many code units are tested at once.
 #[derive(Clone, Copy, Debug)]
-struct GoesWith(BidiClass);
+struct Raising {
+    direction: BidiClass,
+    marks: bool,
+}
 
-impl ClassTest for GoesWith {
-    ghost use Rattle.bidi_paragraphs.specs.Settled.{goes_along};
+impl Raising {
+    /// Creates the test for a direction.
+    fn new(direction: BidiClass, marks: bool) -> Raising
+        ensures { result ≡ record { direction = direction; marks = marks } }
+    {
+        Raising { direction, marks }
+    }
+}
 
-    ghost test = { λ d. goes_along d.0 };
+impl ClassTest for Raising {
+    ghost use Rattle.bidi_paragraphs.specs.Settled.{raises_or_mark};
 
-    #[tactic(auto, unfolding(crate::specs::Settled::goes_along))]
+    ghost test = { λ t. raises_or_mark t.marks t.direction };
+
+    #[tactic(auto, unfolding(crate::specs::Settled::raises_or_mark, crate::specs::Settled::raises))]
     fn passes(self, class: BidiClass) -> bool {
-        (class == self.0) | (class == BN) | is_neutral(class)
+        let (strong, arabic) = if self.direction == L { (R, AL) } else { (L, L) };
+        (class == EN) | (class == AN) | (class == strong) | (class == arabic) | (self.marks & (class == NSM))
     }
 }
 
-/// L, R and BN.
+/// All classes but L, R and BN.
 #[derive(Clone, Copy, Debug)]
-struct Directed;
+struct Undirected;
 
-impl ClassTest for Directed {
+impl ClassTest for Undirected {
+    ghost use Rattle.std.specs.Prelude.{not};
     ghost use Rattle.bidi_paragraphs.specs.Settled.{is_directed};
 
-    ghost test = { λ _. is_directed };
+    ghost test = { λ _ c. not (is_directed c) };
 
     #[tactic(auto, unfolding(crate::specs::Settled::is_directed))]
     fn passes(self, class: BidiClass) -> bool {
-        (class == L) | (class == R) | (class == BN)
+        (class != L) & (class != R) & (class != BN)
     }
 }

@@ -7,9 +7,9 @@ use Rattle.bidi_runs.specs.Links.{begins, sequence_at, linked_runs, linked_seque
 use Rattle.bidi_runs.specs.declared.prepare.lent.LentSequence.{LentSequence}
 use Rattle.bidi_runs.specs.declared.prepare.links.RunLinks.{RunLinks}
 use Rattle.bidi_runs.specs.RunSequence.{lent_joined}
-use Rattle.bidi_paragraphs.proofs.LevelPasses.{ArePrepared, AreResolvedTo-start, AreResolvedTo-per_char, AreResolvedTo-long, AreWeakTo-from, AreWeakTo-resolved, AreResolvedTo-more}
+use Rattle.bidi_paragraphs.proofs.LevelPasses.{ArePrepared, AreResolvedTo-start, AreResolvedTo-per_char, AreResolvedTo-long, AreWeakTo-from, AreWeakTo-resolved, AreResolvedTo-more, AreResolvedTo-settled, kept_of_units}
 use Rattle.bidi_paragraphs.proofs.LevelPasses.{prepared, prepared-next, prepared-lines, prepared-more, prepared-same, prepared-long, prepared-low, AreLevels-from}
-use Rattle.bidi_paragraphs.proofs.SettledSequences.{lines-within, settled-left}
+use Rattle.bidi_paragraphs.proofs.SettledSequences.{lines-within, settled-keeps}
 use Rattle.bidi_paragraphs.proofs.paragraph_levels.LevelResolver.resolve_nested.Given.{Over}
 use Rattle.bidi_paragraphs.proofs.paragraph_levels.LevelResolver.resolve_nested.Goals as goal
 use Rattle.bidi_paragraphs.proofs.paragraph_levels.LevelResolver.resolve_nested.Goals.{In_ok-prepare, After-lend-sequence, in-Some+else-is_settled+in_ok-resolve_up_to_n1, in_default}
@@ -84,16 +84,14 @@ loop-first-preserved-then-is_settled g c =
     let next = prepared-next _ _ _ _ _ _ _ _ _ _ is_ready c.loop-first.first s hand.within hand.here hand.is (side c.lend-sequence.result) in
     let line = prepared-lines _ _ _ _ _ _ _ _ _ _ is_ready c.loop-first.first s hand.within hand.here hand.is in
     let per = AreResolvedTo-per_char _ _ _ _ _ _ _ _ (length-map chars _) c.loop-first.invariant.resolved in
-    let left =
-    settled-left g.T.TextSource.units g.met.T.TextSource.has_units chars c.lend-sequence.result c.prepare.new.levels c.loop-first.classes line per (g.D.BidiDataSource.source c.args.paragraph.now.data_source.now) c.args.paragraph.now.original_classes.now
-    (c.is_settled.ensures c.if-is_settled.true) in
-    let weak = AreWeakTo-from _ _ _ _ _ _ is_ready.fits _ s line next _ c.loop-first.classes c.loop-first.invariant.resolved left.weak (λ u gone. gone) (λ u out. refl) per in
-    let neutral = left.neutral in
+    let len = g.T.TextSource.units in
+    let units = g.met.T.TextSource.has_units in
+    let kept = kept_of_units len units chars _ _ _ is_ready.fits _ s line next c.loop-first.classes c.loop-first.invariant.resolved in
+    let keeps = settled-keeps len units chars c.lend-sequence.result c.prepare.new.levels c.loop-first.classes line per _ _ (c.is_settled.ensures c.if-is_settled.true) kept in
     record {
       kept = c.in_ok-found.ensures.kept ∙ c.loop-first.invariant.kept;
       resolved = rw (prepared-more _ _ _ _ _ _ _ _ _ _ is_ready c.loop-first.first s hand.within hand.here hand.is)
-          (AreResolvedTo-more _ _ _ _ _ _ is_ready.fits _ s line next _ c.loop-first.classes c.args.paragraph.now.original_classes.now _
-          c.args.paragraph.now.stored is_ready.levels_is weak neutral.kept neutral.removed neutral.outside neutral.per_char);
+          (AreResolvedTo-settled len units chars _ _ _ is_ready.fits _ s line next c.loop-first.classes c.loop-first.invariant.resolved _ is_ready.levels_is keeps);
     }
 
 pub resolve_weak_lent-requires : goal.resolve_weak_lent-requires

@@ -1,10 +1,10 @@
 use Rattle.bidi_base.proofs.Common.{arith, get_or-map, length-map, take_all}
 use Rattle.bidi_runs.proofs.InRuns.{in_runs-more}
 use Rattle.bidi_runs.proofs.RunOf.{run_end}
-use Rattle.bidi_paragraphs.proofs.settled.all_pass.Goals as goal
+use Rattle.bidi_paragraphs.proofs.settled.none_passes.Goals as goal
 
-pub run_passes-requires : goal.run_passes-requires
-run_passes-requires g c = omega (arith, run_end _ c.args.runs.now c.loop-run.run-index c.requires c.loop-run-test.true)
+pub one_passes-requires : goal.one_passes-requires
+one_passes-requires g c = omega (arith, run_end _ c.args.runs.now c.loop-run.run-index c.requires c.loop-run-test.true)
 
 pub loop-run-preserved : goal.loop-run-preserved
 loop-run-preserved g c = grind (arith, length-map, get_or-map, in_runs-more)
