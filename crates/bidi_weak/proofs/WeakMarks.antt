@@ -1,11 +1,11 @@
 -- W1 over units, one after another.
 use Rattle.bidi_base.proofs.Common.{◌≡◌, ℕ, zero, suc, ◌+◌, ◌-◌, ◌<◌, ◌≤◌, Bool, true, false, List, [], ◌∷◌, ◌++◌, length, map}
 use Rattle.bidi_base.proofs.Common.{get_or, set, refl, sym, ap, ◌∙◌, arith, inl, inr, append_assoc, append-nil}
-use Rattle.bidi_base.proofs.Common.{length-take, length-drop, get_or-set_same, get_or-set_other, All, filter, slice_range, list_any, range_with_len, Range, All-nil, All-cons, All-head, All-tail}
-use Rattle.bidi_base.proofs.Common.{list_any_at, cases_eq, cases_Bool, both_ways, and_parts, and_left, are_ordered, bounds, in_runs, is_kept_in_place, is_nsm, at_places, class_at, carried}
+use Rattle.bidi_base.proofs.Common.{length-take, length-drop, get_or-set_same, get_or-set_other, All, filter, slice_range, list_any, range_with_len, reverse, take, drop, if◌then◌else◌, nearest, common_steps, Range, All-nil, All-cons, All-head, All-tail}
+use Rattle.bidi_base.proofs.Common.{list_any_at, cases_eq, cases_Bool, both_ways, and_from, and_parts, and_left, and_right, are_ordered, bounds, in_runs, is_kept_in_place, is_nsm, at_places, class_at, carried}
 use Rattle.std.proofs.Common.{length-set}
 use Rattle.std.proofs.Math.Numerals.{add-one}
-use Rattle.std.proofs.lemmas.List.{get_or-take, get_or-drop}
+use Rattle.std.proofs.lemmas.List.{get_or-take, get_or-drop, set-get_or}
 use Rattle.bidi_base.specs.declared.char_data.BidiClass.{BidiClass}
 use Rattle.bidi_base.specs.declared.char_data.BidiClass.TheVariants.{L}
 use Rattle.bidi_laws.proofs.StoredLemmas.{at_places-append}
@@ -21,6 +21,20 @@ carried-kept c h = grind arith
 
 marked-kept : (m c : BidiClass) → is_kept_in_place m ≡ true → is_kept_in_place (marked m c) ≡ is_kept_in_place c
 marked-kept m c h = grind arith
+
+marked-other : (m c : BidiClass) → is_nsm c ≡ false → marked m c ≡ c
+marked-other m c none = grind arith
+
+-- the class that a mark takes, where one more unit is passed
+nearest-first : (test : BidiClass → Bool) (c : BidiClass) (cs : List BidiClass) (d : BidiClass) → nearest test (c ∷ cs) d ≡ (if test c then c else nearest test cs d)
+nearest-first test c cs d = grind (arith, cases_Bool (test c))
+
+nearest-kept : (now : List BidiClass) (i m : ℕ) (last : BidiClass) → i + m < length now
+    → nearest is_kept_in_place (reverse (take (suc m) (drop i now))) last
+    ≡ (if is_kept_in_place (class_at now (i + m)) then class_at now (i + m) else nearest is_kept_in_place (reverse (take m (drop i now))) last)
+nearest-kept now i m last fits =
+    let more : reverse (take (suc m) (drop i now)) ≡ get_or (drop i now) m L ∷ reverse (take m (drop i now)) = grind (arith, common_steps) in
+    simp (more, get_or-drop) (nearest-first is_kept_in_place (class_at now (i + m)) (reverse (take m (drop i now))) last)
 
 module _ (runs : List (ℕ × ℕ)) (sos : BidiClass) (old : List BidiClass) where
   pub AreMarked-start : is_kept_in_place sos ≡ true → AreMarked runs sos old old sos 0
@@ -60,6 +74,28 @@ module _ (runs : List (ℕ × ℕ)) (sos : BidiClass) (old : List BidiClass) whe
           inside = omega arith;
           long = length-set now i own ∙ h.long;
         }
+
+  -- units that are no marks
+  pub AreMarked-passes : (now : List BidiClass) (last : BidiClass) (i n : ℕ) → AreMarked runs sos old now (carried last) i → i + n ≤ length old
+      → ((k : ℕ) → i ≤ k → k < i + n → (in_runs runs k ≡ true) × (is_nsm (class_at now k) ≡ false))
+      → AreMarked runs sos old now (carried (nearest is_kept_in_place (reverse (take n (drop i now))) last)) (i + n)
+  AreMarked-passes now last i zero h fits none = grind arith
+  AreMarked-passes now last i (suc m) h fits none =
+      let so_far = AreMarked-passes now last i m h (omega arith) (λ k from below. none k from (omega arith)) in
+      let u = i + m in
+      let c = class_at now u in
+      let here = none u (omega arith) (omega arith) in
+      let read : c ≡ class_at old u = h.unread u (omega arith) in
+      let next : u + 1 ≡ i + suc m = omega arith in
+      let before = nearest is_kept_in_place (reverse (take m (drop i now))) last in
+      simp (nearest-kept now i m last (omega (arith, h.long))) (elim (cases_Bool (is_kept_in_place c)) [
+        | inl kept ↦
+            let seen = and_from (in_runs runs u) (is_kept_in_place (class_at old u)) here.0 (sym (ap is_kept_in_place read) ∙ kept) in
+            simp kept (simp (marked-other (carried before) c here.1, set-get_or now u L, next) at (AreMarked-more now (carried before) u so_far (omega arith) seen))
+        | inr gone ↦
+            simp gone (simp next at (AreMarked-unseen now (carried before) u so_far (u + 1) (omega arith) (omega arith)
+            (λ k from below. let same : k ≡ u = omega arith in and_right (in_runs runs k) (is_kept_in_place (class_at old k)) (ap (λ (j : ℕ). is_kept_in_place (class_at old j)) same ∙ sym (ap is_kept_in_place read) ∙ gone))))
+      ])
 
   -- over the runs, one behind another
   module _ (ordered : are_ordered runs ≡ true) (within : All (λ (r : ℕ × ℕ). r.1 ≤ length old) runs) where

@@ -13,6 +13,7 @@ ghost use Rattle.bidi_weak.specs.WeakPass.{is_mark_or_number};
 ghost use Rattle.bidi_weak.specs.WeakWalk.{is_any_of, is_any_wide, len_at, part_of, wide_part_of, IsMarked, IsWalked};
 
 mod before;
+mod next;
 mod w1;
 mod w2_w4_w5_w7;
 mod w3_w6;
@@ -144,8 +145,7 @@ fn resolve_weak_searching<T: TextSource, S: Ledger, L: Ledger>(
 // units that searches look at.
 //
 // Searches look at no more than 16 code units for each code unit of the runs. Three tests for marks and
-// numbers take four of these, and the walk over numbers twelve. The walk can look at a piece of [`WIDE`]
-// code units to pass over one. But then it reads at least two others before it passes over one again.
+// numbers take four of these, W1 six, and the walk over numbers six.
 fn resolve_weak_lent_counted<T: TextSource, S: Ledger, L: Ledger>(
     text: T,
     sequence: LentSequence<'_>,

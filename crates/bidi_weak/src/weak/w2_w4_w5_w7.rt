@@ -2,8 +2,7 @@
 //! these rules treat several code units of one class like a single one. Only a separator between numbers
 //! must be one character.
 
-ghost use Rattle.std.specs.Prelude.{◌≡◌, ℕ, ◌+◌, ◌-◌, ◌*◌, ◌<◌, ◌≤◌, true, false, not, ◌&&◌, length, map, min, drop, take, find, get_or, reverse, IsTrue};
-ghost use Rattle.std.specs.List.{position_or_len};
+ghost use Rattle.std.specs.Prelude.{◌≡◌, ℕ, ◌+◌, ◌-◌, ◌*◌, ◌<◌, ◌≤◌, true, false, not, ◌&&◌, length, map, min, drop, find, get_or, reverse, IsTrue};
 ghost use Rattle.bidi_base.specs.Classes.{is_strong};
 ghost use Rattle.bidi_base.specs.Places.{class_at};
 ghost use Rattle.bidi_base.specs.Text.{text_len, IsPerChar};
@@ -15,10 +14,12 @@ ghost use Rattle.bidi_weak.specs.WeakWalk.{Passes, Reads, ReadsTo, WaitsBelow};
 ghost use Rattle.bidi_runs.specs.Written.{count_below, is_seen, IsWrittenOver};
 
 use super::before::{Before, numbered, strengthened, strong_up_to};
+use super::next::next_passing;
 use super::w3_w6::left_over;
-use super::{WIDE, part_of, unit_count};
+use super::{part_of, unit_count};
 use bidi_base::char_data::BidiClass::{self, AN, EN, ET, ON};
 use bidi_base::classes::is_strong;
+use bidi_base::search::ClassTest;
 use bidi_runs::prepare::{LevelRun, Steps};
 use bidi_runs::written::{is_kept_in_place, write_over_runs_counted};
 use bidi_text::text::TextSource;
@@ -61,7 +62,7 @@ pub fn resolve_numbers<T: TextSource, S: Ledger, L: Ledger>(
     ensures walked { IsWalked (len_at T.units (T.characters text)) (map bounds runs.now) sos classes.old classes.new }
     ensures at_least { steps.old ≤ steps.new }
     ensures at_most { steps.new ≤ steps.old + 4 * length (units_in_runs (map bounds runs.now)) }
-    ensures looked { looked.new ≤ looked.old + 13 * length (units_in_runs (map bounds runs.now)) }
+    ensures looked { looked.new ≤ looked.old + 7 * length (units_in_runs (map bounds runs.now)) }
 {
     if !has_numbers(runs, classes, looked) {
         return;
@@ -133,7 +134,7 @@ impl Walk {
             steps.new + 1 + 2 * count_below (map bounds sequence.now.runs.now) (settled_to self.old r.0)
             ≤ steps.old + 2 * (r.1 - r.0) + 2 * count_below (map bounds sequence.now.runs.now) (settled_to self.new r.1) }
         ensures looked { let r = get_or (map bounds sequence.now.runs.now) run (0, 0) in
-            looked.new ≤ looked.old + 12 * (r.1 - r.0) }
+            looked.new ≤ looked.old + 6 * (r.1 - r.0) }
     {
         let TextRuns { text, runs } = *sequence;
         let end = runs[run].end;
@@ -141,7 +142,7 @@ impl Walk {
         while at < end {
             steps.tick();
             if self.passes_over(classes[at]) {
-                at = self.pass_over(classes, at, end, looked);
+                at = self.pass_over(classes, at, end, steps, looked);
                 continue;
             }
             let next = self.stretch_end(text, classes, at, end, steps);
@@ -162,11 +163,12 @@ impl Walk {
 
     /// Passes over the code unit at `at` and those after it whose class does not matter (see `is_asked`),
     /// before `end`. Returns where they end.
-    fn pass_over<L: Ledger>(
+    fn pass_over<S: Ledger, L: Ledger>(
         &mut self,
         classes: &[BidiClass],
         at: usize,
         end: usize,
+        steps: &mut Steps<S>,
         looked: &mut Steps<L>,
     ) -> usize
         requires other { is_other self.old.before ≡ true }
@@ -179,9 +181,10 @@ impl Walk {
         ensures first_run { self.new.first_run ≡ self.old.first_run }
         ensures passes { Passes at result end self.old self.new classes.now }
         ensures asked { result < end → is_asked (class_at classes.now result) ≡ true }
-        ensures looked { looked.new ≤ looked.old + 2 * (result - at) + min 32 (end - at) }
+        ensures steps { steps.new + (at + 1) ≡ steps.old + result }
+        ensures looked { looked.new ≤ looked.old + 6 * (result - at) }
     {
-        let next = at + 1 + before_asked(&classes[at + 1..end], looked);
+        let next = next_passing(Asked, classes, at + 1, end, steps, looked);
         self.strong = last_strong(&classes[at..next], looked).unwrap_or(self.strong);
         next
     }
@@ -312,58 +315,18 @@ fn is_asked(class: BidiClass) -> bool
     is_number(class) | (class == ET)
 }
 
-/// The number of classes before the first for which `is_asked` holds, or of all. Looks at that class, at those
-/// before it, and at no more than [`WIDE`] others.
-fn before_asked<L: Ledger>(classes: &[BidiClass], looked: &mut Steps<L>) -> usize
-    ensures count { result ≡ position_or_len is_asked classes.now }
-    ensures within { result ≤ length classes.now }
-    ensures looked_at_least { looked.old + result ≤ looked.new }
-    ensures looked_at_most { looked.new ≤ looked.old + result + 1 + min 32 (length classes.now) }
-{
-    let idle = WIDE * idle_pieces(classes, looked);
-    idle + before_near(&classes[idle..], looked)
-}
+/// The classes for which `is_asked` holds.
+#[derive(Clone, Copy, Debug)]
+struct Asked;
 
-/// Counts like [`before_asked`], but class by class.
-fn before_near<L: Ledger>(classes: &[BidiClass], looked: &mut Steps<L>) -> usize
-    ensures count { result ≡ position_or_len is_asked classes.now }
-    ensures within { result ≤ length classes.now }
-    ensures looked { looked.new ≡ looked.old + min (result + 1) (length classes.now) }
-{
-    let before = classes
-        .iter()
-        .take_while(|class| !is_asked(**class))
-        .count();
-    looked.tick_by((before + 1).min(classes.len()));
-    before
-}
+impl ClassTest for Asked {
+    ghost use Rattle.bidi_weak.specs.WeakPass.{is_asked};
 
-/// The number of pieces of [`WIDE`] classes before the first piece in which `is_asked` holds for a class. Looks at
-/// these and at one more, if there are enough classes, and counts both.
-fn idle_pieces<L: Ledger>(classes: &[BidiClass], looked: &mut Steps<L>) -> usize
-    ensures within { result * 32 ≤ length classes.now }
-    ensures idle { (k : ℕ) → k < result → is_any_of is_asked (take 32 (drop (k * 32) classes.now)) ≡ false }
-    ensures looked_at_least { looked.old + 32 * result ≤ looked.new }
-    ensures looked_at_most { looked.new ≤ looked.old + min (32 * (result + 1)) (length classes.now) }
-{
-    let idle = classes
-        .chunks_exact(WIDE)
-        .take_while(|piece| !is_asked_in(piece))
-        .count();
-    looked.tick_by(WIDE * idle);
-    looked.tick_by(WIDE.min(classes.len() - WIDE * idle));
-    idle
-}
+    ghost test = { λ _. is_asked };
 
-/// Whether `is_asked` holds for one of the classes. Tests all of them, many at once. The compiler
-/// vectorizes the loop only in a function of its own.
-#[inline(never)]
-fn is_asked_in(classes: &[BidiClass]) -> bool
-    ensures { result ≡ is_any_of is_asked classes.now }
-{
-    classes
-        .iter()
-        .fold(false, |found, class| found | is_asked(*class))
+    fn passes(self, class: BidiClass) -> bool {
+        is_asked(class)
+    }
 }
 
 /// The last strong class in the slice. Stops there, and counts all classes.

@@ -14,5 +14,5 @@ invariant-loop-run g l =
       under_way : IsUnderWay (record { runs = runs; sos = l.fn.sos; old = l.fn.classes; len = len_at g.T.TextSource.units (g.T.TextSource.characters l.fn.text) }) l.classes l.walk next;
       at_least : l.fn.steps ≤ l.steps;
       at_most : l.steps ≤ l.fn.steps + 2 * count_below runs next + 2 * count_below runs (settled_to l.walk next);
-      looked : l.looked ≤ l.fn.looked + length (units_in_runs runs) + 12 * count_below runs next;
+      looked : l.looked ≤ l.fn.looked + length (units_in_runs runs) + 6 * count_below runs next;
     }

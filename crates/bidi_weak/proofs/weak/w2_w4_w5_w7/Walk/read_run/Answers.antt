@@ -7,7 +7,6 @@ use Rattle.bidi_runs.proofs.CountBelow.{count_below-monotone}
 use Rattle.bidi_weak.proofs.CountedUnits.{count_settled-monotone, settled_to-idle, WaitsBelow-later}
 use Rattle.bidi_runs.proofs.InRuns.{run_some}
 use Rattle.bidi_weak.proofs.WeakWalkLemmas.{other-free, IsUnderWay-unseen}
-use Rattle.bidi_weak.proofs.OwedUnits.{owed-removed}
 use Rattle.bidi_weak.proofs.weak.w2_w4_w5_w7.Walk.read_run.Goals as goal
 
 pub loop-at-init : goal.loop-at-init
@@ -18,7 +17,6 @@ loop-at-preserved-then-is_kept_in_place g c = grind (arith, length-map)
 
 pub loop-at-preserved : goal.loop-at-preserved
 loop-at-preserved g c =
-    let owed = owed-removed c.loop-at.self.before (class_at c.loop-at.classes c.loop-at.at) (grind arith) (grind arith) in
     let settled = count_settled-monotone (map bounds c.args.sequence.now.runs.now) c.loop-at.self c.loop-at.at c.stretch_end-next.result c.requires.ordered (omega arith) in
     record {
       starts = grind arith;
@@ -32,7 +30,6 @@ loop-at-preserved g c =
       at_most = omega (arith, settled);
       ended = λ done. omega (arith, settled);
       looked = grind arith;
-      owed = λ inside. grind arith;
     }
 
 -- the turns over units that are passed over

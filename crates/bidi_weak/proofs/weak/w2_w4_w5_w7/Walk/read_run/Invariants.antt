@@ -2,7 +2,6 @@
 use Rattle.bidi_base.proofs.Common.{◌≡◌, ℕ, ◌+◌, ◌-◌, ◌*◌, ◌<◌, ◌≤◌, length, map, get_or, class_at, bounds}
 use Rattle.bidi_weak.specs.WeakWalk.{len_at, settled_to, ReadsTo, WaitsBelow}
 use Rattle.bidi_runs.specs.Written.{count_below}
-use Rattle.bidi_weak.proofs.OwedUnits.{owed}
 use Rattle.bidi_weak.proofs.weak.w2_w4_w5_w7.Walk.read_run.Given as goal
 
 abbrev pub invariant-loop-at : goal.invariant-loop-at
@@ -20,8 +19,7 @@ invariant-loop-at g l =
       at_least : l.fn.steps ≤ l.steps;
       at_most : l.steps + 2 * count_below runs (settled_to l.fn.self r.0) ≤ l.fn.steps + 2 * (l.at - r.0) + 2 * count_below runs (settled_to l.self l.at);
       ended : l.end ≤ l.at → l.steps + 1 + 2 * count_below runs (settled_to l.fn.self r.0) ≤ l.fn.steps + 2 * (r.1 - r.0) + 2 * count_below runs (settled_to l.self l.at);
-      looked : l.looked ≤ l.fn.looked + 12 * (l.end - r.0);
-      owed : l.at < l.end → l.looked ≤ l.fn.looked + 12 * (l.at - r.0) + owed l.self.before (class_at l.classes l.at);
+      looked : l.looked ≤ l.fn.looked + 6 * (l.at - r.0);
     }
 
 abbrev pub decreases-loop-at : goal.decreases-loop-at
