@@ -2,7 +2,7 @@
 use Rattle.bidi_base.proofs.Common.{◌≡◌, ℕ, Range, bounds, take_all, zero, suc, ◌+◌, ◌<◌, ◌≤◌, true, false, List, [], ◌∷◌, ◌++◌, length}
 use Rattle.bidi_base.proofs.Common.{get_or, take, map, Option, None, refl, sym, ap, ◌∙◌, arith, filter, list_all, length-map}
 use Rattle.bidi_base.proofs.Common.{get_or-map, get_or_default, get_or-append_seam, take-append_seam, length-append, map-append}
-use Rattle.bidi_base.proofs.Common.{is_kept, is_l_or_r, length-replicate, nil_from_length, get_or-zip, length-zip, is_weak_resolved}
+use Rattle.bidi_base.proofs.Common.{is_kept, is_kept_in_place, is_l_or_r, length-replicate, nil_from_length, get_or-zip, length-zip, is_weak_resolved}
 use Rattle.bidi_base.proofs.Common.{class_at, at_places, first_or, stored_classes, explicit_levels, explicit_classes, processing_classes}
 use Rattle.bidi_base.proofs.Common.{RunSequence, level_at, has_places, sequences, weak_classes, direction_of, n2_rule}
 use Rattle.bidi_base.proofs.Common.{neutral_classes, implicit_level, AreResolved, text_len, place, is_per_char, per_unit, per_char, AreLines, in_runs, kept_in_runs, kept_in_place}
@@ -24,8 +24,8 @@ use Rattle.bidi_runs.specs.Joining.{JoinedRuns, characters_of}
 use Rattle.bidi_runs.specs.Links.{begins, sequence_at, sequences_before, linked_runs, linked_sequences, sequences_of, AreLinked}
 use Rattle.bidi_runs.specs.declared.prepare.links.RunLinks.{RunLinks}
 use Rattle.bidi_runs.proofs.LinkedSequences.{IsPart, linked_sequences-part, sequences_before-more, sequences_before-same}
-use Rattle.bidi_paragraphs.proofs.OneLevel.{KeepLevels}
-use Rattle.bidi_paragraphs.proofs.SequencesInPlace.{IsUnderWay, IsNext, IsWeakNext, IsWeakNext-from, weak_next-resolved, IsUnderWay-more, IsUnderWay-settled, IsUnderWay-start, kept_before, IsNext-at, AreResolved-all}
+use Rattle.bidi_paragraphs.proofs.OneLevel.{GiveLevels, KeepLevels}
+use Rattle.bidi_paragraphs.proofs.SequencesInPlace.{IsUnderWay, IsNext, IsWeakNext, IsWeakNext-from, weak_next-resolved, IsUnderWay-more, IsUnderWay-settled, IsUnderWay-start, IsUnderWay-written, kept_before, IsNext-at, AreResolved-all}
 use Rattle.bidi_paragraphs.proofs.SequenceUnits.{at_places-map, at_places-place, level_at-first, kept_in_place-kept, kept_in_runs-within, stays_elsewhere}
 
 -- two values for each unit
@@ -83,6 +83,10 @@ module _ (len_of : ℕ → ℕ) (h : HasUnits len_of) (chars : List ℕ) (source
       let read = simp (stored_read original fits original_is) at is in
       record { values = processing_classes paragraph stored; is = read; under_way = IsUnderWay-start paragraph source brackets stored levels }
 
+  -- units that did not change
+  pub AreResolvedTo-same : (seqs : List RunSequence) (old new : List BidiClass) → new ≡ old → AreResolvedTo seqs old → AreResolvedTo seqs new
+  AreResolvedTo-same seqs old new same now = rw same now
+
   -- they have one entry a unit, equal within each character
   pub AreResolvedTo-per_char : (seqs : List RunSequence) (units : List BidiClass) → length source ≡ length chars → AreResolvedTo seqs units → is_per_char class_eq len_of chars units ≡ true
   AreResolvedTo-per_char seqs units fits now = grind (arith, is_per_char-per_unit, class_test, length-stored_classes)
@@ -125,6 +129,26 @@ module _ (len_of : ℕ → ℕ) (h : HasUnits len_of) (chars : List ℕ) (source
           let level_is = level_at-first len_of h chars levels unit_levels ps (length-explicit_levels paragraph stored ∙ as_long stored refl) levels_is (kept_in_runs-within len_of h chars stored runs) in
           let read = rw (characters_are, classes_are, level_is) at keeps in
           record { values = now.values; is = now.is; under_way = IsUnderWay-settled source brackets stored levels classes seqs (members s) next now.values now.under_way read }
+
+    -- no more is to be done than to write some classes
+    pub AreResolvedTo-written : (old new : List BidiClass) (unit_levels : List ℕ) → AreResolvedTo seqs old → unit_levels ≡ per_unit len_of chars levels
+        → list_all is_kept_in_place (at_places L new (map (place len_of chars) (kept_in_place len_of chars old runs))) ≡ true
+        → (let places = map (place len_of chars) (kept_in_place len_of chars old runs) in
+        GiveLevels (level_at unit_levels (first_or 0 places)) s.sos s.eos (at_places L source ps) (at_places None brackets ps) (at_places L old places) (at_places L new places))
+        → ((u : ℕ) → class_at old u ≡ BN → class_at new u ≡ BN) → ((u : ℕ) → in_runs runs u ≡ false → class_at new u ≡ class_at old u) → is_per_char class_eq len_of chars new ≡ true
+        → AreResolvedTo (seqs ++ members s ∷ []) new
+    AreResolvedTo-written old new unit_levels now levels_is kept gives removed outside per =
+        let values = per_char L len_of chars new in
+        let is = per_unit-from_is_per_char class_eq class_test L len_of h chars new per in
+        let old_long = as_long now.values now.under_way.long in
+        let new_long = length-per_char L len_of chars new in
+        let within_text = kept_in_runs-within len_of h chars stored runs in
+        let stays = stays_elsewhere len_of h chars stored now.values values old new runs lines old_long new_long now.is is (λ p there. now.under_way.read p (within p there)) removed outside in
+        let written : at_places L new (map (place len_of chars) ps) ≡ at_places L values ps = at_places-place len_of h chars L values new ps new_long is within_text in
+        let level_is = level_at-first len_of h chars levels unit_levels ps (length-explicit_levels paragraph stored ∙ as_long stored refl) levels_is within_text in
+        let read = rw (characters_are old now, written) at kept in
+        let same = rw (characters_are old now, classes_are old now, written, level_is) at gives in
+        record { values = values; is = is; under_way = IsUnderWay-written source brackets stored levels classes seqs (members s) next now.values values now.under_way (new_long ∙ sym old_long) stays read same }
 
     -- W1 to W7
     pub AreWeakTo-from : (old new : List BidiClass) → AreResolvedTo seqs old

@@ -1,12 +1,12 @@
 -- A list of classes to which W1 to N2 give one direction, or in which they change nothing: its levels can be read off before W1.
-use Rattle.bidi_base.proofs.Common.{◌≡◌, ℕ, zero, suc, Bool, true, false, not, ◌&&◌, cond, if◌then◌else◌, List, [], ◌∷◌, ◌++◌, ◌⊎◌, inl, inr, length, map, get_or, take}
-use Rattle.bidi_base.proofs.Common.{reverse, filter_map, find, fold, Option, Some, None, option_map, refl, sym, ap, ◌∙◌, arith, ◌==◌, nat_lt, get_or_past, length-map}
-use Rattle.bidi_base.proofs.Common.{cases_Bool, and_parts, and_from, list_all, list_any, in_context, indexes, as_direction, is_en, is_et, is_kept, is_l_or_r, is_neutral, is_nsm, is_weak_resolved, same_class}
+use Rattle.bidi_base.proofs.Common.{◌≡◌, ℕ, Bool, true, false, not, ◌&&◌, cond, if◌then◌else◌, List, [], ◌∷◌, ◌⊎◌, inl, inr, length, take}
+use Rattle.bidi_base.proofs.Common.{reverse, filter_map, find, Option, Some, None, option_map, refl, sym, ap, ◌∙◌, arith}
+use Rattle.bidi_base.proofs.Common.{cases_Bool, and_parts, and_from, list_all, list_any, in_context, as_direction, is_en, is_et, is_kept, is_l_or_r, is_neutral, is_nsm, is_weak_resolved, same_class}
 use Rattle.bidi_base.proofs.Common.{carried, nearest, nearest_is, w1, w2, w3, w4, w5, w6, w1_rule, w2_rule, w3_rule, w4_rule, w5_rule, w6_rule, w7_rule, weak_classes}
-use Rattle.bidi_base.proofs.Common.{direction_of, nearest_direction, pair_direction, n0, n1_n2, n1_rule, neutral_classes, implicit_level, implicit_levels}
-use Rattle.bidi_base.specs.Brackets.{counted_brackets, bracket_at, with_closing, closed_pairs, bracket_limit, pairs_of, bracket_pairs}
+use Rattle.bidi_base.proofs.Common.{direction_of, nearest_direction, pair_direction, n0, n1_rule, neutral_classes, implicit_level, implicit_levels}
+use Rattle.bidi_base.specs.Brackets.{bracket_pairs}
 use Rattle.bidi_base.specs.declared.char_data.BidiClass.{BidiClass}
-use Rattle.bidi_base.specs.declared.char_data.BidiClass.TheVariants.{L, AL, EN, ES, ET, AN, CS, NSM, R}
+use Rattle.bidi_base.specs.declared.char_data.BidiClass.TheVariants.{L, EN, ES, ET, AN, CS, NSM, R}
 use Rattle.bidi_base.specs.declared.data_source.BidiMatchedOpeningBracket.{BidiMatchedOpeningBracket}
 use Rattle.bidi_base.proofs.Lists.{list_all-take, list_all-drop}
 use Rattle.bidi_base.proofs.PlacesLemmas.{length-in_context}
@@ -42,6 +42,11 @@ same-is a L s h = grind arith
 same-is a R s h = grind arith
 same-is a b s h = absurd (cc s)
 
+-- what all classes are, the nearest one is
+pub nearest-passes : (p test : BidiClass → Bool) (xs : List BidiClass) (d : BidiClass) → list_all p xs ≡ true → p d ≡ true → p (nearest test xs d) ≡ true
+nearest-passes p test [] d h k = k
+nearest-passes p test (x ∷ xs) d h k = grind (arith, cases_Bool (test x), and_parts, nearest-passes p test xs d)
+
 module _ (e : BidiClass) (side : is_l_or_r e ≡ true) where
   -- a class of a character whose level is not raised
   abbrev pub stays : BidiClass → Bool
@@ -57,17 +62,13 @@ module _ (e : BidiClass) (side : is_l_or_r e ≡ true) where
 
   -- ---- W1 to W7
 
-  nearest-stays : (test : BidiClass → Bool) (xs : List BidiClass) (d : BidiClass) → list_all stays xs ≡ true → stays d ≡ true → stays (nearest test xs d) ≡ true
-  nearest-stays test [] d h k = k
-  nearest-stays test (x ∷ xs) d h k = grind (arith, cases_Bool (test x), and_parts, nearest-stays test xs d)
-
   carried-stays : (c : BidiClass) → stays c ≡ true → stays (carried c) ≡ true
   unfolding raises
   carried-stays c h = grind arith
 
   stays-w1 : (sos : BidiClass) → stays sos ≡ true → (before : List BidiClass) (c : BidiClass) (after : List BidiClass)
       → list_all stays before ≡ true → stays c ≡ true → stays (w1_rule sos before c after) ≡ true
-  stays-w1 sos s before NSM after h k = carried-stays (nearest (λ c. not (is_nsm c)) before sos) (nearest-stays (λ c. not (is_nsm c)) before sos h s)
+  stays-w1 sos s before NSM after h k = carried-stays (nearest (λ c. not (is_nsm c)) before sos) (nearest-passes stays (λ c. not (is_nsm c)) before sos h s)
   stays-w1 sos s before c after h k = k
 
   unmarked-w1 : (sos : BidiClass) (before : List BidiClass) (c : BidiClass) (after : List BidiClass) → list_all stays_unmarked before ≡ true → stays_unmarked c ≡ true → stays (w1_rule sos before c after) ≡ true
@@ -123,7 +124,7 @@ module _ (e : BidiClass) (side : is_l_or_r e ≡ true) where
   unfolding raises
   goes c h k = grind arith
 
-  all_go : (cs : List BidiClass) → list_all is_weak_resolved cs ≡ true → list_all stays cs ≡ true → list_all (goes_with e) cs ≡ true
+  pub all_go : (cs : List BidiClass) → list_all is_weak_resolved cs ≡ true → list_all stays cs ≡ true → list_all (goes_with e) cs ≡ true
   all_go [] h k = refl
   all_go (c ∷ cs) h k = grind (arith, and_parts, and_from, goes c, all_go cs)
 
@@ -177,10 +178,10 @@ module _ (e : BidiClass) (side : is_l_or_r e ≡ true) where
         → (if same_class (nearest_direction sos before) (nearest_direction eos after) then nearest_direction sos before else e) ≡ e
     common-is before after h k = elim one [
       | inl is ↦
-          let left : nearest_direction sos before ≡ e = elim (nearest-goes sos before h) [ | inl there ↦ there | inr there ↦ there ∙ is ] in
+          let left : nearest_direction sos before ≡ e = elim (nearest-goes sos before h) [ inl there ↦ there | inr there ↦ there ∙ is ] in
           simp left (either_way (same_class e (nearest_direction eos after)) e)
       | inr is ↦
-          let right : nearest_direction eos after ≡ e = elim (nearest-goes eos after k) [ | inl there ↦ there | inr there ↦ there ∙ is ] in
+          let right : nearest_direction eos after ≡ e = elim (nearest-goes eos after k) [ inl there ↦ there | inr there ↦ there ∙ is ] in
           elim (cases_Bool (same_class (nearest_direction sos before) e)) [
             | inl same ↦ simp (right, same) (same-is (nearest_direction sos before) e side same)
             | inr other ↦ simp (right, other)
@@ -194,7 +195,7 @@ module _ (e : BidiClass) (side : is_l_or_r e ≡ true) where
       | inr none ↦ simp none.1 (simp (common-is before after h l) (itself e side))
     ]
 
-    neutral_classes-is : (level : ℕ) (source : List BidiClass) (brackets : List (Option BidiMatchedOpeningBracket)) (classes : List BidiClass)
+    pub neutral_classes-is : (level : ℕ) (source : List BidiClass) (brackets : List (Option BidiMatchedOpeningBracket)) (classes : List BidiClass)
         → e ≡ direction_of level → list_all (goes_with e) classes ≡ true → list_all (same_class e) (neutral_classes level sos eos source brackets classes) ≡ true
     unfolding neutral_classes
     neutral_classes-is level source brackets classes is h =
@@ -203,10 +204,14 @@ module _ (e : BidiClass) (side : is_l_or_r e ≡ true) where
 
 -- ---- I1 and I2
 
+-- I1 and I2 give some new classes the levels of the old ones after N2
+abbrev pub GiveLevels : ℕ → BidiClass → BidiClass → List BidiClass → List (Option BidiMatchedOpeningBracket) → List BidiClass → List BidiClass → Type 0
+GiveLevels level sos eos source brackets old new =
+    implicit_levels level new ≡ implicit_levels level (neutral_classes level sos eos source brackets (weak_classes sos old))
+
 -- the levels of some classes are those after N2
 abbrev pub KeepLevels : ℕ → BidiClass → BidiClass → List BidiClass → List (Option BidiMatchedOpeningBracket) → List BidiClass → Type 0
-KeepLevels level sos eos source brackets classes =
-    implicit_levels level classes ≡ implicit_levels level (neutral_classes level sos eos source brackets (weak_classes sos classes))
+KeepLevels level sos eos source brackets classes = GiveLevels level sos eos source brackets classes classes
 
 not_raised : (level : ℕ) (c : BidiClass) → not (raises (direction_of level) c) ≡ true → implicit_level level c ≡ level
 unfolding raises
@@ -216,14 +221,14 @@ same-raised : (level : ℕ) (c : BidiClass) → same_class (direction_of level) 
 same-raised level c h = grind arith
 
 -- two lists without a class that is raised
-same_levels : (level : ℕ) (xs ys : List BidiClass) → list_all (λ c. not (raises (direction_of level) c)) xs ≡ true → list_all (same_class (direction_of level)) ys ≡ true
+pub same_levels : (level : ℕ) (xs ys : List BidiClass) → list_all (λ c. not (raises (direction_of level) c)) xs ≡ true → list_all (same_class (direction_of level)) ys ≡ true
     → length xs ≡ length ys → implicit_levels level xs ≡ implicit_levels level ys
 same_levels level [] [] h k long = refl
 same_levels level (x ∷ xs) (y ∷ ys) h k long =
     grind (arith, and_parts, not_raised level x, same-raised level y, same_levels level xs ys)
 same_levels level _ _ h k long = absurd (omega (arith, long))
 
-length-neutral_classes : (level : ℕ) (sos eos : BidiClass) (source : List BidiClass) (brackets : List (Option BidiMatchedOpeningBracket)) (classes : List BidiClass)
+pub length-neutral_classes : (level : ℕ) (sos eos : BidiClass) (source : List BidiClass) (brackets : List (Option BidiMatchedOpeningBracket)) (classes : List BidiClass)
     → length (neutral_classes level sos eos source brackets classes) ≡ length classes
 unfolding neutral_classes
 length-neutral_classes level sos eos source brackets classes = grind (arith, length-in_context, length-n0)
@@ -244,7 +249,7 @@ KeepLevels-one level sos eos source brackets classes begins sides kept all =
     side = grind arith
 
     one : (sos ≡ e) ⊎ (eos ≡ e)
-    one = elim sides [ | inl is ↦ inl is | inr is ↦ inr is.0 ]
+    one = elim sides [ inl is ↦ inl is | inr is ↦ inr is.0 ]
 
     unmarked : (cs : List BidiClass) → list_all (λ c. not (raises e c)) cs ≡ true → list_all (λ c. not (is_nsm c)) cs ≡ true → list_all (stays_unmarked e side) cs ≡ true
     unmarked [] h k = refl

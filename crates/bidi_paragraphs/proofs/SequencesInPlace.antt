@@ -14,7 +14,7 @@ use Rattle.bidi_laws.proofs.ExplicitLemmas.{class_at-explicit_classes, class_at-
 use Rattle.bidi_laws.proofs.MatchLevelsLemmas.{sequence-one_level}
 use Rattle.bidi_laws.proofs.NeutralLemmas.{neutral_classes-directed}
 use Rattle.bidi_laws.proofs.SequencePlaces.{times_in-parts, places_of, sequences-once, sequences-kept, times_in}
-use Rattle.bidi_paragraphs.proofs.OneLevel.{KeepLevels}
+use Rattle.bidi_paragraphs.proofs.OneLevel.{GiveLevels, KeepLevels}
 use Rattle.bidi_laws.proofs.StoredLemmas.{explicit_class-kept, at_places-agree, list_all-at_places_back, explicit_classes-kept, times_in-first, times_in-later, list_all-at_places}
 
 is_kept_in_place-kept : (c : BidiClass) → is_kept c ≡ true → is_kept_in_place c ≡ true
@@ -110,6 +110,16 @@ module _ (source : List BidiClass) (brackets : List (Option BidiMatchedOpeningBr
     IsUnderWay-settled now h keeps =
         let same = ap (λ cs. implicit_levels (own_level s) (neutral_classes (own_level s) s.sos s.eos (at_places L source s.places) (at_places None brackets s.places) (weak_classes s.sos cs))) (unchanged now h) in
         record { long = h.long; read = h.read; done = HaveLevels-push now seqs s h.done (keeps ∙ same); rest = grind (arith, h.rest, flat_map-append, sum_by-append) }
+
+    -- and if they can be read off classes that are written, no more is
+    pub IsUnderWay-written : (old new : List BidiClass) → IsUnderWay seqs old → length new ≡ length old → StaysElsewhere s.places old new
+        → list_all is_kept_in_place (at_places L new s.places) ≡ true
+        → GiveLevels (own_level s) s.sos s.eos (at_places L source s.places) (at_places None brackets s.places) (at_places L old s.places) (at_places L new s.places)
+        → IsUnderWay (seqs ++ s ∷ []) new
+    IsUnderWay-written old new h long stays kept gives =
+        let same = ap (λ cs. implicit_levels (own_level s) (neutral_classes (own_level s) s.sos s.eos (at_places L source s.places) (at_places None brackets s.places) (weak_classes s.sos cs))) (unchanged old h) in
+        let done = HaveLevels-push new seqs s (HaveLevels-kept old new seqs (λ p there. stays p (none_of p there)) h.done) (gives ∙ same) in
+        record { long = long ∙ h.long; read = read_after old new h.read stays kept; done = done; rest = grind (arith, stays, h.rest, flat_map-append, sum_by-append) }
 
     weak_resolved : list_all is_weak_resolved (weak_classes s.sos (at_places L classes s.places)) ≡ true
     weak_resolved = weak_classes-resolved s.sos (at_places L classes s.places) next.sos explicit_kept

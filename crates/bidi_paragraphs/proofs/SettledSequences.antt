@@ -1,23 +1,25 @@
 -- The levels of a settled sequence can be read off its classes.
-use Rattle.bidi_base.proofs.Common.{◌≡◌, ℕ, zero, suc, ◌-◌, ◌<◌, ◌≤◌, Bool, true, false, not, ◌&&◌, List, [], ◌∷◌, length, get_or, map, find, Some, refl, sym, arith, nat_lt, filter, All, list_all}
+use Rattle.bidi_base.proofs.Common.{◌≡◌, ℕ, zero, suc, ◌+◌, ◌-◌, ◌<◌, ◌≤◌, Bool, true, not, ◌&&◌, List, [], ◌∷◌, length, get_or, map, find, Some, refl, sym, ap, arith, nat_lt, filter, All, list_all}
 use Rattle.bidi_base.proofs.Common.{cases_Bool, and_parts, and_from, All-head, All-tail, All-nil, All-cons, All-map, bounds}
 use Rattle.bidi_base.proofs.Common.{are_ordered, is_l_or_r, is_en, is_kept, is_nsm, is_kept_in_place, is_weak_resolved, in_context}
-use Rattle.bidi_base.proofs.Common.{w1_rule, w2_rule, w3_rule, w4_rule, w5_rule, w6_rule, w7_rule, weak_classes, class_at, at_places, Source, text_len, place, in_runs, units_in_runs, chars_in_runs}
-use Rattle.bidi_base.proofs.Common.{kept_in_place, AreLines, is_per_char, ◌⊎◌, inl, inr, get_or_past, first_or, indexes, n0, n1_rule, n2_rule, neutral_classes, ◌∙◌, level_at, direction_of}
+use Rattle.bidi_base.proofs.Common.{w1_rule, w2_rule, w3_rule, w4_rule, w5_rule, w6_rule, w7_rule, weak_classes, class_at, at_places, text_len, place, in_runs, units_in_runs, chars_in_runs}
+use Rattle.bidi_base.proofs.Common.{kept_in_place, AreLines, is_per_char, IsPerChar, ◌⊎◌, inl, inr, get_or_past, first_or, indexes, n0, n1_rule, neutral_classes, ◌∙◌, level_at, direction_of}
 use Rattle.std.specs.Prelude.{◌==◌, filter_map, fold, Option, None}
 use Rattle.bidi_base.specs.Brackets.{counted_brackets, bracket_at, with_closing, closed_pairs, bracket_limit, pairs_of, bracket_pairs}
 use Rattle.bidi_base.specs.declared.data_source.BidiMatchedOpeningBracket.{BidiMatchedOpeningBracket}
 use Rattle.bidi_base.specs.declared.char_data.BidiClass.{BidiClass}
-use Rattle.bidi_base.specs.declared.char_data.BidiClass.TheVariants.{L, AL, EN, ES, ET, AN, CS, NSM, R}
+use Rattle.bidi_base.specs.declared.char_data.BidiClass.TheVariants.{L, AL, BN, EN, ES, ET, AN, CS, NSM, R}
 use Rattle.bidi_base.proofs.TextLemmas.{HasUnits, is_boundary-le}
-use Rattle.bidi_base.proofs.UnitsLemmas.{IsPerChar-from_is_per_char}
+use Rattle.bidi_base.proofs.UnitsLemmas.{IsPerChar-from_is_per_char, is_per_char-from_IsPerChar, length-from_IsPerChar}
+use Rattle.bidi_runs.proofs.PassOverText.{IsPerChar-alike, alike_class, in_runs-alike}
 use Rattle.bidi_text.proofs.PerCharTests.{class_eq, class_test}
 use Rattle.bidi_neutral.proofs.FirstKept.{first_kept-is, first-Some}
 use Rattle.bidi_neutral.proofs.NeutralUnits.{places_in_runs}
 use Rattle.bidi_runs.specs.RunSequence.{lent_runs, lent_sos, lent_eos}
 use Rattle.bidi_runs.specs.declared.prepare.lent.LentSequence.{LentSequence}
-use Rattle.bidi_paragraphs.proofs.OneLevel.{KeepLevels, KeepLevels-one}
-use Rattle.bidi_paragraphs.specs.Settled.{raises, is_directed, first_unit, own_direction, HasOneDirection, HasNoNeutral}
+use Rattle.bidi_paragraphs.proofs.OneLevel.{GiveLevels, KeepLevels, KeepLevels-one}
+use Rattle.bidi_paragraphs.proofs.NumbersAfterL.{GiveLevels-numbers}
+use Rattle.bidi_paragraphs.specs.Settled.{raises, is_directed, is_r_al_or_an, number_as_l, first_unit, own_direction, AreNumbersWritten, HasEuropeanNumbers, HasOneDirection, HasNoNeutral}
 
 -- ---- W1 to W7 change numbers, terminators, separators, Arabic letters and nonspacing marks alone
 
@@ -146,6 +148,13 @@ list_all-at_places p units (q ∷ ps) a =
     let passes = λ (u : ℕ). p (class_at units u) ≡ true in
     grind (arith, and_from, list_all-at_places p units ps, All-head passes q ps a, All-tail passes q ps a)
 
+at_places-mapped : (f : BidiClass → BidiClass) (old new : List BidiClass) (ps : List ℕ) → All (λ u. class_at new u ≡ f (class_at old u)) ps → at_places L new ps ≡ map f (at_places L old ps)
+at_places-mapped f old new [] a = refl
+at_places-mapped f old new (p ∷ ps) a = simp (
+  All-head (λ u. class_at new u ≡ f (class_at old u)) p ps a,
+  at_places-mapped f old new ps (All-tail (λ u. class_at new u ≡ f (class_at old u)) p ps a),
+)
+
 filter_each : (test within : ℕ → Bool) (P : ℕ → Type 0) → ((k : ℕ) → within k ≡ true → test k ≡ true → P k) → (ks : List ℕ) → All (λ k. within k ≡ true) ks → All P (filter test ks)
 filter_each test within P holds [] a = All-nil P
 filter_each test within P holds (k ∷ ks) a =
@@ -210,3 +219,43 @@ module _ (len_of : ℕ → ℕ) (h : HasUnits len_of) (chars : List ℕ) (s : Le
   settled-keeps source brackets (inr none) kept =
       KeepLevels-directed (level_at levels (first_or 0 places)) (lent_sos s) (lent_eos s) source brackets (at_places L units places)
       (kept_pass is_l_or_r (λ u inside kept. directed-only (class_at units u) (none u inside) kept))
+
+  -- ---- L written over the European numbers
+
+  module _ (new : List BidiClass) (numbers : HasEuropeanNumbers s levels units) (written : AreNumbersWritten rs units new) where
+    written-at : at_places L new places ≡ map number_as_l (at_places L units places)
+    written-at = at_places-mapped number_as_l units new places (at_kept (λ u. class_at new u ≡ number_as_l (class_at units u)) (λ u inside kept. written.changed u inside))
+
+    kept-number : (c : BidiClass) → is_kept_in_place c ≡ true → is_kept_in_place (number_as_l c) ≡ true
+    kept-number c h = grind arith
+
+    pub written-kept : list_all is_kept_in_place (at_places L new places) ≡ true
+    written-kept = list_all-at_places is_kept_in_place new places (at_kept (λ u. is_kept_in_place (class_at new u) ≡ true) (λ u inside kept. ap is_kept_in_place (written.changed u inside) ∙ kept-number (class_at units u) kept))
+
+    -- the levels can be read off what is written
+    pub numbers-give : (source : List BidiClass) (brackets : List (Option BidiMatchedOpeningBracket)) → list_all is_kept (at_places L units places) ≡ true
+        → GiveLevels (level_at levels (first_or 0 places)) (lent_sos s) (lent_eos s) source brackets (at_places L units places) (at_places L new places)
+    numbers-give source brackets kept =
+        rw (written-at, first-place numbers.kept)
+        (GiveLevels-numbers (level_at levels (first_unit s)) (lent_sos s) (lent_eos s) source brackets (at_places L units places) (sym numbers.own) numbers.before kept
+        (kept_pass (λ c. not (is_r_al_or_an c)) (λ u inside kept. ap not (numbers.along u inside))))
+
+    pub written-removed : (u : ℕ) → class_at units u ≡ BN → class_at new u ≡ BN
+    written-removed u gone = grind (arith, cases_Bool (in_runs rs u), written.changed u, written.same u)
+
+    pub written-per_char : is_per_char class_eq len_of chars new ≡ true
+    written-per_char = is_per_char-from_IsPerChar class_eq class_test len_of chars new (IsPerChar-alike len_of chars new (written.long ∙ length-from_IsPerChar len_of chars units even) each)
+      where
+        even : IsPerChar len_of chars units
+        even = IsPerChar-from_is_per_char class_eq class_test len_of h chars units per
+
+        each : (k : ℕ) → k < length chars → (u : ℕ) → place len_of chars k ≤ u → u < place len_of chars (k + 1) → class_at new u ≡ class_at new (place len_of chars k)
+        each k fits u from below =
+            grind (
+              arith,
+              in_runs-alike len_of h chars rs lines k u from below,
+              alike_class len_of h chars units even k u fits from below,
+              cases_Bool (in_runs rs (place len_of chars k)),
+              written.changed,
+              written.same,
+            )

@@ -1,8 +1,8 @@
--- Sequences whose levels are the same with W1 to N2 and without.
+-- Sequences whose levels are known without W1 to N2.
 use Rattle.std.specs.Prelude.{◌≡◌, ◌⊎◌, ℕ, ◌≤◌, Bool, true, false, not, ◌&&◌, ◌||◌, if◌then◌else◌, List, All, length, map, get_or}
 use Rattle.bidi_base.specs.declared.char_data.BidiClass.{BidiClass}
 use Rattle.bidi_base.specs.declared.char_data.BidiClass.TheVariants.{L, R, AL, EN, AN}
-use Rattle.bidi_base.specs.Classes.{is_kept_in_place, is_l, is_l_or_r, is_nsm, same_class}
+use Rattle.bidi_base.specs.Classes.{is_en, is_kept_in_place, is_l, is_l_or_r, is_nsm, same_class}
 use Rattle.bidi_base.specs.Levels.{direction_of}
 use Rattle.bidi_base.specs.Places.{class_at}
 use Rattle.bidi_base.specs.Sequences.{level_at}
@@ -22,6 +22,14 @@ raises_or_mark marks d c = raises d c || (marks && is_nsm c)
 unfoldable pub is_directed : BidiClass → Bool
 is_directed c = is_l_or_r c || not (is_kept_in_place c)
 
+-- the classes that W1 to W7 never make L or a neutral
+abbrev pub is_r_al_or_an : BidiClass → Bool
+is_r_al_or_an c = same_class R c || same_class AL c || same_class AN c
+
+-- what W7 makes of a class after L: European numbers become L
+abbrev pub number_as_l : BidiClass → BidiClass
+number_as_l c = if is_en c then L else c
+
 -- the runs of a sequence are inside a list
 abbrev pub AreInside : {X : Type 0} → LentSequence → List X → Type 0
 AreInside s units = All (λ r. r.1 ≤ length units) (map bounds (lent_runs s))
@@ -40,6 +48,19 @@ pub record HasOneDirection (s : LentSequence) (levels : List ℕ) (classes : Lis
   pub along : (u : ℕ) → in_runs (map bounds (lent_runs s)) u ≡ true → raises (own_direction s levels) (class_at classes u) ≡ false
   pub sides : (lent_sos s ≡ own_direction s levels)
       ⊎ ((lent_eos s ≡ own_direction s levels) × ((u : ℕ) → in_runs (map bounds (lent_runs s)) u ≡ true → is_nsm (class_at classes u) ≡ false))
+
+-- the sequence has the direction L after L, begins with a character that X9 keeps, and European numbers are all that raises a level
+pub record HasEuropeanNumbers (s : LentSequence) (levels : List ℕ) (classes : List BidiClass) : Type 0 where
+  pub kept : is_kept_in_place (class_at classes (first_unit s)) ≡ true
+  pub own : own_direction s levels ≡ L
+  pub before : lent_sos s ≡ L
+  pub along : (u : ℕ) → in_runs (map bounds (lent_runs s)) u ≡ true → is_r_al_or_an (class_at classes u) ≡ false
+
+-- L was written over the European numbers of some runs, and nothing else changed
+pub record AreNumbersWritten (runs : List (ℕ × ℕ)) (old new : List BidiClass) : Type 0 where
+  pub changed : (u : ℕ) → in_runs runs u ≡ true → class_at new u ≡ number_as_l (class_at old u)
+  pub same : (u : ℕ) → in_runs runs u ≡ false → class_at new u ≡ class_at old u
+  pub long : length new ≡ length old
 
 -- the characters of the sequence that X9 keeps are L or R
 abbrev pub HasNoNeutral : LentSequence → List BidiClass → Type 0

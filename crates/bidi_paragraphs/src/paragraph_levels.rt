@@ -15,7 +15,7 @@ ghost use Rattle.bidi_runs.specs.Links.{linked_runs, linked_sequences, sequences
 ghost use Rattle.bidi_paragraphs.specs.Written.{IsWritten};
 ghost use Rattle.bidi_walk.specs.ParagraphFlags.{flags_of};
 
-use crate::settled::is_settled;
+use crate::settled::{is_settled, settle_numbers};
 use bidi_base::char_data::BidiClass;
 use bidi_base::classes::is_removed;
 use bidi_base::data_source::BidiDataSource;
@@ -193,7 +193,9 @@ impl LevelResolver {
         for first in 0..links.run_count() {
             if let Some(found) = links.gather(runs, first)? {
                 let sequence = found.lend(runs.as_slice());
-                if is_settled(sequence, levels, classes) {
+                if is_settled(sequence, levels, classes)
+                    || settle_numbers(sequence, levels, classes)
+                {
                     continue;
                 }
                 resolve_weak_lent(paragraph.text, sequence, classes);

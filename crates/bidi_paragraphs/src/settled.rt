@@ -1,9 +1,9 @@
-//! Sequences whose levels are the same with W1 to N2 and without.
+//! Sequences whose levels are known without W1 to N2.
 
 ghost use Rattle.std.specs.Prelude.{◌≡◌, ◌⊎◌, ℕ, ◌<◌, ◌≤◌, true, false, length, map, All, IsTrue};
 ghost use Rattle.bidi_base.specs.Places.{class_at};
 ghost use Rattle.bidi_base.specs.Units.{bounds, in_runs};
-ghost use Rattle.bidi_paragraphs.specs.Settled.{own_direction, AreInside, HasOneDirection, HasNoNeutral};
+ghost use Rattle.bidi_paragraphs.specs.Settled.{number_as_l, own_direction, AreInside, AreNumbersWritten, HasEuropeanNumbers, HasOneDirection, HasNoNeutral};
 ghost use Rattle.bidi_runs.specs.RunSequence.{lent_runs};
 
 use bidi_base::char_data::BidiClass::{self, AL, AN, BN, EN, L, NSM, R};
@@ -59,6 +59,72 @@ fn has_no_neutral(sequence: LentSequence<'_>, classes: &[BidiClass]) -> bool
     none_passes(Undirected, sequence.runs(), classes)
 }
 
+/// If only European numbers raise a level in a sequence, and its direction and sos are L, writes L over them. Returns
+/// whether it did.
+///
+/// W7 makes L of such numbers, and no other class raises a level then. A name with a number is such a sequence.
+pub fn settle_numbers(
+    sequence: LentSequence<'_>,
+    levels: &[Level],
+    classes: &mut [BidiClass],
+) -> bool
+    requires inside { AreInside sequence classes.old }
+    requires levels { length levels.now ≡ length classes.old }
+    ensures numbers { IsTrue result → HasEuropeanNumbers sequence.entry levels.now classes.old }
+    ensures written { IsTrue result → AreNumbersWritten (map bounds (lent_runs sequence.entry)) classes.old classes.new }
+    ensures unchanged { result ≡ false → classes.new ≡ classes.old }
+{
+    let settles = has_european_numbers(sequence, levels, classes);
+    if settles {
+        write_numbers(sequence.runs(), classes);
+    }
+    settles
+}
+
+/// Whether European numbers are all that raises a level in a sequence of the direction L after L.
+fn has_european_numbers(sequence: LentSequence<'_>, levels: &[Level], classes: &[BidiClass]) -> bool
+    requires inside { AreInside sequence classes.now }
+    requires levels { length levels.now ≡ length classes.now }
+    ensures { IsTrue result → HasEuropeanNumbers sequence.entry levels.now classes.now }
+{
+    let runs = sequence.runs();
+    classes[runs[0].start] != BN
+        && sequence.sos() == L
+        && own_direction(sequence, levels) == L
+        && none_passes(RightOrArabic, runs, classes)
+}
+
+/// Writes L over the European numbers of some runs.
+fn write_numbers(runs: &[LevelRun], classes: &mut [BidiClass])
+    requires { All (λ r. r.1 ≤ length classes.old) (map bounds runs.now) }
+    ensures { AreNumbersWritten (map bounds runs.now) classes.old classes.new }
+{
+    for run in runs {
+        write_run(run, classes);
+    }
+}
+
+/// Writes L over the European numbers of a run. The loop has no branch, so that it changes many code units at once.
+fn write_run(run: &LevelRun, classes: &mut [BidiClass])
+    requires { run.now.end ≤ length classes.old }
+    ensures changed { (u : ℕ) → run.now.start ≤ u → u < run.now.end
+        → class_at classes.new u ≡ number_as_l (class_at classes.old u) }
+    ensures below { (u : ℕ) → u < run.now.start → class_at classes.new u ≡ class_at classes.old u }
+    ensures above { (u : ℕ) → run.now.end ≤ u → class_at classes.new u ≡ class_at classes.old u }
+    ensures long { length classes.new ≡ length classes.old }
+{
+    for unit in run.start..run.end {
+        classes[unit] = number_as_l(classes[unit]);
+    }
+}
+
+/// Returns L for a European number, and each other class unchanged.
+fn number_as_l(class: BidiClass) -> BidiClass
+    ensures { result ≡ number_as_l class }
+{
+    if class == EN { L } else { class }
+}
+
 /// Whether no class of some runs passes a test.
 fn none_passes<C: ClassTest>(test: C, runs: &[LevelRun], classes: &[BidiClass]) -> bool
     requires { All (λ r. r.1 ≤ length classes.now) (map bounds runs.now) }
@@ -107,7 +173,25 @@ impl ClassTest for Raising {
     #[tactic(auto, unfolding(crate::specs::Settled::raises_or_mark, crate::specs::Settled::raises))]
     fn passes(self, class: BidiClass) -> bool {
         let (strong, arabic) = if self.direction == L { (R, AL) } else { (L, L) };
-        (class == EN) | (class == AN) | (class == strong) | (class == arabic) | (self.marks & (class == NSM))
+        (class == EN)
+            | (class == AN)
+            | (class == strong)
+            | (class == arabic)
+            | (self.marks & (class == NSM))
+    }
+}
+
+/// R, AL and AN.
+#[derive(Clone, Copy, Debug)]
+struct RightOrArabic;
+
+impl ClassTest for RightOrArabic {
+    ghost use Rattle.bidi_paragraphs.specs.Settled.{is_r_al_or_an};
+
+    ghost test = { λ _. is_r_al_or_an };
+
+    fn passes(self, class: BidiClass) -> bool {
+        (class == R) | (class == AL) | (class == AN)
     }
 }
 

@@ -1,4 +1,4 @@
-use Rattle.bidi_base.proofs.Common.{◌≡◌, inl, inr, arith, get_or-map, length-map, and_parts}
+use Rattle.bidi_base.proofs.Common.{inl, inr, arith, get_or-map, length-map, and_parts}
 use Rattle.bidi_paragraphs.proofs.OneLevel.{without_marks, with_marks}
 use Rattle.bidi_paragraphs.proofs.settled.has_one_direction.Goals as goal
 

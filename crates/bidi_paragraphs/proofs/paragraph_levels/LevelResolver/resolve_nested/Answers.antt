@@ -7,12 +7,12 @@ use Rattle.bidi_runs.specs.Links.{begins, sequence_at, linked_runs, linked_seque
 use Rattle.bidi_runs.specs.declared.prepare.lent.LentSequence.{LentSequence}
 use Rattle.bidi_runs.specs.declared.prepare.links.RunLinks.{RunLinks}
 use Rattle.bidi_runs.specs.RunSequence.{lent_joined}
-use Rattle.bidi_paragraphs.proofs.LevelPasses.{ArePrepared, AreResolvedTo-start, AreResolvedTo-per_char, AreResolvedTo-long, AreWeakTo-from, AreWeakTo-resolved, AreResolvedTo-more, AreResolvedTo-settled, kept_of_units}
+use Rattle.bidi_paragraphs.proofs.LevelPasses.{ArePrepared, AreResolvedTo-same, AreResolvedTo-start, AreResolvedTo-per_char, AreResolvedTo-long, AreWeakTo-from, AreWeakTo-resolved, AreResolvedTo-more, AreResolvedTo-settled, AreResolvedTo-written, kept_of_units}
 use Rattle.bidi_paragraphs.proofs.LevelPasses.{prepared, prepared-next, prepared-lines, prepared-more, prepared-same, prepared-long, prepared-low, AreLevels-from}
-use Rattle.bidi_paragraphs.proofs.SettledSequences.{lines-within, settled-keeps}
+use Rattle.bidi_paragraphs.proofs.SettledSequences.{lines-within, numbers-give, settled-keeps, written-kept, written-per_char, written-removed}
 use Rattle.bidi_paragraphs.proofs.paragraph_levels.LevelResolver.resolve_nested.Given.{Over}
 use Rattle.bidi_paragraphs.proofs.paragraph_levels.LevelResolver.resolve_nested.Goals as goal
-use Rattle.bidi_paragraphs.proofs.paragraph_levels.LevelResolver.resolve_nested.Goals.{In_ok-prepare, After-lend-sequence, in-Some+else-is_settled+in_ok-resolve_up_to_n1, in_default}
+use Rattle.bidi_paragraphs.proofs.paragraph_levels.LevelResolver.resolve_nested.Goals.{In_ok-prepare, After-lend-sequence, then-is_settled-via-then-is_settled, then-is_settled-via-else-is_settled+then-settle_numbers, in-Some+else-is_settled+else-settle_numbers+in_ok-resolve_up_to_n1, in_default}
 
 pub prepare-requires : goal.prepare-requires
 prepare-requires g c = grind (arith, length-per_unit, length-stored_classes, length-map)
@@ -74,6 +74,19 @@ is_settled-requires-clause-levels g c =
     let is_ready = ready g (goal.at.is_settled-requires-clause-levels g c).In_ok-prepare in
     omega (arith, prepared-long _ _ _ _ _ _ _ _ _ _ is_ready, AreResolvedTo-long _ _ _ _ _ _ _ _ is_ready.fits c.loop-first.invariant.resolved)
 
+pub settle_numbers-requires-clause-inside : goal.settle_numbers-requires-clause-inside
+settle_numbers-requires-clause-inside g c =
+    let at = goal.at.settle_numbers-requires-clause-inside g c in
+    let hand = at_hand g at.After-lend-sequence in
+    lines-within g.T.TextSource.units (g.T.TextSource.characters c.args.paragraph.now.text) c.loop-first.classes (lent_joined c.lend-sequence.result).runs
+    (AreResolvedTo-long _ _ _ _ _ _ _ _ (length-map (g.T.TextSource.characters c.args.paragraph.now.text) _) c.loop-first.invariant.resolved)
+    (prepared-lines _ _ _ _ _ _ _ _ _ _ (ready g at.In_ok-prepare) c.loop-first.first (lent_joined c.lend-sequence.result) hand.within hand.here hand.is)
+
+pub settle_numbers-requires-clause-levels : goal.settle_numbers-requires-clause-levels
+settle_numbers-requires-clause-levels g c =
+    let is_ready = ready g (goal.at.settle_numbers-requires-clause-levels g c).In_ok-prepare in
+    omega (arith, prepared-long _ _ _ _ _ _ _ _ _ _ is_ready, AreResolvedTo-long _ _ _ _ _ _ _ _ is_ready.fits c.loop-first.invariant.resolved)
+
 pub loop-first-preserved-then-is_settled : goal.loop-first-preserved-then-is_settled
 loop-first-preserved-then-is_settled g c =
     let at = goal.at.loop-first-preserved-then-is_settled g c in
@@ -87,18 +100,32 @@ loop-first-preserved-then-is_settled g c =
     let len = g.T.TextSource.units in
     let units = g.met.T.TextSource.has_units in
     let kept = kept_of_units len units chars _ _ _ is_ready.fits _ s line next c.loop-first.classes c.loop-first.invariant.resolved in
-    let keeps = settled-keeps len units chars c.lend-sequence.result c.prepare.new.levels c.loop-first.classes line per _ _ (c.is_settled.ensures c.if-is_settled.true) kept in
+    let h = c.loop-first.invariant.resolved in
+    let more = prepared-more _ _ _ _ _ _ _ _ _ _ is_ready c.loop-first.first s hand.within hand.here hand.is in
     record {
       kept = c.in_ok-found.ensures.kept ∙ c.loop-first.invariant.kept;
-      resolved = rw (prepared-more _ _ _ _ _ _ _ _ _ _ is_ready c.loop-first.first s hand.within hand.here hand.is)
-          (AreResolvedTo-settled len units chars _ _ _ is_ready.fits _ s line next c.loop-first.classes c.loop-first.invariant.resolved _ is_ready.levels_is keeps);
+      resolved = elim c.then-is_settled.branch [
+        | then-is_settled-via-then-is_settled w ↦
+            let keeps = settled-keeps len units chars c.lend-sequence.result c.prepare.new.levels c.loop-first.classes line per _ _ (c.is_settled.ensures w.if-is_settled.true) kept in
+            rw (w.classes-is, more) (AreResolvedTo-settled len units chars _ _ _ is_ready.fits _ s line next c.loop-first.classes h _ is_ready.levels_is keeps)
+        | then-is_settled-via-else-is_settled+then-settle_numbers w ↦
+            let new = w.settle_numbers.new.classes in
+            let numbers = w.settle_numbers.ensures.numbers w.if-settle_numbers.true in
+            let written = w.settle_numbers.ensures.written w.if-settle_numbers.true in
+            let of = c.lend-sequence.result in
+            let levels = c.prepare.new.levels in
+            let old = c.loop-first.classes in
+            rw (w.classes-is, more) (AreResolvedTo-written len units chars _ _ _ is_ready.fits _ s line next old new _ h is_ready.levels_is
+            (written-kept len units chars of levels old line per new numbers written) (numbers-give len units chars of levels old line per new numbers written _ _ kept)
+            (written-removed len units chars of levels old line per new numbers written) written.same (written-per_char len units chars of levels old line per new numbers written))
+      ];
     }
 
 pub resolve_weak_lent-requires : goal.resolve_weak_lent-requires
 resolve_weak_lent-requires g c =
     let at = goal.at.resolve_weak_lent-requires g c in
     let hand = at_hand g at.After-lend-sequence in record {
-      per_char = AreResolvedTo-per_char _ _ _ _ _ _ _ _ (length-map (g.T.TextSource.characters c.args.paragraph.now.text) _) c.loop-first.invariant.resolved;
+      per_char = rw (c.settle_numbers.ensures.unchanged c.if-settle_numbers.false) (AreResolvedTo-per_char _ _ _ _ _ _ _ _ (length-map (g.T.TextSource.characters c.args.paragraph.now.text) _) c.loop-first.invariant.resolved);
       fits = prepared-lines _ _ _ _ _ _ _ _ _ _ (ready g at.In_ok-prepare) c.loop-first.first (lent_joined c.lend-sequence.result) hand.within hand.here hand.is;
     }
 
@@ -111,12 +138,12 @@ resolve_up_to_n1-requires g c =
     let next = prepared-next _ _ _ _ _ _ _ _ _ _ is_ready c.loop-first.first s hand.within hand.here hand.is (side c.lend-sequence.result) in
     let line = prepared-lines _ _ _ _ _ _ _ _ _ _ is_ready c.loop-first.first s hand.within hand.here hand.is in
     let weak =
-    AreWeakTo-from _ _ _ _ _ _ is_ready.fits _ s line next _ c.resolve_weak_lent.new.processing_classes c.loop-first.invariant.resolved
+    AreWeakTo-from _ _ _ _ _ _ is_ready.fits _ s line next c.settle_numbers.new.classes c.resolve_weak_lent.new.processing_classes (AreResolvedTo-same _ _ _ _ _ _ _ _ _ (c.settle_numbers.ensures.unchanged c.if-settle_numbers.false) c.loop-first.invariant.resolved)
     c.resolve_weak_lent.ensures.kept c.resolve_weak_lent.ensures.removed c.resolve_weak_lent.ensures.outside c.resolve_weak_lent.ensures.per_char in
     record {
       per_char = first_of (search rules, grind arith);
       fits = line;
-      levels = omega (arith, prepared-long _ _ _ _ _ _ _ _ _ _ is_ready, AreResolvedTo-long _ _ _ _ _ _ _ _ is_ready.fits c.loop-first.invariant.resolved, c.resolve_weak_lent.auto.processing_classes);
+      levels = omega (arith, prepared-long _ _ _ _ _ _ _ _ _ _ is_ready, AreResolvedTo-long _ _ _ _ _ _ _ _ is_ready.fits c.loop-first.invariant.resolved, c.settle_numbers.auto.classes, c.resolve_weak_lent.auto.processing_classes);
       original = grind (arith, length-map, length-per_unit, length-stored_classes);
       resolved = AreWeakTo-resolved _ _ _ _ _ _ is_ready.fits _ s line next _ weak;
     }
@@ -130,7 +157,7 @@ loop-first-preserved g c =
     let h = c.loop-first.invariant in
     let kept = c.in_ok-found.ensures.kept ∙ h.kept in
     elim c.match-branch-3.branch [
-      | in-Some+else-is_settled+in_ok-resolve_up_to_n1 w ↦
+      | in-Some+else-is_settled+else-settle_numbers+in_ok-resolve_up_to_n1 w ↦
           let found = rw w.in-Some.is at c.in_ok-found.ensures.sequence in
           let s = lent_joined w.lend-sequence.result in
           let within : c.loop-first.first < length runs = grind (arith, c.in_ok-prepare.ensures.linked.all_next) in
@@ -140,7 +167,7 @@ loop-first-preserved g c =
           let next = prepared-next _ _ _ _ _ _ _ _ _ _ is_ready c.loop-first.first s within here is (side w.lend-sequence.result) in
           let line = prepared-lines _ _ _ _ _ _ _ _ _ _ is_ready c.loop-first.first s within here is in
           let weak =
-          AreWeakTo-from _ _ _ _ _ _ is_ready.fits _ s line next _ w.resolve_weak_lent.new.processing_classes h.resolved
+          AreWeakTo-from _ _ _ _ _ _ is_ready.fits _ s line next w.settle_numbers.new.classes w.resolve_weak_lent.new.processing_classes (AreResolvedTo-same _ _ _ _ _ _ _ _ _ (w.settle_numbers.ensures.unchanged w.if-settle_numbers.false) h.resolved)
           w.resolve_weak_lent.ensures.kept w.resolve_weak_lent.ensures.removed w.resolve_weak_lent.ensures.outside w.resolve_weak_lent.ensures.per_char in
           record {
             kept = kept;
