@@ -8,7 +8,8 @@ use Rattle.bidi_base.specs.declared.char_data.BidiClass.TheVariants.{L}
 use Rattle.bidi_base.specs.Classes.{is_kept_in_place}
 use Rattle.bidi_base.specs.Places.{at_places, class_at}
 use Rattle.bidi_base.specs.Text.{char_at}
-use Rattle.bidi_base.specs.Units.{bounds, units_in_runs}
+use Rattle.bidi_base.specs.Units.{bounds, in_runs, units_in_runs}
+use Rattle.bidi_base.specs.Weak.{carried}
 use Rattle.bidi_weak.specs.declared.weak.w2_w4_w5_w7.Walk.{Walk}
 use Rattle.bidi_weak.specs.declared.weak.before.Before.TheVariants.{Other}
 use Rattle.bidi_runs.specs.Written.{is_seen, seen_from, seen_units}
@@ -48,6 +49,12 @@ pub record AreMarked (runs : List (ℕ × ℕ)) (sos : BidiClass) (old now : Lis
   pub takes : is_kept_in_place mark ≡ true
   pub inside : i ≤ length old
   pub long : length now ≡ length old
+
+-- the units from `start` up to `end` of a run take W1 on, behind a character of the class `before`, up to one of the class `last`
+abbrev pub Marks : ℕ → ℕ → BidiClass → BidiClass → List BidiClass → List BidiClass → Type 0
+Marks start end before last now new =
+    (runs : List (ℕ × ℕ)) (sos : BidiClass) (old : List BidiClass) → ((k : ℕ) → start ≤ k → k < end → in_runs runs k ≡ true)
+    → AreMarked runs sos old now (carried before) start → AreMarked runs sos old new (carried last) end
 
 -- W1 is done
 pub record IsMarked (runs : List (ℕ × ℕ)) (sos : BidiClass) (old new : List BidiClass) : Type 0 where

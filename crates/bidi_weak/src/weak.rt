@@ -144,8 +144,8 @@ fn resolve_weak_searching<T: TextSource, S: Ledger, L: Ledger>(
 // Like [`resolve_weak_lent`], and keeps both counts: `steps` of loop iterations, and `looked` of the code
 // units that searches look at.
 //
-// Searches look at no more than 16 code units for each code unit of the runs. Three tests for marks and
-// numbers take four of these, W1 six, and the walk over numbers six.
+// Searches look at no more than 11 code units for each code unit of the runs. Two tests for marks and numbers
+// take three of these, W1 two, and the walk over numbers six.
 fn resolve_weak_lent_counted<T: TextSource, S: Ledger, L: Ledger>(
     text: T,
     sequence: LentSequence<'_>,
@@ -160,7 +160,7 @@ fn resolve_weak_lent_counted<T: TextSource, S: Ledger, L: Ledger>(
         + length (chars_in_runs T.units (T.characters text) (map bounds (lent_runs sequence.entry)))
         ≤ steps.new }
     ensures at_most { steps.new ≤ steps.old + 8 * length (units_in_runs (map bounds (lent_runs sequence.entry))) }
-    ensures looked { looked.new ≤ looked.old + 16 * length (units_in_runs (map bounds (lent_runs sequence.entry))) }
+    ensures looked { looked.new ≤ looked.old + 11 * length (units_in_runs (map bounds (lent_runs sequence.entry))) }
 {
     let runs = sequence.runs();
     let sos = sequence.sos();
@@ -185,7 +185,7 @@ fn resolve_marks_and_numbers<T: TextSource, S: Ledger, L: Ledger>(
         × IsWalked (len_at T.units (T.characters text)) (map bounds runs.now) sos marked classes.new }
     ensures at_least { steps.old ≤ steps.new }
     ensures at_most { steps.new ≤ steps.old + 6 * length (units_in_runs (map bounds runs.now)) }
-    ensures looked { looked.new ≤ looked.old + 16 * length (units_in_runs (map bounds runs.now)) }
+    ensures looked { looked.new ≤ looked.old + 11 * length (units_in_runs (map bounds runs.now)) }
 {
     if has_marks_or_numbers(runs, classes, looked) {
         resolve_marks(runs, sos, classes, steps, looked);

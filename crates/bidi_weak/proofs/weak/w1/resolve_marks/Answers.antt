@@ -4,7 +4,7 @@ use Rattle.bidi_weak.proofs.CountedUnits.{length-units_in_runs-more}
 use Rattle.bidi_runs.proofs.InRuns.{in_runs-at, run_some, start_or-at, start_or-past}
 use Rattle.bidi_runs.proofs.WalkLemmas.{no_range}
 use Rattle.bidi_runs.proofs.RunOf.{run_end}
-use Rattle.bidi_weak.proofs.WeakMarks.{AreMarked-first_run, AreMarked-next_run, IsMarked-none, is_any-none}
+use Rattle.bidi_weak.proofs.WeakMarks.{AreMarked-first_run, AreMarked-next_run}
 use Rattle.bidi_weak.proofs.weak.w1.resolve_marks.Goals as goal
 
 side_kept : (c : BidiClass) → is_l_or_r c ≡ true → is_kept_in_place (carried c) ≡ true
@@ -45,10 +45,6 @@ loop-run-preserved g c =
 
 pub returns-clause-marked : goal.returns-clause-marked
 returns-clause-marked g c = grind (arith, common_steps, start_or-past)
-
-pub returns-then-not-has_marks-clause-marked : goal.returns-then-not-has_marks-clause-marked
-returns-then-not-has_marks-clause-marked g c =
-    IsMarked-none c.args.runs.now (carried c.args.sos) c.args.classes.now (is_any-none is_nsm c.args.runs.now c.args.classes.now c.requires.within (sym c.has_marks.ensures.answer ∙ c.if-not-has_marks.true))
 
 pub returns-clause-at_most : goal.returns-clause-at_most
 returns-clause-at_most g c = grind (arith, length-map, take_all)
