@@ -15,16 +15,7 @@ use Rattle.bidi_laws.proofs.NeutralLemmas.{n0-keeps}
 use Rattle.bidi_laws.proofs.OneDirection.{goes_with, itself}
 use Rattle.bidi_laws.proofs.ResolvedLemmas.{length-n0, length-weak_classes}
 use Rattle.bidi_laws.proofs.WeakLemmas.{weak_classes-resolved}
-use Rattle.bidi_paragraphs.specs.Settled.{raises, raises_or_mark}
-
--- what the test of a sequence says of a class
-pub without_marks : (d c : BidiClass) → raises_or_mark false d c ≡ false → raises d c ≡ false
-unfolding raises_or_mark
-without_marks d c h = grind arith
-
-pub with_marks : (d c : BidiClass) → raises_or_mark true d c ≡ false → (raises d c ≡ false) × (is_nsm c ≡ false)
-unfolding raises_or_mark
-with_marks d c h = grind arith
+use Rattle.bidi_paragraphs.specs.Settled.{raises}
 
 -- a rule that reads what stands on both sides
 all-in_context : (rule : List BidiClass → BidiClass → List BidiClass → BidiClass) (p q : BidiClass → Bool)

@@ -14,10 +14,6 @@ use Rattle.bidi_runs.specs.declared.prepare.lent.LentSequence.{LentSequence}
 unfoldable pub raises : BidiClass → BidiClass → Bool
 raises d c = same_class EN c || same_class AN c || (if is_l d then same_class R c || same_class AL c else same_class L c)
 
--- such a class, or a nonspacing mark if marks count
-unfoldable pub raises_or_mark : Bool → BidiClass → BidiClass → Bool
-raises_or_mark marks d c = raises d c || (marks && is_nsm c)
-
 -- a class of a sequence without neutrals: L, R or BN
 unfoldable pub is_directed : BidiClass → Bool
 is_directed c = is_l_or_r c || not (is_kept_in_place c)

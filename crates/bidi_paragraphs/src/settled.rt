@@ -3,7 +3,7 @@
 ghost use Rattle.std.specs.Prelude.{◌≡◌, ◌⊎◌, ℕ, ◌<◌, ◌≤◌, true, false, length, map, All, IsTrue};
 ghost use Rattle.bidi_base.specs.Places.{class_at};
 ghost use Rattle.bidi_base.specs.Units.{bounds, in_runs};
-ghost use Rattle.bidi_paragraphs.specs.Settled.{number_as_l, own_direction, AreInside, AreNumbersWritten, HasEuropeanNumbers, HasOneDirection, HasNoNeutral};
+ghost use Rattle.bidi_paragraphs.specs.Settled.{number_as_l, own_direction, raises, AreInside, AreNumbersWritten, HasEuropeanNumbers, HasOneDirection, HasNoNeutral};
 ghost use Rattle.bidi_runs.specs.RunSequence.{lent_runs};
 
 use bidi_base::char_data::BidiClass::{self, AL, AN, BN, EN, L, NSM, R};
@@ -37,9 +37,25 @@ fn has_one_direction(sequence: LentSequence<'_>, levels: &[Level], classes: &[Bi
     }
     let direction = own_direction(sequence, levels);
     if sequence.sos() == direction {
-        none_passes(Raising::new(direction, false), runs, classes)
+        none_raises(direction, runs, classes)
     } else {
-        sequence.eos() == direction && none_passes(Raising::new(direction, true), runs, classes)
+        sequence.eos() == direction
+            && none_passes(Mark, runs, classes)
+            && none_raises(direction, runs, classes)
+    }
+}
+
+/// Whether no class of some runs raises a level in a sequence of this direction. A search for known classes is
+/// shorter, so there is a test for each direction.
+#[tactic(auto, unfolding(crate::specs::Settled::raises))]
+fn none_raises(direction: BidiClass, runs: &[LevelRun], classes: &[BidiClass]) -> bool
+    requires { All (λ r. r.1 ≤ length classes.now) (map bounds runs.now) }
+    ensures { IsTrue result → (u : ℕ) → in_runs (map bounds runs.now) u ≡ true → raises direction (class_at classes.now u) ≡ false }
+{
+    if direction == L {
+        none_passes(RaisingEven, runs, classes)
+    } else {
+        none_passes(RaisingOdd, runs, classes)
     }
 }
 
@@ -148,36 +164,50 @@ fn one_passes<C: ClassTest>(test: C, run: &LevelRun, classes: &[BidiClass]) -> b
     first_passing(test, classes, start, end) < end
 }
 
-/// The classes that can raise a level in a sequence of one direction: numbers, and strong classes of the other
-/// direction. Marks too, if they count. The test has no branch, so that many code units are tested at once.
+/// The classes that can raise an even level: numbers, R and AL. The test has no branch, so that many code units
+/// are tested at once.
 #[derive(Clone, Copy, Debug)]
-struct Raising {
-    direction: BidiClass,
-    marks: bool,
-}
+struct RaisingEven;
 
-impl Raising {
-    /// Creates the test for a direction.
-    fn new(direction: BidiClass, marks: bool) -> Raising
-        ensures { result ≡ record { direction = direction; marks = marks } }
-    {
-        Raising { direction, marks }
+impl ClassTest for RaisingEven {
+    ghost use Rattle.bidi_base.specs.declared.char_data.BidiClass.TheVariants.{L};
+    ghost use Rattle.bidi_paragraphs.specs.Settled.{raises};
+
+    ghost test = { λ _. raises L };
+
+    #[tactic(auto, unfolding(crate::specs::Settled::raises))]
+    fn passes(self, class: BidiClass) -> bool {
+        (class == R) | (class == AL) | (class == EN) | (class == AN)
     }
 }
 
-impl ClassTest for Raising {
-    ghost use Rattle.bidi_paragraphs.specs.Settled.{raises_or_mark};
+/// The classes that can raise an odd level: numbers and L.
+#[derive(Clone, Copy, Debug)]
+struct RaisingOdd;
 
-    ghost test = { λ t. raises_or_mark t.marks t.direction };
+impl ClassTest for RaisingOdd {
+    ghost use Rattle.bidi_base.specs.declared.char_data.BidiClass.TheVariants.{R};
+    ghost use Rattle.bidi_paragraphs.specs.Settled.{raises};
 
-    #[tactic(auto, unfolding(crate::specs::Settled::raises_or_mark, crate::specs::Settled::raises))]
+    ghost test = { λ _. raises R };
+
+    #[tactic(auto, unfolding(crate::specs::Settled::raises))]
     fn passes(self, class: BidiClass) -> bool {
-        let (strong, arabic) = if self.direction == L { (R, AL) } else { (L, L) };
-        (class == EN)
-            | (class == AN)
-            | (class == strong)
-            | (class == arabic)
-            | (self.marks & (class == NSM))
+        (class == L) | (class == EN) | (class == AN)
+    }
+}
+
+/// The class of nonspacing marks.
+#[derive(Clone, Copy, Debug)]
+struct Mark;
+
+impl ClassTest for Mark {
+    ghost use Rattle.bidi_base.specs.Classes.{is_nsm};
+
+    ghost test = { λ _. is_nsm };
+
+    fn passes(self, class: BidiClass) -> bool {
+        class == NSM
     }
 }
 
