@@ -1,4 +1,4 @@
-use Rattle.bidi_base.proofs.Common.{◌≡◌, true, length, map, sym, ◌∙◌, arith, common_steps, get_or-map, length-map, take_all, is_kept_in_place, is_l_or_r, is_nsm, bounds, carried}
+use Rattle.bidi_base.proofs.Common.{◌≡◌, true, length, map, arith, common_steps, get_or-map, length-map, take_all, is_kept_in_place, is_l_or_r, bounds, carried}
 use Rattle.bidi_base.specs.declared.char_data.BidiClass.{BidiClass}
 use Rattle.bidi_weak.proofs.CountedUnits.{length-units_in_runs-more}
 use Rattle.bidi_runs.proofs.InRuns.{in_runs-at, run_some, start_or-at, start_or-past}

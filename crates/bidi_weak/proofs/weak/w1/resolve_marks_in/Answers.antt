@@ -1,7 +1,7 @@
-use Rattle.bidi_base.proofs.Common.{◌≡◌, ◌+◌, ◌-◌, ◌<◌, ◌≤◌, ℕ, List, false, length, reverse, take, drop, unwrap_or, ◌∙◌, ap, sym, arith, get_or-take, get_or-drop, length-take, length-drop, list_any_at, is_kept_in_place, is_nsm, class_at, in_runs, carried, nearest}
+use Rattle.bidi_base.proofs.Common.{◌≡◌, ◌+◌, ◌-◌, ◌<◌, ◌≤◌, ℕ, List, false, length, reverse, take, drop, unwrap_or, ◌∙◌, ap, sym, arith, get_or-take, get_or-drop, length-take, length-drop, list_any_at, is_kept_in_place, is_nsm, class_at, nearest}
 use Rattle.bidi_base.specs.declared.char_data.BidiClass.{BidiClass}
 use Rattle.bidi_base.specs.declared.char_data.BidiClass.TheVariants.{L}
-use Rattle.bidi_weak.specs.WeakWalk.{is_any_of, AreMarked, Marks}
+use Rattle.bidi_weak.specs.WeakWalk.{is_any_of, Marks}
 use Rattle.bidi_weak.proofs.FoldAny.{fold_any}
 use Rattle.bidi_weak.proofs.WeakMarks.{AreMarked-passes}
 use Rattle.bidi_weak.proofs.weak.w1.resolve_marks_in.Goals as goal

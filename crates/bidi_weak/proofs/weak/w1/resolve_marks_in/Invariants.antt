@@ -1,5 +1,5 @@
 -- The units of the run that came are marked.
-use Rattle.bidi_base.proofs.Common.{◌≡◌, ℕ, ◌+◌, ◌-◌, ◌*◌, ◌≤◌, length}
+use Rattle.bidi_base.proofs.Common.{◌≡◌, ◌+◌, ◌-◌, ◌*◌, ◌≤◌, length}
 use Rattle.bidi_weak.specs.WeakWalk.{Marks}
 use Rattle.bidi_weak.proofs.weak.w1.resolve_marks_in.Given as goal
 

@@ -1,4 +1,4 @@
-use Rattle.bidi_base.proofs.Common.{◌≡◌, ◌<◌, ◌≤◌, ℕ, true, List, map, bounds, arith, and_right, class_at, get_or-map, length-map, are_ordered}
+use Rattle.bidi_base.proofs.Common.{◌≡◌, ◌<◌, ◌≤◌, ℕ, true, List, map, bounds, arith, and_right, get_or-map, length-map, are_ordered}
 use Rattle.bidi_weak.specs.declared.weak.w2_w4_w5_w7.Walk.{Walk}
 use Rattle.bidi_weak.specs.WeakPass.{is_other}
 use Rattle.bidi_weak.specs.WeakWalk.{settled_to}

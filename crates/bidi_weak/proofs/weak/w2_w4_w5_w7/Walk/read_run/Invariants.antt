@@ -1,5 +1,5 @@
 -- The units of the run that came are read. Each stretch takes no more turns than two for each of its units, and one less at the run's end.
-use Rattle.bidi_base.proofs.Common.{◌≡◌, ℕ, ◌+◌, ◌-◌, ◌*◌, ◌<◌, ◌≤◌, length, map, get_or, class_at, bounds}
+use Rattle.bidi_base.proofs.Common.{◌≡◌, ℕ, ◌+◌, ◌-◌, ◌*◌, ◌≤◌, length, map, get_or, class_at, bounds}
 use Rattle.bidi_weak.specs.WeakWalk.{len_at, settled_to, ReadsTo, WaitsBelow}
 use Rattle.bidi_runs.specs.Written.{count_below}
 use Rattle.bidi_weak.proofs.weak.w2_w4_w5_w7.Walk.read_run.Given as goal
