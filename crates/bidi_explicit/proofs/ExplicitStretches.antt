@@ -21,7 +21,7 @@ use Rattle.bidi_base.specs.contracts.char_data.BidiClassPartialEq.TheImpl.{ghost
 use Rattle.bidi_runs.specs.ExplicitPass.{IsCutTo, filled, differs, runs_before, run_start}
 use Rattle.bidi_base.specs.StatusMachine.{answer_class, answer_level}
 use Rattle.bidi_explicit.specs.Control.{is_control}
-use Rattle.bidi_explicit.specs.ExplicitStretches.{overridden, put_over, run_met, runs_met, AreLevelsWritten, IsOverridden, Paragraph, stored, levels_of, classes_of, IsReadTo}
+use Rattle.bidi_explicit.specs.ExplicitStretches.{overridden, put_over, run_met, runs_met, AreWrittenAhead, IsOverridden, Paragraph, stored, levels_of, classes_of, IsReadTo}
 use Rattle.bidi_explicit.specs.Stride.{count_to, count_of}
 use Rattle.bidi_explicit.specs.declared.explicit.Stride.{Stride}
 use Rattle.bidi_explicit.specs.declared.explicit.Stride.TheVariants.{Character, CodeUnit}
@@ -38,15 +38,14 @@ filled-inside from len x d units fits k a b = grind (arith, common_steps)
 filled-below : {X : Type 0} (from len : ℕ) (x d : X) (units : List X) → from + len ≤ length units → (k : ℕ) → k < from → get_or (filled from len x units) k d ≡ get_or units k d
 filled-below from len x d units fits k a = grind (arith, common_steps)
 
-pub filled-above : {X : Type 0} (from len : ℕ) (x d : X) (units : List X) → from + len ≤ length units → (k : ℕ) → from + len ≤ k → get_or (filled from len x units) k d ≡ get_or units k d
+filled-above : {X : Type 0} (from len : ℕ) (x d : X) (units : List X) → from + len ≤ length units → (k : ℕ) → from + len ≤ k → get_or (filled from len x units) k d ≡ get_or units k d
 filled-above from len x d units fits k a = grind (arith, length-replicate, get_or-append_right, length-take, get_or-drop) steps 400000
 
--- such a part has the level
-levels-filled : (old : List ℕ) (from to level : ℕ) (new : List ℕ) → new ≡ filled from (to - from) level old → from ≤ to → from + (to - from) ≤ length old → AreLevelsWritten from to level old new
-levels-filled old from to level new is order fits = record {
+-- such a part has the value
+ahead : (old : List ℕ) (from to level : ℕ) (new : List ℕ) → new ≡ filled from (to - from) level old → from ≤ to → from + (to - from) ≤ length old → AreWrittenAhead from to level old new
+ahead old from to level new is order fits = record {
   inside = λ u a b. ap (λ us. get_or us u 0) is ∙ filled-inside from (to - from) level 0 old fits u a (omega arith);
   below = λ u b. ap (λ us. get_or us u 0) is ∙ filled-below from (to - from) level 0 old fits u b;
-  above = λ u a. ap (λ us. get_or us u 0) is ∙ filled-above from (to - from) level 0 old fits u (omega arith);
   long = ap length is ∙ length-filled from (to - from) level old fits;
 }
 
@@ -225,7 +224,7 @@ read-begins p u stack levels classes runs run h = grind (arith, is_boundary-plac
 module _ (p : Paragraph) (at : ℕ) (stack : State) (levels : List ℕ) (classes : List BidiClass) (runs : List (ℕ × ℕ)) (run : OpenRun) (h : IsReadTo p at stack levels classes runs run) (to index : ℕ)
     (begins : to ≡ place p.len_of p.chars index) (order : h.index ≤ index) (within : index ≤ length p.chars) where
   read-more : (next : State) (level : ℕ) (now_levels : List ℕ) (now_classes : List BidiClass) (now_runs : List (ℕ × ℕ)) (now : OpenRun) → next ≡ state_at p.level (stored p) index
-      → AreLevelsWritten at to level levels now_levels → ((k : ℕ) → h.index ≤ k → k < index → get_or (levels_of p) k 0 ≡ level)
+      → AreWrittenAhead at to level levels now_levels → ((k : ℕ) → h.index ≤ k → k < index → get_or (levels_of p) k 0 ≡ level)
       → length now_classes ≡ length classes → ((v : ℕ) → v < at → class_at now_classes v ≡ class_at classes v) → ((v : ℕ) → to ≤ v → class_at now_classes v ≡ class_at classes v)
       → ((v : ℕ) → at ≤ v → v < to → (w : UnitOf p.len_of p.chars v) → h.index ≤ w.index → w.index < index → class_at now_classes v ≡ class_at (classes_of p) w.index)
       → IsCutTo p.len_of p.chars (stored p) (levels_of p) index now_runs now.start now.last_level → IsReadTo p to next now_levels now_classes now_runs now
@@ -305,7 +304,7 @@ module _ (p : Paragraph) (from to : ℕ) (stack : State) (levels : List ℕ) (cl
 
   stretch-read : (level : ℕ) (override : Option BidiClass) (now_levels : List ℕ) (now_classes : List BidiClass) (now_runs : List (ℕ × ℕ)) (now : OpenRun)
       → level ≡ stack.top.status.level → override ≡ stack.top.status.override
-      → AreLevelsWritten from to level levels now_levels → IsOverridden override from to classes now_classes → IsCut end.index now_runs now.start now.last_level → IsReadTo p to stack now_levels now_classes now_runs now
+      → AreWrittenAhead from to level levels now_levels → IsOverridden override from to classes now_classes → IsCut end.index now_runs now.start now.last_level → IsReadTo p to stack now_levels now_classes now_runs now
   stretch-read level override now_levels now_classes now_runs now level_is override_is written over cut =
       let still = state-to p h.has_units h.per_char h.index end.index end.order end.within plain end.index end.order
       (omega arith) in
@@ -322,7 +321,7 @@ module _ (p : Paragraph) (from to : ℕ) (stack : State) (levels : List ℕ) (cl
 
   module _ (level : ℕ) (override : Option BidiClass) (now_levels : List ℕ) (now_classes : List BidiClass) (level_is : level ≡ stack.top.status.level)
       (override_is : override ≡ stack.top.status.override)
-      (written : AreLevelsWritten from to level levels now_levels) (over : IsOverridden override from to classes now_classes) (v : ℕ) (first : IsFirst is_kept_in_place p.original from to v) where
+      (written : AreWrittenAhead from to level levels now_levels) (over : IsOverridden override from to classes now_classes) (v : ℕ) (first : IsFirst is_kept_in_place p.original from to v) where
     -- its first kept character, if there is one, meets the run
     pub stretch-met : (some : Bool) → (some ≡ true → v < to) → (some ≡ false → to ≤ v) → (kept : Option ℕ) → kept ≡ then_some some v
         → IsReadTo p to stack now_levels now_classes (runs_met kept level run runs) (run_met kept level run)
@@ -358,9 +357,6 @@ module _ (p : Paragraph) (at : ℕ) (stack : State) (levels : List ℕ) (classes
   pub control-some : (next : ℕ) → Ends next → at < next
   control-some next ends = grind (arith, control-fits, place-lt) steps 400000
 
-  pub control-room : (next : ℕ) → Ends next → next ≤ length levels
-  control-room next ends = omega (arith, ends h.index control-fits h.begins, place-le p.len_of p.chars (h.index + 1), h.levels_long)
-
   module _ (next : ℕ) (ends : Ends next) (now : State) (level : ℕ) (put : BidiClass) (now_is : now ≡ step (class_at p.original at) stack)
       (level_is : level ≡ answer_level p.level (class_at p.original at) stack)
       (put_is : put ≡ (if is_removed (class_at p.original at) then BN else answer_class (class_at p.original at) stack))
@@ -383,7 +379,7 @@ module _ (p : Paragraph) (at : ℕ) (stack : State) (levels : List ℕ) (classes
         let one = λ (k : ℕ) (above : h.index ≤ k) (below : k < h.index + 1). let same : k ≡ h.index = omega arith in same in
         read-more p at stack levels classes runs run h next (h.index + 1) there (omega arith) (omega (arith, control-fits)) now level now_levels now_classes now_runs now_run
         (next_at p.len_of p.chars p.level (stored p) h.index within (class_at p.original at) control-class stack now level put now_is level_is put_is h.machine)
-        (levels-filled levels at next level now_levels levels_are (omega (arith, control-some next ends)) (omega (arith, room, h.levels_long, h.classes_long))) (λ k above below. cc (one k above below, level-at_control))
+        (ahead levels at next level now_levels levels_are (omega (arith, control-some next ends)) (omega (arith, room, h.levels_long, h.classes_long))) (λ k above below. cc (one k above below, level-at_control))
         (grind (arith, length-filled)) (λ v below. grind (arith, filled-below)) (λ v above. grind (
           arith,
           filled-above,

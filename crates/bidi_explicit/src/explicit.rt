@@ -4,7 +4,7 @@
 ghost use Rattle.std.specs.Prelude.{◌≡◌, ℕ, ◌+◌, ◌*◌, ◌-◌, ◌≤◌, length, map, OnOk, IfOk};
 ghost use Rattle.bidi_base.specs.InPlace.{AreExplicitLevels, CanFindExplicitLevels};
 ghost use Rattle.bidi_base.specs.Units.{bounds};
-ghost use Rattle.bidi_explicit.specs.ExplicitStretches.{AreLevelsWritten, HaveLevelFrom};
+ghost use Rattle.bidi_explicit.specs.ExplicitStretches.{AreWrittenAhead};
 ghost use Rattle.bidi_explicit.specs.Stride.{count_of};
 ghost use Rattle.bidi_runs.specs.ExplicitPass.{filled, runs_before, run_start as run_start_after};
 
@@ -69,16 +69,20 @@ fn write_level(levels: &mut [Level], from: usize, to: usize, level: Level)
     }
 }
 
-// Writes the level of a stretch to its code units, from `from` up to `to`. These and all after them have the
-// paragraph level. Most stretches have it too, and are then not written.
-fn write_stretch(levels: &mut [Level], from: usize, to: usize, level: Level, para_level: Level)
+// So many levels are written at once.
+const BLOCK: usize = 16;
+
+// Writes a level to the code units of a stretch from `from` up to `to`, and maybe to some behind it, whose levels
+// are written later. A whole block is written faster than a part of one.
+fn write_ahead(levels: &mut [Level], from: usize, to: usize, level: Level)
     requires ordered { from ≤ to }
     requires within { to ≤ length levels.old }
-    requires ready { HaveLevelFrom para_level from levels.old }
-    ensures { AreLevelsWritten from to level levels.old levels.new }
+    ensures { AreWrittenAhead from to level levels.old levels.new }
 {
-    if level != para_level {
-        write_level(levels, from, to, level);
+    if to - from <= BLOCK && levels.len() - from >= BLOCK {
+        levels[from..from + BLOCK].fill(level);
+    } else {
+        levels[from..to].fill(level);
     }
 }
 
@@ -292,7 +296,6 @@ pub(crate) fn compute_by<T: TextSource, S: Ledger, L: Ledger>(
     let units = original_classes.len();
     let mut stack = StatusStack::new(paragraph.level);
     let mut run = OpenRun::new();
-    levels.fill(paragraph.level);
     let mut at = 0;
     while at < units {
         steps.tick();
@@ -306,7 +309,7 @@ pub(crate) fn compute_by<T: TextSource, S: Ledger, L: Ledger>(
                 steps,
                 looked,
             );
-            write_stretch(levels, at, stretch.end, stretch.level, paragraph.level);
+            write_ahead(levels, at, stretch.end, stretch.level);
             stretch
         };
         run.meet(runs, &progress)?;

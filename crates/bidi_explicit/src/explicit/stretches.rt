@@ -3,14 +3,14 @@
 //!
 //! The pass goes through a stretch from character to character, or from code unit to code unit.
 
-ghost use Rattle.std.specs.Prelude.{◌≡◌, ℕ, ◌+◌, ◌*◌, ◌-◌, ◌<◌, ◌≤◌, true, false, List, None, Some, length, map, get_or, IsTrue, OnOk};
+ghost use Rattle.std.specs.Prelude.{◌≡◌, ℕ, ◌+◌, ◌*◌, ◌-◌, ◌<◌, ◌≤◌, true, false, List, None, Some, length, map, IsTrue, OnOk};
 ghost use Rattle.bidi_base.specs.Places.{class_at};
 ghost use Rattle.bidi_base.specs.Search.{IsFirst};
 ghost use Rattle.bidi_base.specs.StatusMachine.{State};
 ghost use Rattle.bidi_base.specs.Text.{char_index, is_per_char, place, text_len};
 ghost use Rattle.bidi_base.specs.Units.{bounds};
 ghost use Rattle.bidi_explicit.specs.Control.{is_control};
-ghost use Rattle.bidi_explicit.specs.ExplicitStretches.{paragraph_of, run_met, runs_met, AreLevelsWritten, IsOverridden, IsReadTo, IsStart, IsUnread, ReadsOn};
+ghost use Rattle.bidi_explicit.specs.ExplicitStretches.{paragraph_of, run_met, runs_met, AreWrittenAhead, IsOverridden, IsReadTo, IsStart, IsUnread, ReadsOn};
 ghost use Rattle.bidi_explicit.specs.Status.{entry_count, seen};
 ghost use Rattle.bidi_explicit.specs.Stride.{count_to};
 
@@ -346,7 +346,7 @@ impl<'p, T: TextSource> Paragraph<'p, T> {
         requires classes { length classes.old ≡ length self.now.original_classes.now }
         requires unread { IsUnread self.now.original_classes.now classes.old from }
         ensures read { (stack : State) (levels written : List ℕ) → seen status ≡ stack.top
-            → AreLevelsWritten from result.end result.level levels written
+            → AreWrittenAhead from result.end result.level levels written
             → ReadsOn (paragraph_of T.units (T.characters self.now.text) self.now.level self.now.original_classes.now)
             from stack levels classes.old result stack written classes.new }
         ensures some { from < result.end }
@@ -388,7 +388,6 @@ impl<'p, T: TextSource> Paragraph<'p, T> {
             (paragraph_of T.units (T.characters self.now.text) self.now.level self.now.original_classes.now) start
             stack.old levels.old classes.old result stack.new levels.new classes.new }
         ensures some { start < result.end }
-        ensures above { (u : ℕ) → result.end ≤ u → get_or levels.new u 0 ≡ get_or levels.old u 0 }
         ensures one { char_index T.units (T.characters self.now.text) result.end
             ≡ char_index T.units (T.characters self.now.text) start + 1 }
         ensures at_least { steps.old ≤ steps.new }

@@ -1,5 +1,5 @@
 -- One stretch or control after another.
-use Rattle.bidi_base.proofs.Common.{map, arith, rules, map-append, get_or-replicate, bounds}
+use Rattle.bidi_base.proofs.Common.{map, arith, rules, map-append, bounds}
 use Rattle.bidi_runs.proofs.CharEnds.{index-zero}
 use Rattle.bidi_explicit.proofs.CountLemmas.{count-one, count-zero}
 use Rattle.bidi_explicit.proofs.ExplicitStretches.{read-start, read-levels, read-classes, read-runs, read-no_runs, read-all, read-begins, read-count, read-units}
@@ -7,7 +7,7 @@ use Rattle.bidi_explicit.proofs.explicit.compute_by.Goals as goal
 use Rattle.bidi_explicit.proofs.explicit.compute_by.Goals.{then-is_control, else-is_control}
 
 pub loop-at-init : goal.loop-at-init
-loop-at-init g c = grind (arith, read-start, index-zero, count-zero, get_or-replicate)
+loop-at-init g c = grind (arith, read-start, index-zero, count-zero)
 
 pub read_control-progress-requires-clause-read : goal.read_control-progress-requires-clause-read
 read_control-progress-requires-clause-read g c = (map bounds c.loop-at.runs.items, c.loop-at.run, c.loop-at.invariant.0)
@@ -22,14 +22,12 @@ loop-at-preserved g c = elim c.if-is_control.branch [
     grind arith,
     grind (arith, count-one),
     grind arith,
-    λ u from below. grind (arith, w.read_control-progress.ensures.above u, c.loop-at.invariant.4 u),
   )
   | else-is_control w ↦ (
-    simp (w.levels-is, w.processing_classes-is, w.stack-is, w.progress-is, c.in_ok-meet.ensures.runs, c.in_ok-meet.ensures.run) (w.read_stretch-stretch.ensures.read _ _ _ w.top.ensures w.write_stretch.ensures _ _ c.loop-at.invariant.0),
+    simp (w.levels-is, w.processing_classes-is, w.stack-is, w.progress-is, c.in_ok-meet.ensures.runs, c.in_ok-meet.ensures.run) (w.read_stretch-stretch.ensures.read _ _ _ w.top.ensures w.write_ahead.ensures _ _ c.loop-at.invariant.0),
     grind arith,
     grind arith,
     grind arith,
-    λ u from below. grind (arith, w.write_stretch.ensures.above u, w.write_stretch.ensures.long, c.loop-at.invariant.4 u),
   )
 ]
 

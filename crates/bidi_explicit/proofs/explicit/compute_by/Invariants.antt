@@ -1,6 +1,6 @@
 -- What the characters so far have left. There were at most four steps for each character or code unit, except for those that an opener paid with an entry of the stack.
 use Rattle.bidi_base.proofs.Common.{◌+◌, ◌*◌, ◌-◌, ◌≤◌, map, char_index, bounds}
-use Rattle.bidi_explicit.specs.ExplicitStretches.{paragraph_of, HaveLevelFrom, IsReadTo}
+use Rattle.bidi_explicit.specs.ExplicitStretches.{paragraph_of, IsReadTo}
 use Rattle.bidi_explicit.specs.Status.{entry_count}
 use Rattle.bidi_explicit.specs.Stride.{count_to}
 use Rattle.bidi_explicit.proofs.explicit.compute_by.Given as goal
@@ -13,7 +13,6 @@ invariant-loop-at g l =
     × (l.fn.steps + char_index len_of chars l.at ≤ l.steps)
     × (l.steps + entry_count l.stack ≤ l.fn.steps + (4 * count_to l.paragraph.stride len_of chars l.at + 1))
     × (l.looked ≤ l.fn.looked + 12 * l.at)
-    × HaveLevelFrom l.paragraph.level l.at l.levels
 
 abbrev pub decreases-loop-at : goal.decreases-loop-at
 decreases-loop-at g l = l.units - l.at

@@ -1,5 +1,5 @@
-use Rattle.bidi_base.proofs.Common.{◌-◌, ◌∙◌, ap, arith, get_or}
-use Rattle.bidi_explicit.proofs.ExplicitStretches.{control-can, control-index, control-met, control-room, control-some, filled-above, read-begins}
+use Rattle.bidi_base.proofs.Common.{arith}
+use Rattle.bidi_explicit.proofs.ExplicitStretches.{control-can, control-index, control-met, control-some, read-begins}
 use Rattle.bidi_explicit.proofs.explicit.stretches.Paragraph.read_control.Goals as goal
 
 pub read-answer-requires : goal.read-answer-requires
@@ -21,11 +21,6 @@ returns g c =
           c.read-answer.ensures.class
           _ _ c.write_control.ensures.levels c.write_control.ensures.classes _ (grind (arith, c.then_some.ensures));
       some = control-some _ _ _ _ _ _ _ c.requires.read.2 c.requires.inside c.end_of-end.result c.end_of-end.ensures;
-      above = λ u past.
-          let after = control-some _ _ _ _ _ _ _ c.requires.read.2 c.requires.inside c.end_of-end.result c.end_of-end.ensures in
-          let room = control-room _ _ _ _ _ _ _ c.requires.read.2 c.requires.inside c.end_of-end.result c.end_of-end.ensures in
-          ap (λ ls. get_or ls u 0) c.write_control.ensures.levels
-          ∙ filled-above c.args.start (c.end_of-end.result - c.args.start) c.read-answer.result.level 0 c.args.levels.now (omega (arith, after, room)) u (omega (arith, after, past));
       one = control-index _ _ _ _ _ _ _ c.requires.read.2 c.requires.inside c.end_of-end.result c.end_of-end.ensures;
       at_least = omega (arith, c.read-answer.ensures.at_least);
       at_most = omega (arith, c.read-answer.ensures.at_most);
