@@ -21,7 +21,7 @@ use Rattle.bidi_base.specs.contracts.char_data.BidiClassPartialEq.TheImpl.{ghost
 use Rattle.bidi_runs.specs.ExplicitPass.{IsCutTo, filled, differs, runs_before, run_start}
 use Rattle.bidi_base.specs.StatusMachine.{answer_class, answer_level}
 use Rattle.bidi_explicit.specs.Control.{is_control}
-use Rattle.bidi_explicit.specs.ExplicitStretches.{overridden, put_over, run_met, runs_met, AreWrittenAhead, IsOverridden, Paragraph, stored, levels_of, classes_of, IsReadTo}
+use Rattle.bidi_explicit.specs.ExplicitStretches.{overridden, put_over, run_met, runs_met, IsOverridden, Paragraph, stored, levels_of, classes_of, IsReadTo}
 use Rattle.bidi_explicit.specs.Stride.{count_to, count_of}
 use Rattle.bidi_explicit.specs.declared.explicit.Stride.{Stride}
 use Rattle.bidi_explicit.specs.declared.explicit.Stride.TheVariants.{Character, CodeUnit}
@@ -40,14 +40,6 @@ filled-below from len x d units fits k a = grind (arith, common_steps)
 
 filled-above : {X : Type 0} (from len : ℕ) (x d : X) (units : List X) → from + len ≤ length units → (k : ℕ) → from + len ≤ k → get_or (filled from len x units) k d ≡ get_or units k d
 filled-above from len x d units fits k a = grind (arith, length-replicate, get_or-append_right, length-take, get_or-drop) steps 400000
-
--- such a part has the value
-ahead : (old : List ℕ) (from to level : ℕ) (new : List ℕ) → new ≡ filled from (to - from) level old → from ≤ to → from + (to - from) ≤ length old → AreWrittenAhead from to level old new
-ahead old from to level new is order fits = record {
-  inside = λ u a b. ap (λ us. get_or us u 0) is ∙ filled-inside from (to - from) level 0 old fits u a (omega arith);
-  below = λ u b. ap (λ us. get_or us u 0) is ∙ filled-below from (to - from) level 0 old fits u b;
-  long = ap length is ∙ length-filled from (to - from) level old fits;
-}
 
 module _ (put : BidiClass) (from at next : ℕ) (old now : List BidiClass) (h : IsOverridden (Some put) from at old now) (begun : from ≤ at) (order : at ≤ next) where
   pub IsOverridden-spared : ((u : ℕ) → at ≤ u → u < next → is_kept_in_place (class_at old u) ≡ false) → IsOverridden (Some put) from next old now
@@ -224,13 +216,14 @@ read-begins p u stack levels classes runs run h = grind (arith, is_boundary-plac
 module _ (p : Paragraph) (at : ℕ) (stack : State) (levels : List ℕ) (classes : List BidiClass) (runs : List (ℕ × ℕ)) (run : OpenRun) (h : IsReadTo p at stack levels classes runs run) (to index : ℕ)
     (begins : to ≡ place p.len_of p.chars index) (order : h.index ≤ index) (within : index ≤ length p.chars) where
   read-more : (next : State) (level : ℕ) (now_levels : List ℕ) (now_classes : List BidiClass) (now_runs : List (ℕ × ℕ)) (now : OpenRun) → next ≡ state_at p.level (stored p) index
-      → AreWrittenAhead at to level levels now_levels → ((k : ℕ) → h.index ≤ k → k < index → get_or (levels_of p) k 0 ≡ level)
+      → now_levels ≡ filled at (to - at) level levels → ((k : ℕ) → h.index ≤ k → k < index → get_or (levels_of p) k 0 ≡ level)
       → length now_classes ≡ length classes → ((v : ℕ) → v < at → class_at now_classes v ≡ class_at classes v) → ((v : ℕ) → to ≤ v → class_at now_classes v ≡ class_at classes v)
       → ((v : ℕ) → at ≤ v → v < to → (w : UnitOf p.len_of p.chars v) → h.index ≤ w.index → w.index < index → class_at now_classes v ≡ class_at (classes_of p) w.index)
       → IsCutTo p.len_of p.chars (stored p) (levels_of p) index now_runs now.start now.last_level → IsReadTo p to next now_levels now_classes now_runs now
-  read-more next level now_levels now_classes now_runs now machine written each long below above new cut =
+  read-more next level now_levels now_classes now_runs now machine filled_is each long below above new cut =
       let upto : to ≤ text_len p.len_of p.chars = omega (arith, begins, place-le p.len_of p.chars index) in
       let from : at ≤ to = omega (arith, begins, h.begins, place-mono p.len_of p.chars h.index index order) in
+      let room : at + (to - at) ≤ length levels = omega (arith, h.levels_long) in
       let unit = λ (v : ℕ) (inside : v < to). unit_of p.len_of p.chars v (omega arith) in
       let first = λ (v : ℕ) (a : at ≤ v) (b : v < to). unit-from p h.has_units h.per_char h.index v (omega (arith, h.begins)) (unit v b) in
       let last = λ (v : ℕ) (b : v < to). unit-to p h.has_units h.per_char index v (omega (arith, begins)) (unit v b) in
@@ -241,16 +234,16 @@ module _ (p : Paragraph) (at : ℕ) (stack : State) (levels : List ℕ) (classes
         begins = begins;
         within = within;
         machine = machine;
-        levels_long = written.long ∙ h.levels_long;
+        levels_long = simp (filled_is, length-filled at (to - at) level levels room, h.levels_long);
         classes_long = long ∙ h.classes_long;
-        levels_written = λ v b. elim (cases_lt v at) [
-          | inl old ↦ written.below v old ∙ h.levels_written v old
+        levels_written = λ v b. simp filled_is (elim (cases_lt v at) [
+          | inl old ↦ filled-below at (to - at) level 0 levels room v old ∙ h.levels_written v old
           | inr a ↦ cc (
-            written.inside v a b,
+            filled-inside at (to - at) level 0 levels room v a (omega arith),
             each (unit v b).index (first v a b) (last v b),
             of_unit p h.has_units h.per_char 0 (levels_of p) v (unit v b) (levels_long p h.has_units h.per_char),
           )
-        ];
+        ]);
         classes_written = λ v b. elim (cases_lt v at) [
           | inl old ↦ below v old ∙ h.classes_written v old
           | inr a ↦ cc (new v a b (unit v b) (first v a b) (last v b), of_unit p h.has_units h.per_char L (classes_of p) v (unit v b) (classes_long p h.has_units h.per_char))
@@ -304,12 +297,12 @@ module _ (p : Paragraph) (from to : ℕ) (stack : State) (levels : List ℕ) (cl
 
   stretch-read : (level : ℕ) (override : Option BidiClass) (now_levels : List ℕ) (now_classes : List BidiClass) (now_runs : List (ℕ × ℕ)) (now : OpenRun)
       → level ≡ stack.top.status.level → override ≡ stack.top.status.override
-      → AreWrittenAhead from to level levels now_levels → IsOverridden override from to classes now_classes → IsCut end.index now_runs now.start now.last_level → IsReadTo p to stack now_levels now_classes now_runs now
-  stretch-read level override now_levels now_classes now_runs now level_is override_is written over cut =
+      → now_levels ≡ filled from (to - from) level levels → IsOverridden override from to classes now_classes → IsCut end.index now_runs now.start now.last_level → IsReadTo p to stack now_levels now_classes now_runs now
+  stretch-read level override now_levels now_classes now_runs now level_is override_is filled_is over cut =
       let still = state-to p h.has_units h.per_char h.index end.index end.order end.within plain end.index end.order
       (omega arith) in
       read-more p from stack levels classes runs run h to end.index end.there end.order end.within stack level now_levels now_classes now_runs now
-      (h.machine ∙ sym still) written
+      (h.machine ∙ sym still) filled_is
       (λ k above below. level-here k above below ∙ sym level_is) over.long over.below over.above
       (λ v above below w first last. grind (
         arith,
@@ -321,13 +314,13 @@ module _ (p : Paragraph) (from to : ℕ) (stack : State) (levels : List ℕ) (cl
 
   module _ (level : ℕ) (override : Option BidiClass) (now_levels : List ℕ) (now_classes : List BidiClass) (level_is : level ≡ stack.top.status.level)
       (override_is : override ≡ stack.top.status.override)
-      (written : AreWrittenAhead from to level levels now_levels) (over : IsOverridden override from to classes now_classes) (v : ℕ) (first : IsFirst is_kept_in_place p.original from to v) where
+      (filled_is : now_levels ≡ filled from (to - from) level levels) (over : IsOverridden override from to classes now_classes) (v : ℕ) (first : IsFirst is_kept_in_place p.original from to v) where
     -- its first kept character, if there is one, meets the run
     pub stretch-met : (some : Bool) → (some ≡ true → v < to) → (some ≡ false → to ≤ v) → (kept : Option ℕ) → kept ≡ then_some some v
         → IsReadTo p to stack now_levels now_classes (runs_met kept level run runs) (run_met kept level run)
     stretch-met some inside past kept kept_is = elim (cases_Bool some) [
-      | inl set ↦ simp (kept_is, set) (stretch-read level override now_levels now_classes _ _ level_is override_is written over (cut-some v level level_is first (inside set)))
-      | inr none ↦ simp (kept_is, none) (stretch-read level override now_levels now_classes runs run level_is override_is written over (cut-before end.index to end.there end.order
+      | inl set ↦ simp (kept_is, set) (stretch-read level override now_levels now_classes _ _ level_is override_is filled_is over (cut-some v level level_is first (inside set)))
+      | inr none ↦ simp (kept_is, none) (stretch-read level override now_levels now_classes runs run level_is override_is filled_is over (cut-before end.index to end.there end.order
           (omega arith) (λ u above below. first.before u above (omega (arith, past none)))))
     ]
 
@@ -379,7 +372,7 @@ module _ (p : Paragraph) (at : ℕ) (stack : State) (levels : List ℕ) (classes
         let one = λ (k : ℕ) (above : h.index ≤ k) (below : k < h.index + 1). let same : k ≡ h.index = omega arith in same in
         read-more p at stack levels classes runs run h next (h.index + 1) there (omega arith) (omega (arith, control-fits)) now level now_levels now_classes now_runs now_run
         (next_at p.len_of p.chars p.level (stored p) h.index within (class_at p.original at) control-class stack now level put now_is level_is put_is h.machine)
-        (ahead levels at next level now_levels levels_are (omega (arith, control-some next ends)) (omega (arith, room, h.levels_long, h.classes_long))) (λ k above below. cc (one k above below, level-at_control))
+        levels_are (λ k above below. cc (one k above below, level-at_control))
         (grind (arith, length-filled)) (λ v below. grind (arith, filled-below)) (λ v above. grind (
           arith,
           filled-above,

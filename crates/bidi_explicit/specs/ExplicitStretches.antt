@@ -35,12 +35,6 @@ pub record IsOverridden (override : Option BidiClass) (from to : ℕ) (old new :
   pub above : (u : ℕ) → to ≤ u → class_at new u ≡ class_at old u
   pub long : length new ≡ length old
 
--- a level was written to the units from `from` up to `to`, and maybe to some behind them, which are not read yet
-pub record AreWrittenAhead (from to level : ℕ) (old new : List ℕ) : Type 0 where
-  pub inside : (u : ℕ) → from ≤ u → u < to → get_or new u 0 ≡ level
-  pub below : (u : ℕ) → u < from → get_or new u 0 ≡ get_or old u 0
-  pub long : length new ≡ length old
-
 -- a paragraph, with the stored class of each unit
 pub record Paragraph : Type 0 where
   pub len_of : ℕ → ℕ

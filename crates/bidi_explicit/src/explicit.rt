@@ -4,7 +4,6 @@
 ghost use Rattle.std.specs.Prelude.{◌≡◌, ℕ, ◌+◌, ◌*◌, ◌-◌, ◌≤◌, length, map, OnOk, IfOk};
 ghost use Rattle.bidi_base.specs.InPlace.{AreExplicitLevels, CanFindExplicitLevels};
 ghost use Rattle.bidi_base.specs.Units.{bounds};
-ghost use Rattle.bidi_explicit.specs.ExplicitStretches.{AreWrittenAhead};
 ghost use Rattle.bidi_explicit.specs.Stride.{count_of};
 ghost use Rattle.bidi_runs.specs.ExplicitPass.{filled, runs_before, run_start as run_start_after};
 
@@ -64,23 +63,6 @@ fn write_level(levels: &mut [Level], from: usize, to: usize, level: Level)
         levels[from] = level;
     } else if to - from <= 3 {
         fill_few(levels, from, to - from, level);
-    } else {
-        levels[from..to].fill(level);
-    }
-}
-
-// So many levels are written at once.
-const BLOCK: usize = 16;
-
-// Writes a level to the code units of a stretch from `from` up to `to`, and maybe to some behind it, whose levels
-// are written later. A whole block is written faster than a part of one.
-fn write_ahead(levels: &mut [Level], from: usize, to: usize, level: Level)
-    requires ordered { from ≤ to }
-    requires within { to ≤ length levels.old }
-    ensures { AreWrittenAhead from to level levels.old levels.new }
-{
-    if to - from <= BLOCK && levels.len() - from >= BLOCK {
-        levels[from..from + BLOCK].fill(level);
     } else {
         levels[from..to].fill(level);
     }
@@ -309,7 +291,7 @@ pub(crate) fn compute_by<T: TextSource, S: Ledger, L: Ledger>(
                 steps,
                 looked,
             );
-            write_ahead(levels, at, stretch.end, stretch.level);
+            write_level(levels, at, stretch.end, stretch.level);
             stretch
         };
         run.meet(runs, &progress)?;

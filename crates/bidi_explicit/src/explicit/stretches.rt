@@ -9,8 +9,9 @@ ghost use Rattle.bidi_base.specs.Search.{IsFirst};
 ghost use Rattle.bidi_base.specs.StatusMachine.{State};
 ghost use Rattle.bidi_base.specs.Text.{char_index, is_per_char, place, text_len};
 ghost use Rattle.bidi_base.specs.Units.{bounds};
+ghost use Rattle.bidi_runs.specs.ExplicitPass.{filled};
 ghost use Rattle.bidi_explicit.specs.Control.{is_control};
-ghost use Rattle.bidi_explicit.specs.ExplicitStretches.{paragraph_of, run_met, runs_met, AreWrittenAhead, IsOverridden, IsReadTo, IsStart, IsUnread, ReadsOn};
+ghost use Rattle.bidi_explicit.specs.ExplicitStretches.{paragraph_of, run_met, runs_met, IsOverridden, IsReadTo, IsStart, IsUnread, ReadsOn};
 ghost use Rattle.bidi_explicit.specs.Status.{entry_count, seen};
 ghost use Rattle.bidi_explicit.specs.Stride.{count_to};
 
@@ -346,7 +347,7 @@ impl<'p, T: TextSource> Paragraph<'p, T> {
         requires classes { length classes.old ≡ length self.now.original_classes.now }
         requires unread { IsUnread self.now.original_classes.now classes.old from }
         ensures read { (stack : State) (levels written : List ℕ) → seen status ≡ stack.top
-            → AreWrittenAhead from result.end result.level levels written
+            → written ≡ filled from (result.end - from) result.level levels
             → ReadsOn (paragraph_of T.units (T.characters self.now.text) self.now.level self.now.original_classes.now)
             from stack levels classes.old result stack written classes.new }
         ensures some { from < result.end }

@@ -24,7 +24,7 @@ loop-at-preserved g c = elim c.if-is_control.branch [
     grind arith,
   )
   | else-is_control w ↦ (
-    simp (w.levels-is, w.processing_classes-is, w.stack-is, w.progress-is, c.in_ok-meet.ensures.runs, c.in_ok-meet.ensures.run) (w.read_stretch-stretch.ensures.read _ _ _ w.top.ensures w.write_ahead.ensures _ _ c.loop-at.invariant.0),
+    simp (w.levels-is, w.processing_classes-is, w.stack-is, w.progress-is, c.in_ok-meet.ensures.runs, c.in_ok-meet.ensures.run) (w.read_stretch-stretch.ensures.read _ _ _ w.top.ensures w.write_level.ensures _ _ c.loop-at.invariant.0),
     grind arith,
     grind arith,
     grind arith,
