@@ -1,12 +1,13 @@
 //! The tests that searches use on the classes of a sequence. They have no branch, so that many code units
 //! are tested at once.
 
-ghost use Rattle.std.specs.Prelude.{◌≡◌, ◌&&◌, not};
+ghost use Rattle.std.specs.Prelude.{◌≡◌, ◌≤◌, ◌&&◌, not, length};
 ghost use Rattle.bidi_base.specs.Classes.{has_direction, is_kept_in_place, same_class, stands_for};
+ghost use Rattle.bidi_base.specs.Search.{IsFirst};
 ghost use Rattle.bidi_base.specs.declared.char_data.BidiClass.TheVariants.{ON};
 
 use bidi_base::char_data::BidiClass::{self, AN, EN, L, R};
-use bidi_base::search::ClassTest;
+use bidi_base::search::{ClassTest, first_passing};
 use bidi_runs::written::is_kept_in_place;
 
 /// The class that brackets have, among others: ON.
@@ -51,6 +52,53 @@ impl ClassTest for For {
 
     fn passes(self, class: BidiClass) -> bool {
         is_for(self.0, class)
+    }
+}
+
+/// Classes that stand for L.
+#[derive(Clone, Copy, Debug)]
+struct ForL;
+
+impl ClassTest for ForL {
+    ghost use Rattle.bidi_base.specs.declared.char_data.BidiClass.TheVariants.{L};
+
+    ghost test = { λ _. stands_for L };
+
+    fn passes(self, class: BidiClass) -> bool {
+        class == L
+    }
+}
+
+/// Classes that stand for R.
+#[derive(Clone, Copy, Debug)]
+struct ForR;
+
+impl ClassTest for ForR {
+    ghost use Rattle.bidi_base.specs.declared.char_data.BidiClass.TheVariants.{R};
+
+    ghost test = { λ _. stands_for R };
+
+    fn passes(self, class: BidiClass) -> bool {
+        (class == R) | (class == EN) | (class == AN)
+    }
+}
+
+/// Returns the first index in `from..to` with a class that stands for a direction, or else `to`. A search for known
+/// classes is shorter, so there is a test for each direction.
+pub fn first_standing_for(
+    direction: BidiClass,
+    classes: &[BidiClass],
+    from: usize,
+    to: usize,
+) -> usize
+    requires ordered { from ≤ to }
+    requires inside { to ≤ length classes.now }
+    ensures { IsFirst (stands_for direction) classes.now from to result }
+{
+    match direction {
+        L => first_passing(ForL, classes, from, to),
+        R => first_passing(ForR, classes, from, to),
+        _ => first_passing(For(direction), classes, from, to),
     }
 }
 

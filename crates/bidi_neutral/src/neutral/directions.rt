@@ -12,7 +12,7 @@ ghost use Rattle.bidi_runs.specs.Written.{seen_units};
 ghost use Rattle.bidi_neutral.specs.PairWalk.{opposite_of};
 ghost use Rattle.bidi_runs.specs.Written.{is_seen, IsWrittenOver};
 
-use super::class_tests::{AnyDirection, For, KeptNotFor};
+use super::class_tests::{AnyDirection, For, KeptNotFor, first_standing_for};
 use super::near::find_near;
 use bidi_base::char_data::BidiClass::{self, L, R};
 use bidi_base::classes::{is_neutral, stands_for};
@@ -183,7 +183,7 @@ impl Join {
                 _ => {}
             }
         }
-        first_passing(For(self.opposite), classes, from, end)
+        first_standing_for(self.opposite, classes, from, end)
     }
 
     /// Passes over a stretch of the opposite direction, in the run at the index `run`. Returns where it

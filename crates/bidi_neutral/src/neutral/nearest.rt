@@ -6,10 +6,9 @@ ghost use Rattle.bidi_base.specs.Places.{class_at};
 ghost use Rattle.bidi_base.specs.Units.{bounds, are_ordered, units_in_runs};
 ghost use Rattle.bidi_neutral.specs.PairWalk.{IsFirstFor, IsNearestBefore, IsRunOf};
 
-use super::class_tests::For;
+use super::class_tests::first_standing_for;
 use bidi_base::char_data::BidiClass;
 use bidi_base::classes::as_direction;
-use bidi_base::search::first_passing;
 use bidi_runs::prepare::LevelRun;
 use bidi_runs::written::is_kept_in_place;
 
@@ -74,7 +73,7 @@ pub fn first_for(
     for run in runs {
         let end = run.end.min(to);
         let start = run.start.max(from).min(end);
-        let unit = first_passing(For(direction), classes, start, end);
+        let unit = first_standing_for(direction, classes, start, end);
         if unit < end {
             return unit;
         }

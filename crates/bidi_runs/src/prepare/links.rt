@@ -219,6 +219,7 @@ impl RunLinks {
     /// of any other sequence are copied to the end of `runs`, in place of those of the sequence before. Only
     /// then can the call allocate. After success, `runs` still begins with the linked runs. After an error, nothing
     /// is promised about it.
+    #[inline(always)]
     pub fn gather(
         &self,
         runs: &mut LevelRunVec,
