@@ -2,6 +2,7 @@
 //! each row, and compares their results.
 #![tactic(auto)]
 
+mod bracket_pairs;
 mod counted;
 mod implicit_levels;
 mod neutrals;
@@ -25,7 +26,7 @@ pub fn run(
     match row.kind {
         "weak types" => weak_types::run_list(alloc, row, tally)?,
         "weak types in place" => weak_types::run_units(alloc, row, tally)?,
-        "pairs" => neutrals::run_pairs(alloc, tables, row, tally)?,
+        "pairs" => bracket_pairs::run_pairs(alloc, tables, row, tally)?,
         "neutrals" => neutrals::run_list(alloc, tables, row, tally)?,
         "neutrals in place" => neutrals::run_units(alloc, tables, row, tally)?,
         "levels of a sequence" => neutrals::run_levels(alloc, tables, row, tally)?,

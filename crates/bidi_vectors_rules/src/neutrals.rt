@@ -1,4 +1,4 @@
-//! Rows of bracket pairs (BD16), of neutrals (N0 to N2) and of the levels that follow, over lists and in place.
+//! Rows of neutrals (N0 to N2) and of the levels that follow, over lists and in place.
 
 ghost use Rattle.std.specs.Prelude.{map, OnOk};
 ghost use Rattle.std.specs.Char.{len_utf8};
@@ -6,16 +6,17 @@ ghost use Rattle.std.specs.Str.{chars};
 ghost use Rattle.bidi_base.specs.InPlace.{CanResolveNeutrals};
 ghost use Rattle.bidi_base.specs.Units.{bounds};
 
+use crate::bracket_pairs::brackets_of;
 use crate::units::{Sequence, sequences_of_field, whole_sequence_of};
 use crate::weak_types::class_field;
 use bidi_base::char_data::BidiClass;
-use bidi_base::data_source::{BidiDataSource, BidiMatchedOpeningBracket, TableBidiData};
+use bidi_base::data_source::{BidiMatchedOpeningBracket, TableBidiData};
 use bidi_base::level::Level;
-use bidi_plain::plain::{implicit, neutral, pairs, weak};
+use bidi_plain::plain::{implicit, neutral, weak};
 use bidi_rules::implicit::{NeutralResolver, resolve_neutral};
 use bidi_rules::prepare::IsolatingRunSequence;
 use bidi_text::text::{StrText, is_per_char};
-use bidi_vectors_format::answer::{class_words, classes_in, level_words, range_words};
+use bidi_vectors_format::answer::{class_words, classes_in, level_words};
 use bidi_vectors_format::class::classes_of;
 use bidi_vectors_format::fault::{RowFault, Why};
 use bidi_vectors_format::item::levels;
@@ -28,50 +29,6 @@ use bidi_vectors_resolve::conditions::{
 };
 use bidi_vectors_resolve::units::per_unit;
 use std::alloc::Global;
-
-// Returns the bracket of each character of a text, if it is one.
-fn brackets_of(
-    alloc: Global,
-    source: &TableBidiData,
-    text: &[char],
-) -> Result<Vec<Option<BidiMatchedOpeningBracket>>, RowFault> {
-    let mut brackets = Vec::new(alloc);
-    for c in text {
-        brackets.push(source.bidi_matched_opening_bracket(*c))?;
-    }
-    Ok(brackets)
-}
-
-// Returns the bracket pairs of a list.
-fn listed_pairs(
-    alloc: Global,
-    classes: &[BidiClass],
-    brackets: &[Option<BidiMatchedOpeningBracket>],
-    line: usize,
-) -> Result<Vec<(usize, usize)>, RowFault> {
-    if brackets.len() != classes.len() || !are_left(classes) {
-        return Err(RowFault::Line(line, Why::Classes));
-    }
-    Ok(pairs(alloc, classes, brackets)?)
-}
-
-/// Runs a row of a text, the classes of its characters, and its bracket pairs.
-pub fn run_pairs(
-    alloc: Global,
-    tables: &Tables,
-    row: &Row<'_>,
-    tally: &mut Tally,
-) -> Result<(), RowFault> {
-    row.has_only(&["text", "source", "classes", "pairs"])?;
-    let source = tables.source(row.line)?;
-    let text = RowText::of_row(alloc, row)?;
-    let classes = classes_of(alloc, row.field("classes")?)?;
-    let brackets = brackets_of(alloc, &source, text.chars.as_slice())?;
-    let found = listed_pairs(alloc, classes.as_slice(), brackets.as_slice(), row.line)?;
-    let words = range_words(alloc, found.as_slice());
-    tally.agree(row, "pairs", "plain::pairs", words);
-    Ok(())
-}
 
 // Resolves the neutrals of a sequence over lists.
 fn listed(
