@@ -1,13 +1,10 @@
 //! W1: a nonspacing mark takes the class of the character before it.
 
-ghost use Rattle.std.specs.Prelude.{◌≡◌, ℕ, ◌+◌, ◌-◌, ◌*◌, ◌<◌, ◌≤◌, true, List, length, map, find, reverse, All, IsTrue};
-ghost use Rattle.bidi_base.specs.declared.char_data.BidiClass.{BidiClass};
+ghost use Rattle.std.specs.Prelude.{◌≡◌, ◌+◌, ◌-◌, ◌*◌, ◌≤◌, length, map, find, reverse, All, IsTrue};
 ghost use Rattle.bidi_base.specs.Classes.{is_kept_in_place, is_l_or_r, is_nsm};
-ghost use Rattle.bidi_base.specs.Places.{class_at};
-ghost use Rattle.bidi_base.specs.Units.{bounds, are_ordered, in_runs, units_in_runs};
+ghost use Rattle.bidi_base.specs.Units.{bounds, are_ordered, units_in_runs};
 ghost use Rattle.bidi_base.specs.Weak.{carried};
 ghost use Rattle.bidi_weak.specs.WeakWalk.{is_any_of, two_a_unit, IsMarked, Marks};
-ghost use Rattle.bidi_runs.specs.Written.{is_seen};
 
 use bidi_base::char_data::BidiClass::{self, FSI, LRI, ON, PDI, RLI};
 use bidi_base::classes::is_nsm;

@@ -1,4 +1,4 @@
-use Rattle.bidi_base.proofs.Common.{inl, inr, arith, get_or-map, length-map, and_parts}
+use Rattle.bidi_base.proofs.Common.{inl, arith, get_or-map, length-map, and_parts}
 use Rattle.bidi_paragraphs.proofs.settled.has_one_direction.Goals as goal
 
 pub returns-then-eq-2 : goal.returns-then-eq-2
