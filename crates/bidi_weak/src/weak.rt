@@ -41,7 +41,7 @@ fn part_of<'c>(classes: &'c [BidiClass], run: &LevelRun) -> &'c [BidiClass]
 /// BN stays BN, and code units outside the sequence do not change. Does not allocate.
 ///
 /// Tests whether there are any nonspacing marks and numbers. Besides these tests, it passes over the code
-/// units at most once for marks, once for numbers, and once for what is left. Terminators and separators
+/// units at most twice for marks, twice for numbers, and once for what is left. Terminators and separators
 /// that wait for the next character are passed over once more.
 pub fn resolve_weak<T: TextSource>(
     text: T,
@@ -59,8 +59,8 @@ pub fn resolve_weak<T: TextSource>(
 /// calls.
 ///
 /// There is at least one iteration for each character in the runs, and at most eight for each code unit. A
-/// character that depends on a later one waits until that is read. The passes never search ahead, so they
-/// do not pass over a stretch of BN for each code unit before it. Calls of the text and of the library
+/// character that depends on a later one waits until that is read. The passes do not search ahead for what it
+/// depends on, so they do not pass over a stretch of BN for each code unit before it. Calls of the text and of the library
 /// count as no iterations. A second count, which the call opens itself, has the code units that calls of the
 /// library look at.
 pub fn resolve_weak_counted<T: TextSource, S: Ledger>(

@@ -35,7 +35,7 @@ pub fn resolve_marks<S: Ledger, L: Ledger>(
     }
 }
 
-/// So many code units are tested together.
+/// The number of code units that are tested together.
 const BLOCK: usize = 16;
 
 /// Applies W1 to one run after a character of the class `before`. Returns the class of the last character
@@ -50,7 +50,8 @@ fn resolve_marks_in<S: Ledger, L: Ledger>(
     requires ordered { run.now.start ≤ run.now.end }
     requires within { run.now.end ≤ length classes.old }
     ensures marked { Marks run.now.start run.now.end before result classes.old classes.new }
-    ensures steps { steps.new ≡ steps.old + (run.now.end - run.now.start) }
+    ensures at_least { steps.old + (run.now.end - run.now.start) ≤ steps.new }
+    ensures at_most { 16 * steps.new ≤ 16 * steps.old + 17 * (run.now.end - run.now.start) }
     ensures looked { looked.new ≤ looked.old + 2 * (run.now.end - run.now.start) }
 {
     let end = run.end;
@@ -59,6 +60,7 @@ fn resolve_marks_in<S: Ledger, L: Ledger>(
     while end - at >= BLOCK {
         let next = at + BLOCK;
         last = if is_mark_in(&classes[at..next], looked) {
+            steps.tick();
             resolve_each_mark(at, next, last, classes, steps)
         } else {
             steps.tick_by(BLOCK);

@@ -181,8 +181,10 @@ impl Walk {
         ensures first_run { self.new.first_run ≡ self.old.first_run }
         ensures passes { Passes at result end self.old self.new classes.now }
         ensures asked { result < end → is_asked (class_at classes.now result) ≡ true }
-        ensures steps { steps.new + (at + 1) ≡ steps.old + result }
+        ensures at_least { steps.old ≤ steps.new }
+        ensures at_most { steps.new + (at + 1) ≤ steps.old + min (result + 1) end }
         ensures looked { looked.new ≤ looked.old + 6 * (result - at) }
+        ensures looked_past { looked.new ≤ looked.old + 2 * (result - at) + 16 }
     {
         let next = next_passing(Asked, classes, at + 1, end, steps, looked);
         self.strong = last_strong(&classes[at..next], looked).unwrap_or(self.strong);

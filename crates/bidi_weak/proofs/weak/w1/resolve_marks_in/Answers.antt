@@ -39,6 +39,7 @@ loop-at-preserved g c =
       end = h.end;
       long = h.long;
       marked = Marks-more c.args.run.now.start at (at + 16) c.args.before last c.unwrap_or-last.result c.args.classes.now now now h.starts (omega arith) h.marked block;
-      steps = grind arith;
+      at_least = omega (arith, h.at_least, h.starts, c.tick_by.ensures);
+      at_most = omega (arith, h.at_most, h.starts, c.tick_by.ensures);
       looked = grind arith;
     }
