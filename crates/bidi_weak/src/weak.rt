@@ -60,9 +60,9 @@ pub fn resolve_weak<T: TextSource>(
 ///
 /// There is at least one iteration for each character in the runs, and at most eight for each code unit. A
 /// character that depends on a later one waits until that is read. The passes do not search ahead for what it
-/// depends on, so they do not pass over a stretch of BN for each code unit before it. Calls of the text and of the library
-/// count as no iterations. A second count, which the call opens itself, has the code units that calls of the
-/// library look at.
+/// depends on, so they do not pass over a stretch of BN for each code unit before it. Calls of the text and
+/// of the library count as no iterations. A second count, which the call opens itself, has the code units
+/// that searches look at.
 pub fn resolve_weak_counted<T: TextSource, S: Ledger>(
     text: T,
     sequence: &IsolatingRunSequence,
