@@ -1,7 +1,7 @@
--- A list of classes to which W1 to N2 give one direction, or in which they change nothing: its levels can be read off before W1.
-use Rattle.bidi_base.proofs.Common.{◌≡◌, ℕ, Bool, true, false, not, ◌&&◌, cond, if◌then◌else◌, List, [], ◌∷◌, ◌⊎◌, inl, inr, length, take}
+-- A list of classes to which W1 to N2 give one direction: its levels can be read off before W1.
+use Rattle.bidi_base.proofs.Common.{◌≡◌, ℕ, Bool, true, false, not, cond, if◌then◌else◌, List, [], ◌∷◌, ◌⊎◌, inl, inr, length, take}
 use Rattle.bidi_base.proofs.Common.{reverse, filter_map, find, Option, Some, None, option_map, refl, sym, ap, ◌∙◌, arith}
-use Rattle.bidi_base.proofs.Common.{cases_Bool, and_parts, and_from, list_all, list_any, in_context, as_direction, is_en, is_et, is_kept, is_l_or_r, is_neutral, is_nsm, is_weak_resolved, same_class}
+use Rattle.bidi_base.proofs.Common.{cases_Bool, and_parts, and_from, or_cases, list_all, list_any, in_context, as_direction, is_en, is_et, is_kept, is_l_or_r, is_neutral, is_nsm, is_weak_resolved, same_class}
 use Rattle.bidi_base.proofs.Common.{carried, nearest, nearest_is, w1, w2, w3, w4, w5, w6, w1_rule, w2_rule, w3_rule, w4_rule, w5_rule, w6_rule, w7_rule, weak_classes}
 use Rattle.bidi_base.proofs.Common.{direction_of, nearest_direction, pair_direction, n0, n1_rule, neutral_classes, implicit_level, implicit_levels}
 use Rattle.bidi_base.specs.Brackets.{bracket_pairs}
@@ -38,14 +38,15 @@ pub nearest-passes : (p test : BidiClass → Bool) (xs : List BidiClass) (d : Bi
 nearest-passes p test [] d h k = k
 nearest-passes p test (x ∷ xs) d h k = grind (arith, cases_Bool (test x), and_parts, nearest-passes p test xs d)
 
+-- the first class is no mark
+abbrev pub begins_unmarked : List BidiClass → Bool
+begins_unmarked [] = true
+begins_unmarked (c ∷ cs) = not (is_nsm c)
+
 module _ (e : BidiClass) (side : is_l_or_r e ≡ true) where
   -- a class of a character whose level is not raised
   abbrev pub stays : BidiClass → Bool
   stays c = not (raises e c)
-
-  -- and that is no mark
-  abbrev pub stays_unmarked : BidiClass → Bool
-  stays_unmarked c = stays c && not (is_nsm c)
 
   stays-itself : stays e ≡ true
   unfolding raises
@@ -62,9 +63,28 @@ module _ (e : BidiClass) (side : is_l_or_r e ≡ true) where
   stays-w1 sos s before NSM after h k = carried-stays (nearest (λ c. not (is_nsm c)) before sos) (nearest-passes stays (λ c. not (is_nsm c)) before sos h s)
   stays-w1 sos s before c after h k = k
 
-  unmarked-w1 : (sos : BidiClass) (before : List BidiClass) (c : BidiClass) (after : List BidiClass) → list_all stays_unmarked before ≡ true → stays_unmarked c ≡ true → stays (w1_rule sos before c after) ≡ true
-  unmarked-w1 sos before NSM after h k = absurd (cc (and_parts (stays NSM) false k).1)
-  unmarked-w1 sos before c after h k = (and_parts (stays c) (not (is_nsm c)) k).0
+  -- behind a class that is no mark, none takes sos
+  nearest-found : (xs : List BidiClass) (d : BidiClass) → list_all stays xs ≡ true → list_any (λ c. not (is_nsm c)) xs ≡ true → stays (nearest (λ c. not (is_nsm c)) xs d) ≡ true
+  nearest-found [] d h k = absurd (cc k)
+  nearest-found (x ∷ xs) d h k = grind (arith, cases_Bool (is_nsm x), and_parts, nearest-found xs d)
+
+  behind-w1 : (sos : BidiClass) (before : List BidiClass) (c : BidiClass) (after : List BidiClass)
+      → list_all stays before ≡ true → list_any (λ c. not (is_nsm c)) before ≡ true → stays c ≡ true → stays (w1_rule sos before c after) ≡ true
+  behind-w1 sos before NSM after h some k = carried-stays (nearest (λ c. not (is_nsm c)) before sos) (nearest-found before sos h some)
+  behind-w1 sos before c after h some k = k
+
+  all-behind : (sos : BidiClass) (before xs : List BidiClass) → list_all stays before ≡ true → list_any (λ c. not (is_nsm c)) before ≡ true → list_all stays xs ≡ true
+      → list_all stays (in_context (w1_rule sos) before xs) ≡ true
+  all-behind sos before [] h some k = refl
+  all-behind sos before (x ∷ xs) h some k =
+      grind (arith, and_parts, and_from, or_cases, behind-w1 sos before x xs h some, all-behind sos (x ∷ before) xs)
+
+  unmarked-w1 : (sos : BidiClass) (classes : List BidiClass) → begins_unmarked classes ≡ true → list_all stays classes ≡ true → list_all stays (w1 sos classes) ≡ true
+  unmarked-w1 sos [] first all = refl
+  unmarked-w1 sos (NSM ∷ cs) first all = absurd (cc first)
+  unmarked-w1 sos (c ∷ cs) first all =
+      let none : is_nsm c ≡ false = grind arith in
+      grind (arith, none, and_parts, and_from, all-behind sos (c ∷ []) cs)
 
   stays-w2 : (sos : BidiClass) (before : List BidiClass) (c : BidiClass) (after : List BidiClass) → list_all stays before ≡ true → stays c ≡ true → stays (w2_rule sos before c after) ≡ true
   unfolding raises
@@ -225,7 +245,7 @@ unfolding neutral_classes
 length-neutral_classes level sos eos source brackets classes = grind (arith, length-in_context, length-n0)
 
 pub KeepLevels-one : (level : ℕ) (sos eos : BidiClass) (source : List BidiClass) (brackets : List (Option BidiMatchedOpeningBracket)) (classes : List BidiClass)
-    → is_l_or_r sos ≡ true → (sos ≡ direction_of level) ⊎ ((eos ≡ direction_of level) × (list_all (λ c. not (is_nsm c)) classes ≡ true))
+    → is_l_or_r sos ≡ true → (sos ≡ direction_of level) ⊎ ((eos ≡ direction_of level) × (begins_unmarked classes ≡ true))
     → list_all is_kept classes ≡ true → list_all (λ c. not (raises (direction_of level) c)) classes ≡ true → KeepLevels level sos eos source brackets classes
 KeepLevels-one level sos eos source brackets classes begins sides kept all =
     same_levels level classes (neutral_classes level sos eos source brackets (weak_classes sos classes)) all
@@ -242,12 +262,8 @@ KeepLevels-one level sos eos source brackets classes begins sides kept all =
     one : (sos ≡ e) ⊎ (eos ≡ e)
     one = elim sides [ inl is ↦ inl is | inr is ↦ inr is.0 ]
 
-    unmarked : (cs : List BidiClass) → list_all (λ c. not (raises e c)) cs ≡ true → list_all (λ c. not (is_nsm c)) cs ≡ true → list_all (stays_unmarked e side) cs ≡ true
-    unmarked [] h k = refl
-    unmarked (c ∷ cs) h k = grind (arith, and_parts, and_from, unmarked cs)
-
     after_w1 : list_all (stays e side) (w1 sos classes) ≡ true
     after_w1 = elim sides [
       | inl is ↦ list_all-in_context (w1_rule sos) (stays e side) (stays e side) (stays-w1 e side sos (ap (stays e side) is ∙ stays-itself e side)) [] classes refl all
-      | inr is ↦ list_all-in_context (w1_rule sos) (stays_unmarked e side) (stays e side) (unmarked-w1 e side sos) [] classes refl (unmarked classes all is.1)
+      | inr is ↦ unmarked-w1 e side sos classes is.1 all
     ]

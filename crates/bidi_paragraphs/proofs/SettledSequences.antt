@@ -1,5 +1,5 @@
 -- The levels of a settled sequence can be read off its classes.
-use Rattle.bidi_base.proofs.Common.{◌≡◌, ℕ, zero, suc, ◌+◌, ◌-◌, ◌<◌, ◌≤◌, Bool, true, not, ◌&&◌, List, [], ◌∷◌, length, get_or, map, find, Some, refl, sym, ap, arith, nat_lt, filter, All, list_all}
+use Rattle.bidi_base.proofs.Common.{◌≡◌, ℕ, zero, suc, ◌+◌, ◌-◌, ◌<◌, ◌≤◌, Bool, true, false, not, ◌&&◌, List, [], ◌∷◌, length, get_or, map, find, Some, refl, sym, ap, arith, nat_lt, filter, All, list_all}
 use Rattle.bidi_base.proofs.Common.{cases_Bool, and_parts, and_from, All-head, All-tail, All-nil, All-cons, All-map, bounds}
 use Rattle.bidi_base.proofs.Common.{are_ordered, is_l_or_r, is_en, is_kept, is_nsm, is_kept_in_place, is_weak_resolved, in_context}
 use Rattle.bidi_base.proofs.Common.{w1_rule, w2_rule, w3_rule, w4_rule, w5_rule, w6_rule, w7_rule, weak_classes, class_at, at_places, text_len, place, in_runs, units_in_runs, chars_in_runs}
@@ -17,7 +17,7 @@ use Rattle.bidi_neutral.proofs.FirstKept.{first_kept-is, first-Some}
 use Rattle.bidi_neutral.proofs.NeutralUnits.{places_in_runs}
 use Rattle.bidi_runs.specs.RunSequence.{lent_runs, lent_sos, lent_eos}
 use Rattle.bidi_runs.specs.declared.prepare.lent.LentSequence.{LentSequence}
-use Rattle.bidi_paragraphs.proofs.OneLevel.{GiveLevels, KeepLevels, KeepLevels-one}
+use Rattle.bidi_paragraphs.proofs.OneLevel.{begins_unmarked, GiveLevels, KeepLevels, KeepLevels-one}
 use Rattle.bidi_paragraphs.proofs.NumbersAfterL.{GiveLevels-numbers}
 use Rattle.bidi_paragraphs.specs.Settled.{raises, is_directed, is_r_al_or_an, number_as_l, first_unit, own_direction, AreNumbersWritten, HasEuropeanNumbers, HasOneDirection, HasNoNeutral}
 
@@ -82,7 +82,7 @@ weak_classes-idle sos classes h =
       same-in_context (w7_rule sos) is_idle (same_w7 sos) [] classes h,
     )
 
--- ---- what stays and is kept
+-- ---- without neutrals: L and R
 
 directed-only : (c : BidiClass) → is_directed c ≡ true → is_kept_in_place c ≡ true → is_l_or_r c ≡ true
 unfolding is_directed
@@ -155,6 +155,10 @@ at_places-mapped f old new (p ∷ ps) a = simp (
   at_places-mapped f old new ps (All-tail (λ u. class_at new u ≡ f (class_at old u)) p ps a),
 )
 
+unmarked-places : (units : List BidiClass) (ps : List ℕ) → is_nsm (class_at units (first_or 0 ps)) ≡ false → begins_unmarked (at_places L units ps) ≡ true
+unmarked-places units [] h = refl
+unmarked-places units (p ∷ ps) h = grind arith
+
 filter_each : (test within : ℕ → Bool) (P : ℕ → Type 0) → ((k : ℕ) → within k ≡ true → test k ≡ true → P k) → (ks : List ℕ) → All (λ k. within k ≡ true) ks → All P (filter test ks)
 filter_each test within P holds [] a = All-nil P
 filter_each test within P holds (k ∷ ks) a =
@@ -191,9 +195,6 @@ module _ (len_of : ℕ → ℕ) (h : HasUnits len_of) (chars : List ℕ) (s : Le
       (filter_each (λ k. is_kept_in_place (class_at units (place len_of chars k))) (λ k. in_runs rs (place len_of chars k)) (λ k. P (place len_of chars k))
       (λ k inside kept. holds (place len_of chars k) inside kept) (chars_in_runs len_of chars rs) (places_in_runs len_of h chars rs lines))
 
-  classes : List BidiClass
-  classes = at_places L units places
-
   -- all classes that are kept pass a test
   kept_pass : (test : BidiClass → Bool) → ((u : ℕ) → in_runs rs u ≡ true → is_kept_in_place (class_at units u) ≡ true → test (class_at units u) ≡ true) → list_all test (at_places L units places) ≡ true
   kept_pass test passes = list_all-at_places test units places (at_kept (λ u. test (class_at units u) ≡ true) passes)
@@ -213,7 +214,7 @@ module _ (len_of : ℕ → ℕ) (h : HasUnits len_of) (chars : List ℕ) (s : Le
       (KeepLevels-one (level_at levels (first_unit s)) (lent_sos s) (lent_eos s) source brackets (at_places L units places) side
       (elim one.sides [
         | inl before ↦ inl before
-        | inr behind ↦ inr (behind.0, kept_pass (λ c. not (is_nsm c)) (λ u inside kept. grind (arith, behind.1 u inside)))
+        | inr behind ↦ inr (behind.0, unmarked-places units places (ap (λ u. is_nsm (class_at units u)) (first-place one.kept) ∙ behind.1))
       ]) kept
       (kept_pass (λ c. not (raises (own_direction s levels) c)) (λ u inside kept. grind (arith, one.along u inside))))
   settled-keeps source brackets (inr none) kept =

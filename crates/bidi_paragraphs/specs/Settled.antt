@@ -34,16 +34,16 @@ AreInside s units = All (λ r. r.1 ≤ length units) (map bounds (lent_runs s))
 abbrev pub first_unit : LentSequence → ℕ
 first_unit s = (get_or (map bounds (lent_runs s)) 0 (0, 0)).0
 
--- the direction of the level there
+-- the direction of the level of the first unit
 abbrev pub own_direction : LentSequence → List ℕ → BidiClass
 own_direction s levels = direction_of (level_at levels (first_unit s))
 
--- the sequence begins with a character that X9 keeps, and no class raises a level; it has its direction before it, or else behind it and no mark
+-- the sequence begins with a character that X9 keeps, and no class raises a level; its direction is sos, or it is eos and the first character is no mark
 pub record HasOneDirection (s : LentSequence) (levels : List ℕ) (classes : List BidiClass) : Type 0 where
   pub kept : is_kept_in_place (class_at classes (first_unit s)) ≡ true
   pub along : (u : ℕ) → in_runs (map bounds (lent_runs s)) u ≡ true → raises (own_direction s levels) (class_at classes u) ≡ false
   pub sides : (lent_sos s ≡ own_direction s levels)
-      ⊎ ((lent_eos s ≡ own_direction s levels) × ((u : ℕ) → in_runs (map bounds (lent_runs s)) u ≡ true → is_nsm (class_at classes u) ≡ false))
+      ⊎ ((lent_eos s ≡ own_direction s levels) × (is_nsm (class_at classes (first_unit s)) ≡ false))
 
 -- the sequence has the direction L after L, begins with a character that X9 keeps, and European numbers are all that raises a level
 pub record HasEuropeanNumbers (s : LentSequence) (levels : List ℕ) (classes : List BidiClass) : Type 0 where

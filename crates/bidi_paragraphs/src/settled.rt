@@ -11,11 +11,11 @@ use bidi_base::level::Level;
 use bidi_base::search::{ClassTest, first_passing};
 use bidi_rules::prepare::{LentSequence, LevelRun};
 
-/// Returns whether a look at a sequence shows that I1 and I2 give its classes the same levels as those after W1
-/// to N2.
+/// Returns whether I1 and I2 give the classes of a sequence the same levels as those after W1 to N2, as far as a
+/// look at the classes shows.
 ///
-/// Most isolates and embeddings are such sequences: a name, or a few words of one language. So are many texts
-/// around them. The look takes the place of two passes.
+/// Most isolates and embeddings are such sequences: a name, or a few words of one language. Many texts around them
+/// are too. The look takes the place of two passes.
 pub fn is_settled(sequence: LentSequence<'_>, levels: &[Level], classes: &[BidiClass]) -> bool
     requires inside { AreInside sequence classes.now }
     requires levels { length levels.now ≡ length classes.now }
@@ -24,25 +24,20 @@ pub fn is_settled(sequence: LentSequence<'_>, levels: &[Level], classes: &[BidiC
     has_one_direction(sequence, levels, classes) || has_no_neutral(sequence, classes)
 }
 
-/// Whether the direction of a sequence's level is before or behind it, and none of its classes raises a level. A
-/// mark at its start takes the class before it, so if that is the other direction, there must be no mark.
+/// Whether sos or eos is the direction of a sequence's level, and none of its classes raises a level.
+///
+/// X9 must keep the first character, because its level is that of the sequence. If sos is the other direction, it
+/// must not be a nonspacing mark either, because such a mark takes sos.
 fn has_one_direction(sequence: LentSequence<'_>, levels: &[Level], classes: &[BidiClass]) -> bool
     requires inside { AreInside sequence classes.now }
     requires levels { length levels.now ≡ length classes.now }
     ensures { IsTrue result → HasOneDirection sequence.entry levels.now classes.now }
 {
     let runs = sequence.runs();
-    if classes[runs[0].start] == BN {
-        return false;
-    }
+    let first = classes[runs[0].start];
     let direction = own_direction(sequence, levels);
-    if sequence.sos() == direction {
-        none_raises(direction, runs, classes)
-    } else {
-        sequence.eos() == direction
-            && none_passes(Mark, runs, classes)
-            && none_raises(direction, runs, classes)
-    }
+    let follows = sequence.sos() == direction || (sequence.eos() == direction && first != NSM);
+    first != BN && follows && none_raises(direction, runs, classes)
 }
 
 /// Whether no class of some runs raises a level in a sequence of this direction. A search for known classes is
@@ -75,10 +70,11 @@ fn has_no_neutral(sequence: LentSequence<'_>, classes: &[BidiClass]) -> bool
     none_passes(Undirected, sequence.runs(), classes)
 }
 
-/// If only European numbers raise a level in a sequence, and its direction and sos are L, writes L over them. Returns
+/// Writes L over the European numbers of a sequence, if W7 does so and no other class raises a level. Returns
 /// whether it did.
 ///
-/// W7 makes L of such numbers, and no other class raises a level then. A name with a number is such a sequence.
+/// The direction of the sequence's level and sos must be L, and X9 must keep its first character. An English
+/// sentence with a number is such a sequence.
 pub fn settle_numbers(
     sequence: LentSequence<'_>,
     levels: &[Level],
@@ -97,7 +93,7 @@ pub fn settle_numbers(
     settles
 }
 
-/// Whether European numbers are all that raises a level in a sequence of the direction L after L.
+/// Whether European numbers are all that raises a level in a sequence whose direction and sos are L.
 fn has_european_numbers(sequence: LentSequence<'_>, levels: &[Level], classes: &[BidiClass]) -> bool
     requires inside { AreInside sequence classes.now }
     requires levels { length levels.now ≡ length classes.now }
@@ -194,20 +190,6 @@ impl ClassTest for RaisingOdd {
     #[tactic(auto, unfolding(crate::specs::Settled::raises))]
     fn passes(self, class: BidiClass) -> bool {
         (class == L) | (class == EN) | (class == AN)
-    }
-}
-
-/// The class of nonspacing marks.
-#[derive(Clone, Copy, Debug)]
-struct Mark;
-
-impl ClassTest for Mark {
-    ghost use Rattle.bidi_base.specs.Classes.{is_nsm};
-
-    ghost test = { λ _. is_nsm };
-
-    fn passes(self, class: BidiClass) -> bool {
-        class == NSM
     }
 }
 
