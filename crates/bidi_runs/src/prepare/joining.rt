@@ -178,12 +178,9 @@ impl ClassTest for IsolateControl {
     }
 }
 
-// In a short run, what a search looks for is mostly among this many code units. They are tested one by one before
-// the search by blocks begins.
+// What a search looks for is mostly among this many code units. They are tested one by one before the search by
+// blocks begins.
 const NEAR: usize = 4;
-
-// A run of more code units than this is mostly text between two controls.
-const LONG: usize = 32;
 
 // The first index in `from..to` with a class that opens or closes an isolate, or else `to`.
 #[inline(always)]
@@ -192,9 +189,6 @@ fn next_control(classes: &[BidiClass], from: usize, to: usize) -> usize
     requires within { to ≤ length classes.now }
     ensures { IsFirst is_isolate_control classes.now from to result }
 {
-    if to - from > LONG {
-        return first_passing(IsolateControl, classes, from, to);
-    }
     for near in 0..NEAR {
         let at = from + near;
         if at == to || IsolateControl.passes(classes[at]) {
