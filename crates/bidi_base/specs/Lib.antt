@@ -22,6 +22,7 @@ pub mod Openers
 pub mod Order
 pub mod PairSearch
 pub mod Paragraphs
+pub mod PerChar
 pub mod Places
 pub mod Reading
 pub mod Search

@@ -1,5 +1,5 @@
 -- A text is a list of characters, and an encoding gives each character a length in code units.
-use Rattle.std.specs.Prelude.{◌≡◌, ℕ, ◌+◌, ◌-◌, ◌≤◌, Bool, true, ◌&&◌, ◌||◌, ◌==◌, nat_le, nat_lt, if◌then◌else◌, List, [], ◌∷◌, length, take, drop, get_or, map, zip, flat_map, replicate, sum_by, count_by, Option, Some, None, slice_range, IsTrue}
+use Rattle.std.specs.Prelude.{◌≡◌, ℕ, ◌+◌, ◌-◌, ◌<◌, ◌≤◌, Bool, true, ◌&&◌, ◌||◌, ◌==◌, nat_le, nat_lt, if◌then◌else◌, List, [], ◌∷◌, length, take, drop, get_or, map, zip, flat_map, replicate, sum_by, count_by, Option, Some, None, slice_range, IsTrue}
 use Rattle.std.specs.Char.{is_ascii}
 use Rattle.std.specs.List.{list_all}
 use Rattle.std.specs.Iterator.{Count, IsFinite, AlwaysYields}
@@ -11,6 +11,11 @@ text_len len_of chars = sum_by len_of chars
 -- the place of the k-th character: the units before it
 abbrev pub place : (ℕ → ℕ) → List ℕ → ℕ → ℕ
 place len_of chars k = sum_by len_of (take k chars)
+
+-- if a character begins at `start`, the next one begins at `next`, or the text ends there
+abbrev pub IsNextPlace : (ℕ → ℕ) → List ℕ → ℕ → ℕ → Type 0
+IsNextPlace len_of chars start next =
+    (k : ℕ) → k < length chars → start ≡ place len_of chars k → next ≡ place len_of chars (k + 1)
 
 -- each character with its place, where the first stands at `from`
 abbrev pub char_indices_from : (ℕ → ℕ) → ℕ → List ℕ → List (ℕ × ℕ)

@@ -1,7 +1,7 @@
 //! Steps from one character of a text to the next, by index.
 
-ghost use Rattle.std.specs.Prelude.{◌≡◌, ℕ, ◌<◌, ◌≤◌, ◌+◌, length, IsTrue};
-ghost use Rattle.bidi_base.specs.Text.{is_boundary, place, text_len};
+ghost use Rattle.std.specs.Prelude.{◌≡◌, ◌<◌, ◌≤◌, IsTrue};
+ghost use Rattle.bidi_base.specs.Text.{is_boundary, text_len, IsNextPlace};
 
 use bidi_text::text::TextSource;
 
@@ -10,8 +10,7 @@ pub fn end_of<T: TextSource>(text: T, start: usize) -> usize
     requires begins { IsTrue (is_boundary T.units (T.characters text) start) }
     requires inside { start < text_len T.units (T.characters text) }
     requires fits { text_len T.units (T.characters text) ≤ usize.MAX }
-    ensures { (k : ℕ) → k < length (T.characters text) → start ≡ place T.units (T.characters text) k
-        → result ≡ place T.units (T.characters text) (k + 1) }
+    ensures { IsNextPlace T.units (T.characters text) start result }
 {
     end_within(text, start, text.len())
 }
@@ -24,8 +23,7 @@ pub fn end_within<T: TextSource>(text: T, start: usize, len: usize) -> usize
     requires begins { IsTrue (is_boundary T.units (T.characters text) start) }
     requires inside { start < len }
     requires long { len ≡ text_len T.units (T.characters text) }
-    ensures { (k : ℕ) → k < length (T.characters text) → start ≡ place T.units (T.characters text) k
-        → result ≡ place T.units (T.characters text) (k + 1) }
+    ensures { IsNextPlace T.units (T.characters text) start result }
 {
     if start + 1 == len {
         return len;

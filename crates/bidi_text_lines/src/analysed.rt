@@ -1,10 +1,10 @@
 //! A text in any encoding, with its stored classes and levels, and what its lines show.
-ghost use Rattle.std.specs.Prelude.{◌≡◌, ◌<◌, IsTrue, IfOk, map};
+ghost use Rattle.std.specs.Prelude.{◌≡◌, ◌<◌, IfOk, map};
 ghost use Rattle.bidi_base.specs.Analysed.{IsLineOf, AreLevelsWithLine, AreLevelsOfLine, AreRunsOfLine, levels_with_line_per_char};
 ghost use Rattle.bidi_base.specs.Direction.{direction_of_levels};
 ghost use Rattle.bidi_base.specs.Display.{run_of};
 ghost use Rattle.bidi_base.specs.Levels.{has_rtl as has_rtl_of};
-ghost use Rattle.bidi_base.specs.Text.{is_per_char};
+ghost use Rattle.bidi_base.specs.PerChar.{HaveClass, HaveLevel};
 
 use crate::level_direction::direction_of;
 use bidi_base::char_data::{BidiClass, Direction};
@@ -25,9 +25,8 @@ pub struct Analysed<T: TextSource> {
     text: T,
     original_classes: Vec<BidiClass>,
     levels: Vec<Level>,
-    ghost classes_per_char: { IsTrue
-        (is_per_char ⟦<BidiClass as PartialEq>⟧.eq T.units (T.characters text) original_classes.items) },
-    ghost levels_per_char: { IsTrue (is_per_char ⟦<Level as PartialEq>⟧.eq T.units (T.characters text) levels.items) },
+    ghost classes_per_char: { HaveClass T.units (T.characters text) original_classes.items },
+    ghost levels_per_char: { HaveLevel T.units (T.characters text) levels.items },
 }
 
 impl<T: TextSource> Analysed<T> {
@@ -35,8 +34,8 @@ impl<T: TextSource> Analysed<T> {
 
     /// Returns a text with one class and one level for each code unit, which must be equal within each character.
     pub fn new(text: T, original_classes: Vec<BidiClass>, levels: Vec<Level>) -> Analysed<T>
-        requires classes { IsTrue (is_per_char ⟦<BidiClass as PartialEq>⟧.eq T.units (T.characters text) original_classes.items) }
-        requires levels { IsTrue (is_per_char ⟦<Level as PartialEq>⟧.eq T.units (T.characters text) levels.items) }
+        requires classes { HaveClass T.units (T.characters text) original_classes.items }
+        requires levels { HaveLevel T.units (T.characters text) levels.items }
         ensures text { text_of result ≡ text }
         ensures classes { (analysed result).classes ≡ original_classes.items }
         ensures levels { (analysed result).levels ≡ levels.items }
@@ -58,8 +57,7 @@ impl<T: TextSource> Analysed<T> {
     /// Returns the stored class of each code unit.
     pub fn original_classes(&self) -> &[BidiClass]
         ensures classes { result.now ≡ (analysed self.now).classes }
-        ensures per_char { let a = analysed self.now in
-            IsTrue (is_per_char ⟦<BidiClass as PartialEq>⟧.eq a.len_of a.chars result.now) }
+        ensures per_char { let a = analysed self.now in HaveClass a.len_of a.chars result.now }
     {
         self.original_classes.as_slice()
     }
@@ -67,7 +65,7 @@ impl<T: TextSource> Analysed<T> {
     /// Returns the stored level of each code unit.
     pub fn levels(&self) -> &[Level]
         ensures levels { result.now ≡ (analysed self.now).levels }
-        ensures per_char { let a = analysed self.now in IsTrue (is_per_char ⟦<Level as PartialEq>⟧.eq a.len_of a.chars result.now) }
+        ensures per_char { let a = analysed self.now in HaveLevel a.len_of a.chars result.now }
     {
         self.levels.as_slice()
     }

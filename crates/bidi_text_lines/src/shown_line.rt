@@ -5,7 +5,8 @@ ghost use Rattle.bidi_base.specs.Analysed.{AnalysedText, IsLineOf, AreLevelsOfLi
 ghost use Rattle.bidi_base.specs.Display.{run_of, visual_runs};
 ghost use Rattle.bidi_base.specs.Levels.{has_rtl as has_rtl_of};
 ghost use Rattle.bidi_base.specs.Order.{visual_order};
-ghost use Rattle.bidi_base.specs.Text.{text_len, per_char, is_per_char, IsLine};
+ghost use Rattle.bidi_base.specs.PerChar.{HaveClass, HaveLevel};
+ghost use Rattle.bidi_base.specs.Text.{text_len, per_char, IsLine};
 ghost use Rattle.bidi_lines.specs.LineRuns.{runs as kept_runs};
 ghost use Rattle.bidi_lines.specs.ShownLevels.{levels as kept_levels};
 ghost use Rattle.bidi_text_lines.specs.Written.{shown_units, AreRunsOfChars};
@@ -144,8 +145,8 @@ impl<T: TextSource> ShownLine<T> {
         line: Range<usize>,
     ) -> Result<(), AllocError>
         requires line { IsLine T.units (T.characters text) line.start line.end }
-        requires classes { IsTrue (is_per_char ⟦<BidiClass as PartialEq>⟧.eq T.units (T.characters text) classes.now) }
-        requires levels { IsTrue (is_per_char ⟦<Level as PartialEq>⟧.eq T.units (T.characters text) levels.now) }
+        requires classes { HaveClass T.units (T.characters text) classes.now }
+        requires levels { HaveLevel T.units (T.characters text) levels.now }
         ensures text { text_of self.new ≡ text }
         ensures shows { OnOk result (Shows self.new (with_lists T.units (T.characters text) classes.now levels.now) level line) }
         ensures empty { OnErr result (Shows self.new (with_lists T.units (T.characters text) classes.now levels.now) level

@@ -3,6 +3,7 @@
 ghost use Rattle.std.specs.Prelude.{IsTrue};
 ghost use Rattle.std.specs.Char.{len_utf8};
 ghost use Rattle.std.specs.Str.{chars};
+ghost use Rattle.bidi_base.specs.PerChar.{HaveClass, HaveLevel};
 ghost use Rattle.bidi_base.specs.Text.{is_per_char};
 ghost use Rattle.bidi_base.specs.Utf16.{utf16_text, utf16_len};
 
@@ -26,8 +27,8 @@ fn reorder_text<'t>(
     classes: &[BidiClass],
     levels: &[Level],
 ) -> Result<CowStr<'t>, AllocError>
-    requires classes { IsTrue (is_per_char ⟦<BidiClass as PartialEq>⟧.eq len_utf8 (chars text.now) classes.now) }
-    requires levels { IsTrue (is_per_char ⟦<Level as PartialEq>⟧.eq len_utf8 (chars text.now) levels.now) }
+    requires classes { HaveClass len_utf8 (chars text.now) classes.now }
+    requires levels { HaveLevel len_utf8 (chars text.now) levels.now }
 {
     let classes = Vec::from_slice(alloc, classes)?;
     let levels = Vec::from_slice(alloc, levels)?;
@@ -41,8 +42,8 @@ fn reorder_units<'t>(
     classes: &[BidiClass],
     levels: &[Level],
 ) -> Result<CowSlice<'t, u16>, AllocError>
-    requires classes { IsTrue (is_per_char ⟦<BidiClass as PartialEq>⟧.eq utf16_len (utf16_text text.now) classes.now) }
-    requires levels { IsTrue (is_per_char ⟦<Level as PartialEq>⟧.eq utf16_len (utf16_text text.now) levels.now) }
+    requires classes { HaveClass utf16_len (utf16_text text.now) classes.now }
+    requires levels { HaveLevel utf16_len (utf16_text text.now) levels.now }
 {
     let classes = Vec::from_slice(alloc, classes)?;
     let levels = Vec::from_slice(alloc, levels)?;

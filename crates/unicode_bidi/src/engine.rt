@@ -1,9 +1,10 @@
 //! The classes, the paragraphs and the levels of a text in any encoding (P1 to I2), and the levels of a line (L1).
 
-ghost use Rattle.std.specs.Prelude.{◌≡◌, [], IsTrue, ◌≤◌, ◌++◌, length, map, take, drop, flat_map, slice_range, All, OnOk, OnErr, IfOk, IfSome};
+ghost use Rattle.std.specs.Prelude.{◌≡◌, [], ◌≤◌, ◌++◌, length, map, take, drop, flat_map, slice_range, All, OnOk, OnErr, IfOk, IfSome};
 ghost use Rattle.bidi_base.specs.Analysed.{IsPerCharText, AreLevelsWithLine};
 ghost use Rattle.bidi_base.specs.Laws.{AreLevelsFrom};
 ghost use Rattle.bidi_base.specs.Line.{levels_with_line as levels_with_line_of};
+ghost use Rattle.bidi_base.specs.PerChar.{HaveClass, HaveLevel};
 ghost use Rattle.bidi_base.specs.declared.char_data.BidiClass.TheVariants.{L};
 ghost use Rattle.bidi_base.specs.Text.{text_len, is_per_char, per_char, char_index, IsLine};
 ghost use Rattle.bidi_text_lines.specs.Analysed.{with_lists};
@@ -297,9 +298,8 @@ pub fn line_levels<T: TextSource>(
     line: Range<usize>,
 ) -> Result<Vec<Level>, AllocError>
     requires is_line { IsLine T.units (T.characters text) line.start line.end }
-    requires classes { IsTrue
-        (is_per_char ⟦<BidiClass as PartialEq>⟧.eq T.units (T.characters text) (original_classes_of analysis.now)) }
-    requires levels { IsTrue (is_per_char ⟦<Level as PartialEq>⟧.eq T.units (T.characters text) (stored_levels_of analysis.now)) }
+    requires classes { HaveClass T.units (T.characters text) (original_classes_of analysis.now) }
+    requires levels { HaveLevel T.units (T.characters text) (stored_levels_of analysis.now) }
     ensures levels { IfOk result (λ v. AreLevelsWithLine (with_analysis T.units (T.characters text) analysis.now)
         level line v.items) }
 

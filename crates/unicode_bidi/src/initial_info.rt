@@ -1,6 +1,6 @@
 // The paragraphs and the stored classes of a text.
-ghost use Rattle.std.specs.Prelude.{◌≡◌, IsTrue, IfOk};
-ghost use Rattle.bidi_base.specs.Text.{is_per_char};
+ghost use Rattle.std.specs.Prelude.{◌≡◌, IfOk};
+ghost use Rattle.bidi_base.specs.PerChar.{HaveClass};
 ghost use Rattle.unicode_bidi.specs.Analysed.{HasParagraphs};
 
 use bidi_base::char_data::BidiClass;
@@ -19,8 +19,7 @@ pub struct InitialInfo<T: TextSource> {
     pub(crate) text: T,
     original_classes: Vec<BidiClass>,
     paragraphs: SmallVec<ParagraphInfo, 1>,
-    ghost classes_per_char: { IsTrue
-        (is_per_char ⟦<BidiClass as PartialEq>⟧.eq T.units (T.characters text) original_classes.items) },
+    ghost classes_per_char: { HaveClass T.units (T.characters text) original_classes.items },
 }
 
 impl<T: TextSource> InitialInfo<T> {
@@ -62,7 +61,7 @@ impl<T: TextSource> InitialInfo<T> {
     /// An FSI whose isolate has a deciding character is RLI or LRI here (X5c).
     pub fn original_classes(&self) -> &[BidiClass]
         ensures classes { result.now ≡ original_classes self.now }
-        ensures per_char { IsTrue (is_per_char ⟦<BidiClass as PartialEq>⟧.eq (len_of self.now) (chars_of self.now) result.now) }
+        ensures per_char { HaveClass (len_of self.now) (chars_of self.now) result.now }
     {
         self.original_classes.as_slice()
     }

@@ -1,12 +1,13 @@
 //! The text of a line from left to right (L1, L2), given its stored classes and levels, in time that depends only
 //! on the line.
 
-ghost use Rattle.std.specs.Prelude.{◌≡◌, ◌↔◌, IsTrue, IfOk, length, encode_utf8};
+ghost use Rattle.std.specs.Prelude.{◌≡◌, ◌↔◌, IfOk, length, encode_utf8};
 ghost use Rattle.std.specs.Char.{len_utf8};
 ghost use Rattle.std.specs.Char.Escape.{encode_utf16};
 ghost use Rattle.std.specs.Cow.{cow_slice_items, cow_str_bytes, IsBorrowedSlice, IsBorrowedStr};
 ghost use Rattle.std.specs.Str.{chars};
 ghost use Rattle.bidi_base.specs.Analysed.{IsTextOfLine, StaysInOrder};
+ghost use Rattle.bidi_base.specs.PerChar.{HaveClass, HaveLevel};
 ghost use Rattle.bidi_base.specs.Text.{is_per_char};
 ghost use Rattle.bidi_base.specs.Utf16.{utf16_text, utf16_len};
 
@@ -29,8 +30,8 @@ pub fn reorder_utf8<'t>(
     levels: Vec<Level>,
     level: Level,
 ) -> Result<CowStr<'t>, AllocError>
-    requires classes { IsTrue (is_per_char ⟦<BidiClass as PartialEq>⟧.eq len_utf8 (chars text.now) classes.items) }
-    requires levels { IsTrue (is_per_char ⟦<Level as PartialEq>⟧.eq len_utf8 (chars text.now) levels.items) }
+    requires classes { HaveClass len_utf8 (chars text.now) classes.items }
+    requires levels { HaveLevel len_utf8 (chars text.now) levels.items }
     ensures text { IfOk result (λ c. IsTextOfLine encode_utf8 text.now
         (record { len_of = len_utf8; chars = chars text.now; classes = classes.items; levels = levels.items })
         level (record { start = 0; end = length text.now }) (cow_str_bytes c)) }
@@ -54,8 +55,8 @@ pub fn reorder_utf16<'t>(
     levels: Vec<Level>,
     level: Level,
 ) -> Result<CowSlice<'t, u16>, AllocError>
-    requires classes { IsTrue (is_per_char ⟦<BidiClass as PartialEq>⟧.eq utf16_len (utf16_text text.now) classes.items) }
-    requires levels { IsTrue (is_per_char ⟦<Level as PartialEq>⟧.eq utf16_len (utf16_text text.now) levels.items) }
+    requires classes { HaveClass utf16_len (utf16_text text.now) classes.items }
+    requires levels { HaveLevel utf16_len (utf16_text text.now) levels.items }
     ensures text { IfOk result (λ c. IsTextOfLine encode_utf16 text.now
         (record { len_of = utf16_len; chars = utf16_text text.now; classes = classes.items; levels = levels.items })
         level (record { start = 0; end = length text.now }) (cow_slice_items c)) }

@@ -3,11 +3,12 @@
 //!
 //! The pass goes through a stretch from character to character, or from code unit to code unit.
 
-ghost use Rattle.std.specs.Prelude.{◌≡◌, ℕ, ◌+◌, ◌*◌, ◌-◌, ◌<◌, ◌≤◌, true, false, List, None, Some, length, map, IsTrue, OnOk};
+ghost use Rattle.std.specs.Prelude.{◌≡◌, ℕ, ◌+◌, ◌*◌, ◌-◌, ◌<◌, ◌≤◌, true, false, List, None, Some, length, map, OnOk};
+ghost use Rattle.bidi_base.specs.PerChar.{HaveClass};
 ghost use Rattle.bidi_base.specs.Places.{class_at};
 ghost use Rattle.bidi_base.specs.Search.{IsFirst};
 ghost use Rattle.bidi_base.specs.StatusMachine.{State};
-ghost use Rattle.bidi_base.specs.Text.{char_index, is_per_char, place, text_len};
+ghost use Rattle.bidi_base.specs.Text.{char_index, place, text_len, IsNextPlace};
 ghost use Rattle.bidi_base.specs.Units.{bounds};
 ghost use Rattle.bidi_runs.specs.ExplicitPass.{filled};
 ghost use Rattle.bidi_explicit.specs.Control.{is_control};
@@ -119,7 +120,7 @@ pub struct Paragraph<'p, T: TextSource> {
     /// Its stored classes, one for each code unit.
     pub original_classes: &'p [BidiClass],
     ghost low: { level ≤ 125 },
-    ghost per_char: { IsTrue (is_per_char ⟦<BidiClass as PartialEq>⟧.eq T.units (T.characters text) original_classes.now) },
+    ghost per_char: { HaveClass T.units (T.characters text) original_classes.now },
     ghost long: { length original_classes.now ≡ text_len T.units (T.characters text) },
 }
 
@@ -132,7 +133,7 @@ impl<'p, T: TextSource> Paragraph<'p, T> {
         original_classes: &'p [BidiClass],
     ) -> Paragraph<'p, T>
         requires low { level ≤ 125 }
-        requires per_char { IsTrue (is_per_char ⟦<BidiClass as PartialEq>⟧.eq T.units (T.characters text) original_classes.now) }
+        requires per_char { HaveClass T.units (T.characters text) original_classes.now }
         ensures text { result.text ≡ text }
         ensures level { result.level ≡ level }
         ensures stride { result.stride ≡ stride }
@@ -150,9 +151,7 @@ impl<'p, T: TextSource> Paragraph<'p, T> {
     fn end_of(&self, start: usize) -> usize
         requires begins { IsStart T.units (T.characters self.now.text) start }
         requires inside { start < length self.now.original_classes.now }
-        ensures { (k : ℕ) → k < length (T.characters self.now.text)
-            → start ≡ place T.units (T.characters self.now.text) k
-            → result ≡ place T.units (T.characters self.now.text) (k + 1) }
+        ensures { IsNextPlace T.units (T.characters self.now.text) start result }
     {
         end_within(self.text, start, self.original_classes.len())
     }
@@ -161,9 +160,7 @@ impl<'p, T: TextSource> Paragraph<'p, T> {
     fn step_over<S: Ledger>(&self, start: usize, steps: &mut Steps<S>) -> usize
         requires begins { IsStart T.units (T.characters self.now.text) start }
         requires inside { start < length self.now.original_classes.now }
-        ensures end { (k : ℕ) → k < length (T.characters self.now.text)
-            → start ≡ place T.units (T.characters self.now.text) k
-            → result ≡ place T.units (T.characters self.now.text) (k + 1) }
+        ensures end { IsNextPlace T.units (T.characters self.now.text) start result }
         ensures steps { steps.new ≡ steps.old + 1 }
     {
         steps.tick();

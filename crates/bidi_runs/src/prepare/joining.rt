@@ -2,13 +2,14 @@
 
 ghost use Rattle.std.specs.Prelude.{◌≡◌, ℕ, ◌<◌, ◌≤◌, false, max, [], length, map, flat_map, All, IsPermutation, IsTrue, OnOk};
 ghost use Rattle.std.specs.List.{list_any};
+ghost use Rattle.bidi_base.specs.PerChar.{HaveClass, HaveLevel};
 ghost use Rattle.bidi_base.specs.declared.char_data.BidiClass.TheVariants.{L};
 ghost use Rattle.bidi_base.specs.Classes.{is_initiator};
 ghost use Rattle.bidi_base.specs.Explicit.{explicit_levels};
 ghost use Rattle.bidi_base.specs.Levels.{direction_of};
 ghost use Rattle.bidi_base.specs.Search.{IsFirst};
 ghost use Rattle.bidi_base.specs.Sequences.{is_kept_at, sequences, HasExplicitLevels};
-ghost use Rattle.bidi_base.specs.Text.{IsLine, is_boundary, is_per_char, per_char};
+ghost use Rattle.bidi_base.specs.Text.{IsLine, is_boundary, per_char};
 ghost use Rattle.bidi_base.specs.Units.{bounds, level_run_ranges, AreLines};
 ghost use Rattle.bidi_runs.specs.Joining.{level_after_run, is_isolate_control, is_kept_in, IsKeptEnd, read_units};
 ghost use Rattle.bidi_runs.specs.RunSequence.{run_bounds, sequences_in};
@@ -127,7 +128,7 @@ pub(super) fn read_run<T: TextSource>(
     kept_end: usize,
     s: usize,
 ) -> Result<(), AllocError>
-    requires per_char { IsTrue (is_per_char ⟦<BidiClass as PartialEq>⟧.eq T.units (T.characters text) classes.now) }
+    requires per_char { HaveClass T.units (T.characters text) classes.now }
     requires line { IsLine T.units (T.characters text) run.now.start run.now.end }
     requires kept_end { IsTrue (is_boundary T.units (T.characters text) kept_end) }
     ensures { OnOk result (waiting.new
@@ -219,8 +220,8 @@ pub fn isolating_run_sequences<T: TextSource>(
     has_isolate_controls: bool,
     out: &mut IsolatingRunSequenceVec,
 ) -> Result<(), AllocError>
-    requires original { IsTrue (is_per_char ⟦<BidiClass as PartialEq>⟧.eq T.units (T.characters text) original_classes.now) }
-    requires levels { IsTrue (is_per_char ⟦<Level as PartialEq>⟧.eq T.units (T.characters text) levels.now) }
+    requires original { HaveClass T.units (T.characters text) original_classes.now }
+    requires levels { HaveLevel T.units (T.characters text) levels.now }
     requires runs { let stored = per_char L T.units (T.characters text) original_classes.now in
         map bounds runs.items
         ≡ level_run_ranges T.units (T.characters text) stored (per_char 0 T.units (T.characters text) levels.now) }

@@ -3,12 +3,13 @@
 ghost use Rattle.std.specs.Prelude.{◌≡◌, ℕ, ◌<◌, [], ◌∷◌, ◌++◌, length, map, drop, flat_map, get_or, All, IsPermutation, IsTrue, OnOk, IfOk, IfSome, is_some, if◌then◌else◌};
 ghost use Rattle.std.specs.List.{list_any};
 ghost use Rattle.std.specs.declared.ops.Range.{Range};
+ghost use Rattle.bidi_base.specs.PerChar.{HaveClass, HaveLevel};
 ghost use Rattle.bidi_base.specs.declared.char_data.BidiClass.TheVariants.{L};
 ghost use Rattle.bidi_base.specs.Classes.{is_initiator};
 ghost use Rattle.bidi_base.specs.Explicit.{explicit_levels};
 ghost use Rattle.bidi_base.specs.Places.{last_or};
 ghost use Rattle.bidi_base.specs.Sequences.{sequences, HasExplicitLevels};
-ghost use Rattle.bidi_base.specs.Text.{IsLine, is_boundary, is_per_char, per_char};
+ghost use Rattle.bidi_base.specs.Text.{IsLine, is_boundary, per_char};
 ghost use Rattle.bidi_base.specs.Units.{bounds, level_run_ranges, AreLines};
 ghost use Rattle.bidi_runs.specs.Joining.{read_units};
 
@@ -80,7 +81,7 @@ impl RunLinks {
         kept_end: usize,
         has_isolate_controls: bool,
     ) -> Result<(), AllocError>
-        requires per_char { IsTrue (is_per_char ⟦<BidiClass as PartialEq>⟧.eq T.units (T.characters text) classes.now) }
+        requires per_char { HaveClass T.units (T.characters text) classes.now }
         requires line { IsLine T.units (T.characters text) run.now.start run.now.end }
         requires kept_end { IsTrue (is_boundary T.units (T.characters text) kept_end) }
         ensures next { self.new.next.items ≡ self.old.next.items }
@@ -132,8 +133,8 @@ impl RunLinks {
         runs: &[LevelRun],
         has_isolate_controls: bool,
     ) -> Result<(), AllocError>
-        requires original { IsTrue (is_per_char ⟦<BidiClass as PartialEq>⟧.eq T.units (T.characters text) original_classes.now) }
-        requires levels { IsTrue (is_per_char ⟦<Level as PartialEq>⟧.eq T.units (T.characters text) levels.now) }
+        requires original { HaveClass T.units (T.characters text) original_classes.now }
+        requires levels { HaveLevel T.units (T.characters text) levels.now }
         requires runs { let stored = per_char L T.units (T.characters text) original_classes.now in
             map bounds runs.now
             ≡ level_run_ranges T.units (T.characters text) stored (per_char 0 T.units (T.characters text) levels.now) }
