@@ -1,5 +1,5 @@
 -- What the walk over a text holds of the isolates that are open, and what one more character does to it.
-use Rattle.std.specs.Prelude.{◌≡◌, ℕ, ◌+◌, ◌-◌, Bool, false, not, ◌&&◌, ◌||◌, ◌==◌, nat_lt, zero, suc, get_or, if◌then◌else◌, List, [], ◌∷◌, ◌++◌, take, drop, map, All, Option, Some, None, unwrap_or, length, IsTrue, MatchOption}
+use Rattle.std.specs.Prelude.{◌≡◌, ℕ, ◌+◌, ◌-◌, ◌≤◌, Bool, false, not, ◌&&◌, ◌||◌, ◌==◌, nat_lt, zero, suc, get_or, if◌then◌else◌, List, [], ◌∷◌, ◌++◌, take, drop, map, All, Option, Some, None, unwrap_or, length, IsTrue, MatchOption, replicate}
 use Rattle.std.specs.Option.{is_some, is_none}
 use Rattle.std.specs.declared.ops.Range.{Range}
 use Rattle.bidi_base.specs.declared.char_data.BidiClass.{BidiClass}
@@ -27,6 +27,15 @@ at_depth depth (Some u) = if u.depth == depth then Some u else None
 -- of so many open isolates the innermost one, if it is of an FSI that no character decided yet
 abbrev pub waiting : ℕ → List Undecided → Option Undecided
 waiting depth undecided = at_depth depth (innermost undecided)
+
+-- and without that one
+abbrev pub without_waiting : ParagraphState → List Undecided
+without_waiting r =
+    if is_some (waiting r.depth r.undecided.items) then outer r.undecided.items else r.undecided.items
+
+-- the units of each lie among so many code units
+abbrev pub AreWithin : ℕ → List Undecided → Type 0
+AreWithin len undecided = All (λ u. (u.units.start ≤ u.units.end) × (u.units.end ≤ len)) undecided
 
 -- after one more character: how many isolates are open
 abbrev pub depth_after : BidiClass → ℕ → ℕ
@@ -98,6 +107,10 @@ pub record IsClosed (base : Option ℕ) (r : ParagraphState) (end : ℕ) (old : 
   pub levels : levels_of new ≡ levels_of old ++ unwrap_or base (level_by r.deciding) ∷ []
   pub flags : new_flags ≡ old_flags ++ r.flags ∷ []
 
+-- a character's class was written to each of its units, from `start` on, and what stands before is as it was
+abbrev pub IsPut : (ℕ → ℕ) → ℕ → BidiClass → ℕ → List BidiClass → List BidiClass → Type 0
+IsPut len_of c class start old new = take (start + len_of c) new ≡ take start old ++ replicate (len_of c) class
+
 -- the characters from a boundary on
 abbrev pub ahead : (ℕ → ℕ) → List ℕ → ℕ → List ℕ
 ahead len_of chars u = drop (char_index len_of chars u) chars
@@ -135,10 +148,10 @@ pub record IsStop (source : Source) (len_of : ℕ → ℕ) (stop_classes : BidiC
   pub written : AreWritten source len_of (read ++ stop.c ∷ []) from (stop.start + len_of stop.c) old new
   pub turns : is ≡ with_classes was (map source.class_of read)
 
--- what a reader of a text requires of the index at which it begins, and of the classes that it writes to
-pub record CanReadOn (len_of : ℕ → ℕ) (chars : List ℕ) (from : ℕ) (classes : List BidiClass) : Type 0 where
+-- what a reader of a text requires of the place at which it begins, and of the classes that it writes to
+pub record CanRead (len_of : ℕ → ℕ) (chars : List ℕ) (from : Progress) (classes : List BidiClass) : Type 0 where
   pub sized : length classes ≡ text_len len_of chars
-  pub begins : IsTrue (is_boundary len_of chars from)
+  pub begins : IsTrue (is_boundary len_of chars from.at)
 
 -- a set has each class that would change the flags
 abbrev pub HasEachChange : ClassSet → ParagraphFlags → Type 0

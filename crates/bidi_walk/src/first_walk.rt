@@ -1,12 +1,12 @@
 //! A single pass over a text. It finds the class of each character, resolves each FSI (X5c), and finds the
 //! paragraphs (P1) and their levels (P2, P3).
-ghost use Rattle.std.specs.Prelude.{◌≡◌, ℕ, ◌<◌, ◌≤◌, true, false, None, [], length, drop, OnOk, IfOk, All};
+ghost use Rattle.std.specs.Prelude.{◌≡◌, ℕ, ◌<◌, ◌≤◌, true, false, None, [], length, drop, OnOk, IfOk};
 ghost use Rattle.bidi_base.specs.declared.char_data.BidiClass.{BidiClass};
 ghost use Rattle.bidi_base.specs.Paragraphs.{begins_with_line_feed, ranges_from};
 ghost use Rattle.bidi_base.specs.Stored.{text_classes, paragraph_levels};
 ghost use Rattle.bidi_base.specs.Text.{place as place_of, text_len, per_unit};
 ghost use Rattle.bidi_walk.specs.ClassSet.{has};
-ghost use Rattle.bidi_walk.specs.FirstWalk.{classes_after, stops_at, waiting, with_flags, CanReadOn, IsClosed, IsFresh, IsReadBy, IsReadOn, StopsCounting};
+ghost use Rattle.bidi_walk.specs.FirstWalk.{classes_after, stops_at, waiting, with_flags, AreWithin, CanRead, IsClosed, IsFresh, IsReadBy, IsReadOn, StopsCounting};
 ghost use Rattle.bidi_walk.specs.declared.first_walk.paragraph_state.ParagraphState.{ParagraphState};
 ghost use Rattle.bidi_walk.specs.ParagraphInfo.{ranges_of, levels_of};
 ghost use Rattle.bidi_walk.specs.ParagraphFlags.{paragraph_flags};
@@ -117,8 +117,7 @@ impl TextState {
         units: Range<usize>,
         ends: bool,
     ) -> Result<(), AllocError>
-        requires within { All (λ u. (u.units.start ≤ u.units.end) × (u.units.end ≤ length classes.old))
-            self.old.state.undecided.items }
+        requires within { AreWithin (length classes.old) self.old.state.undecided.items }
         requires few { self.old.state.depth < usize.MAX }
         requires follows { self.old.state.start ≤ units.end }
         ensures classes { OnOk result (classes.new
@@ -155,7 +154,7 @@ fn read_some<D: BidiDataSource, T: TextSource>(
     progress: &mut Progress,
     stop_classes: ClassSet,
 ) -> Option<Stop>
-    requires { CanReadOn T.units (T.characters text) progress.old.at classes.old }
+    requires { CanRead T.units (T.characters text) progress.old classes.old }
     ensures stop { IsReadOn (D.source data_source.now) T.units (T.characters text) (has stop_classes) progress.old
         result progress.new classes.old classes.new }
     ensures passed { result ≡ None → progress.old.at < length classes.new → progress.old.at < progress.new.at }
@@ -175,7 +174,7 @@ fn seek_stop<D: BidiDataSource, T: TextSource>(
     progress: &mut Progress,
     stop_classes: ClassSet,
 ) -> Option<Stop>
-    requires { CanReadOn T.units (T.characters text) progress.old.at classes.old }
+    requires { CanRead T.units (T.characters text) progress.old classes.old }
     ensures stop { IsReadOn (D.source data_source.now) T.units (T.characters text) (has stop_classes) progress.old
         result progress.new classes.old classes.new }
     ensures end { result ≡ None → progress.new.at ≡ text_len T.units (T.characters text) }
@@ -207,7 +206,7 @@ fn next_stop<D: BidiDataSource, T: TextSource>(
     state: &mut ParagraphState,
     near: bool,
 ) -> Option<Stop>
-    requires { CanReadOn T.units (T.characters text) from classes.old }
+    requires { CanRead T.units (T.characters text) (record { at = from; flags = state.old.flags }) classes.old }
     ensures stop { IsReadOn (D.source data_source.now) T.units (T.characters text) (stops_at state.old)
         (record { at = from; flags = state.old.flags }) result
         (record { at = text_len T.units (T.characters text); flags = state.new.flags }) classes.old classes.new }

@@ -2,7 +2,7 @@
 ghost use Rattle.std.specs.Prelude.{◌≡◌, ℕ, ◌+◌, ◌<◌, ◌≤◌, length, get_or, take};
 ghost use Rattle.bidi_base.specs.Places.{class_at};
 ghost use Rattle.bidi_walk.specs.ClassSet.{has};
-ghost use Rattle.bidi_walk.specs.FirstWalk.{ahead, set_of_first, CanReadOn, HasEachChange, IsReadOn, IsSkimmed};
+ghost use Rattle.bidi_walk.specs.FirstWalk.{ahead, set_of_first, CanRead, HasEachChange, IsReadOn, IsSkimmed};
 ghost use Rattle.bidi_walk.specs.declared.first_walk.ascii_characters.TheConstants.{ASCII_BLOCK};
 
 use super::progress::Progress;
@@ -24,7 +24,7 @@ fn skim_each<D: BidiDataSource, T: TextSource>(
     limit: usize,
     sought: ClassSet,
 ) -> Option<Stop>
-    requires place { CanReadOn T.units (T.characters text) progress.old.at classes.old }
+    requires place { CanRead T.units (T.characters text) progress.old classes.old }
     requires sought { HasEachChange sought progress.old.flags }
     ensures { IsReadOn (D.source data_source.now) T.units (T.characters text) (has sought) progress.old
         result progress.new classes.old classes.new }
@@ -91,7 +91,7 @@ fn skim_blocks<D: BidiDataSource, T: TextSource>(
     progress: &mut Progress,
     stop_classes: ClassSet,
 )
-    requires { CanReadOn T.units (T.characters text) progress.old.at classes.old }
+    requires { CanRead T.units (T.characters text) progress.old classes.old }
     ensures read { IsSkimmed (D.source data_source.now) T.units (has stop_classes)
         (ahead T.units (T.characters text) progress.old.at) progress.old.at progress.new.at classes.old classes.new
         progress.old.flags progress.new.flags }
@@ -129,7 +129,7 @@ pub(super) fn skim<D: BidiDataSource, T: TextSource>(
     progress: &mut Progress,
     stop_classes: ClassSet,
 ) -> Option<Stop>
-    requires { CanReadOn T.units (T.characters text) progress.old.at classes.old }
+    requires { CanRead T.units (T.characters text) progress.old classes.old }
     ensures { IsReadOn (D.source data_source.now) T.units (T.characters text) (has stop_classes) progress.old
         result progress.new classes.old classes.new }
 {

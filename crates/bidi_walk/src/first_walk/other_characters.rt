@@ -5,7 +5,7 @@ ghost use Rattle.bidi_base.specs.declared.char_data.BidiClass.{BidiClass};
 ghost use Rattle.bidi_base.specs.Places.{class_at};
 ghost use Rattle.bidi_base.specs.Text.{text_len, is_boundary as is_boundary_of};
 ghost use Rattle.bidi_walk.specs.ClassSet.{has};
-ghost use Rattle.bidi_walk.specs.FirstWalk.{ahead, CanReadOn, HasEachChange, IsStop, IsReadOn, IsSkimmed};
+ghost use Rattle.bidi_walk.specs.FirstWalk.{ahead, CanRead, HasEachChange, IsStop, IsReadOn, IsSkimmed};
 ghost use Rattle.bidi_walk.specs.declared.first_walk.unit_classes.TheConstants.{AT_ONCE};
 ghost use Rattle.bidi_walk.specs.declared.paragraph_flags.ParagraphFlags.{ParagraphFlags};
 ghost use Rattle.bidi_walk.specs.declared.first_walk.other_characters.TheConstants.{LOW_BLOCK, LOW_LIMIT};
@@ -126,7 +126,7 @@ fn read_block<D: BidiDataSource, T: TextSource>(
     progress: &mut Progress,
     sought: ClassSet,
 ) -> Option<Stop>
-    requires place { CanReadOn T.units (T.characters text) progress.old.at classes.old }
+    requires place { CanRead T.units (T.characters text) progress.old classes.old }
     requires sought { HasEachChange sought progress.old.flags }
     ensures stop { IsReadOn (D.source data_source.now) T.units (T.characters text) (has sought) progress.old
         result progress.new classes.old classes.new }
@@ -154,7 +154,8 @@ pub(super) fn read_next<D: BidiDataSource, T: TextSource>(
     classes: &mut [BidiClass],
     start: usize,
 ) -> Stop
-    requires place { CanReadOn T.units (T.characters text) start classes.old }
+    requires sized { length classes.old ≡ text_len T.units (T.characters text) }
+    requires begins { IsTrue (is_boundary_of T.units (T.characters text) start) }
     requires room { start + AT_ONCE ≤ length classes.old }
     ensures { (stop_classes : BidiClass → Bool) (flags : ParagraphFlags) → IsStop (D.source data_source.now) T.units stop_classes
         (ahead T.units (T.characters text) start) start result classes.old classes.new flags flags }
@@ -185,7 +186,7 @@ fn read_in_place<D: BidiDataSource, T: TextSource>(
     limit: usize,
     sought: ClassSet,
 ) -> Option<Stop>
-    requires place { CanReadOn T.units (T.characters text) progress.old.at classes.old }
+    requires place { CanRead T.units (T.characters text) progress.old classes.old }
     requires sought { HasEachChange sought progress.old.flags }
     requires room { limit + (AT_ONCE - 1) ≤ length classes.old }
     ensures stop { IsReadOn (D.source data_source.now) T.units (T.characters text) (has sought) progress.old
@@ -221,7 +222,7 @@ fn read_low_blocks<D: BidiDataSource, T: TextSource>(
     progress: &mut Progress,
     sought: ClassSet,
 ) -> Option<Stop>
-    requires place { CanReadOn T.units (T.characters text) progress.old.at classes.old }
+    requires place { CanRead T.units (T.characters text) progress.old classes.old }
     requires sought { HasEachChange sought progress.old.flags }
     ensures stop { IsReadOn (D.source data_source.now) T.units (T.characters text) (has sought) progress.old
         result progress.new classes.old classes.new }
@@ -262,7 +263,7 @@ pub(super) fn read_on<D: BidiDataSource, T: TextSource>(
     progress: &mut Progress,
     stop_classes: ClassSet,
 ) -> Option<Stop>
-    requires { CanReadOn T.units (T.characters text) progress.old.at classes.old }
+    requires { CanRead T.units (T.characters text) progress.old classes.old }
     ensures stop { IsReadOn (D.source data_source.now) T.units (T.characters text) (has stop_classes) progress.old
         result progress.new classes.old classes.new }
     ensures passed { result ≡ None → progress.old.at < length classes.new → progress.old.at < progress.new.at }

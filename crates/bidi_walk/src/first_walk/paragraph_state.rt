@@ -1,12 +1,12 @@
 //! The state of a paragraph: its open isolates, and the character that decides its level.
-ghost use Rattle.std.specs.Prelude.{◌≡◌, ◌<◌, ◌≤◌, if◌then◌else◌, true, length, OnOk, All, Some};
+ghost use Rattle.std.specs.Prelude.{◌≡◌, ◌<◌, ◌≤◌, true, length, OnOk, Some};
 ghost use Rattle.std.specs.Option.{is_some};
 ghost use Rattle.bidi_base.specs.declared.char_data.BidiClass.{BidiClass};
 ghost use Rattle.bidi_base.specs.Classes.{is_strong as is_strong_class};
 ghost use Rattle.bidi_base.specs.Isolates.{level_by, resolved_fsi};
-ghost use Rattle.bidi_base.specs.Reading.{outer, filled};
+ghost use Rattle.bidi_base.specs.Reading.{filled};
 ghost use Rattle.bidi_walk.specs.ClassSet.{has};
-ghost use Rattle.bidi_walk.specs.FirstWalk.{waiting, deciding_after, classes_after, is_decided, wants_strong, stops_at, IsFresh, IsReadBy, StopsCounting};
+ghost use Rattle.bidi_walk.specs.FirstWalk.{waiting, deciding_after, classes_after, is_decided, wants_strong, stops_at, without_waiting, AreWithin, IsFresh, IsReadBy, StopsCounting};
 
 use crate::class_set::ClassSet;
 use crate::paragraph_flags::ParagraphFlags;
@@ -152,7 +152,7 @@ impl ParagraphState {
         class: BidiClass,
         units: Range<usize>,
     ) -> Result<(), AllocError>
-        requires within { All (λ u. (u.units.start ≤ u.units.end) × (u.units.end ≤ length classes.old)) self.old.undecided.items }
+        requires within { AreWithin (length classes.old) self.old.undecided.items }
         requires few { self.old.depth < usize.MAX }
         ensures classes { OnOk result (classes.new
             ≡ classes_after class (waiting self.old.depth self.old.undecided.items) classes.old) }
@@ -179,9 +179,7 @@ impl ParagraphState {
     // Removes the innermost open isolate from the undecided ones, if it is one of them.
     fn take_waiting(&mut self) -> Option<Undecided>
         ensures taken { result ≡ waiting self.old.depth self.old.undecided.items }
-        ensures rest { self.new.undecided.items
-            ≡ (if is_some (waiting self.old.depth self.old.undecided.items) then outer self.old.undecided.items
-            else self.old.undecided.items) }
+        ensures rest { self.new.undecided.items ≡ without_waiting self.old }
         ensures start { self.new.start ≡ self.old.start }
         ensures depth { self.new.depth ≡ self.old.depth }
         ensures deciding { self.new.deciding ≡ self.old.deciding }
@@ -196,12 +194,10 @@ impl ParagraphState {
 
     // Lets a strong character decide the paragraph's level, or the direction of the innermost FSI.
     fn decide(&mut self, classes: &mut [BidiClass], class: BidiClass)
-        requires within { All (λ u. (u.units.start ≤ u.units.end) × (u.units.end ≤ length classes.old)) self.old.undecided.items }
+        requires within { AreWithin (length classes.old) self.old.undecided.items }
         requires strong { is_strong_class class ≡ true }
         ensures classes { classes.new ≡ classes_after class (waiting self.old.depth self.old.undecided.items) classes.old }
-        ensures rest { self.new.undecided.items
-            ≡ (if is_some (waiting self.old.depth self.old.undecided.items) then outer self.old.undecided.items
-            else self.old.undecided.items) }
+        ensures rest { self.new.undecided.items ≡ without_waiting self.old }
         ensures start { self.new.start ≡ self.old.start }
         ensures depth { self.new.depth ≡ self.old.depth }
         ensures deciding { self.new.deciding ≡ deciding_after class self.old.depth self.old.deciding }

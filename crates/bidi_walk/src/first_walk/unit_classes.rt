@@ -1,5 +1,6 @@
 //! Writes a character's class to each of its code units.
-ghost use Rattle.std.specs.Prelude.{◌≡◌, ◌+◌, ◌≤◌, ◌++◌, length, take, replicate};
+ghost use Rattle.std.specs.Prelude.{◌+◌, ◌≤◌, length};
+ghost use Rattle.bidi_walk.specs.FirstWalk.{IsPut};
 ghost use Rattle.bidi_walk.specs.declared.first_walk.unit_classes.TheConstants.{AT_ONCE};
 
 use bidi_base::char_data::BidiClass;
@@ -8,7 +9,7 @@ use bidi_text::text::TextSource;
 // Writes a character's class to each of its code units, from `start` on.
 fn write_each<T: TextSource>(classes: &mut [BidiClass], start: usize, c: char, class: BidiClass)
     requires { start + T.units c ≤ length classes.old }
-    ensures { take (start + T.units c) classes.new ≡ take start classes.old ++ replicate (T.units c) class }
+    ensures { IsPut T.units c class start classes.old classes.new }
 {
     classes[start..start + T::char_len(c)].fill(class);
 }
@@ -26,7 +27,7 @@ pub(super) fn write_at_once<T: TextSource>(
 )
     requires fits { start + T.units c ≤ length classes.old }
     requires room { start + AT_ONCE ≤ length classes.old }
-    ensures { take (start + T.units c) classes.new ≡ take start classes.old ++ replicate (T.units c) class }
+    ensures { IsPut T.units c class start classes.old classes.new }
 {
     if T::char_len(c) <= AT_ONCE {
         classes[start] = class;
@@ -46,7 +47,7 @@ pub(super) fn write<T: TextSource>(
     class: BidiClass,
 )
     requires { start + T.units c ≤ length classes.old }
-    ensures { take (start + T.units c) classes.new ≡ take start classes.old ++ replicate (T.units c) class }
+    ensures { IsPut T.units c class start classes.old classes.new }
 {
     if classes.len() - start >= AT_ONCE {
         write_at_once::<T>(classes, start, c, class);
