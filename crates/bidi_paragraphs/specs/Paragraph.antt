@@ -1,10 +1,11 @@
 -- What the passes of a paragraph read, and what they leave.
-use Rattle.std.specs.Prelude.{◌≡◌, ℕ, Bool, List, length, map, IsTrue}
+use Rattle.std.specs.Prelude.{◌≡◌, ℕ, List, length, map}
 use Rattle.bidi_base.specs.Explicit.{explicit_levels, explicit_classes}
 use Rattle.bidi_base.specs.Isolates.{stored_classes}
+use Rattle.bidi_base.specs.PerChar.{HaveLevel}
 use Rattle.bidi_base.specs.Sequences.{sequences}
 use Rattle.bidi_base.specs.Stored.{AreResolved}
-use Rattle.bidi_base.specs.Text.{text_len, is_per_char, per_char}
+use Rattle.bidi_base.specs.Text.{text_len, per_char}
 use Rattle.bidi_paragraphs.specs.declared.paragraph_levels.ClassifiedParagraph.{ClassifiedParagraph}
 
 module _ {D T C I L : Type 0} {d : _} {t : _} {c : _} {i : _} {l : _} (paragraph : ClassifiedParagraph D T C I L d t c i l) where
@@ -12,9 +13,9 @@ module _ {D T C I L : Type 0} {d : _} {t : _} {c : _} {i : _} {l : _} (paragraph
   abbrev pub IsOneAUnit : List ℕ → Type 0
   IsOneAUnit levels = length levels ≡ text_len t.units (t.characters paragraph.text)
 
-  -- the levels are equal within each character by this test of levels
-  abbrev pub ArePerChar : (ℕ → ℕ → Bool) → List ℕ → Type 0
-  ArePerChar eq levels = IsTrue (is_per_char eq t.units (t.characters paragraph.text) levels)
+  -- each of its characters has one level
+  abbrev pub HaveOwnLevel : List ℕ → Type 0
+  HaveOwnLevel levels = HaveLevel t.units (t.characters paragraph.text) levels
 
   -- the levels of the characters that X9 keeps are those of the rules
   abbrev pub AreOfRules : List ℕ → Type 0

@@ -68,7 +68,7 @@ pub struct LevelResolver {
 }
 
 impl LevelResolver {
-    ghost use Rattle.bidi_paragraphs.specs.Paragraph.{IsOneAUnit, ArePerChar, AreOfRules};
+    ghost use Rattle.bidi_paragraphs.specs.Paragraph.{IsOneAUnit, HaveOwnLevel, AreOfRules};
 
     /// Creates a resolver. Does not allocate.
     pub fn new(alloc: Global) -> LevelResolver {
@@ -154,7 +154,7 @@ impl LevelResolver {
         requires long { IsOneAUnit paragraph.now levels.old }
         requires some { 0 < length levels.old }
         requires flat { is_flat (map (D.source paragraph.now.data_source.now).class_of (T.characters paragraph.now.text)) ≡ true }
-        ensures per_char { OnOk result (ArePerChar paragraph.now ⟦<Level as PartialEq>⟧.eq levels.new) }
+        ensures per_char { OnOk result (HaveOwnLevel paragraph.now levels.new) }
         ensures resolved { OnOk result (AreOfRules paragraph.now levels.new) }
     {
         levels.fill(paragraph.level);
@@ -183,7 +183,7 @@ impl LevelResolver {
         levels: &mut [Level],
     ) -> Result<(), AllocError>
         requires { IsOneAUnit paragraph.now levels.old }
-        ensures per_char { OnOk result (ArePerChar paragraph.now ⟦<Level as PartialEq>⟧.eq levels.new) }
+        ensures per_char { OnOk result (HaveOwnLevel paragraph.now levels.new) }
         ensures resolved { OnOk result (AreOfRules paragraph.now levels.new) }
     {
         self.prepare(paragraph, levels)?;
@@ -221,7 +221,7 @@ impl LevelResolver {
     ) -> Result<(), AllocError>
         requires long { IsOneAUnit paragraph.now levels.old }
         requires some { 0 < length levels.old }
-        ensures per_char { OnOk result (ArePerChar paragraph.now ⟦<Level as PartialEq>⟧.eq levels.new) }
+        ensures per_char { OnOk result (HaveOwnLevel paragraph.now levels.new) }
         ensures resolved { OnOk result (AreOfRules paragraph.now levels.new) }
     {
         if paragraph.flags.is_flat() {

@@ -8,10 +8,13 @@ use Rattle.bidi_base.specs.declared.char_data.BidiClass.TheVariants.{L}
 use Rattle.bidi_base.specs.Classes.{is_kept_in_place}
 use Rattle.bidi_base.specs.Places.{at_places, class_at}
 use Rattle.bidi_base.specs.Text.{char_at}
-use Rattle.bidi_base.specs.Units.{bounds, in_runs, units_in_runs}
+use Rattle.bidi_base.specs.InPlace.{AreWeakTypesResolved, CanResolveWeakTypes}
+use Rattle.bidi_base.specs.Units.{bounds, chars_in_runs, in_runs, units_in_runs}
 use Rattle.bidi_base.specs.Weak.{carried}
 use Rattle.bidi_weak.specs.declared.weak.w2_w4_w5_w7.Walk.{Walk}
 use Rattle.bidi_weak.specs.declared.weak.before.Before.TheVariants.{Other}
+use Rattle.bidi_runs.specs.RunSequence.{lent_runs, lent_sos}
+use Rattle.bidi_runs.specs.declared.prepare.lent.LentSequence.{LentSequence}
 use Rattle.bidi_runs.specs.Written.{is_seen, seen_from, seen_units}
 use Rattle.bidi_weak.specs.WeakPass.{after_w1, strengthened, next_before, waits, left_over, still_to_come, walked}
 
@@ -87,6 +90,22 @@ AreAlike units from to = (k : ℕ) → from ≤ k → k < to → class_at units 
 -- two for each unit of some runs: the maximum of iterations of a loop over the runs and their units
 abbrev pub two_a_unit : List (Range ℕ) → ℕ
 two_a_unit runs = 2 * length (units_in_runs (map bounds runs))
+
+-- what W1 to W7 require of a sequence that borrows its runs
+abbrev pub CanResolve : (ℕ → ℕ) → List ℕ → LentSequence → List BidiClass → Type 0
+CanResolve len_of chars sequence old = CanResolveWeakTypes len_of chars (map bounds (lent_runs sequence)) old
+
+-- they are done
+abbrev pub IsResolved : (ℕ → ℕ) → List ℕ → LentSequence → List BidiClass → List BidiClass → Type 0
+IsResolved len_of chars sequence old new =
+    AreWeakTypesResolved len_of chars (map bounds (lent_runs sequence)) (lent_sos sequence) old new
+
+-- how many units it has, and how many characters begin in it
+abbrev pub unit_count_of : LentSequence → ℕ
+unit_count_of sequence = length (units_in_runs (map bounds (lent_runs sequence)))
+
+abbrev pub char_count_of : (ℕ → ℕ) → List ℕ → LentSequence → ℕ
+char_count_of len_of chars sequence = length (chars_in_runs len_of chars (map bounds (lent_runs sequence)))
 
 -- what waits begins at `from`, in the run that the walk names
 pub record AreHeld (p : Pass) (w : Walk) (from : ℕ) : Type 0 where

@@ -8,9 +8,9 @@ ghost use Rattle.bidi_base.specs.Text.{IsPerChar};
 ghost use Rattle.bidi_base.specs.Units.{bounds, are_ordered, chars_in_runs, units_in_runs, AreLines};
 ghost use Rattle.bidi_base.specs.Weak.{carried};
 ghost use Rattle.bidi_base.specs.declared.char_data.BidiClass.{BidiClass};
-ghost use Rattle.bidi_runs.specs.RunSequence.{lent_runs, lent_sos, runs as runs_of, sos as sos_of};
+ghost use Rattle.bidi_runs.specs.RunSequence.{runs as runs_of, sos as sos_of};
 ghost use Rattle.bidi_weak.specs.WeakPass.{is_mark_or_number};
-ghost use Rattle.bidi_weak.specs.WeakWalk.{is_any_of, is_any_wide, len_at, part_of, wide_part_of, IsMarked, IsWalked};
+ghost use Rattle.bidi_weak.specs.WeakWalk.{char_count_of, is_any_of, is_any_wide, len_at, part_of, two_a_unit, unit_count_of, wide_part_of, CanResolve, IsMarked, IsResolved, IsWalked};
 
 mod before;
 mod next;
@@ -87,9 +87,8 @@ pub fn resolve_weak_lent<T: TextSource>(
     sequence: LentSequence<'_>,
     processing_classes: &mut [BidiClass],
 )
-    requires { CanResolveWeakTypes T.units (T.characters text) (map bounds (lent_runs sequence)) processing_classes.old }
-    ensures { AreWeakTypesResolved T.units (T.characters text) (map bounds (lent_runs sequence.entry))
-        (lent_sos sequence.entry) processing_classes.old processing_classes.new }
+    requires { CanResolve T.units (T.characters text) sequence processing_classes.old }
+    ensures { IsResolved T.units (T.characters text) sequence.entry processing_classes.old processing_classes.new }
 {
     resolve_weak_fresh::<T, Brand>(text, sequence, processing_classes, Blank::new(1))
 }
@@ -98,21 +97,20 @@ pub fn resolve_weak_lent<T: TextSource>(
 fn resolve_weak_fresh<T: TextSource, S: Ledger>(
     text: T,
     sequence: LentSequence<'_>,
-    processing_classes: &mut [BidiClass],
+    classes: &mut [BidiClass],
     blank: Blank,
 )
-    requires sequence { CanResolveWeakTypes T.units (T.characters text) (map bounds (lent_runs sequence)) processing_classes.old }
+    requires sequence { CanResolve T.units (T.characters text) sequence classes.old }
     requires name { blank.name ≡ S.name }
     requires parts { blank.parts ≡ S.parts }
     requires one { blank.parts ≡ 1 }
-    ensures { AreWeakTypesResolved T.units (T.characters text) (map bounds (lent_runs sequence.entry))
-        (lent_sos sequence.entry) processing_classes.old processing_classes.new }
+    ensures { IsResolved T.units (T.characters text) sequence.entry classes.old classes.new }
 {
     let mut steps = Steps::<S>::new(blank);
     resolve_weak_searching::<T, S, Brand>(
         text,
         sequence,
-        processing_classes,
+        classes,
         &mut steps,
         Blank::new(1),
     )
@@ -122,23 +120,20 @@ fn resolve_weak_fresh<T: TextSource, S: Ledger>(
 fn resolve_weak_searching<T: TextSource, S: Ledger, L: Ledger>(
     text: T,
     sequence: LentSequence<'_>,
-    processing_classes: &mut [BidiClass],
+    classes: &mut [BidiClass],
     steps: &mut Steps<S>,
     blank: Blank,
 )
-    requires sequence { CanResolveWeakTypes T.units (T.characters text) (map bounds (lent_runs sequence)) processing_classes.old }
+    requires sequence { CanResolve T.units (T.characters text) sequence classes.old }
     requires name { blank.name ≡ L.name }
     requires parts { blank.parts ≡ L.parts }
     requires one { blank.parts ≡ 1 }
-    ensures resolved { AreWeakTypesResolved T.units (T.characters text) (map bounds (lent_runs sequence.entry))
-        (lent_sos sequence.entry) processing_classes.old processing_classes.new }
-    ensures at_least { steps.old
-        + length (chars_in_runs T.units (T.characters text) (map bounds (lent_runs sequence.entry)))
-        ≤ steps.new }
-    ensures at_most { steps.new ≤ steps.old + 8 * length (units_in_runs (map bounds (lent_runs sequence.entry))) }
+    ensures resolved { IsResolved T.units (T.characters text) sequence.entry classes.old classes.new }
+    ensures at_least { steps.old + char_count_of T.units (T.characters text) sequence.entry ≤ steps.new }
+    ensures at_most { steps.new ≤ steps.old + 8 * unit_count_of sequence.entry }
 {
     let mut looked = Steps::<L>::new(blank);
-    resolve_weak_lent_counted(text, sequence, processing_classes, steps, &mut looked)
+    resolve_weak_lent_counted(text, sequence, classes, steps, &mut looked)
 }
 
 // Like [`resolve_weak_lent`], and keeps both counts: `steps` of loop iterations, and `looked` of the code
@@ -149,23 +144,20 @@ fn resolve_weak_searching<T: TextSource, S: Ledger, L: Ledger>(
 fn resolve_weak_lent_counted<T: TextSource, S: Ledger, L: Ledger>(
     text: T,
     sequence: LentSequence<'_>,
-    processing_classes: &mut [BidiClass],
+    classes: &mut [BidiClass],
     steps: &mut Steps<S>,
     looked: &mut Steps<L>,
 )
-    requires { CanResolveWeakTypes T.units (T.characters text) (map bounds (lent_runs sequence)) processing_classes.old }
-    ensures resolved { AreWeakTypesResolved T.units (T.characters text) (map bounds (lent_runs sequence.entry))
-        (lent_sos sequence.entry) processing_classes.old processing_classes.new }
-    ensures at_least { steps.old
-        + length (chars_in_runs T.units (T.characters text) (map bounds (lent_runs sequence.entry)))
-        ≤ steps.new }
-    ensures at_most { steps.new ≤ steps.old + 8 * length (units_in_runs (map bounds (lent_runs sequence.entry))) }
-    ensures looked { looked.new ≤ looked.old + 11 * length (units_in_runs (map bounds (lent_runs sequence.entry))) }
+    requires { CanResolve T.units (T.characters text) sequence classes.old }
+    ensures resolved { IsResolved T.units (T.characters text) sequence.entry classes.old classes.new }
+    ensures at_least { steps.old + char_count_of T.units (T.characters text) sequence.entry ≤ steps.new }
+    ensures at_most { steps.new ≤ steps.old + 8 * unit_count_of sequence.entry }
+    ensures looked { looked.new ≤ looked.old + 11 * unit_count_of sequence.entry }
 {
     let runs = sequence.runs();
     let sos = sequence.sos();
-    resolve_marks_and_numbers(text, runs, sos, processing_classes, steps, looked);
-    resolve_w3_w6(runs, processing_classes, steps);
+    resolve_marks_and_numbers(text, runs, sos, classes, steps, looked);
+    resolve_w3_w6(runs, classes, steps);
 }
 
 /// Applies W1, and then W2, W4, W5 and W7. They matter only if there are nonspacing marks or numbers.
@@ -211,7 +203,7 @@ fn has_marks_or_numbers<L: Ledger>(
     looked: &mut Steps<L>,
 ) -> bool
     ensures answer { result ≡ is_any_wide is_mark_or_number runs.now classes.now }
-    ensures looked { looked.new ≤ looked.old + 2 * length (units_in_runs (map bounds runs.now)) }
+    ensures looked { looked.new ≤ looked.old + two_a_unit runs.now }
 {
     looked.tick_by(unit_count(runs));
     looked.tick_by(unit_count(runs));

@@ -26,7 +26,7 @@ pub fn resolve_marks<S: Ledger, L: Ledger>(
     ensures marked { IsMarked (map bounds runs.now) (carried sos) classes.old classes.new }
     ensures at_least { steps.old ≤ steps.new }
     ensures at_most { steps.new ≤ steps.old + two_a_unit runs.now }
-    ensures looked { looked.new ≤ looked.old + 2 * length (units_in_runs (map bounds runs.now)) }
+    ensures looked { looked.new ≤ looked.old + two_a_unit runs.now }
 {
     let mut last = sos;
     for run in runs {
