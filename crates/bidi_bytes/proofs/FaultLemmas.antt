@@ -30,12 +30,6 @@ module _ (xs : List ℕ) where
     longest = λ m above t. v.longest (m - length xs) (omega arith) (text_behind (take (m - length xs) ys) u (subst IsUtf8 (split_take ys m (omega arith)) t));
   }
 
-  valid_len-behind : (ys : List ℕ) → IsUtf8 xs → utf8_valid_len (xs ++ ys) ≡ length xs + utf8_valid_len ys
-  valid_len-behind ys u = ⊎_elim
-      (λ v. utf8_valid_len-IsUtf8 (xs ++ ys) (IsUtf8-append xs ys u v) ∙ length-append xs ys ∙ ap (λ n. length xs + n) (sym (utf8_valid_len-IsUtf8 ys v)))
-      (λ v. utf8_valid_len-IsValidUpTo (xs ++ ys) (length xs + utf8_valid_len ys) (IsValidUpTo-behind ys (utf8_valid_len ys) u v))
-      (utf8_valid_len-cases ys)
-
 module _ (before : List ℕ) (a : ℕ) (low : a < 128) where
   abbrev xs : List ℕ
   xs = before ++ a ∷ []

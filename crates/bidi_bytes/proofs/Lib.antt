@@ -1,7 +1,6 @@
 pub mod ControlBytesLemmas
 pub mod ControlChars
 pub mod CutLemmas
-pub mod DecodedLemmas
 pub mod FaultLemmas
 pub mod FileLinesLemmas
 pub mod LossyLemmas

@@ -1,11 +1,10 @@
 -- What a program's list of runs is: runs are ranges there.
-use Rattle.bidi_base.proofs.Common.{◌≡◌, ℕ, ◌+◌, ◌<◌, ◌≤◌, ◌++◌, false, List, [], ◌∷◌, map, length, get_or, take, refl, sym}
-use Rattle.bidi_base.proofs.Common.{subst, le_refl, ◌∙◌, arith, rules, common_steps, Range, get_or-map, length-map}
+use Rattle.bidi_base.proofs.Common.{◌≡◌, ℕ, ◌+◌, ◌<◌, ◌≤◌, false, List, [], ◌∷◌, map, length, get_or, refl, sym}
+use Rattle.bidi_base.proofs.Common.{subst, le_refl, ◌∙◌, arith, rules, Range, get_or-map, length-map}
 use Rattle.bidi_base.proofs.Common.{length-range_with_len, IsPermutation-refl, has_rtl, indexes, at_places, visual_order, IsVisualOrder, Run, run_of, level_runs, run_level, visual_runs, AreVisualRuns}
 use Rattle.std.proofs.Common.{All}
 use Rattle.bidi_lines.proofs.Ordered.{visual_order-still, none_odd}
 use Rattle.bidi_laws.proofs.VisualOrderLemmas.{visual_order-unique}
-use Rattle.bidi_laws.proofs.StoredLemmas.{at_places-append}
 use Rattle.bidi_lines.proofs.Pieces.{at_places-map}
 use Rattle.std.proofs.lemmas.List.{drop_all}
 use Rattle.bidi_lines.proofs.RunsLemmas.{Follow, level_runs-each, level_runs-follow, level_runs-more}
@@ -15,12 +14,6 @@ use Rattle.bidi_lines.proofs.VisualRuns.{all-runs, visual_runs-are}
 pub runs_within : (start : ℕ) (levels : List ℕ) (ranges : List (Range ℕ)) → map run_of ranges ≡ level_runs start levels
     → All (λ r. (start ≤ r.start) × (r.start < start + length levels)) ranges
 runs_within start levels ranges e k d fits = grind (arith, length-map ranges run_of, get_or-map run_of ranges k d (0, 0), level_runs-each start levels k (0, 0))
-
--- one more place
-pub pushed-more : (ranges old new : List (Range ℕ)) (order : List ℕ) (i : ℕ) (d x : Range ℕ) → i < length order → get_or order i 0 < length ranges
-    → map run_of old ≡ at_places (0, 0) (map run_of ranges) (take i order) → new ≡ old ++ x ∷ [] → run_of x ≡ run_of (get_or ranges (get_or order i 0) d)
-    → map run_of new ≡ at_places (0, 0) (map run_of ranges) (take (i + 1) order)
-pushed-more ranges old new order i d x fits inside h e same = grind (arith, common_steps, at_places-append)
 
 -- where no run has an odd level, the runs stand as they are
 pub visual_runs-still : (start : ℕ) (levels : List ℕ) → has_rtl (map (run_level start levels) (level_runs start levels)) ≡ false → level_runs start levels ≡ visual_runs start levels

@@ -1,6 +1,6 @@
 -- The level runs that cover a paragraph, one by one: as ranges of characters, and of units.
 use Rattle.bidi_base.proofs.Common.{◌≡◌, ℕ, zero, suc, ◌+◌, ◌-◌, ◌<◌, ◌≤◌, true, false, List, [], ◌∷◌, ◌++◌, length, map, get_or, refl, sym, ap, arith, ◌⊎◌}
-use Rattle.bidi_base.proofs.Common.{length-append, rules, filter, range_with_len, cases_Bool, map-append, get_or-map, length-map, filter-append, flat_map-append, indexes}
+use Rattle.bidi_base.proofs.Common.{length-append, rules, filter, range_with_len, cases_Bool, map-append, get_or-map, length-map, indexes}
 use Rattle.bidi_base.proofs.Common.{is_kept_at, begins_run, run_starts, place, text_len, ranges_between, level_run_ranges, chars_in_runs, kept_in_runs}
 use Rattle.bidi_base.specs.declared.char_data.BidiClass.{BidiClass}
 use Rattle.bidi_base.proofs.TextLemmas.{HasUnits}
@@ -65,12 +65,6 @@ pub kept_in_run : (len_of : ℕ → ℕ) → HasUnits len_of → (chars : List �
     → kept_in_runs len_of chars classes ((place len_of chars a, place len_of chars b) ∷ []) ≡ filter (is_kept_at classes) (range_with_len a (b - a))
 unfolding kept_in_runs chars_in_runs
 kept_in_run len_of h chars classes a b first second = search (rules, char_index-place)
-
--- one more range
-pub kept_in_runs-push : (len_of : ℕ → ℕ) (chars : List ℕ) (classes : List BidiClass) (runs : List (ℕ × ℕ)) (r : ℕ × ℕ)
-    → kept_in_runs len_of chars classes (runs ++ r ∷ []) ≡ kept_in_runs len_of chars classes runs ++ kept_in_runs len_of chars classes (r ∷ [])
-unfolding kept_in_runs chars_in_runs
-kept_in_runs-push len_of chars classes runs r = grind (arith, flat_map-append, filter-append)
 
 -- the k-th level run as a range of units
 pub level_run_ranges-at : (len_of : ℕ → ℕ) (chars : List ℕ) (classes : List BidiClass) (levels : List ℕ) (k : ℕ) (d : ℕ × ℕ) → length classes ≡ length chars → k < length (run_starts classes levels)

@@ -34,11 +34,6 @@ pub record AreRunsOf (len_of : ℕ → ℕ) (chars : List ℕ) (units : List Bid
   pub levels : is_per_char level_eq len_of chars unit_levels ≡ true
   pub runs_are : map bounds runs ≡ level_run_ranges len_of chars (per_char L len_of chars units) (per_char 0 len_of chars unit_levels)
 
--- the first run begins at the first character
-cuts-first : (classes : List BidiClass) (levels : List ℕ) → get_or (cuts classes levels) 0 0 ≡ 0
-unfolding run_starts
-cuts-first classes levels = grind arith
-
 one_of : {X : Type 0} (xs : List X) (k : ℕ) (x : X) → length xs ≡ 1 → k < length xs → x ≡ get_or xs k x → xs ≡ x ∷ []
 one_of xs k x long within is = grind (arith, common_steps)
 

@@ -1,6 +1,6 @@
 -- A level run as a range of units: which characters stand in it, and what its last kept unit says.
 use Rattle.bidi_base.proofs.Common.{◌≡◌, ℕ, ◌+◌, ◌-◌, ◌<◌, ◌≤◌, true, false, List, [], ◌∷◌, ◌++◌, length, get_or, sym, ap, ◌∙◌, arith, inl, inr, cases_lt, both_ways}
-use Rattle.bidi_base.proofs.Common.{get_or_push, is_kept, class_at, is_kept_at, level_at, run_starts, place, text_len, per_unit, level_run_ranges}
+use Rattle.bidi_base.proofs.Common.{is_kept, class_at, is_kept_at, level_at, run_starts, place, text_len, per_unit, level_run_ranges}
 use Rattle.std.proofs.Math.Numerals.{add-one}
 use Rattle.bidi_base.specs.declared.char_data.BidiClass.{BidiClass}
 use Rattle.bidi_base.specs.declared.char_data.BidiClass.TheVariants.{L}
@@ -45,10 +45,6 @@ module _ (len_of : ℕ → ℕ) (h : HasUnits len_of) (chars : List ℕ) (classe
         IsLevelRun-at classes levels k fits,
         add-one k,
       )
-
-  -- the last run ends with the text
-  pub cuts-last : (runs : List (ℕ × ℕ)) (k : ℕ) → runs ≡ level_run_ranges len_of chars classes levels → k ≡ length runs → get_or (cuts classes levels) k 0 ≡ length classes
-  cuts-last runs k e all = grind (arith, length-level_run_ranges, get_or_push)
 
   -- a run is a stretch of some units of the text
   pub record IsUnitRun (a b : ℕ) (start end : ℕ) : Type 0 where

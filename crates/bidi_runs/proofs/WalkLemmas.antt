@@ -1,7 +1,7 @@
 -- Ranges in order, and the walks over the units of some of them.
 use Rattle.bidi_base.proofs.Common.{◌≡◌, ℕ, zero, suc, ◌+◌, ◌-◌, ◌<◌, ◌≤◌, true, List, [], ◌∷◌, ◌++◌, length, map, get_or, take, drop, reverse, Some, append-nil, refl, sym}
-use Rattle.bidi_base.proofs.Common.{ap, ◌∙◌, arith, length-append, lt-ltb, All-head, All-tail, IsTrue, All, le-leb, map-append, reverse-append, get_or-map, flat_map-append}
-use Rattle.bidi_base.proofs.Common.{MakesProgress, item_count, Range, between, is_l_or_r, bounds, are_ordered_from, are_ordered, units_in_runs}
+use Rattle.bidi_base.proofs.Common.{ap, ◌∙◌, arith, IsTrue, map-append, reverse-append, get_or-map, flat_map-append}
+use Rattle.bidi_base.proofs.Common.{MakesProgress, item_count, Range, between, bounds, are_ordered_from, are_ordered, units_in_runs}
 use Rattle.std.proofs.lemmas.Slice.{between_to_end}
 use Rattle.bidi_base.specs.declared.char_data.BidiClass.{BidiClass}
 use Rattle.bidi_base.specs.Units.{is_run_sequence, units_from, units_below}
@@ -109,15 +109,3 @@ backwards-start runs read run pos k e is fits = grind (arith, part_before, range
 -- what a sequence has
 pub is_run_sequence-ordered : (runs : List (ℕ × ℕ)) (sos eos : BidiClass) → IsTrue (is_run_sequence runs sos eos) → IsTrue (are_ordered runs)
 is_run_sequence-ordered runs sos eos h = grind arith steps 400000
-
--- one more range after all others
-pub are_ordered-push : (low : ℕ) (runs : List (ℕ × ℕ)) (r : ℕ × ℕ) → low ≤ r.0 → r.0 < r.1 → All (λ (q : ℕ × ℕ). q.1 ≤ r.0) runs
-    → are_ordered_from low runs ≡ true → are_ordered_from low (runs ++ r ∷ []) ≡ true
-are_ordered-push low [] r from some all h = simp (le-leb low r.0 from, lt-ltb r.0 r.1 some)
-are_ordered-push low (q ∷ runs) r from some all h =
-    let P = λ (x : ℕ × ℕ). x.1 ≤ r.0 in
-    grind (arith, are_ordered-front low q runs h, All-head P q runs all, are_ordered-push q.1 runs r, All-tail P q runs all)
-
-pub is_run_sequence-push : (runs : List (ℕ × ℕ)) (r : ℕ × ℕ) (sos eos after : BidiClass) → r.0 < r.1 → All (λ (q : ℕ × ℕ). q.1 ≤ r.0) runs
-    → IsTrue (is_l_or_r after) → IsTrue (is_run_sequence runs sos eos) → IsTrue (is_run_sequence (runs ++ r ∷ []) sos after)
-is_run_sequence-push runs r sos eos after some all side h = grind (arith, length-append, are_ordered-push)

@@ -1,6 +1,6 @@
 -- The lines of an analysed paragraph are those of its characters.
-use Rattle.bidi_base.proofs.Common.{◌≡◌, ◌∙◌, ℕ, List, [], ◌∷◌, Option, None, Some, length, map, flat_map, refl, sym, ap, arith, append-nil, length-map, chars, len_utf8, IsUtf8, Source, Run}
-use Rattle.bidi_base.proofs.Common.{Range, run_of, paragraph_level, paragraph_levels, text_classes, text_levels, get_or, ◌<◌, stored_classes, stored_levels, per_char, flat_map-map}
+use Rattle.bidi_base.proofs.Common.{◌≡◌, ◌∙◌, ℕ, List, [], ◌∷◌, Option, None, Some, length, map, flat_map, refl, sym, ap, append-nil, length-map, chars, len_utf8, IsUtf8, Source, Run}
+use Rattle.bidi_base.proofs.Common.{Range, run_of, paragraph_level, paragraph_levels, text_classes, text_levels, get_or, stored_classes, stored_levels, per_char, flat_map-map}
 use Rattle.std.proofs.lemmas.Str.{encodes-chars}
 use Rattle.bidi_base.specs.declared.char_data.BidiClass.{BidiClass}
 use Rattle.bidi_base.specs.declared.char_data.BidiClass.TheVariants.{L}
@@ -13,7 +13,7 @@ use Rattle.bidi_text.proofs.StrLemmas.{has_units, text_len-chars}
 use Rattle.bidi_visual.specs.Shown.{shown_levels, shown_paragraph, shown_range, shown_ranges}
 use Rattle.bidi_visual.specs.declared.view.View.{View}
 use Rattle.bidi_base.specs.Analysed.{IsPerCharText}
-use Rattle.bidi_walk.specs.ParagraphInfo.{level_of, levels_of, ranges_of}
+use Rattle.bidi_walk.specs.ParagraphInfo.{levels_of, ranges_of}
 use Rattle.bidi_walk.specs.SplitRule.{IsAnalysisBy}
 use Rattle.bidi_walk.specs.declared.paragraph_info.ParagraphInfo.{ParagraphInfo}
 use Rattle.bidi_shown.specs.Paragraph.{analysed, shown_in, IsAnalysed}
@@ -53,12 +53,6 @@ ranges-None source text utf8 = ap (λ n. (0, n) ∷ []) (sym (text_len-chars tex
 -- ---- a text that is analysed as one paragraph
 
 module _ (source : Source) (base : Option ℕ) (own : List ℕ) (ps : List ParagraphInfo) (h : levels_of ps ≡ paragraph_levels source base (own ∷ [])) where
-  pub whole-some : 0 < length ps
-  unfolding paragraph_levels
-  whole-some =
-      let one : length (levels_of ps) ≡ 1 = ap length h in
-      omega (arith, one, length-map ps level_of)
-
   pub whole-level : get_or (levels_of ps) 0 0 ≡ paragraph_level base (map source.class_of own)
   unfolding paragraph_levels
   whole-level = ap (λ l. get_or l 0 0) h

@@ -1,7 +1,7 @@
 -- Parts of rows, and where blocks begin.
-use Rattle.bidi_base.proofs.Common.{◌≡◌, ◌∙◌, ℕ, zero, suc, ◌+◌, ◌-◌, ◌*◌, ◌/◌, ◌<◌, ◌≤◌, ◌++◌, List, length, get_or, map, flat_map, take, drop, max, subst, arith}
+use Rattle.bidi_base.proofs.Common.{◌≡◌, ◌∙◌, ℕ, zero, suc, ◌+◌, ◌-◌, ◌*◌, ◌/◌, ◌<◌, ◌++◌, List, length, get_or, map, flat_map, take, drop, max, subst, arith}
 use Rattle.bidi_base.proofs.Common.{common_steps, All, range_with_len, add-one, drop-take, flat_map_more, map-append, take-append-drop, take-take, take_all}
-use Rattle.std.proofs.Math.Nat.{div-mul-le_self, mul-le-mul_right, mul_comm}
+use Rattle.std.proofs.Math.Nat.{mul_comm}
 use Rattle.std.proofs.lemmas.Grind.{flat_map-append}
 use Rattle.std.proofs.lemmas.List.{take-map, drop-map}
 use Rattle.std.proofs.lemmas.List.FromFn.{length-range_with_len, get_or-range_with_len}
@@ -17,12 +17,6 @@ map-part f block items = simp (take-map, drop-map)
 -- what holds of a row holds of its part
 pub All-part : {A : Type 0} (P : A → Type 0) (block : Block) (items : List A) → All P items → All P (part_of block items)
 All-part P block items all = All-take P block.columns _ (All-drop P block.from items all)
-
--- a block begins at one of the columns
-pub block-within : (columns len k : ℕ) → k < block_count columns len → k * columns ≤ max len 1 - 1
-block-within columns len k below =
-    let least : k ≤ (max len 1 - 1) / columns = omega arith in
-    omega (arith, mul-le-mul_right columns least, div-mul-le_self (max len 1 - 1) columns)
 
 -- the indexes of a list are its own
 pub indexes-within : (len : ℕ) → All (λ p. p < len) (range_with_len 0 len)

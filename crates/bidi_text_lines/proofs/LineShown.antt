@@ -30,9 +30,6 @@ empty-runs_of_chars len_of chars start k d fits = absurd (omega (arith, fits, ap
 
 -- whatever levels are kept of another line
 module _ (len_of : ℕ → ℕ) (chars : List ℕ) (start end : ℕ) (begins : start ≡ 0) (ends : end ≡ 0) where
-  pub none-line : IsLine len_of chars start end
-  none-line = rw (begins, ends) (empty-IsLine len_of chars)
-
   pub none-shown : (levels : List ℕ) → take (end - start) levels ≡ []
   none-shown levels = rw (begins, ends) refl
 
