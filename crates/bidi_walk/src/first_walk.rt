@@ -72,12 +72,13 @@ struct TextState {
 
 impl TextState {
     // Starts before the text. The paragraphs reuse the memory of earlier ones.
-    fn new(alloc: Global, base: Option<Level>, memory: FoundParagraphs) -> TextState
+    fn new(base: Option<Level>, memory: FoundParagraphs) -> TextState
         ensures base { result.base ≡ base }
         ensures state { IsFresh result.state 0 }
         ensures paragraphs { result.paragraphs.items ≡ [] }
         ensures flags { result.flags.items ≡ [] }
     {
+        let alloc = *memory.paragraphs.allocator();
         let mut paragraphs = memory.paragraphs;
         paragraphs.clear();
         let mut flags = memory.flags;
@@ -284,12 +285,11 @@ fn ends_paragraph<D: BidiDataSource, T: TextSource>(
 /// `base` or the characters (P2, P3) give their levels.
 ///
 /// If `split` is `None`, the whole text is one paragraph, even if it is empty. Any base level is accepted.
-/// The paragraphs reuse the memory of `memory`.
+/// The paragraphs reuse the memory of `memory`, and the pass uses its allocator.
 ///
 /// It allocates for more than one paragraph, and for undecided FSI that are open at the same time. If an
 /// allocation fails, `classes` may hold anything.
 pub fn walk<D: BidiDataSource, T: TextSource>(
-    alloc: Global,
     data_source: &D,
     text: T,
     base: Option<Level>,
@@ -308,7 +308,7 @@ pub fn walk<D: BidiDataSource, T: TextSource>(
     ensures flags { let pieces = pieces_by split (D.source data_source.now) (T.characters text) in
         IfOk result (λ i. i.flags.items ≡ paragraph_flags (D.source data_source.now) pieces) }
 {
-    let mut walk = TextState::new(alloc, base, memory);
+    let mut walk = TextState::new(base, memory);
     let mut at = 0;
     let mut near_end = 0;
     while let Some(stop) = next_stop(

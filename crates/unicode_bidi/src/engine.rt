@@ -192,7 +192,7 @@ impl Analyser {
         ensures none { OnErr result (found_paragraphs self.new ≡ []) }
     {
         let memory = mem::replace(&mut self.found, FoundParagraphs::new(alloc));
-        let found = first_walk::walk(alloc, data_source, text, base, rule, classes, memory)?;
+        let found = first_walk::walk(data_source, text, base, rule, classes, memory)?;
         let classified = ClassifiedText {
             data_source,
             text,

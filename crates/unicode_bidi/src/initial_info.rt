@@ -41,7 +41,6 @@ impl<T: TextSource> InitialInfo<T> {
         let memory = FoundParagraphs::new(alloc);
         let classes = original_classes.as_mut_slice();
         let found = walk(
-            alloc,
             data_source,
             text,
             default_para_level,
