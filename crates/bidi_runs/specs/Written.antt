@@ -1,9 +1,10 @@
 -- The units of some ranges that are read, and a class written over them.
-use Rattle.std.specs.Prelude.{◌≡◌, ℕ, ◌-◌, ◌<◌, ◌≤◌, Bool, true, false, ◌&&◌, List, length, filter, min, sum_by}
+use Rattle.std.specs.Prelude.{◌≡◌, ℕ, ◌-◌, ◌<◌, ◌≤◌, Bool, true, false, ◌&&◌, List, length, map, filter, min, sum_by}
+use Rattle.std.specs.declared.ops.Range.{Range}
 use Rattle.bidi_base.specs.declared.char_data.BidiClass.{BidiClass}
 use Rattle.bidi_base.specs.Classes.{is_kept_in_place}
 use Rattle.bidi_base.specs.Places.{between, class_at}
-use Rattle.bidi_base.specs.Units.{in_runs}
+use Rattle.bidi_base.specs.Units.{bounds, in_runs}
 
 -- a unit of some ranges whose class is read
 abbrev pub is_seen : List (ℕ × ℕ) → List BidiClass → ℕ → Bool
@@ -16,6 +17,10 @@ pub record IsWrittenOver (test : ℕ → Bool) (class : BidiClass) (from to : �
   pub below : (k : ℕ) → k < from → class_at new k ≡ class_at old k
   pub above : (k : ℕ) → to ≤ k → class_at new k ≡ class_at old k
   pub long : length new ≡ length old
+
+-- the class was written over the seen units of some level runs from `from` up to `to`, and nowhere else
+abbrev pub WritesInRuns : List (Range ℕ) → BidiClass → ℕ → ℕ → List BidiClass → List BidiClass → Type 0
+WritesInRuns runs class from to old new = IsWrittenOver (is_seen (map bounds runs) old) class from to old new
 
 -- the seen units from `low` up to `high`, and all of them
 abbrev pub seen_from : List (ℕ × ℕ) → List BidiClass → ℕ → ℕ → List ℕ

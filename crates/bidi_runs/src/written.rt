@@ -5,7 +5,7 @@ ghost use Rattle.std.specs.Prelude.{◌≡◌, ◌+◌, ◌-◌, ◌*◌, ◌<�
 ghost use Rattle.bidi_base.specs.Classes.{is_kept_in_place};
 ghost use Rattle.bidi_base.specs.Places.{class_at};
 ghost use Rattle.bidi_base.specs.Units.{bounds, are_ordered};
-ghost use Rattle.bidi_runs.specs.Written.{count_below, is_seen, IsWrittenOver};
+ghost use Rattle.bidi_runs.specs.Written.{count_below, IsWrittenOver, WritesInRuns};
 
 use crate::prepare::{LevelRun, Steps};
 use bidi_base::char_data::BidiClass::{self, BN};
@@ -59,7 +59,7 @@ pub fn write_over_runs(
 )
     requires ordered { IsTrue (are_ordered (map bounds runs.now)) }
     requires inside { to ≤ length classes.old }
-    ensures { IsWrittenOver (is_seen (map bounds runs.now) classes.old) class from to classes.old classes.new }
+    ensures { WritesInRuns runs.now class from to classes.old classes.new }
 {
     write_over_runs_fresh::<Brand>(runs, classes, from, to, class, Blank::new(1));
 }
@@ -78,7 +78,7 @@ fn write_over_runs_fresh<S: Ledger>(
     requires name { blank.name ≡ S.name }
     requires parts { blank.parts ≡ S.parts }
     requires one { blank.parts ≡ 1 }
-    ensures { IsWrittenOver (is_seen (map bounds runs.now) classes.old) class from to classes.old classes.new }
+    ensures { WritesInRuns runs.now class from to classes.old classes.new }
 {
     let mut steps = Steps::<S>::new(blank);
     write_over_runs_counted(runs, classes, from, to, class, &mut steps);
@@ -98,7 +98,7 @@ pub fn write_over_runs_counted<S: Ledger>(
 )
     requires ordered { IsTrue (are_ordered (map bounds runs.now)) }
     requires inside { to ≤ length classes.old }
-    ensures written { IsWrittenOver (is_seen (map bounds runs.now) classes.old) class from to classes.old classes.new }
+    ensures written { WritesInRuns runs.now class from to classes.old classes.new }
     ensures at_least { steps.old ≤ steps.new }
     ensures at_most { from < to → from < (get_or (map bounds runs.now) 0 (0, 0)).1
         → steps.new + 2 * count_below (map bounds runs.now) from
