@@ -1,5 +1,5 @@
 -- What the walk over a text holds of the isolates that are open, and what one more character does to it.
-use Rattle.std.specs.Prelude.{◌≡◌, ℕ, ◌+◌, ◌-◌, ◌≤◌, Bool, false, not, ◌&&◌, ◌||◌, ◌==◌, nat_lt, zero, suc, get_or, if◌then◌else◌, List, [], ◌∷◌, ◌++◌, take, drop, map, All, Option, Some, None, unwrap_or, length, IsTrue, MatchOption, replicate}
+use Rattle.std.specs.Prelude.{◌≡◌, ℕ, ◌+◌, ◌-◌, ◌<◌, ◌≤◌, Bool, false, not, ◌&&◌, ◌||◌, ◌==◌, nat_lt, zero, suc, get_or, if◌then◌else◌, List, [], ◌∷◌, ◌++◌, take, drop, map, All, Option, Some, None, unwrap_or, length, IsTrue, MatchOption, replicate}
 use Rattle.std.specs.Option.{is_some, is_none}
 use Rattle.std.specs.declared.ops.Range.{Range}
 use Rattle.bidi_base.specs.declared.char_data.BidiClass.{BidiClass}
@@ -162,6 +162,10 @@ abbrev pub IsReadOn : Source → (ℕ → ℕ) → List ℕ → (BidiClass → B
 IsReadOn source len_of chars stop_classes from result to old new =
     MatchOption result (IsSkimmed source len_of stop_classes (ahead len_of chars from.at) from.at to.at old new from.flags to.flags)
     (λ stop. IsStop source len_of stop_classes (ahead len_of chars from.at) from.at stop old new from.flags to.flags)
+
+-- if there is no stop, at least one unit was read where any was left
+abbrev pub GoesOn : ℕ → Option Stop → Progress → Progress → Type 0
+GoesOn len result from to = result ≡ None → from.at < len → from.at < to.at
 
 -- the set of the classes of the first k of some characters
 abbrev pub set_of_first : Source → List ℕ → ℕ → ClassSet

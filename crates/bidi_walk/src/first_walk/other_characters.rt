@@ -5,7 +5,7 @@ ghost use Rattle.bidi_base.specs.declared.char_data.BidiClass.{BidiClass};
 ghost use Rattle.bidi_base.specs.Places.{class_at};
 ghost use Rattle.bidi_base.specs.Text.{text_len, is_boundary as is_boundary_of};
 ghost use Rattle.bidi_walk.specs.ClassSet.{has};
-ghost use Rattle.bidi_walk.specs.FirstWalk.{ahead, CanRead, HasEachChange, IsStop, IsReadOn, IsSkimmed};
+ghost use Rattle.bidi_walk.specs.FirstWalk.{ahead, CanRead, GoesOn, HasEachChange, IsStop, IsReadOn, IsSkimmed};
 ghost use Rattle.bidi_walk.specs.declared.first_walk.unit_classes.TheConstants.{AT_ONCE};
 ghost use Rattle.bidi_walk.specs.declared.paragraph_flags.ParagraphFlags.{ParagraphFlags};
 ghost use Rattle.bidi_walk.specs.declared.first_walk.other_characters.TheConstants.{LOW_BLOCK, LOW_LIMIT};
@@ -130,7 +130,7 @@ fn read_block<D: BidiDataSource, T: TextSource>(
     requires sought { HasEachChange sought progress.old.flags }
     ensures stop { IsReadOn (D.source data_source.now) T.units (T.characters text) (has sought) progress.old
         result progress.new classes.old classes.new }
-    ensures passed { result ≡ None → progress.old.at < length classes.new → progress.old.at < progress.new.at }
+    ensures passed { GoesOn (length classes.new) result progress.old progress.new }
 {
     let start = progress.at;
     let end = block_end(text, start);
@@ -266,7 +266,7 @@ pub(super) fn read_on<D: BidiDataSource, T: TextSource>(
     requires { CanRead T.units (T.characters text) progress.old classes.old }
     ensures stop { IsReadOn (D.source data_source.now) T.units (T.characters text) (has stop_classes) progress.old
         result progress.new classes.old classes.new }
-    ensures passed { result ≡ None → progress.old.at < length classes.new → progress.old.at < progress.new.at }
+    ensures passed { GoesOn (length classes.new) result progress.old progress.new }
 {
     let end = progress.at.saturating_add(BLOCK);
     let sought = progress.flags.sought_with(stop_classes);
