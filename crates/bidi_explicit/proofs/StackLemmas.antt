@@ -1,11 +1,11 @@
 -- What the operations of the machine do to a stack of entries.
-use Rattle.bidi_base.proofs.Common.{◌≡◌, ℕ, ◌+◌, ◌-◌, ◌<◌, true, false, cond, List, [], ◌∷◌, ◌++◌, length, map, reverse, ◌∙◌, arith, common_steps, cond-true}
+use Rattle.bidi_base.proofs.Common.{◌≡◌, ℕ, ◌+◌, ◌-◌, ◌<◌, ◌≤◌, true, false, cond, List, [], ◌∷◌, ◌++◌, length, map, reverse, ◌∙◌, arith, common_steps, cond-true}
 use Rattle.bidi_base.proofs.Common.{cond-false, reverse-append, length-reverse, length-map, is_initiator, is_opener, is_pdi, is_pdf, State, entry_of, taken, refused}
 use Rattle.bidi_base.proofs.Common.{entered, fits_in, drop_isolate, close_isolate, close_embedding, closed, opened, asked_level, override_of, IsWithinDepth}
 use Rattle.bidi_base.specs.declared.char_data.BidiClass.{BidiClass}
 use Rattle.bidi_laws.proofs.StatusBounds.{IsTaken-room}
 use Rattle.bidi_explicit.specs.declared.explicit.status.StatusEntry.{StatusEntry}
-use Rattle.bidi_explicit.specs.Status.{seen, state_by}
+use Rattle.bidi_explicit.specs.Status.{entry_count, seen, state_by}
 
 -- a PDF
 pub close_embedding-inside : (x : StatusEntry) (xs : List StatusEntry) (i e v : ℕ) → 0 < i → state_by x xs i e v ≡ close_embedding (state_by x xs i e v)
@@ -75,6 +75,17 @@ entered_overflow_embedding c s x xs i e v is fails other none = grind (arith, en
 pub entered_inside : (c : BidiClass) (s : State) (x : StatusEntry) (xs : List StatusEntry) (i e v : ℕ) → state_by x xs i e v ≡ s → fits_in c s ≡ false → is_initiator c ≡ false → 0 < i
     → s ≡ entered c s
 entered_inside c s x xs i e v is fails other some = grind (arith, entered_refused)
+
+-- how many entries there are
+pub entry_count-close_embedding : (s : State) → entry_count (close_embedding s) ≤ entry_count s
+unfolding close_embedding
+entry_count-close_embedding s = grind arith
+
+pub entry_count-entered : (c : BidiClass) (s : State) → entry_count (entered c s) ≤ entry_count s + 1
+unfolding entered
+entry_count-entered c s = grind arith
+
+pub ruleset entry_counts = (entry_count-close_embedding, entry_count-entered)
 
 -- by class
 pub closed-pdi : (c : BidiClass) (s : State) → is_pdi c ≡ true → closed c s ≡ close_isolate s
