@@ -18,6 +18,7 @@ use super::{
     not_removed_by_x9,
 };
 use crate::characters::end_within;
+use crate::leveled_text::LeveledText;
 use bidi_base::char_data::BidiClass;
 use bidi_base::classes::{is_initiator, is_pdi};
 use bidi_base::level::Level;
@@ -238,14 +239,12 @@ pub fn isolating_run_sequences<T: TextSource>(
 {
     let mut runs = runs;
     let mut links = RunLinks::new(alloc);
-    links.link(
+    let leveled = LeveledText {
         text,
-        para_level,
         original_classes,
         levels,
-        runs.as_slice(),
-        has_isolate_controls,
-    )?;
+    };
+    links.link(&leveled, para_level, runs.as_slice(), has_isolate_controls)?;
     for first in 0..links.run_count() {
         if let Some(sequence) = links.gather(&mut runs, first)? {
             let lent = sequence.lend(runs.as_slice());

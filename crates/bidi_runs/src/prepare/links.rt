@@ -14,6 +14,7 @@ ghost use Rattle.bidi_runs.specs.Joining.{read_units, IsFlagged};
 use super::joining::{kept_end, level_after, read_run, side};
 use super::waiting::Waiting;
 use super::{GatheredSequence, LevelRun, LevelRunVec};
+use crate::leveled_text::LeveledText;
 use bidi_base::char_data::BidiClass;
 use bidi_base::level::Level;
 use bidi_text::text::TextSource;
@@ -120,37 +121,45 @@ impl RunLinks {
 
     /// Links the level runs of a paragraph to its isolating run sequences (BD13, X10).
     ///
-    /// The arguments are those of [`isolating_run_sequences`](super::isolating_run_sequences). If an allocation
-    /// fails, returns an error, and the links are those of no paragraph.
+    /// The arguments, and the fields of `text`, are the arguments of
+    /// [`isolating_run_sequences`](super::isolating_run_sequences). If an allocation fails, returns an error, and the
+    /// links are those of no paragraph.
     pub fn link<T: TextSource>(
         &mut self,
-        text: T,
+        text: &LeveledText<'_, T>,
         para_level: Level,
-        original_classes: &[BidiClass],
-        levels: &[Level],
         runs: &[LevelRun],
         has_isolate_controls: bool,
     ) -> Result<(), AllocError>
-        requires original { HaveClass T.units (T.characters text) original_classes.now }
-        requires levels { HaveLevel T.units (T.characters text) levels.now }
-        requires runs { let stored = per_char L T.units (T.characters text) original_classes.now in
+        requires original { HaveClass T.units (T.characters text.now.text) text.now.original_classes.now }
+        requires levels { HaveLevel T.units (T.characters text.now.text) text.now.levels.now }
+        requires runs { let stored = per_char L T.units (T.characters text.now.text) text.now.original_classes.now in
             map bounds runs.now
-            ≡ level_run_ranges T.units (T.characters text) stored (per_char 0 T.units (T.characters text) levels.now) }
-        requires isolates { IsFlagged original_classes.now has_isolate_controls }
-        ensures sequences { let stored = per_char L T.units (T.characters text) original_classes.now in
-            OnOk result (sequences_of T.units (T.characters text) stored (linked_sequences self.new (map bounds runs.now))
-            ≡ sequences para_level stored (per_char 0 T.units (T.characters text) levels.now)) }
+            ≡ level_run_ranges T.units (T.characters text.now.text) stored
+            (per_char 0 T.units (T.characters text.now.text) text.now.levels.now) }
+        requires isolates { IsFlagged text.now.original_classes.now has_isolate_controls }
+        ensures sequences { let stored = per_char L T.units (T.characters text.now.text) text.now.original_classes.now in
+            OnOk result (sequences_of T.units (T.characters text.now.text) stored
+            (linked_sequences self.new (map bounds runs.now))
+            ≡ sequences para_level stored (per_char 0 T.units (T.characters text.now.text) text.now.levels.now)) }
         // Only the levels of characters that X9 keeps need be the explicit ones.
-        ensures explicit { let stored = per_char L T.units (T.characters text) original_classes.now in
-            OnOk result (HasExplicitLevels para_level stored (per_char 0 T.units (T.characters text) levels.now)
-            → sequences_of T.units (T.characters text) stored (linked_sequences self.new (map bounds runs.now))
+        ensures explicit { let stored = per_char L T.units (T.characters text.now.text) text.now.original_classes.now in
+            OnOk result (HasExplicitLevels para_level stored
+            (per_char 0 T.units (T.characters text.now.text) text.now.levels.now)
+            → sequences_of T.units (T.characters text.now.text) stored (linked_sequences self.new (map bounds runs.now))
             ≡ sequences para_level stored (explicit_levels para_level stored)) }
         ensures runs { OnOk result
             (IsPermutation (map bounds runs.now) (flat_map (λ s. s.runs) (linked_sequences self.new (map bounds runs.now)))) }
         ensures fits { OnOk result
-            (All (λ s. AreLines T.units (T.characters text) s.runs) (linked_sequences self.new (map bounds runs.now))) }
+            (All (λ s. AreLines T.units (T.characters text.now.text) s.runs)
+            (linked_sequences self.new (map bounds runs.now))) }
         ensures linked { OnOk result (AreLinked self.new (map bounds runs.now)) }
     {
+        let LeveledText {
+            text,
+            original_classes,
+            levels,
+        } = *text;
         self.restart(runs.len())?;
         let mut level_before = para_level;
         for run in runs {
