@@ -2,6 +2,7 @@
 use Rattle.std.specs.Prelude.{◌≡◌, ℕ, ◌<◌, Bool, true, IsTrue, if◌then◌else◌, ◌==◌, List, [], ◌∷◌, ◌++◌, length, map, filter, get_or, slice_set, take, Option, Some, None, is_some, unwrap_or}
 use Rattle.bidi_base.specs.declared.char_data.BidiClass.{BidiClass}
 use Rattle.bidi_base.specs.declared.char_data.BidiClass.TheVariants.{L}
+use Rattle.std.specs.Global.{Vec}
 use Rattle.std.specs.List.{range_with_len}
 use Rattle.std.specs.declared.ops.Range.{Range}
 use Rattle.bidi_base.specs.Places.{chain, last_or}
@@ -14,6 +15,10 @@ use Rattle.bidi_runs.specs.declared.prepare.links.RunSides.{RunSides}
 -- the level runs that were linked: those with which a list begins
 abbrev pub linked_runs : RunLinks → List (Range ℕ) → List (ℕ × ℕ)
 linked_runs links runs = map bounds (take (length links.next.items) runs)
+
+-- the linked runs stay, whatever comes after them
+abbrev pub KeepsLinked : RunLinks → Vec (Range ℕ) → Vec (Range ℕ) → Type 0
+KeepsLinked links old new = linked_runs links new.items ≡ linked_runs links old.items
 
 -- one more run, to which a link leads from the run at r
 abbrev pub with_link : Option ℕ → List ℕ → List ℕ

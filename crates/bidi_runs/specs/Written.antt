@@ -1,4 +1,4 @@
--- The units of some ranges that are read, and a class written over them.
+-- The units of some ranges that are read, a class written over them, and what a pass over level runs leaves.
 use Rattle.std.specs.Prelude.{◌≡◌, ℕ, ◌-◌, ◌<◌, ◌≤◌, Bool, true, false, ◌&&◌, List, length, map, filter, min, sum_by}
 use Rattle.std.specs.declared.ops.Range.{Range}
 use Rattle.bidi_base.specs.declared.char_data.BidiClass.{BidiClass}
@@ -21,6 +21,15 @@ pub record IsWrittenOver (test : ℕ → Bool) (class : BidiClass) (from to : �
 -- the class was written over the seen units of some level runs from `from` up to `to`, and nowhere else
 abbrev pub WritesInRuns : List (Range ℕ) → BidiClass → ℕ → ℕ → List BidiClass → List BidiClass → Type 0
 WritesInRuns runs class from to old new = IsWrittenOver (is_seen (map bounds runs) old) class from to old new
+
+-- no unit outside some level runs changed
+abbrev pub KeepsOutside : List (Range ℕ) → List BidiClass → List BidiClass → Type 0
+KeepsOutside runs old new = (u : ℕ) → in_runs (map bounds runs) u ≡ false → class_at new u ≡ class_at old u
+
+-- no unit before a level run changed, and none behind it
+pub record KeepsAround (run : Range ℕ) (old new : List BidiClass) : Type 0 where
+  pub below : (u : ℕ) → u < run.start → class_at new u ≡ class_at old u
+  pub above : (u : ℕ) → run.end ≤ u → class_at new u ≡ class_at old u
 
 -- the seen units from `low` up to `high`, and all of them
 abbrev pub seen_from : List (ℕ × ℕ) → List BidiClass → ℕ → ℕ → List ℕ

@@ -3,5 +3,6 @@
 #![tactic(auto)]
 
 pub mod characters;
+pub mod leveled_text;
 pub mod prepare;
 pub mod written;

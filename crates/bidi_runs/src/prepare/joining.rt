@@ -1,17 +1,15 @@
 //! Joins level runs into isolating run sequences (BD13, X10).
 
 ghost use Rattle.std.specs.Prelude.{◌≡◌, ℕ, ◌<◌, ◌≤◌, false, max, [], length, map, flat_map, All, IsPermutation, IsTrue, OnOk};
-ghost use Rattle.std.specs.List.{list_any};
 ghost use Rattle.bidi_base.specs.PerChar.{HaveClass, HaveLevel};
 ghost use Rattle.bidi_base.specs.declared.char_data.BidiClass.TheVariants.{L};
-ghost use Rattle.bidi_base.specs.Classes.{is_initiator};
 ghost use Rattle.bidi_base.specs.Explicit.{explicit_levels};
 ghost use Rattle.bidi_base.specs.Levels.{direction_of};
 ghost use Rattle.bidi_base.specs.Search.{IsFirst};
 ghost use Rattle.bidi_base.specs.Sequences.{is_kept_at, sequences, HasExplicitLevels};
 ghost use Rattle.bidi_base.specs.Text.{IsLine, is_boundary, per_char};
 ghost use Rattle.bidi_base.specs.Units.{bounds, level_run_ranges, AreLines};
-ghost use Rattle.bidi_runs.specs.Joining.{level_after_run, is_isolate_control, is_kept_in, IsKeptEnd, read_units};
+ghost use Rattle.bidi_runs.specs.Joining.{level_after_run, is_isolate_control, is_kept_in, IsFlagged, IsKeptEnd, read_units};
 ghost use Rattle.bidi_runs.specs.RunSequence.{run_bounds, sequences_in};
 
 use super::waiting::Waiting;
@@ -20,6 +18,7 @@ use super::{
     not_removed_by_x9,
 };
 use crate::characters::end_within;
+use crate::leveled_text::LeveledText;
 use bidi_base::char_data::BidiClass;
 use bidi_base::classes::{is_initiator, is_pdi};
 use bidi_base::level::Level;
@@ -225,7 +224,7 @@ pub fn isolating_run_sequences<T: TextSource>(
     requires runs { let stored = per_char L T.units (T.characters text) original_classes.now in
         map bounds runs.items
         ≡ level_run_ranges T.units (T.characters text) stored (per_char 0 T.units (T.characters text) levels.now) }
-    requires isolates { IsTrue (list_any is_initiator original_classes.now) → IsTrue has_isolate_controls }
+    requires isolates { IsFlagged original_classes.now has_isolate_controls }
     requires out { out.old.items ≡ [] }
     ensures sequences { let stored = per_char L T.units (T.characters text) original_classes.now in
         OnOk result (sequences_in T.units (T.characters text) stored out.new.items
@@ -240,14 +239,12 @@ pub fn isolating_run_sequences<T: TextSource>(
 {
     let mut runs = runs;
     let mut links = RunLinks::new(alloc);
-    links.link(
+    let leveled = LeveledText {
         text,
-        para_level,
         original_classes,
         levels,
-        runs.as_slice(),
-        has_isolate_controls,
-    )?;
+    };
+    links.link(&leveled, para_level, runs.as_slice(), has_isolate_controls)?;
     for first in 0..links.run_count() {
         if let Some(sequence) = links.gather(&mut runs, first)? {
             let lent = sequence.lend(runs.as_slice());

@@ -1,21 +1,20 @@
 //! Isolating run sequences as links from level run to level run (BD13, X10).
 
 ghost use Rattle.std.specs.Prelude.{◌≡◌, ℕ, ◌<◌, [], ◌∷◌, ◌++◌, length, map, drop, flat_map, get_or, All, IsPermutation, IsTrue, OnOk, IfOk, IfSome, is_some, if◌then◌else◌};
-ghost use Rattle.std.specs.List.{list_any};
 ghost use Rattle.std.specs.declared.ops.Range.{Range};
 ghost use Rattle.bidi_base.specs.PerChar.{HaveClass, HaveLevel};
 ghost use Rattle.bidi_base.specs.declared.char_data.BidiClass.TheVariants.{L};
-ghost use Rattle.bidi_base.specs.Classes.{is_initiator};
 ghost use Rattle.bidi_base.specs.Explicit.{explicit_levels};
 ghost use Rattle.bidi_base.specs.Places.{last_or};
 ghost use Rattle.bidi_base.specs.Sequences.{sequences, HasExplicitLevels};
 ghost use Rattle.bidi_base.specs.Text.{IsLine, is_boundary, per_char};
 ghost use Rattle.bidi_base.specs.Units.{bounds, level_run_ranges, AreLines};
-ghost use Rattle.bidi_runs.specs.Joining.{read_units};
+ghost use Rattle.bidi_runs.specs.Joining.{read_units, IsFlagged};
 
 use super::joining::{kept_end, level_after, read_run, side};
 use super::waiting::Waiting;
 use super::{GatheredSequence, LevelRun, LevelRunVec};
+use crate::leveled_text::LeveledText;
 use bidi_base::char_data::BidiClass;
 use bidi_base::level::Level;
 use bidi_text::text::TextSource;
@@ -47,7 +46,7 @@ pub struct RunLinks {
 
 impl RunLinks {
     ghost use Rattle.bidi_runs.specs.Gathered.{IsGatheredIn};
-    ghost use Rattle.bidi_runs.specs.Links.{with_link, with_sides, begins, next_run, run_chain, sequence_at, linked_runs, linked_sequences, sequences_of, AreLinked};
+    ghost use Rattle.bidi_runs.specs.Links.{with_link, with_sides, begins, next_run, run_chain, sequence_at, linked_runs, linked_sequences, sequences_of, AreLinked, KeepsLinked};
 
     /// Creates links between no runs. Does not allocate.
     pub fn new(alloc: Global) -> RunLinks {
@@ -122,37 +121,45 @@ impl RunLinks {
 
     /// Links the level runs of a paragraph to its isolating run sequences (BD13, X10).
     ///
-    /// The arguments are those of [`isolating_run_sequences`](super::isolating_run_sequences). If an allocation
-    /// fails, returns an error, and the links are those of no paragraph.
+    /// The arguments, and the fields of `text`, are the arguments of
+    /// [`isolating_run_sequences`](super::isolating_run_sequences). If an allocation fails, returns an error, and the
+    /// links are those of no paragraph.
     pub fn link<T: TextSource>(
         &mut self,
-        text: T,
+        text: &LeveledText<'_, T>,
         para_level: Level,
-        original_classes: &[BidiClass],
-        levels: &[Level],
         runs: &[LevelRun],
         has_isolate_controls: bool,
     ) -> Result<(), AllocError>
-        requires original { HaveClass T.units (T.characters text) original_classes.now }
-        requires levels { HaveLevel T.units (T.characters text) levels.now }
-        requires runs { let stored = per_char L T.units (T.characters text) original_classes.now in
+        requires original { HaveClass T.units (T.characters text.now.text) text.now.original_classes.now }
+        requires levels { HaveLevel T.units (T.characters text.now.text) text.now.levels.now }
+        requires runs { let stored = per_char L T.units (T.characters text.now.text) text.now.original_classes.now in
             map bounds runs.now
-            ≡ level_run_ranges T.units (T.characters text) stored (per_char 0 T.units (T.characters text) levels.now) }
-        requires isolates { IsTrue (list_any is_initiator original_classes.now) → IsTrue has_isolate_controls }
-        ensures sequences { let stored = per_char L T.units (T.characters text) original_classes.now in
-            OnOk result (sequences_of T.units (T.characters text) stored (linked_sequences self.new (map bounds runs.now))
-            ≡ sequences para_level stored (per_char 0 T.units (T.characters text) levels.now)) }
+            ≡ level_run_ranges T.units (T.characters text.now.text) stored
+            (per_char 0 T.units (T.characters text.now.text) text.now.levels.now) }
+        requires isolates { IsFlagged text.now.original_classes.now has_isolate_controls }
+        ensures sequences { let stored = per_char L T.units (T.characters text.now.text) text.now.original_classes.now in
+            OnOk result (sequences_of T.units (T.characters text.now.text) stored
+            (linked_sequences self.new (map bounds runs.now))
+            ≡ sequences para_level stored (per_char 0 T.units (T.characters text.now.text) text.now.levels.now)) }
         // Only the levels of characters that X9 keeps need be the explicit ones.
-        ensures explicit { let stored = per_char L T.units (T.characters text) original_classes.now in
-            OnOk result (HasExplicitLevels para_level stored (per_char 0 T.units (T.characters text) levels.now)
-            → sequences_of T.units (T.characters text) stored (linked_sequences self.new (map bounds runs.now))
+        ensures explicit { let stored = per_char L T.units (T.characters text.now.text) text.now.original_classes.now in
+            OnOk result (HasExplicitLevels para_level stored
+            (per_char 0 T.units (T.characters text.now.text) text.now.levels.now)
+            → sequences_of T.units (T.characters text.now.text) stored (linked_sequences self.new (map bounds runs.now))
             ≡ sequences para_level stored (explicit_levels para_level stored)) }
         ensures runs { OnOk result
             (IsPermutation (map bounds runs.now) (flat_map (λ s. s.runs) (linked_sequences self.new (map bounds runs.now)))) }
         ensures fits { OnOk result
-            (All (λ s. AreLines T.units (T.characters text) s.runs) (linked_sequences self.new (map bounds runs.now))) }
+            (All (λ s. AreLines T.units (T.characters text.now.text) s.runs)
+            (linked_sequences self.new (map bounds runs.now))) }
         ensures linked { OnOk result (AreLinked self.new (map bounds runs.now)) }
     {
+        let LeveledText {
+            text,
+            original_classes,
+            levels,
+        } = *text;
         self.restart(runs.len())?;
         let mut level_before = para_level;
         for run in runs {
@@ -198,7 +205,7 @@ impl RunLinks {
     fn copy_chain(&self, runs: &mut LevelRunVec, first: usize) -> Result<usize, AllocError>
         requires linked { AreLinked self.now (linked_runs self.now runs.old.items) }
         requires first { first < length self.now.next.items }
-        ensures kept { OnOk result (linked_runs self.now runs.new.items ≡ linked_runs self.now runs.old.items) }
+        ensures kept { OnOk result (KeepsLinked self.now runs.old runs.new) }
         ensures runs { OnOk result (map bounds (drop (length self.now.next.items) runs.new.items)
             ≡ map (λ r. get_or (linked_runs self.now runs.old.items) r (0, 0)) (run_chain self.now first)) }
         ensures last { IfOk result (λ last. last ≡ last_or first (run_chain self.now first)) }
@@ -228,7 +235,7 @@ impl RunLinks {
     ) -> Result<Option<GatheredSequence>, AllocError>
         requires linked { AreLinked self.now (linked_runs self.now runs.old.items) }
         requires first { first < length self.now.next.items }
-        ensures kept { OnOk result (linked_runs self.now runs.new.items ≡ linked_runs self.now runs.old.items) }
+        ensures kept { OnOk result (KeepsLinked self.now runs.old runs.new) }
         ensures begins { IfOk result (λ found. is_some found ≡ begins self.now first) }
         ensures sequence { IfOk result (λ found. IfSome found
             (λ s. IsGatheredIn s runs.new.items (sequence_at self.now (linked_runs self.now runs.old.items) first))) }
