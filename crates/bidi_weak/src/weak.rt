@@ -107,13 +107,7 @@ fn resolve_weak_fresh<T: TextSource, S: Ledger>(
     ensures { IsResolved T.units (T.characters text) sequence.entry classes.old classes.new }
 {
     let mut steps = Steps::<S>::new(blank);
-    resolve_weak_searching::<T, S, Brand>(
-        text,
-        sequence,
-        classes,
-        &mut steps,
-        Blank::new(1),
-    )
+    resolve_weak_searching::<T, S, Brand>(text, sequence, classes, &mut steps, Blank::new(1))
 }
 
 // Calls [`resolve_weak_lent_counted`] with a new count of code units that searches look at.
