@@ -17,6 +17,11 @@ use Rattle.bidi_runs.proofs.PassOverText.{IsPerChar-alike, alike_class, in_runs-
 abbrev pub IsResolved : (ℕ → ℕ) → List ℕ → Source → List ℕ → List BidiClass → List BidiClass → List BidiClass → List (Range ℕ) → BidiClass → BidiClass → Type 0
 IsResolved len_of chars source levels original old new runs sos eos = AreNeutralsResolved len_of chars source (map bounds runs) sos eos levels original old new
 
+-- under other names of the runs and of the classes at both ends
+pub IsResolved-alike : (len_of : ℕ → ℕ) (chars : List ℕ) (source : Source) (levels : List ℕ) (original old new : List BidiClass) (runs other : List (Range ℕ)) (sos before eos behind : BidiClass)
+    → runs ≡ other → sos ≡ before → eos ≡ behind → IsResolved len_of chars source levels original old new runs sos eos → IsResolved len_of chars source levels original old new other before behind
+IsResolved-alike len_of chars source levels original old new runs other sos before eos behind runs_are sos_is eos_is h = rw (runs_are, sos_is, eos_is) at h
+
 at_each : (f : BidiClass → BidiClass) (now new : List BidiClass) (ps : List ℕ) → All (λ u. class_at new u ≡ f (class_at now u)) ps → at_places L new ps ≡ map f (at_places L now ps)
 at_each f now new [] a = refl
 at_each f now new (p ∷ ps) a = simp (

@@ -3,15 +3,14 @@
 //! A sequence with a single direction needs only N2. For other sequences the pass finds the brackets first,
 //! and then resolves all classes in place. So it makes all allocations before it writes the first class.
 
-ghost use Rattle.std.specs.Prelude.{◌≡◌, List, ◌∷◌, ◌++◌, [], length, map, IsTrue, OnOk, OnErr};
-ghost use Rattle.bidi_base.specs.Classes.{is_l_or_r};
+ghost use Rattle.std.specs.Prelude.{◌≡◌, List, ◌∷◌, ◌++◌, [], length, map, OnOk, OnErr};
 ghost use Rattle.bidi_base.specs.FoundBrackets.{brackets_from};
 ghost use Rattle.bidi_base.specs.InPlace.{AreNeutralsResolved, AreNeutralsResolvedUpToN1, CanResolveNeutrals};
 ghost use Rattle.bidi_base.specs.PairSearch.{HasRead};
 ghost use Rattle.bidi_base.specs.Text.{text_len, IsLine};
 ghost use Rattle.bidi_base.specs.Units.{bounds, kept_in_place, AreLines};
 ghost use Rattle.bidi_base.specs.declared.brackets.Bracket.{Bracket};
-ghost use Rattle.bidi_neutral.specs.NeutralPass.{pairs_in, placed_brackets, HasGatheredNothing, IsPaired, IsReady};
+ghost use Rattle.bidi_neutral.specs.NeutralPass.{placed_brackets, HasGatheredNothing};
 ghost use Rattle.bidi_runs.specs.RunSequence.{lent_runs, lent_sos, lent_eos, runs as runs_of, sos as sos_of, eos as eos_of};
 
 mod class_tests;
@@ -27,6 +26,7 @@ use bidi_base::char_data::BidiClass;
 use bidi_base::data_source::BidiDataSource;
 use bidi_base::level::Level;
 use bidi_base::search::first_passing;
+use bidi_runs::leveled_text::LeveledText;
 use bidi_runs::prepare::{IsolatingRunSequence, LentSequence, LevelRun};
 use bidi_text::text::TextSource;
 use class_tests::OtherNeutral;
@@ -70,70 +70,46 @@ impl NeutralResolver {
             original_classes.now processing_classes.old processing_classes.new) }
         ensures refused { OnErr result (processing_classes.new ≡ processing_classes.old) }
     {
-        self.resolve_lent(
-            text,
-            data_source,
-            sequence.lend(),
-            levels,
-            original_classes,
-            processing_classes,
-        )
-    }
-
-    /// Like [`NeutralResolver::resolve`], for a sequence that borrows its runs.
-    pub fn resolve_lent<D: BidiDataSource, T: TextSource>(
-        &mut self,
-        text: T,
-        data_source: &D,
-        sequence: LentSequence<'_>,
-        levels: &[Level],
-        original_classes: &[BidiClass],
-        processing_classes: &mut [BidiClass],
-    ) -> Result<(), AllocError>
-        requires { CanResolveNeutrals T.units (T.characters text) (map bounds (lent_runs sequence)) levels.now
-            original_classes.now processing_classes.old }
-        ensures resolved { OnOk result (AreNeutralsResolved T.units (T.characters text) (D.source data_source.now)
-            (map bounds (lent_runs sequence.entry)) (lent_sos sequence.entry) (lent_eos sequence.entry) levels.now
-            original_classes.now processing_classes.old processing_classes.new) }
-        ensures refused { OnErr result (processing_classes.new ≡ processing_classes.old) }
-    {
-        let runs = sequence.runs();
+        let lent = sequence.lend();
+        let runs = lent.runs();
         let Some(first) = first_kept(runs, processing_classes) else {
             return Ok(());
         };
         let embedding = levels[first].bidi_class();
-        self.resolve_up_to_n1(
+        let leveled = LeveledText {
             text,
-            data_source,
-            sequence,
-            levels,
             original_classes,
-            processing_classes,
-        )?;
+            levels,
+        };
+        self.resolve_up_to_n1(&leveled, data_source, lent, processing_classes)?;
         settle_rest(embedding, runs, processing_classes);
         Ok(())
     }
 
-    /// Like [`NeutralResolver::resolve_lent`], but without N2.
+    /// Like [`NeutralResolver::resolve`], but without N2, and for a sequence that borrows its runs.
     ///
     /// Neutrals to which N2 would give the embedding direction stay neutral. The levels are the same, since
     /// I1 and I2 add nothing to either.
     pub fn resolve_up_to_n1<D: BidiDataSource, T: TextSource>(
         &mut self,
-        text: T,
+        text: &LeveledText<'_, T>,
         data_source: &D,
         sequence: LentSequence<'_>,
-        levels: &[Level],
-        original_classes: &[BidiClass],
         processing_classes: &mut [BidiClass],
     ) -> Result<(), AllocError>
-        requires { CanResolveNeutrals T.units (T.characters text) (map bounds (lent_runs sequence)) levels.now
-            original_classes.now processing_classes.old }
-        ensures resolved { OnOk result (AreNeutralsResolvedUpToN1 T.units (T.characters text) (D.source data_source.now)
-            (map bounds (lent_runs sequence.entry)) (lent_sos sequence.entry) (lent_eos sequence.entry) levels.now
-            original_classes.now processing_classes.old processing_classes.new) }
+        requires { CanResolveNeutrals T.units (T.characters text.now.text) (map bounds (lent_runs sequence))
+            text.now.levels.now text.now.original_classes.now processing_classes.old }
+        ensures resolved { OnOk result (AreNeutralsResolvedUpToN1 T.units (T.characters text.now.text)
+            (D.source data_source.now) (map bounds (lent_runs sequence.entry)) (lent_sos sequence.entry)
+            (lent_eos sequence.entry) text.now.levels.now text.now.original_classes.now processing_classes.old
+            processing_classes.new) }
         ensures refused { OnErr result (processing_classes.new ≡ processing_classes.old) }
     {
+        let LeveledText {
+            text,
+            original_classes,
+            levels,
+        } = *text;
         let runs = sequence.runs();
         let sos = sequence.sos();
         let Some(first) = first_kept(runs, processing_classes) else {
@@ -149,35 +125,14 @@ impl NeutralResolver {
         if stands_alone(directions, runs, processing_classes) {
             return Ok(());
         }
+        self.gather(text, data_source, runs, processing_classes)?;
+        let pairs = self.search.finish();
         let stored = StoredRuns {
             runs,
             original_classes,
         };
-        self.resolve_brackets(text, data_source, stored, directions, processing_classes)?;
+        resolve_pairs(text, stored, directions, pairs, processing_classes);
         resolve_opposite(directions, runs, processing_classes);
-        Ok(())
-    }
-
-    /// Applies N0 to the characters of a sequence that are not BN.
-    fn resolve_brackets<D: BidiDataSource, T: TextSource>(
-        &mut self,
-        text: T,
-        data_source: &D,
-        sequence: StoredRuns<'_>,
-        directions: Directions,
-        classes: &mut [BidiClass],
-    ) -> Result<(), AllocError>
-        requires ready { IsReady T.units (T.characters text) sequence.runs.now directions.sos classes.old }
-        requires side { IsTrue (is_l_or_r directions.embedding) }
-        requires original { length sequence.original_classes.now ≡ length classes.old }
-        ensures paired { OnOk result (IsPaired T.units (T.characters text) sequence.entry.original_classes.now classes.old
-            classes.new sequence.entry.runs.now directions.embedding directions.sos
-            (pairs_in T.units (T.characters text) (D.source data_source.now) classes.old sequence.entry.runs.now)) }
-        ensures refused { OnErr result (classes.new ≡ classes.old) }
-    {
-        self.gather(text, data_source, sequence.runs, classes)?;
-        let pairs = self.search.finish();
-        resolve_pairs(text, sequence, directions, pairs, classes);
         Ok(())
     }
 

@@ -8,9 +8,8 @@ ghost use Rattle.bidi_base.specs.Search.{IsFirst};
 ghost use Rattle.bidi_base.specs.declared.char_data.BidiClass.TheVariants.{L};
 ghost use Rattle.bidi_base.specs.Units.{bounds, are_ordered, in_runs};
 ghost use Rattle.bidi_neutral.specs.JoinPass.{IsAtOpposite, IsJoined, IsUnderWay, Unjoined};
-ghost use Rattle.bidi_runs.specs.Written.{seen_units};
 ghost use Rattle.bidi_neutral.specs.PairWalk.{opposite_of};
-ghost use Rattle.bidi_runs.specs.Written.{is_seen, IsWrittenOver};
+ghost use Rattle.bidi_runs.specs.Written.{is_seen, seen_units, IsWrittenOver, KeepsAround, KeepsOutside};
 
 use super::class_tests::{AnyDirection, For, KeptNotFor, first_standing_for};
 use super::near::find_near;
@@ -235,7 +234,7 @@ pub fn settle_rest(embedding: BidiClass, runs: &[LevelRun], classes: &mut [BidiC
     requires { All (λ r. r.1 ≤ length classes.old) (map bounds runs.now) }
     ensures changed { (u : ℕ) → in_runs (map bounds runs.now) u ≡ true
         → class_at classes.new u ≡ n2_rule embedding (class_at classes.old u) }
-    ensures same { (u : ℕ) → in_runs (map bounds runs.now) u ≡ false → class_at classes.new u ≡ class_at classes.old u }
+    ensures same { KeepsOutside runs.now classes.old classes.new }
     ensures long { length classes.new ≡ length classes.old }
 {
     for run in runs {
@@ -248,8 +247,7 @@ fn settle_run(embedding: BidiClass, run: &LevelRun, classes: &mut [BidiClass])
     requires { run.now.end ≤ length classes.old }
     ensures changed { (u : ℕ) → run.now.start ≤ u → u < run.now.end
         → class_at classes.new u ≡ n2_rule embedding (class_at classes.old u) }
-    ensures below { (u : ℕ) → u < run.now.start → class_at classes.new u ≡ class_at classes.old u }
-    ensures above { (u : ℕ) → run.now.end ≤ u → class_at classes.new u ≡ class_at classes.old u }
+    ensures around { KeepsAround run.now classes.old classes.new }
 {
     for unit in run.start..run.end {
         classes[unit] = settled(embedding, classes[unit]);
