@@ -1,19 +1,15 @@
 -- The explicit pass by stretches between controls: what it has written of the units below one.
-use Rattle.std.specs.Prelude.{◌≡◌, ℕ, ◌<◌, ◌≤◌, IsTrue, if◌then◌else◌, List, length, get_or, Option, Some, None}
+use Rattle.std.specs.Prelude.{◌≡◌, ℕ, ◌<◌, ◌≤◌, if◌then◌else◌, List, length, get_or, Option, Some, None}
 use Rattle.bidi_base.specs.declared.char_data.BidiClass.{BidiClass}
 use Rattle.bidi_base.specs.declared.char_data.BidiClass.TheVariants.{L}
 use Rattle.bidi_base.specs.Classes.{is_kept_in_place}
 use Rattle.bidi_base.specs.Explicit.{explicit_levels, processing_classes}
 use Rattle.bidi_base.specs.Places.{class_at}
 use Rattle.bidi_base.specs.StatusMachine.{State, state_at}
-use Rattle.bidi_base.specs.Text.{is_boundary, place, text_len, per_char, per_unit, IsPerChar}
+use Rattle.bidi_base.specs.Text.{place, text_len, per_char, per_unit, IsPerChar}
 use Rattle.bidi_runs.specs.ExplicitPass.{runs_before, run_start, IsCutTo}
 use Rattle.bidi_explicit.specs.declared.explicit.stretches.OpenRun.{OpenRun}
 use Rattle.bidi_explicit.specs.declared.explicit.stretches.Progress.{Progress}
-
--- a character begins at a code unit, or the text ends there
-abbrev pub IsStart : (ℕ → ℕ) → List ℕ → ℕ → Type 0
-IsStart len_of chars u = IsTrue (is_boundary len_of chars u)
 
 -- from a code unit on the classes are still the stored ones
 abbrev pub IsUnread : List BidiClass → List BidiClass → ℕ → Type 0

@@ -4,7 +4,7 @@
 ghost use Rattle.std.specs.Prelude.{◌≡◌, ℕ, ◌+◌, ◌*◌, ◌-◌, ◌≤◌, length, map, OnOk, IfOk};
 ghost use Rattle.bidi_base.specs.InPlace.{AreExplicitLevels, CanFindExplicitLevels};
 ghost use Rattle.bidi_base.specs.Units.{bounds};
-ghost use Rattle.bidi_explicit.specs.Stride.{count_of};
+ghost use Rattle.bidi_explicit.specs.Paragraph.{AreLevelsOf, CanFindLevels, char_count, whole_count};
 ghost use Rattle.bidi_runs.specs.ExplicitPass.{filled, runs_before, run_start as run_start_after};
 
 mod status;
@@ -20,15 +20,16 @@ use std::alloc::{AllocError, Global};
 use std::marker::Brand;
 use std::ops::Range;
 use std::sync::ledger::{Blank, Ledger};
-pub(crate) use stretches::Paragraph;
+pub use stretches::Paragraph;
 use stretches::{OpenRun, is_control};
 
 /// How the pass goes through a stretch without controls, and what it counts there.
 #[derive(Clone, Copy, Debug)]
-pub(crate) enum Stride {
-    /// From character to character.
+pub enum Stride {
+    /// From character to character. The text says where each ends.
     Character,
-    /// From code unit to code unit.
+    /// From code unit to code unit. The pass reads the text only at controls, and looks for the next control
+    /// sixteen code units at a time.
     CodeUnit,
 }
 
@@ -164,66 +165,7 @@ pub fn compute<T: TextSource>(
         processing_classes.new (map bounds runs.new.items)) }
 {
     let paragraph = Paragraph::new(text, para_level, Stride::Character, original_classes);
-    let blank = Blank::new(1);
-    compute_fresh::<T, Brand>(&paragraph, levels, processing_classes, runs, blank)
-}
-
-// Calls [`compute_by`] with a new count of steps.
-pub(crate) fn compute_fresh<T: TextSource, S: Ledger>(
-    paragraph: &Paragraph<'_, T>,
-    levels: &mut [Level],
-    processing_classes: &mut [BidiClass],
-    runs: &mut LevelRunVec,
-    blank: Blank,
-) -> Result<(), AllocError>
-    requires paragraph { CanFindExplicitLevels T.units (T.characters paragraph.now.text) paragraph.now.level
-        paragraph.now.original_classes.now levels.old processing_classes.old (map bounds runs.old.items) }
-    requires name { blank.name ≡ S.name }
-    requires parts { blank.parts ≡ S.parts }
-    requires one { blank.parts ≡ 1 }
-    ensures { OnOk result (AreExplicitLevels T.units (T.characters paragraph.now.text) paragraph.now.level
-        paragraph.now.original_classes.now levels.new processing_classes.new (map bounds runs.new.items)) }
-{
-    let mut steps = Steps::<S>::new(blank);
-    compute_searching::<T, S, Brand>(
-        paragraph,
-        levels,
-        processing_classes,
-        runs,
-        &mut steps,
-        Blank::new(1),
-    )
-}
-
-// Calls [`compute_by`] with a new count of code units that searches look at.
-fn compute_searching<T: TextSource, S: Ledger, L: Ledger>(
-    paragraph: &Paragraph<'_, T>,
-    levels: &mut [Level],
-    processing_classes: &mut [BidiClass],
-    runs: &mut LevelRunVec,
-    steps: &mut Steps<S>,
-    blank: Blank,
-) -> Result<(), AllocError>
-    requires paragraph { CanFindExplicitLevels T.units (T.characters paragraph.now.text) paragraph.now.level
-        paragraph.now.original_classes.now levels.old processing_classes.old (map bounds runs.old.items) }
-    requires name { blank.name ≡ L.name }
-    requires parts { blank.parts ≡ L.parts }
-    requires one { blank.parts ≡ 1 }
-    ensures found { OnOk result (AreExplicitLevels T.units (T.characters paragraph.now.text) paragraph.now.level
-        paragraph.now.original_classes.now levels.new processing_classes.new (map bounds runs.new.items)) }
-    ensures at_least { OnOk result (steps.old + length (T.characters paragraph.now.text) ≤ steps.new) }
-    ensures at_most { OnOk result (steps.new ≤ steps.old + 4 * count_of paragraph.now.stride
-        (length paragraph.now.original_classes.now) (length (T.characters paragraph.now.text))) }
-{
-    let mut looked = Steps::<L>::new(blank);
-    compute_by(
-        paragraph,
-        levels,
-        processing_classes,
-        runs,
-        steps,
-        &mut looked,
-    )
+    find_levels(&paragraph, levels, processing_classes, runs)
 }
 
 /// Like [`compute`], and counts each loop iteration in `steps`, including those of the functions it calls.
@@ -250,28 +192,87 @@ pub fn compute_counted<T: TextSource, S: Ledger>(
 {
     let paragraph = Paragraph::new(text, para_level, Stride::Character, original_classes);
     let blank = Blank::new(1);
-    compute_searching::<T, S, Brand>(&paragraph, levels, processing_classes, runs, steps, blank)
+    find_levels_searching::<T, S, Brand>(&paragraph, levels, processing_classes, runs, steps, blank)
 }
 
-// The pass in both forms. Counts in `steps` each loop iteration, and each code unit or character that a
-// search passes over. Counts in `looked` the code units that searches of several at once look at. These are
-// no more than twelve for each code unit of the paragraph: six to find the end of its stretch, and six to
-// find the first code unit that X9 keeps.
-pub(crate) fn compute_by<T: TextSource, S: Ledger, L: Ledger>(
+/// Finds what [`compute`] finds in a paragraph.
+///
+/// `classes` must be a copy of the paragraph's stored classes, and gets the classes under overrides.
+pub fn find_levels<T: TextSource>(
     paragraph: &Paragraph<'_, T>,
     levels: &mut [Level],
-    processing_classes: &mut [BidiClass],
+    classes: &mut [BidiClass],
+    runs: &mut LevelRunVec,
+) -> Result<(), AllocError>
+    requires { CanFindLevels paragraph.now levels.old classes.old runs.old.items }
+    ensures { OnOk result (AreLevelsOf paragraph.now levels.new classes.new runs.new.items) }
+{
+    find_levels_fresh::<T, Brand>(paragraph, levels, classes, runs, Blank::new(1))
+}
+
+// Calls [`find_levels_searching`] with a new count of steps.
+fn find_levels_fresh<T: TextSource, S: Ledger>(
+    paragraph: &Paragraph<'_, T>,
+    levels: &mut [Level],
+    classes: &mut [BidiClass],
+    runs: &mut LevelRunVec,
+    blank: Blank,
+) -> Result<(), AllocError>
+    requires paragraph { CanFindLevels paragraph.now levels.old classes.old runs.old.items }
+    requires name { blank.name ≡ S.name }
+    requires parts { blank.parts ≡ S.parts }
+    requires one { blank.parts ≡ 1 }
+    ensures { OnOk result (AreLevelsOf paragraph.now levels.new classes.new runs.new.items) }
+{
+    let mut steps = Steps::<S>::new(blank);
+    let blank = Blank::new(1);
+    find_levels_searching::<T, S, Brand>(paragraph, levels, classes, runs, &mut steps, blank)
+}
+
+// Calls [`find_levels_counted`] with a new count of code units that searches look at.
+fn find_levels_searching<T: TextSource, S: Ledger, L: Ledger>(
+    paragraph: &Paragraph<'_, T>,
+    levels: &mut [Level],
+    classes: &mut [BidiClass],
+    runs: &mut LevelRunVec,
+    steps: &mut Steps<S>,
+    blank: Blank,
+) -> Result<(), AllocError>
+    requires paragraph { CanFindLevels paragraph.now levels.old classes.old runs.old.items }
+    requires name { blank.name ≡ L.name }
+    requires parts { blank.parts ≡ L.parts }
+    requires one { blank.parts ≡ 1 }
+    ensures found { OnOk result (AreLevelsOf paragraph.now levels.new classes.new runs.new.items) }
+    ensures at_least { OnOk result (steps.old + char_count paragraph.now ≤ steps.new) }
+    ensures at_most { OnOk result (steps.new ≤ steps.old + 4 * whole_count paragraph.now) }
+{
+    let mut looked = Steps::<L>::new(blank);
+    find_levels_counted(paragraph, levels, classes, runs, steps, &mut looked)
+}
+
+/// Like [`find_levels`], and keeps two counts.
+///
+/// In `steps` each loop iteration counts one, including those of the functions it calls. A search for a
+/// class counts one for each code unit that it passes over, or for each character by [`Stride::Character`].
+/// There is at least one step for each character of the paragraph. There are at most four for each code unit,
+/// or for each character by [`Stride::Character`]. The iterations that pop the status stack at a PDI are
+/// charged to the initiators that filled it. Calls of the text and of the standard library count as no steps.
+///
+/// In `looked` a search by code units counts each one that it looks at. These are at most twelve for each
+/// code unit of the paragraph: six to find the end of its stretch, and six to find the first code unit that
+/// X9 keeps. After an error nothing is promised about the counts.
+pub fn find_levels_counted<T: TextSource, S: Ledger, L: Ledger>(
+    paragraph: &Paragraph<'_, T>,
+    levels: &mut [Level],
+    classes: &mut [BidiClass],
     runs: &mut LevelRunVec,
     steps: &mut Steps<S>,
     looked: &mut Steps<L>,
 ) -> Result<(), AllocError>
-    requires { CanFindExplicitLevels T.units (T.characters paragraph.now.text) paragraph.now.level
-        paragraph.now.original_classes.now levels.old processing_classes.old (map bounds runs.old.items) }
-    ensures found { OnOk result (AreExplicitLevels T.units (T.characters paragraph.now.text) paragraph.now.level
-        paragraph.now.original_classes.now levels.new processing_classes.new (map bounds runs.new.items)) }
-    ensures at_least { OnOk result (steps.old + length (T.characters paragraph.now.text) ≤ steps.new) }
-    ensures at_most { OnOk result (steps.new ≤ steps.old + 4 * count_of paragraph.now.stride
-        (length paragraph.now.original_classes.now) (length (T.characters paragraph.now.text))) }
+    requires { CanFindLevels paragraph.now levels.old classes.old runs.old.items }
+    ensures found { OnOk result (AreLevelsOf paragraph.now levels.new classes.new runs.new.items) }
+    ensures at_least { OnOk result (steps.old + char_count paragraph.now ≤ steps.new) }
+    ensures at_most { OnOk result (steps.new ≤ steps.old + 4 * whole_count paragraph.now) }
     ensures looked { OnOk result (looked.new ≤ looked.old + 12 * length paragraph.now.original_classes.now) }
 {
     let original_classes = paragraph.original_classes;
@@ -282,15 +283,9 @@ pub(crate) fn compute_by<T: TextSource, S: Ledger, L: Ledger>(
     while at < units {
         steps.tick();
         let progress = if is_control(original_classes[at]) {
-            paragraph.read_control(at, &mut stack, levels, processing_classes, steps)
+            paragraph.read_control(at, &mut stack, levels, classes, steps)
         } else {
-            let stretch = paragraph.read_stretch(
-                at,
-                stack.top(),
-                processing_classes,
-                steps,
-                looked,
-            );
+            let stretch = paragraph.read_stretch(at, stack.top(), classes, steps, looked);
             write_level(levels, at, stretch.end, stretch.level);
             stretch
         };

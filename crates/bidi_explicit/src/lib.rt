@@ -1,5 +1,4 @@
 //! The explicit levels of one paragraph, and its level runs, as a pass over its code units.
 #![tactic(auto)]
 
-pub mod by_units;
 pub mod explicit;

@@ -21,7 +21,7 @@ use bidi_base::classes::is_removed;
 use bidi_base::data_source::BidiDataSource;
 use bidi_base::level::Level;
 use bidi_base::search::{ClassTest, first_passing};
-use bidi_explicit::by_units::{self, StoredParagraph};
+use bidi_explicit::explicit::{Paragraph, Stride, find_levels};
 use bidi_rules::implicit::{NeutralResolver, resolve_levels, resolve_weak_lent};
 use bidi_rules::prepare::{LentSequence, LevelRunVec, RunLinks};
 use bidi_text::text::TextSource;
@@ -110,12 +110,13 @@ impl LevelResolver {
         self.classes.extend_from_slice(original_classes)?;
         self.runs.clear();
         self.runs.reserve_exact(FEW_RUNS)?;
-        let stored = StoredParagraph {
-            text: paragraph.text,
-            level: paragraph.level,
+        let stored = Paragraph::new(
+            paragraph.text,
+            paragraph.level,
+            Stride::CodeUnit,
             original_classes,
-        };
-        by_units::compute(&stored, levels, self.classes.as_mut_slice(), &mut self.runs)?;
+        );
+        find_levels(&stored, levels, self.classes.as_mut_slice(), &mut self.runs)?;
         self.links.link(
             paragraph.text,
             paragraph.level,

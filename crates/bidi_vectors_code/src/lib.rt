@@ -2,13 +2,13 @@
 #![tactic(auto)]
 
 #[cfg(test)]
-mod by_units;
-#[cfg(test)]
 mod check;
 #[cfg(test)]
 mod displayed;
 #[cfg(test)]
 mod equality;
+#[cfg(test)]
+mod explicit_levels;
 #[cfg(test)]
 mod iterators;
 #[cfg(test)]

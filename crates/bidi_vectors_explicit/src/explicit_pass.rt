@@ -6,8 +6,7 @@ use crate::counted;
 use crate::units::{ExplicitUnits, ParagraphUnits, copied};
 use bidi_base::char_data::BidiClass;
 use bidi_base::level::Level;
-use bidi_explicit::by_units::{self, StoredParagraph};
-use bidi_rules::explicit::compute;
+use bidi_rules::explicit::{self, Stride, compute, find_levels};
 use bidi_rules::prepare::{IsolatingRunSequence, isolating_run_sequences};
 use bidi_text::text::{StrText, is_per_char};
 use bidi_vectors_format::fault::{RowFault, Why};
@@ -29,7 +28,7 @@ pub struct Paragraph<'a> {
 pub enum Pass {
     /// `explicit::compute_counted`.
     Counted,
-    /// `by_units::compute` of `bidi_explicit`.
+    /// `explicit::find_levels`, from code unit to code unit.
     ByUnits,
 }
 
@@ -38,7 +37,7 @@ impl Pass {
     pub fn name(self) -> &'static str {
         match self {
             Pass::Counted => "explicit::compute_counted",
-            Pass::ByUnits => "by_units::compute",
+            Pass::ByUnits => "explicit::find_levels",
         }
     }
 
@@ -59,13 +58,13 @@ impl Pass {
         };
         match self {
             Pass::Counted => counted::compute(alloc, &stored),
-            Pass::ByUnits => compute_by_units(alloc, &stored),
+            Pass::ByUnits => find_by_units(alloc, &stored),
         }
     }
 }
 
 // Computes the explicit levels of a paragraph by the pass from code unit to code unit.
-fn compute_by_units(
+fn find_by_units(
     alloc: Global,
     paragraph: &ParagraphUnits<'_>,
 ) -> Result<ExplicitUnits, RowFault>
@@ -80,12 +79,8 @@ fn compute_by_units(
         return Err(RowFault::Line(0, Why::OtherText));
     }
     let mut units = ExplicitUnits::new(alloc, classes)?;
-    let stored = StoredParagraph {
-        text,
-        level,
-        original_classes: classes,
-    };
-    by_units::compute(
+    let stored = explicit::Paragraph::new(text, level, Stride::CodeUnit, classes);
+    find_levels(
         &stored,
         units.levels.as_mut_slice(),
         units.classes.as_mut_slice(),

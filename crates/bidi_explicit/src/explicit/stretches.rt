@@ -3,18 +3,16 @@
 //!
 //! The pass goes through a stretch from character to character, or from code unit to code unit.
 
-ghost use Rattle.std.specs.Prelude.{◌≡◌, ℕ, ◌+◌, ◌*◌, ◌-◌, ◌<◌, ◌≤◌, true, false, List, None, Some, length, map, OnOk};
+ghost use Rattle.std.specs.Prelude.{◌≡◌, ℕ, ◌+◌, ◌*◌, ◌-◌, ◌<◌, ◌≤◌, true, List, None, Some, length, map, OnOk};
 ghost use Rattle.bidi_base.specs.PerChar.{HaveClass};
 ghost use Rattle.bidi_base.specs.Places.{class_at};
-ghost use Rattle.bidi_base.specs.Search.{IsFirst};
 ghost use Rattle.bidi_base.specs.StatusMachine.{State};
-ghost use Rattle.bidi_base.specs.Text.{char_index, place, text_len, IsNextPlace};
+ghost use Rattle.bidi_base.specs.Text.{text_len};
 ghost use Rattle.bidi_base.specs.Units.{bounds};
 ghost use Rattle.bidi_runs.specs.ExplicitPass.{filled};
 ghost use Rattle.bidi_explicit.specs.Control.{is_control};
-ghost use Rattle.bidi_explicit.specs.ExplicitStretches.{paragraph_of, run_met, runs_met, IsOverridden, IsReadTo, IsStart, IsUnread, ReadsOn};
+ghost use Rattle.bidi_explicit.specs.ExplicitStretches.{run_met, runs_met, IsOverridden, IsReadTo, IsUnread, ReadsOn};
 ghost use Rattle.bidi_explicit.specs.Status.{entry_count, seen};
-ghost use Rattle.bidi_explicit.specs.Stride.{count_to};
 
 use super::status::{StatusEntry, StatusStack};
 use super::{Stride, cut_run, units, write_class, write_control};
@@ -110,14 +108,15 @@ impl OpenRun {
     }
 }
 
-/// A paragraph, as the pass reads it.
+/// A paragraph whose explicit levels are to be found.
 #[derive(Drop)]
 pub struct Paragraph<'p, T: TextSource> {
     pub text: T,
+    /// Its level, at most 125.
     pub level: Level,
-    /// How the pass goes through a stretch.
+    /// How the pass goes through a stretch without controls.
     pub stride: Stride,
-    /// Its stored classes, one for each code unit.
+    /// Its stored classes, one for each code unit. They are equal within each character.
     pub original_classes: &'p [BidiClass],
     ghost low: { level ≤ 125 },
     ghost per_char: { HaveClass T.units (T.characters text) original_classes.now },
@@ -125,7 +124,9 @@ pub struct Paragraph<'p, T: TextSource> {
 }
 
 impl<'p, T: TextSource> Paragraph<'p, T> {
-    /// Creates a paragraph. Its stored classes must be equal within each character.
+    ghost use Rattle.bidi_explicit.specs.Paragraph.{as_seen, chars_to, counted_to, AreCharsCounted, AreCounted, IsFirstPassing, IsNextStart, IsPlain, IsStart};
+
+    /// Creates a paragraph.
     pub fn new(
         text: T,
         level: Level,
@@ -149,18 +150,18 @@ impl<'p, T: TextSource> Paragraph<'p, T> {
 
     // The index after the character that begins at `start`.
     fn end_of(&self, start: usize) -> usize
-        requires begins { IsStart T.units (T.characters self.now.text) start }
+        requires begins { IsStart self.now start }
         requires inside { start < length self.now.original_classes.now }
-        ensures { IsNextPlace T.units (T.characters self.now.text) start result }
+        ensures { IsNextStart self.now start result }
     {
         end_within(self.text, start, self.original_classes.len())
     }
 
     // Like `end_of`, and counts one step.
     fn step_over<S: Ledger>(&self, start: usize, steps: &mut Steps<S>) -> usize
-        requires begins { IsStart T.units (T.characters self.now.text) start }
+        requires begins { IsStart self.now start }
         requires inside { start < length self.now.original_classes.now }
-        ensures end { IsNextPlace T.units (T.characters self.now.text) start result }
+        ensures end { IsNextStart self.now start result }
         ensures steps { steps.new ≡ steps.old + 1 }
     {
         steps.tick();
@@ -176,14 +177,13 @@ impl<'p, T: TextSource> Paragraph<'p, T> {
         to: usize,
         steps: &mut Steps<S>,
     ) -> usize
-        requires begins { IsStart T.units (T.characters self.now.text) from }
-        requires ends { IsStart T.units (T.characters self.now.text) to }
+        requires begins { IsStart self.now from }
+        requires ends { IsStart self.now to }
         requires ordered { from ≤ to }
         requires within { to ≤ length self.now.original_classes.now }
-        ensures first { IsFirst (C.test test) self.now.original_classes.now from to result }
-        ensures begins { IsStart T.units (T.characters self.now.text) result }
-        ensures steps { steps.new + char_index T.units (T.characters self.now.text) from
-            ≡ steps.old + char_index T.units (T.characters self.now.text) result }
+        ensures first { IsFirstPassing self.now (C.test test) from to result }
+        ensures begins { IsStart self.now result }
+        ensures steps { AreCharsCounted self.now from result steps.old steps.new }
     {
         let mut at = from;
         while at < to && !test.passes(self.original_classes[at]) {
@@ -203,14 +203,13 @@ impl<'p, T: TextSource> Paragraph<'p, T> {
         steps: &mut Steps<S>,
     )
         requires classes { length classes.old ≡ length self.now.original_classes.now }
-        requires begins { IsStart T.units (T.characters self.now.text) from }
-        requires ends { IsStart T.units (T.characters self.now.text) to }
+        requires begins { IsStart self.now from }
+        requires ends { IsStart self.now to }
         requires ordered { from ≤ to }
         requires within { to ≤ length self.now.original_classes.now }
         requires unread { IsUnread self.now.original_classes.now classes.old from }
         ensures put { IsOverridden (Some put) from to classes.old classes.new }
-        ensures steps { steps.new + char_index T.units (T.characters self.now.text) from
-            ≡ steps.old + char_index T.units (T.characters self.now.text) to }
+        ensures steps { AreCharsCounted self.now from to steps.old steps.new }
     {
         let mut at = from;
         while at < to {
@@ -230,13 +229,12 @@ impl<'p, T: TextSource> Paragraph<'p, T> {
         steps: &mut Steps<S>,
         looked: &mut Steps<L>,
     ) -> usize
-        requires begins { IsStart T.units (T.characters self.now.text) from }
+        requires begins { IsStart self.now from }
         requires inside { from < length self.now.original_classes.now }
-        requires plain { is_control (class_at self.now.original_classes.now from) ≡ false }
-        ensures first { IsFirst is_control self.now.original_classes.now from (length self.now.original_classes.now) result }
-        ensures begins { IsStart T.units (T.characters self.now.text) result }
-        ensures steps { steps.new + count_to self.now.stride T.units (T.characters self.now.text) from
-            ≡ steps.old + count_to self.now.stride T.units (T.characters self.now.text) result }
+        requires plain { IsPlain self.now from }
+        ensures first { IsFirstPassing self.now is_control from (length self.now.original_classes.now) result }
+        ensures begins { IsStart self.now result }
+        ensures steps { AreCounted self.now from result steps.old steps.new }
         ensures looked { looked.new ≤ looked.old + 6 * (result - from) }
     {
         let classes = self.original_classes;
@@ -258,14 +256,13 @@ impl<'p, T: TextSource> Paragraph<'p, T> {
         steps: &mut Steps<S>,
         looked: &mut Steps<L>,
     ) -> usize
-        requires begins { IsStart T.units (T.characters self.now.text) from }
-        requires ends { IsStart T.units (T.characters self.now.text) to }
+        requires begins { IsStart self.now from }
+        requires ends { IsStart self.now to }
         requires ordered { from ≤ to }
         requires within { to ≤ length self.now.original_classes.now }
-        ensures first { IsFirst (C.test test) self.now.original_classes.now from to result }
-        ensures begins { IsStart T.units (T.characters self.now.text) result }
-        ensures steps { steps.new + count_to self.now.stride T.units (T.characters self.now.text) from
-            ≡ steps.old + count_to self.now.stride T.units (T.characters self.now.text) result }
+        ensures first { IsFirstPassing self.now (C.test test) from to result }
+        ensures begins { IsStart self.now result }
+        ensures steps { AreCounted self.now from result steps.old steps.new }
         ensures looked { looked.new ≤ looked.old + 6 * (to - from) }
     {
         let classes = self.original_classes;
@@ -275,33 +272,8 @@ impl<'p, T: TextSource> Paragraph<'p, T> {
         }
     }
 
-    // Writes the class of an override to the characters of a stretch without controls, except to those with
-    // BN (X6). Counts one step for each character or code unit.
-    fn put_override<S: Ledger>(
-        &self,
-        classes: &mut [BidiClass],
-        from: usize,
-        to: usize,
-        put: BidiClass,
-        steps: &mut Steps<S>,
-    )
-        requires classes { length classes.old ≡ length self.now.original_classes.now }
-        requires begins { IsStart T.units (T.characters self.now.text) from }
-        requires ends { IsStart T.units (T.characters self.now.text) to }
-        requires ordered { from ≤ to }
-        requires within { to ≤ length self.now.original_classes.now }
-        requires unread { IsUnread self.now.original_classes.now classes.old from }
-        ensures put { IsOverridden (Some put) from to classes.old classes.new }
-        ensures steps { steps.new + count_to self.now.stride T.units (T.characters self.now.text) from
-            ≡ steps.old + count_to self.now.stride T.units (T.characters self.now.text) to }
-    {
-        match self.stride {
-            Stride::CodeUnit => units::put_override(classes, from, to, put, steps),
-            Stride::Character => self.put_on_characters(classes, from, to, put, steps),
-        }
-    }
-
-    // Writes the classes of a stretch without controls, if it is inside an override.
+    // If a stretch without controls is inside an override, writes the class of the override to its
+    // characters, except to those with BN (X6), and counts one step for each character or code unit.
     fn write_override<S: Ledger>(
         &self,
         classes: &mut [BidiClass],
@@ -311,26 +283,26 @@ impl<'p, T: TextSource> Paragraph<'p, T> {
         steps: &mut Steps<S>,
     )
         requires classes { length classes.old ≡ length self.now.original_classes.now }
-        requires begins { IsStart T.units (T.characters self.now.text) from }
-        requires ends { IsStart T.units (T.characters self.now.text) to }
+        requires begins { IsStart self.now from }
+        requires ends { IsStart self.now to }
         requires ordered { from ≤ to }
         requires within { to ≤ length self.now.original_classes.now }
         requires unread { IsUnread self.now.original_classes.now classes.old from }
         ensures put { IsOverridden override_class from to classes.old classes.new }
         ensures at_least { steps.old ≤ steps.new }
-        ensures at_most { steps.new
-            ≤ steps.old
-            + (count_to self.now.stride T.units (T.characters self.now.text) to
-            - count_to self.now.stride T.units (T.characters self.now.text) from) }
+        ensures at_most { steps.new ≤ steps.old + (counted_to self.now to - counted_to self.now from) }
     {
         if let Some(put) = override_class {
-            self.put_override(classes, from, to, put, steps);
+            match self.stride {
+                Stride::CodeUnit => units::put_override(classes, from, to, put, steps),
+                Stride::Character => self.put_on_characters(classes, from, to, put, steps),
+            }
         }
     }
 
     /// Reads the characters from an index up to the next control. The caller writes their level, which is the
     /// same for all of them.
-    pub fn read_stretch<S: Ledger, L: Ledger>(
+    pub(super) fn read_stretch<S: Ledger, L: Ledger>(
         &self,
         from: usize,
         status: StatusEntry,
@@ -339,22 +311,18 @@ impl<'p, T: TextSource> Paragraph<'p, T> {
         looked: &mut Steps<L>,
     ) -> Progress
         requires inside { from < length self.now.original_classes.now }
-        requires plain { is_control (class_at self.now.original_classes.now from) ≡ false }
-        requires begins { IsStart T.units (T.characters self.now.text) from }
+        requires plain { IsPlain self.now from }
+        requires begins { IsStart self.now from }
         requires classes { length classes.old ≡ length self.now.original_classes.now }
         requires unread { IsUnread self.now.original_classes.now classes.old from }
         ensures read { (stack : State) (levels written : List ℕ) → seen status ≡ stack.top
             → written ≡ filled from (result.end - from) result.level levels
-            → ReadsOn (paragraph_of T.units (T.characters self.now.text) self.now.level self.now.original_classes.now)
-            from stack levels classes.old result stack written classes.new }
+            → ReadsOn (as_seen self.now) from stack levels classes.old result stack written classes.new }
         ensures some { from < result.end }
         ensures within { result.end ≤ length self.now.original_classes.now }
-        ensures more { count_to self.now.stride T.units (T.characters self.now.text) from
-            < count_to self.now.stride T.units (T.characters self.now.text) result.end }
-        ensures at_least { steps.old + char_index T.units (T.characters self.now.text) result.end
-            ≤ steps.new + char_index T.units (T.characters self.now.text) from }
-        ensures at_most { steps.new + 3 * count_to self.now.stride T.units (T.characters self.now.text) from
-            ≤ steps.old + 3 * count_to self.now.stride T.units (T.characters self.now.text) result.end }
+        ensures more { counted_to self.now from < counted_to self.now result.end }
+        ensures at_least { steps.old + chars_to self.now result.end ≤ steps.new + chars_to self.now from }
+        ensures at_most { steps.new + 3 * counted_to self.now from ≤ steps.old + 3 * counted_to self.now result.end }
         ensures looked { looked.new ≤ looked.old + 12 * (result.end - from) }
     {
         let end = self.stretch_end(from, steps, looked);
@@ -368,7 +336,7 @@ impl<'p, T: TextSource> Paragraph<'p, T> {
     }
 
     /// Reads the control that begins at an index.
-    pub fn read_control<S: Ledger>(
+    pub(super) fn read_control<S: Ledger>(
         &self,
         start: usize,
         stack: &mut StatusStack,
@@ -379,15 +347,10 @@ impl<'p, T: TextSource> Paragraph<'p, T> {
         requires inside { start < length self.now.original_classes.now }
         requires control { is_control (class_at self.now.original_classes.now start) ≡ true }
         requires read { (runs : List (ℕ × ℕ)) × (run : OpenRun)
-            × IsReadTo
-            (paragraph_of T.units (T.characters self.now.text) self.now.level self.now.original_classes.now) start
-            stack.old levels.old classes.old runs run }
-        ensures read { ReadsOn
-            (paragraph_of T.units (T.characters self.now.text) self.now.level self.now.original_classes.now) start
-            stack.old levels.old classes.old result stack.new levels.new classes.new }
+            × IsReadTo (as_seen self.now) start stack.old levels.old classes.old runs run }
+        ensures read { ReadsOn (as_seen self.now) start stack.old levels.old classes.old result stack.new levels.new classes.new }
         ensures some { start < result.end }
-        ensures one { char_index T.units (T.characters self.now.text) result.end
-            ≡ char_index T.units (T.characters self.now.text) start + 1 }
+        ensures one { chars_to self.now result.end ≡ chars_to self.now start + 1 }
         ensures at_least { steps.old ≤ steps.new }
         ensures at_most { steps.new + entry_count stack.new ≤ steps.old + entry_count stack.old + 1 }
     {

@@ -9,22 +9,16 @@ use Rattle.bidi_walk.proofs.FlagsLemmas.{has_isolates-flags}
 use Rattle.bidi_paragraphs.proofs.FilledUnits.{initiators-stored, stored-is_per_char}
 use Rattle.bidi_paragraphs.proofs.paragraph_levels.LevelResolver.prepare.Given.{Over}
 use Rattle.bidi_paragraphs.proofs.paragraph_levels.LevelResolver.prepare.Goals as goal
-use Rattle.bidi_paragraphs.proofs.paragraph_levels.LevelResolver.prepare.Goals.{In_ok-compute, In_ok-link}
+use Rattle.bidi_paragraphs.proofs.paragraph_levels.LevelResolver.prepare.Goals.{In_ok-find_levels, In_ok-link}
 
-pub compute-requires : goal.compute-requires
-compute-requires g c = record {
-  explicit = c.args.paragraph.now.low;
-  original = grind (arith, stored-is_per_char);
-  levels = c.requires;
-  processing = grind arith;
-  runs = grind arith;
-}
+pub new-stored-requires-clause-per_char : goal.new-stored-requires-clause-per_char
+new-stored-requires-clause-per_char g c = grind (arith, stored-is_per_char)
 
 -- the levels, read one a character
-read : (g : Over) (c : In_ok-compute g) → let cs = g.T.TextSource.characters c.args.paragraph.now.text in
-    per_char 0 g.T.TextSource.units cs c.compute.new.levels ≡ explicit_levels c.args.paragraph.now.level (per_char L g.T.TextSource.units cs c.args.paragraph.now.original_classes.now)
+read : (g : Over) (c : In_ok-find_levels g) → let cs = g.T.TextSource.characters c.args.paragraph.now.text in
+    per_char 0 g.T.TextSource.units cs c.find_levels.new.levels ≡ explicit_levels c.args.paragraph.now.level (per_char L g.T.TextSource.units cs c.args.paragraph.now.original_classes.now)
 read g c =
-    simp c.in_ok-compute.ensures.levels
+    simp c.in_ok-find_levels.ensures.levels
     (per_char-per_unit _ g.met.T.TextSource.has_units 0 _ _ (length-explicit_levels c.args.paragraph.now.level _ ∙ length-per_char L _ (g.T.TextSource.characters c.args.paragraph.now.text) _))
 
 pub link-requires : goal.link-requires
@@ -34,18 +28,18 @@ link-requires g c =
     record {
       original = grind (arith, stored-is_per_char);
       levels = grind (arith, is_per_char-per_unit, length-explicit_levels, length-per_char);
-      runs = rw (read g (goal.at.link-requires g c).In_ok-compute) (ap (map bounds) c.as_slice.ensures.value ∙ c.in_ok-compute.ensures.runs);
+      runs = rw (read g (goal.at.link-requires g c).In_ok-find_levels) (ap (map bounds) c.as_slice.ensures.value ∙ c.in_ok-find_levels.ensures.runs);
       isolates = λ some.
           c.has_isolates.ensures ∙ has_isolates-flags c.args.paragraph.now.flags (map class_of cs) c.args.paragraph.now.own_flags ∙ initiators-stored g.T.TextSource.units cs (map class_of cs) c.args.paragraph.now.original_classes.now c.args.paragraph.now.stored some;
     }
 
 -- the runs that were linked are all
-all_linked : (g : Over) (c : In_ok-link g) → linked_runs c.link.new.self c.compute.new.runs.items ≡ map bounds c.compute.new.runs.items
-all_linked g c = linked_runs-all c.link.new.self c.compute.new.runs.items (rw c.as_slice.ensures.value at c.in_ok-link.ensures.linked)
+all_linked : (g : Over) (c : In_ok-link g) → linked_runs c.link.new.self c.find_levels.new.runs.items ≡ map bounds c.find_levels.new.runs.items
+all_linked g c = linked_runs-all c.link.new.self c.find_levels.new.runs.items (rw c.as_slice.ensures.value at c.in_ok-link.ensures.linked)
 
 pub returns-clause-sequences : goal.returns-clause-sequences
 returns-clause-sequences g c =
-    rw (all_linked g (goal.at.returns-clause-sequences g c).In_ok-link) (rw (c.as_slice.ensures.value, read g (goal.at.returns-clause-sequences g c).In_ok-compute) at c.in_ok-link.ensures.sequences)
+    rw (all_linked g (goal.at.returns-clause-sequences g c).In_ok-link) (rw (c.as_slice.ensures.value, read g (goal.at.returns-clause-sequences g c).In_ok-find_levels) at c.in_ok-link.ensures.sequences)
 
 pub returns-clause-fits : goal.returns-clause-fits
 returns-clause-fits g c = rw (all_linked g (goal.at.returns-clause-fits g c).In_ok-link) (rw c.as_slice.ensures.value at c.in_ok-link.ensures.fits)

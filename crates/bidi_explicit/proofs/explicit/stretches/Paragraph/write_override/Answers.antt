@@ -1,6 +1,12 @@
 use Rattle.bidi_base.proofs.Common.{arith}
-use Rattle.bidi_explicit.proofs.CountLemmas.{count-le}
+use Rattle.bidi_runs.proofs.CharEnds.{index-le}
 use Rattle.bidi_explicit.proofs.explicit.stretches.Paragraph.write_override.Goals as goal
 
-pub returns-in-Some-clause-at_least : goal.returns-in-Some-clause-at_least
-returns-in-Some-clause-at_least g c = grind (arith, count-le)
+pub returns-in-Character-clause-at_least : goal.returns-in-Character-clause-at_least
+returns-in-Character-clause-at_least g c =
+    let chars = g.T.TextSource.characters c.args.self.now.text in
+    omega (
+      arith,
+      index-le g.T.TextSource.units g.met.T.TextSource.has_units chars c.args.from c.args.to c.requires.begins c.requires.ends c.requires.ordered,
+      c.put_on_characters.ensures.steps,
+    )

@@ -3,8 +3,8 @@ use Rattle.bidi_base.proofs.Common.{map, arith, rules, map-append, bounds}
 use Rattle.bidi_runs.proofs.CharEnds.{index-zero}
 use Rattle.bidi_explicit.proofs.CountLemmas.{count-one, count-zero}
 use Rattle.bidi_explicit.proofs.ExplicitStretches.{read-start, read-levels, read-classes, read-runs, read-no_runs, read-all, read-begins, read-count, read-units}
-use Rattle.bidi_explicit.proofs.explicit.compute_by.Goals as goal
-use Rattle.bidi_explicit.proofs.explicit.compute_by.Goals.{then-is_control, else-is_control}
+use Rattle.bidi_explicit.proofs.explicit.find_levels_counted.Goals as goal
+use Rattle.bidi_explicit.proofs.explicit.find_levels_counted.Goals.{then-is_control, else-is_control}
 
 pub loop-at-init : goal.loop-at-init
 loop-at-init g c = grind (arith, read-start, index-zero, count-zero)
@@ -18,13 +18,13 @@ read_stretch-stretch-requires-clause-begins g c = search (rules, read-begins)
 pub loop-at-preserved : goal.loop-at-preserved
 loop-at-preserved g c = elim c.if-is_control.branch [
   | then-is_control w ↦ (
-    simp (w.levels-is, w.processing_classes-is, w.stack-is, w.progress-is, c.in_ok-meet.ensures.runs, c.in_ok-meet.ensures.run) (w.read_control-progress.ensures.read _ _ c.loop-at.invariant.0),
+    simp (w.levels-is, w.classes-is, w.stack-is, w.progress-is, c.in_ok-meet.ensures.runs, c.in_ok-meet.ensures.run) (w.read_control-progress.ensures.read _ _ c.loop-at.invariant.0),
     grind arith,
     grind (arith, count-one),
     grind arith,
   )
   | else-is_control w ↦ (
-    simp (w.levels-is, w.processing_classes-is, w.stack-is, w.progress-is, c.in_ok-meet.ensures.runs, c.in_ok-meet.ensures.run) (w.read_stretch-stretch.ensures.read _ _ _ w.top.ensures w.write_level.ensures _ _ c.loop-at.invariant.0),
+    simp (w.levels-is, w.classes-is, w.stack-is, w.progress-is, c.in_ok-meet.ensures.runs, c.in_ok-meet.ensures.run) (w.read_stretch-stretch.ensures.read _ _ _ w.top.ensures w.write_level.ensures _ _ c.loop-at.invariant.0),
     grind arith,
     grind arith,
     grind arith,

@@ -1,11 +1,11 @@
 //! Tests of the explicit pass from code unit to code unit, on a paragraph worked by hand.
 
-ghost use Rattle.std.specs.Prelude.{◌≡◌, [], length, IfOk};
+ghost use Rattle.std.specs.Prelude.{◌≡◌, ◌+◌, ◌*◌, ◌≤◌, [], length, IfOk, OnOk};
 
 use crate::check::same;
 use bidi_base::char_data::BidiClass;
 use bidi_base::level::{LTR_LEVEL, Level, RTL_LEVEL};
-use bidi_explicit::by_units::{StoredParagraph, compute, compute_counted};
+use bidi_explicit::explicit::{self, Stride, find_levels, find_levels_counted};
 use bidi_runs::prepare::{LevelRunVec, Steps};
 use bidi_text::text::{StrText, is_per_char};
 use std::alloc::{AllocError, Global};
@@ -126,12 +126,8 @@ fn worked_paragraph(rt: HostRuntime) -> Result<(), Fail> {
     let classes = paragraph.classes.as_slice();
     let mut found = Found::new(rt.alloc(), classes)?;
     assert!(rt; is_per_char(text, classes));
-    let stored = StoredParagraph {
-        text,
-        level: LTR_LEVEL,
-        original_classes: classes,
-    };
-    compute(
+    let stored = explicit::Paragraph::new(text, LTR_LEVEL, Stride::CodeUnit, classes);
+    find_levels(
         &stored,
         found.levels.as_mut_slice(),
         found.classes.as_mut_slice(),
@@ -141,8 +137,37 @@ fn worked_paragraph(rt: HostRuntime) -> Result<(), Fail> {
     Ok(())
 }
 
+// Runs the counted pass, which takes few steps for each code unit.
+fn find_counted<S: Ledger, L: Ledger>(
+    text: StrText,
+    classes: &[BidiClass],
+    found: &mut Found,
+    steps: &mut Steps<S>,
+    looked: &mut Steps<L>,
+) -> Result<(), Fail>
+    requires levels { length found.old.levels.items ≡ length classes.now }
+    requires classes { found.old.classes.items ≡ classes.now }
+    requires runs { found.old.runs.items ≡ [] }
+    ensures steps { OnOk result (steps.new ≤ steps.old + 4 * length classes.now) }
+    ensures looked { OnOk result (looked.new ≤ looked.old + 12 * length classes.now) }
+{
+    if !is_per_char(text, classes) {
+        return Err(Fail::from("classes differ within a character"));
+    }
+    let stored = explicit::Paragraph::new(text, LTR_LEVEL, Stride::CodeUnit, classes);
+    find_levels_counted(
+        &stored,
+        found.levels.as_mut_slice(),
+        found.classes.as_mut_slice(),
+        &mut found.runs,
+        steps,
+        looked,
+    )?;
+    Ok(())
+}
+
 // Runs the counted pass, with the counts that these blanks open.
-fn compute_by<S: Ledger, L: Ledger>(
+fn find_from_blanks<S: Ledger, L: Ledger>(
     text: StrText,
     classes: &[BidiClass],
     found: &mut Found,
@@ -161,23 +186,7 @@ fn compute_by<S: Ledger, L: Ledger>(
 {
     let mut steps = Steps::<S>::new(blank);
     let mut looked = Steps::<L>::new(other);
-    if !is_per_char(text, classes) {
-        return Err(Fail::from("classes differ within a character"));
-    }
-    let stored = StoredParagraph {
-        text,
-        level: LTR_LEVEL,
-        original_classes: classes,
-    };
-    compute_counted(
-        &stored,
-        found.levels.as_mut_slice(),
-        found.classes.as_mut_slice(),
-        &mut found.runs,
-        &mut steps,
-        &mut looked,
-    )?;
-    Ok(())
+    find_counted(text, classes, found, &mut steps, &mut looked)
 }
 
 #[test]
@@ -186,7 +195,7 @@ fn worked_paragraph_counted(rt: HostRuntime) -> Result<(), Fail> {
     let text = StrText::new(paragraph.text.as_str());
     let classes = paragraph.classes.as_slice();
     let mut found = Found::new(rt.alloc(), classes)?;
-    compute_by::<Brand, Brand>(text, classes, &mut found, Blank::new(1), Blank::new(1))?;
+    find_from_blanks::<Brand, Brand>(text, classes, &mut found, Blank::new(1), Blank::new(1))?;
     compare(&rt, &found, &paragraph);
     Ok(())
 }

@@ -1,0 +1,75 @@
+-- A paragraph as the code holds it: what the pass requires and finds there, and how it counts.
+use Rattle.std.specs.Prelude.{◌≡◌, ℕ, ◌+◌, Bool, false, List, [], length, map, IsTrue}
+use Rattle.std.specs.declared.ops.Range.{Range}
+use Rattle.bidi_base.specs.declared.char_data.BidiClass.{BidiClass}
+use Rattle.bidi_base.specs.InPlace.{AreExplicitLevels}
+use Rattle.bidi_base.specs.Places.{class_at}
+use Rattle.bidi_base.specs.Search.{IsFirst}
+use Rattle.bidi_base.specs.Text.{char_index, is_boundary, IsNextPlace}
+use Rattle.bidi_base.specs.Units.{bounds}
+use Rattle.bidi_explicit.specs.Control.{is_control}
+use Rattle.bidi_explicit.specs.ExplicitStretches.{Paragraph as SeenParagraph, paragraph_of}
+use Rattle.bidi_explicit.specs.Stride.{count_of, count_to}
+use Rattle.bidi_explicit.specs.declared.explicit.stretches.Paragraph.{Paragraph}
+
+module _ {T C I L : Type 0} {t : _} {c : _} {i : _} {l : _} (paragraph : Paragraph T C I L t c i l) where
+  -- the paragraph as the rules see it
+  abbrev pub as_seen : SeenParagraph
+  as_seen = paragraph_of t.units (t.characters paragraph.text) paragraph.level paragraph.original_classes.now
+
+  -- ---- what the pass requires and finds
+
+  -- there is a level for each code unit, the classes to rewrite are a copy of the stored ones, and there are no runs yet
+  pub record CanFindLevels (level_units : List ℕ) (class_units : List BidiClass) (found : List (Range ℕ)) : Type 0 where
+    pub levels : length level_units ≡ length paragraph.original_classes.now
+    pub processing : class_units ≡ paragraph.original_classes.now
+    pub runs : map bounds found ≡ []
+
+  -- the code units have the explicit levels of their characters and the classes under overrides, and these are the level runs
+  abbrev pub AreLevelsOf : List ℕ → List BidiClass → List (Range ℕ) → Type 0
+  AreLevelsOf level_units class_units found =
+      AreExplicitLevels t.units (t.characters paragraph.text) paragraph.level paragraph.original_classes.now level_units class_units (map bounds found)
+
+  -- ---- its code units
+
+  -- a character begins at a code unit, or the text ends there
+  abbrev pub IsStart : ℕ → Type 0
+  IsStart u = IsTrue (is_boundary t.units (t.characters paragraph.text) u)
+
+  -- where the character that begins at a code unit ends
+  abbrev pub IsNextStart : ℕ → ℕ → Type 0
+  IsNextStart u next = IsNextPlace t.units (t.characters paragraph.text) u next
+
+  -- the class at a code unit is no control's
+  abbrev pub IsPlain : ℕ → Type 0
+  IsPlain u = is_control (class_at paragraph.original_classes.now u) ≡ false
+
+  -- the first code unit of a range whose class passes a test, or else the end of the range
+  abbrev pub IsFirstPassing : (BidiClass → Bool) → ℕ → ℕ → ℕ → Type 0
+  IsFirstPassing test from to u = IsFirst test paragraph.original_classes.now from to u
+
+  -- ---- counts
+
+  -- how many characters it has
+  abbrev pub char_count : ℕ
+  char_count = length (t.characters paragraph.text)
+
+  -- how many characters or code units, by its stride
+  abbrev pub whole_count : ℕ
+  whole_count = count_of paragraph.stride (length paragraph.original_classes.now) char_count
+
+  -- how many characters are in front of a code unit
+  abbrev pub chars_to : ℕ → ℕ
+  chars_to u = char_index t.units (t.characters paragraph.text) u
+
+  -- how many characters or code units, by its stride
+  abbrev pub counted_to : ℕ → ℕ
+  counted_to u = count_to paragraph.stride t.units (t.characters paragraph.text) u
+
+  -- a count went up by one for each character from one place to another
+  abbrev pub AreCharsCounted : ℕ → ℕ → ℕ → ℕ → Type 0
+  AreCharsCounted from to old new = new + chars_to from ≡ old + chars_to to
+
+  -- or for each character or code unit, by its stride
+  abbrev pub AreCounted : ℕ → ℕ → ℕ → ℕ → Type 0
+  AreCounted from to old new = new + counted_to from ≡ old + counted_to to
