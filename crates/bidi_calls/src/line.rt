@@ -23,7 +23,7 @@ use bidi_numbers::class_numbers::ClassNumbers;
 use bidi_numbers::fault::{Fault, check, check_room_or_none};
 use bidi_numbers::numbers::{all_below, check_classes};
 use bidi_numbers::rows::{Paragraph, Run};
-use bidi_text_lines::line_text::{LineText, write_line};
+use bidi_text_lines::line_text::{LineText, StoredLine, write_line};
 use std::alloc::{AllocError, Global};
 use std::ops::Range;
 use unicode_bidi::{Level, TextSource};
@@ -126,9 +126,12 @@ pub fn write_text<T: LineText>(
     ensures kept { OnErr result (out.new ≡ out.old) }
 {
     let units = 0..out.len();
-    let classes = ClassNumbers::new(line.class_numbers());
-    let levels = line.level_numbers();
-    write_line(alloc, text, units, line.level(), classes, levels, out)
+    let stored = StoredLine {
+        level: line.level(),
+        classes: ClassNumbers::new(line.class_numbers()),
+        levels: line.level_numbers(),
+    };
+    write_line(alloc, text, units, &stored, out)
 }
 
 /// Writes the level of each code unit of a line after L1, and returns their number. Writes nothing after a fault.

@@ -313,63 +313,29 @@ pub fn levels_with_line(
 }
 
 // Moves the level of each character's first unit to the character's index, and returns the number of characters.
-// Steps from character to character by their lengths.
-fn gather_by_characters<T: TextSource>(text: T, levels: &mut [Level]) -> usize
-    requires { length levels.old ≡ text_len T.units (T.characters text) }
-    ensures count { result ≡ length (T.characters text) }
-    ensures gathered { take result levels.new ≡ per_char 0 T.units (T.characters text) levels.old }
-{
-    let mut index = 0;
-    for (at, _) in text.indices_lengths() {
-        levels[index] = levels[at];
-        index += 1;
-    }
-    index
-}
-
-// Moves the level of each character's first unit to the character's index, and returns the number of characters.
-// Tests each unit, with no branch in the loop. The loop ends at the text's own length, so that `is_boundary` need not
-// compare the index with it.
-fn gather_by_units<T: TextSource>(text: T, levels: &mut [Level]) -> usize
-    requires { length levels.old ≡ text_len T.units (T.characters text) }
-    ensures count { result ≡ length (T.characters text) }
-    ensures gathered { take result levels.new ≡ per_char 0 T.units (T.characters text) levels.old }
-{
-    let mut count = 0;
-    for at in 0..text.len() {
-        levels[count] = levels[at];
-        count += usize::from(text.is_boundary(at));
-    }
-    count
-}
-
-// Moves the level of each character's first unit to the character's index, and returns the number of characters.
-// A branch on a character's length is hard to predict. If the text can test a unit in place, that is faster.
+//
+// If the text can test a unit in place, tests each one, with no branch in the loop: a branch on a character's length is
+// hard to predict. That loop ends at the text's own length, so that `is_boundary` need not compare the index with it.
+// In any other text, steps from character to character by their lengths.
 pub(crate) fn gather<T: TextSource>(text: T, levels: &mut [Level]) -> usize
     requires { length levels.old ≡ text_len T.units (T.characters text) }
     ensures count { result ≡ length (T.characters text) }
     ensures gathered { take result levels.new ≡ per_char 0 T.units (T.characters text) levels.old }
 {
     if T::READS_IN_PLACE {
-        gather_by_units(text, levels)
-    } else {
-        gather_by_characters(text, levels)
+        let mut count = 0;
+        for at in 0..text.len() {
+            levels[count] = levels[at];
+            count += usize::from(text.is_boundary(at));
+        }
+        return count;
     }
-}
-
-// Writes the level of each character's first unit, and returns the number of characters.
-fn copy_by_units<T: TextSource>(text: T, levels: &[Level], out: &mut [Level]) -> usize
-    requires one_a_unit { length levels.now ≡ text_len T.units (T.characters text) }
-    requires room { length out.old ≡ length levels.now }
-    ensures count { result ≡ length (T.characters text) }
-    ensures copied { take result out.new ≡ per_char 0 T.units (T.characters text) levels.now }
-{
-    let mut copied = 0;
-    for at in 0..text.len() {
-        out[copied] = levels[at];
-        copied += usize::from(text.is_boundary(at));
+    let mut index = 0;
+    for (at, _) in text.indices_lengths() {
+        levels[index] = levels[at];
+        index += 1;
     }
-    copied
+    index
 }
 
 /// Writes the level of each character of a text, and returns the number of characters.
@@ -382,11 +348,16 @@ pub fn write_first_units<T: TextSource>(text: T, levels: &[Level], out: &mut [Le
     ensures count { result ≡ length (T.characters text) }
     ensures written { take result out.new ≡ per_char 0 T.units (T.characters text) levels.now }
 {
-    if T::READS_IN_PLACE {
-        return copy_by_units(text, levels, out);
+    if !T::READS_IN_PLACE {
+        out.copy_from_slice(levels);
+        return gather(text, out);
     }
-    out.copy_from_slice(levels);
-    gather_by_characters(text, out)
+    let mut copied = 0;
+    for at in 0..text.len() {
+        out[copied] = levels[at];
+        copied += usize::from(text.is_boundary(at));
+    }
+    copied
 }
 
 /// Returns the level of each character of a text.

@@ -122,11 +122,11 @@ pub struct LineRuns {
 }
 
 impl LineRuns {
-    ghost use Rattle.bidi_lines.specs.LineRuns.{runs as runs_of};
+    ghost use Rattle.bidi_lines.specs.LineRuns.{runs};
 
     /// Returns an empty list of runs. Does not allocate.
     pub fn new(alloc: Global) -> LineRuns
-        ensures { runs_of result ≡ [] }
+        ensures { runs result ≡ [] }
     {
         LineRuns {
             runs: SmallVec::new(alloc),
@@ -142,9 +142,9 @@ impl LineRuns {
     /// L1. If an allocation fails, there are no runs.
     pub fn find(&mut self, levels: &[Level], start: usize) -> Result<(), AllocError>
         requires { start + length levels.now ≤ usize.MAX }
-        ensures runs { OnOk result (runs_of self.new ≡ visual_runs start levels.now) }
-        ensures visual { OnOk result (AreVisualRuns start levels.now (runs_of self.new)) }
-        ensures none { OnErr result (runs_of self.new ≡ []) }
+        ensures runs { OnOk result (runs self.new ≡ visual_runs start levels.now) }
+        ensures visual { OnOk result (AreVisualRuns start levels.now (runs self.new)) }
+        ensures none { OnErr result (runs self.new ≡ []) }
     {
         if levels.is_empty() {
             self.ordered.clear();
@@ -166,9 +166,9 @@ impl LineRuns {
         requires fits { start + length levels.now ≤ usize.MAX }
         requires within { first ≤ length levels.now }
         requires first { IsFirstRunEnd start levels.now first }
-        ensures runs { OnOk result (runs_of self.new ≡ visual_runs start levels.now) }
-        ensures visual { OnOk result (AreVisualRuns start levels.now (runs_of self.new)) }
-        ensures none { OnErr result (runs_of self.new ≡ []) }
+        ensures runs { OnOk result (runs self.new ≡ visual_runs start levels.now) }
+        ensures visual { OnOk result (AreVisualRuns start levels.now (runs self.new)) }
+        ensures none { OnErr result (runs self.new ≡ []) }
     {
         self.ordered.clear();
         cut_runs(&mut self.runs, levels, start, first)?;
@@ -197,14 +197,14 @@ impl LineRuns {
 
     /// Returns the runs from left to right, as ranges of code units of the text.
     pub fn as_slice(&self) -> &[Range<usize>]
-        ensures { map run_of result.now ≡ runs_of self.now }
+        ensures { map run_of result.now ≡ runs self.now }
     {
         self.ordered.as_slice()
     }
 
     /// Returns the runs from left to right as a list. Allocates that list if the line has up to 16 runs.
     pub fn into_vec(self) -> Result<Vec<Range<usize>>, AllocError>
-        ensures { IfOk result (λ v. map run_of v.items ≡ runs_of self) }
+        ensures { IfOk result (λ v. map run_of v.items ≡ runs self) }
     {
         let LineRuns { ordered, .. } = self;
         Ok(ordered.into_vec()?)

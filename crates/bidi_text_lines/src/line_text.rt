@@ -111,36 +111,45 @@ fn write_shown<T: LineText>(
     Ok(())
 }
 
+/// What is stored of a line: the level of its paragraph, and the class and the level of each of its code units.
+#[derive(Clone, Copy, Debug)]
+pub struct StoredLine<C, L> {
+    /// The level of the line's paragraph.
+    pub level: Level,
+    /// The class of each code unit.
+    pub classes: C,
+    /// The level of each code unit.
+    pub levels: L,
+}
+
 /// Writes the text of a line from left to right (L2).
 ///
-/// The line is a range of code units of the text. `classes` and `levels` are the stored ones of these code units,
-/// and `level` is the paragraph level. A line of up to 256 code units with up to 16 runs needs no allocation. If
-/// an allocation fails, writes nothing.
+/// The line is a range of code units of the text, and `stored` is what is stored of them. A line of up to 256 code
+/// units with up to 16 runs needs no allocation. If an allocation fails, writes nothing.
 pub fn write_line<T: LineText, C: ClassList, L: LevelList>(
     alloc: Global,
     text: T,
     line: Range<usize>,
-    level: Level,
-    classes: C,
-    levels: L,
+    stored: &StoredLine<C, L>,
     out: &mut [T::Unit],
 ) -> Result<(), AllocError>
     requires is_line { IsLine T.units (T.characters text) line.start line.end }
-    requires valid { L.are_levels levels }
-    requires levels { length (L.numbers levels) + line.start ≡ line.end }
-    requires classes { length (C.classes classes) ≡ length (L.numbers levels) }
-    requires room { length out.old ≡ length (L.numbers levels) }
-    requires runs { AreRunsOfChars T.units (T.characters text) line.start (line_levels level (C.classes classes) (L.numbers levels)) }
+    requires valid { L.are_levels stored.now.levels }
+    requires levels { length (L.numbers stored.now.levels) + line.start ≡ line.end }
+    requires classes { length (C.classes stored.now.classes) ≡ length (L.numbers stored.now.levels) }
+    requires room { length out.old ≡ length (L.numbers stored.now.levels) }
+    requires runs { AreRunsOfChars T.units (T.characters text) line.start
+        (line_levels stored.now.level (C.classes stored.now.classes) (L.numbers stored.now.levels)) }
     ensures text { OnOk result (out.new ≡ shown_units T.units T.encode (T.characters text) (T.units_of text) line.start
-        (line_levels level (C.classes classes) (L.numbers levels))) }
+        (line_levels stored.now.level (C.classes stored.now.classes) (L.numbers stored.now.levels))) }
     ensures kept { OnErr result (out.new ≡ out.old) }
 {
-    if level.is_ltr() && !levels.has_rtl() {
+    if stored.level.is_ltr() && !stored.levels.has_rtl() {
         text.copy_run(line, out);
         return Ok(());
     }
     let mut shown = ShownLevels::new(alloc);
-    shown.show(level, classes, levels)?;
+    shown.show(stored.level, stored.classes, stored.levels)?;
     write_shown(alloc, text, line, shown.as_slice(), out)
 }
 
@@ -169,15 +178,12 @@ impl<T: LineText> Analysed<T> {
         }
         let mut out = vec![in alloc; blank; end - start]?;
         let text = self.text();
-        write_line(
-            alloc,
-            text,
-            line,
+        let stored = StoredLine {
             level,
             classes,
             levels,
-            out.as_mut_slice(),
-        )?;
+        };
+        write_line(alloc, text, line, &stored, out.as_mut_slice())?;
         Ok(Some(out))
     }
 }

@@ -7,13 +7,13 @@ use Rattle.bidi_text_lines.proofs.line_text.write_line.Goals as goal
 pub write_shown-requires-clause-levels : goal.write_shown-requires-clause-levels
 write_shown-requires-clause-levels g c =
     let shown = c.as_slice.ensures ∙ c.in_ok-show.ensures.levels in
-    let long = ap length shown ∙ length-line_levels c.args.level (g.C.ClassList.classes c.args.classes) (g.L.LevelList.numbers c.args.levels) (sym c.requires.classes) ∙ c.requires.classes in
+    let long = ap length shown ∙ length-line_levels c.args.stored.now.level (g.C.ClassList.classes c.args.stored.now.classes) (g.L.LevelList.numbers c.args.stored.now.levels) (sym c.requires.classes) ∙ c.requires.classes in
     omega (arith, long, c.requires.levels)
 
 pub write_shown-requires-clause-room : goal.write_shown-requires-clause-room
 write_shown-requires-clause-room g c =
     let shown = c.as_slice.ensures ∙ c.in_ok-show.ensures.levels in
-    let long = ap length shown ∙ length-line_levels c.args.level (g.C.ClassList.classes c.args.classes) (g.L.LevelList.numbers c.args.levels) (sym c.requires.classes) ∙ c.requires.classes in
+    let long = ap length shown ∙ length-line_levels c.args.stored.now.level (g.C.ClassList.classes c.args.stored.now.classes) (g.L.LevelList.numbers c.args.stored.now.levels) (sym c.requires.classes) ∙ c.requires.classes in
     c.requires.room ∙ sym long
 
 pub write_shown-requires-clause-runs : goal.write_shown-requires-clause-runs
@@ -24,12 +24,12 @@ returns-clause-text g c = rw (c.as_slice.ensures ∙ c.in_ok-show.ensures.levels
 
 pub returns-then-not-has_rtl-clause-text : goal.returns-then-not-has_rtl-clause-text
 returns-then-not-has_rtl-clause-text g c =
-    let classes = g.C.ClassList.classes c.args.classes in
-    let levels = g.L.LevelList.numbers c.args.levels in
-    let level_even : is_odd c.args.level ≡ false = grind arith in
+    let classes = g.C.ClassList.classes c.args.stored.now.classes in
+    let levels = g.L.LevelList.numbers c.args.stored.now.levels in
+    let level_even : is_odd c.args.stored.now.level ≡ false = grind arith in
     let even : has_rtl levels ≡ false = grind arith in
-    let end : c.args.line.end ≡ c.args.line.start + length (line_levels c.args.level classes levels) =
-    omega (arith, c.requires.levels, c.requires.classes, length-line_levels c.args.level classes levels (sym c.requires.classes)) in
+    let end : c.args.line.end ≡ c.args.line.start + length (line_levels c.args.stored.now.level classes levels) =
+    omega (arith, c.requires.levels, c.requires.classes, length-line_levels c.args.stored.now.level classes levels (sym c.requires.classes)) in
     c.copy_run.ensures ∙ ap (slice_range (g.T.LineText.units_of c.args.text) c.args.line.start) end
-    ∙ sym (shown_units-still c.args.line.start (line_levels c.args.level classes levels) (has_rtl-even c.args.level classes levels (sym c.requires.classes) level_even even)
+    ∙ sym (shown_units-still c.args.line.start (line_levels c.args.stored.now.level classes levels) (has_rtl-even c.args.stored.now.level classes levels (sym c.requires.classes) level_even even)
     g.T.TextSource.units g.T.LineText.encode (g.T.TextSource.characters c.args.text) (g.T.LineText.units_of c.args.text))

@@ -1,5 +1,5 @@
 use Rattle.bidi_lines.proofs.Gathered.{IsTaken}
-use Rattle.bidi_lines.proofs.line_levels.copy_by_units.Given as goal
+use Rattle.bidi_lines.proofs.line_levels.write_first_units.Given as goal
 
 abbrev pub invariant-loop-at : goal.invariant-loop-at
 invariant-loop-at g l = IsTaken g.T.TextSource.units (g.T.TextSource.characters l.fn.text) l.levels l.out l.copied l.at

@@ -2,7 +2,7 @@ use Rattle.bidi_base.proofs.Common.{◌≡◌, ◌∙◌, ℕ, ◌+◌, ◌<◌,
 use Rattle.std.specs.Prelude.{slice_set}
 use Rattle.bidi_base.proofs.TextLemmas.{HasUnits}
 use Rattle.bidi_lines.proofs.Gathered.{IsTaken, IsTaken-inside, IsTaken-more, IsTaken-end, IsTaken-le, taken-all}
-use Rattle.bidi_lines.proofs.line_levels.copy_by_units.Goals as goal
+use Rattle.bidi_lines.proofs.line_levels.write_first_units.Goals as goal
 
 -- no more characters have begun than units were passed
 few_before : (len : ℕ → ℕ) (cs levels out : List ℕ) (n at : ℕ) → HasUnits len → IsTaken len cs levels out n at → at < length levels → n < length out
@@ -39,6 +39,6 @@ returns-clause-count g c =
     let end : c.loop-at.at ≡ text_len len cs = omega (arith, c.loop-at-test.false, c.loop-at.auto.at-end, c.len-at-end.ensures) in
     IsTaken-end len cs c.args.levels.now g.met.T.TextSource.has_units c.loop-at.out c.loop-at.copied (subst (λ at. IsTaken len cs c.args.levels.now c.loop-at.out c.loop-at.copied at) end c.loop-at.invariant)
 
-pub returns-clause-copied : goal.returns-clause-copied
-returns-clause-copied g c =
+pub returns-clause-written : goal.returns-clause-written
+returns-clause-written g c =
     taken-all g.T.TextSource.units (g.T.TextSource.characters c.args.text) c.args.levels.now c.loop-at.out c.loop-at.copied c.loop-at.at (returns-clause-count g c) c.loop-at.invariant
