@@ -23,6 +23,7 @@ use bidi_base::level::Level;
 use bidi_base::search::{ClassTest, first_passing};
 use bidi_explicit::explicit::{Paragraph, Stride, find_levels};
 use bidi_rules::implicit::{NeutralResolver, resolve_levels, resolve_weak_lent};
+use bidi_rules::leveled_text::LeveledText;
 use bidi_rules::prepare::{LentSequence, LevelRunVec, RunLinks};
 use bidi_text::text::TextSource;
 use bidi_walk::paragraph_flags::ParagraphFlags;
@@ -117,11 +118,14 @@ impl LevelResolver {
             original_classes,
         );
         find_levels(&stored, levels, self.classes.as_mut_slice(), &mut self.runs)?;
-        self.links.link(
-            paragraph.text,
-            paragraph.level,
+        let leveled = LeveledText {
+            text: paragraph.text,
             original_classes,
             levels,
+        };
+        self.links.link(
+            &leveled,
+            paragraph.level,
             self.runs.as_slice(),
             paragraph.flags.has_isolates(),
         )?;
@@ -165,14 +169,13 @@ impl LevelResolver {
         let side = paragraph.level.bidi_class();
         let sequence = LentSequence::new(&runs, side, side);
         resolve_weak_lent(paragraph.text, sequence, classes);
-        self.neutrals.resolve_up_to_n1(
-            paragraph.text,
-            paragraph.data_source,
-            sequence,
+        let leveled = LeveledText {
+            text: paragraph.text,
+            original_classes: paragraph.original_classes,
             levels,
-            paragraph.original_classes,
-            classes,
-        )?;
+        };
+        self.neutrals
+            .resolve_up_to_n1(&leveled, paragraph.data_source, sequence, classes)?;
         resolve_levels(classes, levels);
         Ok(())
     }
@@ -200,14 +203,13 @@ impl LevelResolver {
                     continue;
                 }
                 resolve_weak_lent(paragraph.text, sequence, classes);
-                self.neutrals.resolve_up_to_n1(
-                    paragraph.text,
-                    paragraph.data_source,
-                    sequence,
+                let leveled = LeveledText {
+                    text: paragraph.text,
+                    original_classes: paragraph.original_classes,
                     levels,
-                    paragraph.original_classes,
-                    classes,
-                )?;
+                };
+                self.neutrals
+                    .resolve_up_to_n1(&leveled, paragraph.data_source, sequence, classes)?;
             }
         }
         resolve_levels(classes, levels);

@@ -5,6 +5,7 @@ ghost use Rattle.bidi_base.specs.Places.{class_at};
 ghost use Rattle.bidi_base.specs.Units.{bounds, in_runs};
 ghost use Rattle.bidi_paragraphs.specs.Settled.{number_as_l, own_direction, raises, AreInside, AreNumbersWritten, HasEuropeanNumbers, HasOneDirection, HasNoNeutral};
 ghost use Rattle.bidi_runs.specs.RunSequence.{lent_runs};
+ghost use Rattle.bidi_runs.specs.Written.{KeepsAround};
 
 use bidi_base::char_data::BidiClass::{self, AL, AN, BN, EN, L, NSM, R};
 use bidi_base::level::Level;
@@ -121,8 +122,7 @@ fn write_run(run: &LevelRun, classes: &mut [BidiClass])
     requires { run.now.end ≤ length classes.old }
     ensures changed { (u : ℕ) → run.now.start ≤ u → u < run.now.end
         → class_at classes.new u ≡ number_as_l (class_at classes.old u) }
-    ensures below { (u : ℕ) → u < run.now.start → class_at classes.new u ≡ class_at classes.old u }
-    ensures above { (u : ℕ) → run.now.end ≤ u → class_at classes.new u ≡ class_at classes.old u }
+    ensures around { KeepsAround run.now classes.old classes.new }
     ensures long { length classes.new ≡ length classes.old }
 {
     for unit in run.start..run.end {

@@ -5,4 +5,4 @@
 pub mod implicit;
 
 pub use bidi_explicit::explicit;
-pub use bidi_runs::prepare;
+pub use bidi_runs::{leveled_text, prepare};

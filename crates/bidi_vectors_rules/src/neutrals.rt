@@ -14,6 +14,7 @@ use bidi_base::data_source::{BidiMatchedOpeningBracket, TableBidiData};
 use bidi_base::level::Level;
 use bidi_plain::plain::{implicit, neutral, weak};
 use bidi_rules::implicit::{NeutralResolver, resolve_neutral};
+use bidi_rules::leveled_text::LeveledText;
 use bidi_rules::prepare::IsolatingRunSequence;
 use bidi_text::text::{StrText, is_per_char};
 use bidi_vectors_format::answer::{class_words, classes_in, level_words};
@@ -144,25 +145,6 @@ impl Neutrals<'_> {
         Ok(())
     }
 
-    // Resolves the neutrals by `NeutralResolver::resolve_lent`.
-    fn resolve_lent(
-        self,
-        resolver: &mut NeutralResolver,
-        classes: &mut [BidiClass],
-    ) -> Result<(), RowFault> {
-        self.check(classes)?;
-        let lent = self.sequence.lend();
-        resolver.resolve_lent(
-            self.text,
-            self.source,
-            lent,
-            self.levels,
-            self.original,
-            classes,
-        )?;
-        Ok(())
-    }
-
     // Resolves the neutrals by `NeutralResolver::resolve_up_to_n1`.
     fn resolve_up_to_n1(
         self,
@@ -171,14 +153,12 @@ impl Neutrals<'_> {
     ) -> Result<(), RowFault> {
         self.check(classes)?;
         let lent = self.sequence.lend();
-        resolver.resolve_up_to_n1(
-            self.text,
-            self.source,
-            lent,
-            self.levels,
-            self.original,
-            classes,
-        )?;
+        let leveled = LeveledText {
+            text: self.text,
+            original_classes: self.original,
+            levels: self.levels,
+        };
+        resolver.resolve_up_to_n1(&leveled, self.source, lent, classes)?;
         Ok(())
     }
 }
@@ -188,7 +168,6 @@ impl Neutrals<'_> {
 enum Call {
     Alone,
     ByOneResolver,
-    Lent,
     UpToN1,
 }
 
@@ -197,7 +176,6 @@ impl Call {
         match self {
             Call::Alone => "implicit::resolve_neutral",
             Call::ByOneResolver => "NeutralResolver::resolve",
-            Call::Lent => "NeutralResolver::resolve_lent",
             Call::UpToN1 => "NeutralResolver::resolve_up_to_n1",
         }
     }
@@ -221,13 +199,12 @@ impl Call {
         match self {
             Call::Alone => neutrals.resolve_alone(alloc, classes),
             Call::ByOneResolver => neutrals.resolve_by(resolver, classes),
-            Call::Lent => neutrals.resolve_lent(&mut NeutralResolver::new(alloc), classes),
             Call::UpToN1 => neutrals.resolve_up_to_n1(&mut NeutralResolver::new(alloc), classes),
         }
     }
 }
 
-const CALLS: [Call; 4] = [Call::Alone, Call::ByOneResolver, Call::Lent, Call::UpToN1];
+const CALLS: [Call; 3] = [Call::Alone, Call::ByOneResolver, Call::UpToN1];
 
 // The classes and levels that a row gives the characters of a sequence.
 #[derive(Drop)]

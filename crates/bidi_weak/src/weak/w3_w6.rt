@@ -1,8 +1,9 @@
 //! W3 and W6, which are left once W1, W2, W4, W5 and W7 are done. They change each class by itself.
 
-ghost use Rattle.std.specs.Prelude.{◌≡◌, ◌≢◌, ℕ, ◌+◌, ◌-◌, ◌<◌, ◌≤◌, true, false, length, map, All, IsTrue};
+ghost use Rattle.std.specs.Prelude.{◌≡◌, ◌≢◌, ℕ, ◌+◌, ◌-◌, ◌<◌, ◌≤◌, true, length, map, All, IsTrue};
 ghost use Rattle.bidi_base.specs.Places.{class_at};
 ghost use Rattle.bidi_base.specs.Units.{bounds, are_ordered, in_runs, units_in_runs};
+ghost use Rattle.bidi_runs.specs.Written.{KeepsOutside};
 ghost use Rattle.bidi_weak.specs.WeakPass.{left_over};
 ghost use Rattle.bidi_weak.specs.WeakWalk.{two_a_unit, AreChanged};
 
@@ -18,7 +19,7 @@ pub fn resolve_w3_w6<S: Ledger>(runs: &[LevelRun], classes: &mut [BidiClass], st
     requires within { All (λ r. r.1 ≤ length classes.old) (map bounds runs.now) }
     ensures changed { (u : ℕ) → in_runs (map bounds runs.now) u ≡ true
         → class_at classes.new u ≡ left_over (class_at classes.old u) }
-    ensures same { (u : ℕ) → in_runs (map bounds runs.now) u ≡ false → class_at classes.new u ≡ class_at classes.old u }
+    ensures same { KeepsOutside runs.now classes.old classes.new }
     ensures long { length classes.new ≡ length classes.old }
     ensures at_least { steps.old + length (units_in_runs (map bounds runs.now)) ≤ steps.new }
     ensures at_most { steps.new ≤ steps.old + two_a_unit runs.now }
