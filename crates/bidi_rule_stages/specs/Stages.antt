@@ -30,6 +30,10 @@ neutral_in source brackets levels classes s =
     neutral_classes (level_at levels (first_or 0 s.places)) s.sos s.eos (at_places L source s.places)
     (at_places None brackets s.places) (weak_in classes s)
 
+-- there is one class for each character of a sequence
+abbrev pub HasOneEach : RunSequence → List BidiClass → Type 0
+HasOneEach s classes = length classes ≡ length s.places
+
 -- a row in which entries are written to their places
 abbrev pub written : List (Option BidiClass) → List (ℕ × BidiClass) → List (Option BidiClass)
 written row [] = row

@@ -4,7 +4,7 @@ ghost use Rattle.bidi_base.specs.Isolates.{stored_classes};
 ghost use Rattle.bidi_base.specs.Places.{at_places, first_or};
 ghost use Rattle.bidi_base.specs.declared.char_data.BidiClass.TheVariants.{L};
 ghost use Rattle.bidi_base.specs.Sequences.{level_at};
-ghost use Rattle.bidi_rule_stages.specs.Stages.{weak_in, neutral_in, written, row_of, CanResolveIn, StagesFrom, AreStages};
+ghost use Rattle.bidi_rule_stages.specs.Stages.{weak_in, neutral_in, written, row_of, CanResolveIn, HasOneEach, StagesFrom, AreStages};
 ghost use Rattle.unicode_bidi.specs.ParagraphInfo.{levels_of};
 
 use bidi_base::char_data::BidiClass;
@@ -93,7 +93,7 @@ fn weak_of(
 ) -> Result<Vec<BidiClass>, AllocError>
     requires { CanResolveIn paragraph sequence.now }
     ensures classes { IfOk result (λ v. v.items ≡ weak_in paragraph.entry.classes.now sequence.now) }
-    ensures long { IfOk result (λ v. length v.items ≡ length sequence.now.places) }
+    ensures long { IfOk result (λ v. HasOneEach sequence.now v.items) }
 {
     let classes = classes_at(alloc, paragraph.classes, sequence.places())?;
     let weak = plain::weak(alloc, sequence.sos(), classes.as_slice())?;
@@ -121,7 +121,7 @@ fn neutral_of(
     ensures classes { IfOk result (λ v. v.items
         ≡ neutral_in paragraph.entry.source.now paragraph.entry.brackets.now paragraph.entry.levels.now
         paragraph.entry.classes.now sequence.now) }
-    ensures long { IfOk result (λ v. length v.items ≡ length sequence.now.places) }
+    ensures long { IfOk result (λ v. HasOneEach sequence.now v.items) }
 {
     let places = sequence.places();
     let source = classes_at(alloc, paragraph.source, places)?;

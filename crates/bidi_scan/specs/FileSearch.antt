@@ -1,5 +1,5 @@
 -- What is found in the lines of a file.
-use Rattle.std.specs.Prelude.{ℕ, ◌+◌, ◌<◌, ◌^◌, List, [], ◌∷◌, ◌++◌, Option}
+use Rattle.std.specs.Prelude.{◌≡◌, ℕ, ◌+◌, ◌<◌, ◌^◌, List, [], ◌∷◌, ◌++◌, length, map, Option}
 use Rattle.bidi_base.specs.Source.{Source}
 use Rattle.bidi_unicode.specs.Unicode.{unicode_source}
 use Rattle.bidi_controls.specs.Findings.{findings_in_line}
@@ -36,6 +36,14 @@ found_from source wanted number (chars ∷ lines) =
 abbrev pub still_found : FileSearch → List ℕ → List FoundAt
 still_found search bytes =
     found_from unicode_source search.wanted (search.lines + 1) (file_lines_of (utf8_decoded bytes))
+
+-- the lines with these are appended to others
+abbrev pub Finds : FileSearch → List ℕ → List FoundLine → List FoundLine → Type 0
+Finds search bytes old new = map line_of new ≡ map line_of old ++ still_found search bytes
+
+-- a search that follows has counted the lines of these bytes
+abbrev pub CountsLines : FileSearch → List ℕ → FileSearch → Type 0
+CountsLines old bytes new = new.lines ≡ old.lines + length (file_lines_of (utf8_decoded bytes))
 
 -- where they or those before them stop being UTF-8
 abbrev pub still_invalid : FileSearch → List ℕ → Option ℕ

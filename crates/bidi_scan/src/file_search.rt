@@ -3,7 +3,7 @@ ghost use Rattle.std.specs.Prelude.{◌≡◌, ◌+◌, ◌<◌, ◌≤◌, ◌^
 ghost use Rattle.bidi_unicode.specs.Unicode.{unicode_source};
 ghost use Rattle.bidi_bytes.specs.Decoded.{utf8_decoded, decoded, utf8_fault, first_invalid};
 ghost use Rattle.bidi_bytes.specs.FileLines.{file_lines_of};
-ghost use Rattle.bidi_scan.specs.FileSearch.{found_in, found_from, line_of, still_found, still_invalid, HasRoom};
+ghost use Rattle.bidi_scan.specs.FileSearch.{found_in, found_from, line_of, still_found, still_invalid, CountsLines, Finds, HasRoom};
 
 use bidi_bytes::controls::holds_control;
 use bidi_bytes::decode::{utf8_decoded, utf8_fault, utf16_text};
@@ -106,9 +106,8 @@ impl FileSearch {
         found: &mut Vec<FoundLine>,
     ) -> Result<(), AllocError>
         requires { self.old.lines + length bytes.now < 2 ^ 64 }
-        ensures found { OnOk result
-            (map line_of found.new.items ≡ map line_of found.old.items ++ still_found self.old bytes.now) }
-        ensures lines { OnOk result (self.new.lines ≡ self.old.lines + length (file_lines_of (utf8_decoded bytes.now))) }
+        ensures found { OnOk result (Finds self.old bytes.now found.old.items found.new.items) }
+        ensures lines { OnOk result (CountsLines self.old bytes.now self.new) }
         ensures wanted { self.new.wanted ≡ self.old.wanted }
         ensures offset { self.new.offset ≡ self.old.offset }
         ensures invalid { self.new.invalid ≡ self.old.invalid }

@@ -1,5 +1,5 @@
 -- What a fault says.
-use Rattle.std.specs.Prelude.{ℕ, List, Result, Ok, Err, codes}
+use Rattle.std.specs.Prelude.{◌≡◌, ℕ, ◌+◌, List, Result, Ok, Err, codes}
 use Rattle.bidi_show.specs.declared.fault.ShowFault.{ShowFault}
 use Rattle.bidi_show.specs.declared.fault.ShowFault.TheVariants.{Usage, NotUtf8, Memory, Device}
 
@@ -10,6 +10,10 @@ device_faults (Err Device) = 1
 device_faults (Err Usage) = 0
 device_faults (Err NotUtf8) = 0
 device_faults (Err Memory) = 0
+
+-- the failed reads of an input are counted, where a call had this result
+abbrev pub CountsFaults : {I A : Type 0} → (I → ℕ) → Result A ShowFault → I → I → Type 0
+CountsFaults failed_reads result old new = failed_reads new ≡ failed_reads old + device_faults result
 
 -- the line on standard error, after the program's name
 abbrev pub fault_text : ShowFault → List ℕ

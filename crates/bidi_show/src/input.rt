@@ -1,7 +1,7 @@
 //! The bytes of an input.
 ghost use Rattle.std.specs.Prelude.{◌≡◌, ◌+◌, IfOk, IsErrOf};
 ghost use Rattle.bidi_show.specs.Ends.{successes};
-ghost use Rattle.bidi_show.specs.Faults.{device_faults};
+ghost use Rattle.bidi_show.specs.Faults.{CountsFaults};
 ghost use Rattle.bidi_show.specs.Texts.{ReadsAll};
 ghost use Rattle.bidi_show.specs.declared.fault.ShowFault.TheVariants.{Usage, NotUtf8};
 
@@ -18,7 +18,7 @@ pub fn read_all<R: ShowIn>(alloc: Global, input: &mut R) -> Result<Vec<u8>, Show
     ensures read { IfOk result (λ v. ReadsAll (R.left input.old) (R.left input.new) v.items) }
     ensures usage { ¬ IsErrOf result Usage }
     ensures utf8 { ¬ IsErrOf result NotUtf8 }
-    ensures failed { R.failed_reads input.new ≡ R.failed_reads input.old + device_faults result }
+    ensures failed { CountsFaults R.failed_reads result input.old input.new }
     ensures ended { R.ended_reads input.new ≡ R.ended_reads input.old + successes result }
 {
     let mut bytes = Vec::new(alloc);

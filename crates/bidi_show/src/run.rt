@@ -5,7 +5,7 @@ ghost use Rattle.bidi_base.specs.Order.{visual_order};
 ghost use Rattle.bidi_base.specs.Table.{source_of};
 ghost use Rattle.bidi_show.specs.Commands.{command_of, reads_input};
 ghost use Rattle.bidi_show.specs.Ends.{Opens, ReadsToEnd, TellsNotUtf8};
-ghost use Rattle.bidi_show.specs.Faults.{device_faults};
+ghost use Rattle.bidi_show.specs.Faults.{device_faults, CountsFaults};
 ghost use Rattle.bidi_show.specs.Runs.{IsRunOf};
 ghost use Rattle.bidi_show.specs.Texts.{line_of, sample_source, shown_text, IsAnswer, WritesAnswer};
 ghost use Rattle.bidi_terminal.specs.Bases.{level_of_base};
@@ -86,7 +86,7 @@ fn answer<R: ShowIn>(
     ensures utf8 { TellsNotUtf8 R.left R.ended_reads result input.old input.new }
     ensures ended { ReadsToEnd (reads_input (Some command.now)) result
         (R.ended_reads input.old) (R.ended_reads input.new) (R.left input.new) }
-    ensures failed { R.failed_reads input.new ≡ R.failed_reads input.old + device_faults result }
+    ensures failed { CountsFaults R.failed_reads result input.old input.new }
     ensures unread { reads_input (Some command.now) ≡ false → input.new ≡ input.old }
 {
     match command {
