@@ -5,6 +5,7 @@ use Rattle.bidi_base.specs.declared.char_data.BidiClass.TheVariants.{L, R, AL, E
 use Rattle.bidi_base.specs.Classes.{is_nsm}
 use Rattle.bidi_controls.specs.Controls.{control_of, control_short}
 use Rattle.bidi_controls.specs.declared.control.Control.{Control}
+use Rattle.bidi_terminal.specs.Numbers.{hex_digit}
 
 -- the name of a class
 abbrev pub class_name : BidiClass → List ℕ
@@ -57,26 +58,6 @@ glyph_of None class c = plain_glyph class c
 -- a character so that it stands for itself alone: a control or a mark by its short name
 abbrev pub glyph : BidiClass → ℕ → List ℕ
 glyph class c = glyph_of (control_of class c) class c
-
--- a hexadecimal digit
-abbrev pub hex_digit : ℕ → List ℕ
-hex_digit digit =
-    if digit == 0 then codes "0"
-    else if digit == 1 then codes "1"
-    else if digit == 2 then codes "2"
-    else if digit == 3 then codes "3"
-    else if digit == 4 then codes "4"
-    else if digit == 5 then codes "5"
-    else if digit == 6 then codes "6"
-    else if digit == 7 then codes "7"
-    else if digit == 8 then codes "8"
-    else if digit == 9 then codes "9"
-    else if digit == 10 then codes "A"
-    else if digit == 11 then codes "B"
-    else if digit == 12 then codes "C"
-    else if digit == 13 then codes "D"
-    else if digit == 14 then codes "E"
-    else codes "F"
 
 -- the digit of a number that is worth so much, if the number is no less
 abbrev pub leading_digit : ℕ → ℕ → List ℕ

@@ -1,13 +1,13 @@
 //! The cells of the tables that show what each stage does with a text.
 ghost use Rattle.std.specs.Prelude.{◌≡◌, ◌<◌, ◌++◌, length, map, zip, decimal, IfOk, OnOk, string_bytes};
 ghost use Rattle.std.specs.List.{range_with_len};
-ghost use Rattle.bidi_cells.specs.Cells.{class_name, option_name, is_unseen, plain_glyph, glyph, hex_digit, leading_digit, hex};
+ghost use Rattle.bidi_cells.specs.Cells.{class_name, option_name, is_unseen, plain_glyph, glyph, leading_digit, hex};
 
 use bidi_base::char_data::BidiClass;
 use bidi_base::classes::is_nsm;
 use bidi_base::level::Level;
 use bidi_controls::control::Control;
-use bidi_terminal::push_number;
+use bidi_terminal::{push_hex_digit, push_number};
 use std::alloc::{AllocError, Global};
 
 /// Returns the name of a class.
@@ -89,38 +89,13 @@ pub fn push_glyph(out: &mut String, class: BidiClass, c: char) -> Result<(), All
     Ok(())
 }
 
-/// Appends a hexadecimal digit.
-fn push_digit(out: &mut String, digit: u32) -> Result<(), AllocError>
-    ensures { OnOk result (string_bytes out.new ≡ string_bytes out.old ++ hex_digit digit) }
-{
-    out.push_str(match digit {
-        0 => "0",
-        1 => "1",
-        2 => "2",
-        3 => "3",
-        4 => "4",
-        5 => "5",
-        6 => "6",
-        7 => "7",
-        8 => "8",
-        9 => "9",
-        10 => "A",
-        11 => "B",
-        12 => "C",
-        13 => "D",
-        14 => "E",
-        _ => "F",
-    })?;
-    Ok(())
-}
-
 /// Appends the hexadecimal digit with this worth, unless the number is below `worth`.
 fn push_leading_digit(out: &mut String, code: u32, worth: u32) -> Result<(), AllocError>
     requires { 0 < worth }
     ensures { OnOk result (string_bytes out.new ≡ string_bytes out.old ++ leading_digit worth code) }
 {
     if worth <= code {
-        push_digit(out, code / worth % 16)?;
+        push_hex_digit(out, code / worth % 16)?;
     }
     Ok(())
 }
@@ -132,10 +107,10 @@ fn push_hex(out: &mut String, c: char) -> Result<(), AllocError>
     let code = u32::from(c);
     push_leading_digit(out, code, 0x10_0000)?;
     push_leading_digit(out, code, 0x1_0000)?;
-    push_digit(out, code / 0x1000 % 16)?;
-    push_digit(out, code / 0x100 % 16)?;
-    push_digit(out, code / 0x10 % 16)?;
-    push_digit(out, code % 16)?;
+    push_hex_digit(out, code / 0x1000 % 16)?;
+    push_hex_digit(out, code / 0x100 % 16)?;
+    push_hex_digit(out, code / 0x10 % 16)?;
+    push_hex_digit(out, code % 16)?;
     Ok(())
 }
 

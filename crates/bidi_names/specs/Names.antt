@@ -1,5 +1,6 @@
 -- How names, other arguments and lines are written in a report.
 use Rattle.std.specs.Prelude.{ℕ, ◌/◌, ◌%◌, Bool, nat_le, ◌==◌, ◌&&◌, ◌||◌, if◌then◌else◌, List, [], ◌∷◌, ◌++◌, flat_map, codes, encode_utf8}
+use Rattle.bidi_terminal.specs.Numbers.{hex_digit}
 
 -- a character from one code point to another
 abbrev pub is_between : ℕ → ℕ → ℕ → Bool
@@ -11,26 +12,6 @@ abbrev pub is_hidden : ℕ → Bool
 is_hidden c =
     is_between 0 0x1F c || is_between 0x7F 0x9F c || c == 0x61C || is_between 0x200E 0x200F c || is_between 0x2028 0x202E c
     || is_between 0x2066 0x2069 c
-
--- a hexadecimal digit
-abbrev pub hex_digit : ℕ → List ℕ
-hex_digit digit =
-    if digit == 0 then codes "0"
-    else if digit == 1 then codes "1"
-    else if digit == 2 then codes "2"
-    else if digit == 3 then codes "3"
-    else if digit == 4 then codes "4"
-    else if digit == 5 then codes "5"
-    else if digit == 6 then codes "6"
-    else if digit == 7 then codes "7"
-    else if digit == 8 then codes "8"
-    else if digit == 9 then codes "9"
-    else if digit == 10 then codes "A"
-    else if digit == 11 then codes "B"
-    else if digit == 12 then codes "C"
-    else if digit == 13 then codes "D"
-    else if digit == 14 then codes "E"
-    else codes "F"
 
 -- four hexadecimal digits
 unfoldable pub hex : ℕ → List ℕ

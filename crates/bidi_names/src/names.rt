@@ -1,8 +1,9 @@
 //! How names, other arguments and lines are written in a report.
 ghost use Rattle.std.specs.Prelude.{◌≡◌, ◌++◌, IfOk, OnOk, string_bytes};
 ghost use Rattle.std.specs.Str.{chars};
-ghost use Rattle.bidi_names.specs.Names.{is_hidden, hex_digit, hex, code_escape, byte_escape, shown_char, shown_name as shown_name_of, shown_byte, shown_bytes as shown_bytes_of, quoted_char, quoted_line};
+ghost use Rattle.bidi_names.specs.Names.{is_hidden, hex, code_escape, byte_escape, shown_char, shown_name as shown_name_of, shown_byte, shown_bytes as shown_bytes_of, quoted_char, quoted_line};
 
+use bidi_terminal::push_hex_digit;
 use std::alloc::{AllocError, Global};
 
 /// Returns whether a character could end a line, control a terminal or change the order of a line.
@@ -20,41 +21,16 @@ pub fn is_hidden(c: char) -> bool
     )
 }
 
-/// Appends a hexadecimal digit.
-fn push_digit(out: &mut String, digit: u32) -> Result<(), AllocError>
-    ensures { OnOk result (string_bytes out.new ≡ string_bytes out.old ++ hex_digit digit) }
-{
-    out.push_str(match digit {
-        0 => "0",
-        1 => "1",
-        2 => "2",
-        3 => "3",
-        4 => "4",
-        5 => "5",
-        6 => "6",
-        7 => "7",
-        8 => "8",
-        9 => "9",
-        10 => "A",
-        11 => "B",
-        12 => "C",
-        13 => "D",
-        14 => "E",
-        _ => "F",
-    })?;
-    Ok(())
-}
-
 /// Appends the last four hexadecimal digits of a code point.
 #[tactic(auto, unfolding(crate::specs::Names::hex))]
 pub fn push_hex(out: &mut String, c: char) -> Result<(), AllocError>
     ensures { OnOk result (string_bytes out.new ≡ string_bytes out.old ++ hex c) }
 {
     let code = u32::from(c);
-    push_digit(out, code / 0x1000 % 16)?;
-    push_digit(out, code / 0x100 % 16)?;
-    push_digit(out, code / 0x10 % 16)?;
-    push_digit(out, code % 16)?;
+    push_hex_digit(out, code / 0x1000 % 16)?;
+    push_hex_digit(out, code / 0x100 % 16)?;
+    push_hex_digit(out, code / 0x10 % 16)?;
+    push_hex_digit(out, code % 16)?;
     Ok(())
 }
 
@@ -79,8 +55,8 @@ fn push_number_of_byte(out: &mut String, byte: u8) -> Result<(), AllocError>
     ensures { OnOk result (string_bytes out.new ≡ string_bytes out.old ++ byte_escape byte) }
 {
     out.push_str("\\x")?;
-    push_digit(out, u32::from(byte / 16))?;
-    push_digit(out, u32::from(byte % 16))
+    push_hex_digit(out, u32::from(byte / 16))?;
+    push_hex_digit(out, u32::from(byte % 16))
 }
 
 /// Appends a character of a name.

@@ -1,8 +1,8 @@
-//! Decimal numbers, read and written.
+//! Numbers, read and written.
 ghost use Rattle.std.specs.Prelude.{◌≡◌, ◌++◌, decimal, OnOk, string_bytes};
 ghost use Rattle.std.specs.Char.{is_ascii_digit};
 ghost use Rattle.std.specs.List.{list_all};
-ghost use Rattle.bidi_terminal.specs.Numbers.{number_of};
+ghost use Rattle.bidi_terminal.specs.Numbers.{hex_digit, number_of};
 
 use itoa::Buffer;
 use std::alloc::AllocError;
@@ -31,4 +31,29 @@ pub fn push_number(out: &mut String, number: usize) -> Result<(), AllocError>
 {
     let mut digits = Buffer::new();
     out.push_str(digits.format(number))
+}
+
+/// Appends a number below 16 as a hexadecimal digit.
+pub fn push_hex_digit(out: &mut String, digit: u32) -> Result<(), AllocError>
+    ensures { OnOk result (string_bytes out.new ≡ string_bytes out.old ++ hex_digit digit) }
+{
+    out.push_str(match digit {
+        0 => "0",
+        1 => "1",
+        2 => "2",
+        3 => "3",
+        4 => "4",
+        5 => "5",
+        6 => "6",
+        7 => "7",
+        8 => "8",
+        9 => "9",
+        10 => "A",
+        11 => "B",
+        12 => "C",
+        13 => "D",
+        14 => "E",
+        _ => "F",
+    })?;
+    Ok(())
 }
