@@ -1,5 +1,7 @@
 use Rattle.bidi_base.proofs.Common.{◌≡◌, ◌∙◌, List, ℕ, map, ap, arith, explicit_levels, per_char, bounds}
+use Rattle.bidi_base.specs.declared.char_data.BidiClass.{BidiClass}
 use Rattle.bidi_base.specs.declared.char_data.BidiClass.TheVariants.{L}
+use Rattle.bidi_base.specs.InPlace.{AreExplicitLevels}
 use Rattle.bidi_laws.proofs.ExplicitLemmas.{length-explicit_levels}
 use Rattle.bidi_base.proofs.PerUnit.{length-per_char, per_char-per_unit}
 use Rattle.bidi_base.proofs.UnitsLemmas.{is_per_char-per_unit}
@@ -14,12 +16,21 @@ use Rattle.bidi_paragraphs.proofs.paragraph_levels.LevelResolver.prepare.Goals.{
 pub new-stored-requires-clause-per_char : goal.new-stored-requires-clause-per_char
 new-stored-requires-clause-per_char g c = grind (arith, stored-is_per_char)
 
+-- what was found in the paragraph that was made is found in this one
+found : (g : Over) (c : In_ok-find_levels g) → AreExplicitLevels g.T.TextSource.units (g.T.TextSource.characters c.args.paragraph.now.text) c.args.paragraph.now.level
+    c.args.paragraph.now.original_classes.now c.find_levels.new.levels c.find_levels.new.classes (map bounds c.find_levels.new.runs.items)
+found g c = rw (c.new-stored.ensures.text, c.new-stored.ensures.level, c.new-stored.ensures.classes) at c.in_ok-find_levels.ensures
+
 -- the levels, read one a character
 read : (g : Over) (c : In_ok-find_levels g) → let cs = g.T.TextSource.characters c.args.paragraph.now.text in
     per_char 0 g.T.TextSource.units cs c.find_levels.new.levels ≡ explicit_levels c.args.paragraph.now.level (per_char L g.T.TextSource.units cs c.args.paragraph.now.original_classes.now)
 read g c =
-    simp c.in_ok-find_levels.ensures.levels
-    (per_char-per_unit _ g.met.T.TextSource.has_units 0 _ _ (length-explicit_levels c.args.paragraph.now.level _ ∙ length-per_char L _ (g.T.TextSource.characters c.args.paragraph.now.text) _))
+    let len_of = g.T.TextSource.units in
+    let cs : List ℕ = g.T.TextSource.characters c.args.paragraph.now.text in
+    let stored : List BidiClass = per_char L len_of cs c.args.paragraph.now.original_classes.now in
+    let levels : List ℕ = explicit_levels c.args.paragraph.now.level stored in
+    ap (per_char 0 len_of cs) (found g c).levels
+    ∙ per_char-per_unit len_of g.met.T.TextSource.has_units 0 cs levels (length-explicit_levels c.args.paragraph.now.level stored ∙ length-per_char L len_of cs c.args.paragraph.now.original_classes.now)
 
 pub link-requires : goal.link-requires
 link-requires g c =
@@ -28,7 +39,7 @@ link-requires g c =
     record {
       original = grind (arith, stored-is_per_char);
       levels = grind (arith, is_per_char-per_unit, length-explicit_levels, length-per_char);
-      runs = rw (read g (goal.at.link-requires g c).In_ok-find_levels) (ap (map bounds) c.as_slice.ensures.value ∙ c.in_ok-find_levels.ensures.runs);
+      runs = rw (read g (goal.at.link-requires g c).In_ok-find_levels) (ap (map bounds) c.as_slice.ensures.value ∙ (found g (goal.at.link-requires g c).In_ok-find_levels).runs);
       isolates = λ some.
           c.has_isolates.ensures ∙ has_isolates-flags c.args.paragraph.now.flags (map class_of cs) c.args.paragraph.now.own_flags ∙ initiators-stored g.T.TextSource.units cs (map class_of cs) c.args.paragraph.now.original_classes.now c.args.paragraph.now.stored some;
     }
