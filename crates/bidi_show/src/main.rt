@@ -13,7 +13,6 @@ mod number;
 mod run;
 mod shown;
 mod streams;
-mod tally;
 
 use fault::ShowFault;
 use run::run_over_streams;

@@ -18,7 +18,6 @@ use crate::input::read_all;
 use crate::number::LevelWords;
 use crate::shown::show;
 use crate::streams::{StreamIn, StreamOut};
-use crate::tally::Tally;
 use bidi_base::data_source::TableBidiData;
 use bidi_base::sample;
 use bidi_terminal::Base;
@@ -28,6 +27,7 @@ use std::io::{Read, Write};
 use std::marker::Brand;
 use std::sync::ledger::{Blank, Ledger};
 use unicode_bidi::BidiInfo;
+use unicode_bidi::prepare::Steps;
 
 // A line of numbers, separated by one space.
 fn number_line(alloc: Global, numbers: &[usize]) -> Result<String, AllocError>
@@ -179,10 +179,10 @@ fn run_counted<F: Ledger, E: Ledger, O: Ledger, R: Read + Drop, W: Write + Drop>
     requires failed_writes { Opens blanks.failed_writes O.name O.parts }
     ensures { IsRunOf R.remaining W.contents (map string_bytes words.now) reader writer result }
 {
-    let failed_reads = Tally::<F>::new(blanks.failed_reads);
-    let ended_reads = Tally::<E>::new(blanks.ended_reads);
+    let failed_reads = Steps::<F>::new(blanks.failed_reads);
+    let ended_reads = Steps::<E>::new(blanks.ended_reads);
     let mut input = StreamIn::new(reader, failed_reads, ended_reads);
-    let mut output = StreamOut::new(writer, Tally::<O>::new(blanks.failed_writes));
+    let mut output = StreamOut::new(writer, Steps::<O>::new(blanks.failed_writes));
     let outcome = run(alloc, words, &mut input, &mut output);
     Finished {
         outcome,

@@ -3,23 +3,22 @@
 ghost use Rattle.std.specs.Prelude.{◌≡◌};
 
 use crate::ends::{Failed, ShowIn, ShowOut};
-use crate::tally::Tally;
 use std::io::{Read, Write};
 use std::sync::ledger::Ledger;
+use unicode_bidi::prepare::Steps;
 
 /// An end over a reader. Its parameters name the ledgers of its two counts.
 #[derive(Drop)]
 pub struct StreamIn<R, F: Ledger, E: Ledger> {
     /// The reader, as reads have left it.
     pub reader: R,
-    failed: Tally<F>,
-    ended: Tally<E>,
+    failed: Steps<F>,
+    ended: Steps<E>,
 }
 
 impl<R: Read, F: Ledger, E: Ledger> StreamIn<R, F, E> {
-    /// The end of this reader. The tallies go on to count its failed reads, and those that come to
-    /// the end.
-    pub fn new(reader: R, failed: Tally<F>, ended: Tally<E>) -> StreamIn<R, F, E>
+    /// The end of this reader. The counts go on with its failed reads, and with those that come to the end.
+    pub fn new(reader: R, failed: Steps<F>, ended: Steps<E>) -> StreamIn<R, F, E>
         ensures reader { result.reader ≡ reader }
         ensures failed { result.failed ≡ failed }
         ensures ended { result.ended ≡ ended }
@@ -41,11 +40,11 @@ impl<R: Read, F: Ledger, E: Ledger> ShowIn for StreamIn<R, F, E> {
 
     fn read(&mut self, buffer: &mut [u8]) -> Result<usize, Failed> {
         let Ok(count) = self.reader.read(buffer) else {
-            self.failed.add_one();
+            self.failed.tick();
             return Err(Failed);
         };
         if count == 0 && !buffer.is_empty() {
-            self.ended.add_one();
+            self.ended.tick();
         }
         Ok(count)
     }
@@ -56,12 +55,12 @@ impl<R: Read, F: Ledger, E: Ledger> ShowIn for StreamIn<R, F, E> {
 pub struct StreamOut<W, L: Ledger> {
     /// The writer, as writes have left it.
     pub writer: W,
-    failed: Tally<L>,
+    failed: Steps<L>,
 }
 
 impl<W: Write, L: Ledger> StreamOut<W, L> {
-    /// The end of this writer. The tally goes on to count its failed writes.
-    pub fn new(writer: W, failed: Tally<L>) -> StreamOut<W, L>
+    /// The end of this writer. The count goes on with its failed writes.
+    pub fn new(writer: W, failed: Steps<L>) -> StreamOut<W, L>
         ensures writer { result.writer ≡ writer }
         ensures failed { result.failed ≡ failed }
     {
@@ -76,7 +75,7 @@ impl<W: Write, L: Ledger> ShowOut for StreamOut<W, L> {
 
     fn put(&mut self, bytes: &[u8]) -> Result<(), Failed> {
         if self.writer.write_all(bytes).is_err() || self.writer.flush().is_err() {
-            self.failed.add_one();
+            self.failed.tick();
             return Err(Failed);
         }
         Ok(())
