@@ -64,10 +64,7 @@ impl Pass {
 }
 
 // Computes the explicit levels of a paragraph by the pass from code unit to code unit.
-fn find_by_units(
-    alloc: Global,
-    paragraph: &ParagraphUnits<'_>,
-) -> Result<ExplicitUnits, RowFault>
+fn find_by_units(alloc: Global, paragraph: &ParagraphUnits<'_>) -> Result<ExplicitUnits, RowFault>
     requires { paragraph.now.level ≤ 125 }
 {
     let ParagraphUnits {
