@@ -5,7 +5,7 @@ ghost use Rattle.bidi_unicode.specs.Unicode.{unicode_source};
 ghost use Rattle.bidi_visual.specs.declared.view.View.{View};
 ghost use Rattle.bidi_visual.specs.Shown.{shown_text};
 ghost use Rattle.bidi_shown.specs.Faults.{TellsBytes};
-ghost use Rattle.bidi_shown.specs.Streams.{whole_lines as whole_lines_of, Shows};
+ghost use Rattle.bidi_shown.specs.Streams.{whole_lines as whole_lines_of};
 
 use crate::paragraph::Memory;
 use crate::text::push_text;
@@ -78,7 +78,7 @@ fn show_bytes(
     out: &mut String,
 ) -> Result<(), StreamFault>
     ensures utf8 { OnOk result (IsUtf8 bytes.now) }
-    ensures shown { OnOk result (Shows view bytes.now out.old out.new) }
+    ensures shown { OnOk result (string_bytes out.new ≡ string_bytes out.old ++ shown_text unicode_source view (chars bytes.now)) }
     ensures fault { IfErr result (TellsBytes bytes.now) }
 {
     match str::from_utf8(bytes) {
@@ -161,7 +161,8 @@ impl Stream {
         out: &mut String,
     ) -> Result<(), StreamFault>
         ensures utf8 { OnOk result (IsUtf8 (pending_of self.old)) }
-        ensures shown { OnOk result (Shows view (pending_of self.old) out.old out.new) }
+        ensures shown { OnOk result (string_bytes out.new
+            ≡ string_bytes out.old ++ shown_text unicode_source view (chars (pending_of self.old))) }
         ensures pending { OnOk result (pending_of self.new ≡ []) }
     {
         let bytes = self.pending.as_slice();
