@@ -126,10 +126,12 @@ pub fn write_text<T: LineText>(
     ensures kept { OnErr result (out.new ≡ out.old) }
 {
     let units = 0..out.len();
+    let classes = ClassNumbers::new(line.class_numbers());
+    let levels = line.level_numbers();
     let stored = StoredLine {
         level: line.level(),
-        classes: ClassNumbers::new(line.class_numbers()),
-        levels: line.level_numbers(),
+        classes,
+        levels,
     };
     write_line(alloc, text, units, &stored, out)
 }
