@@ -1,8 +1,6 @@
 -- A text whose classes and levels are known: what they are, and what a line of the text shows.
-use Rattle.std.specs.Prelude.{◌≡◌, ℕ, ◌+◌, ◌<◌, ◌≤◌, All, Bool, false, List, [], length, map, Option, IsTrue}
+use Rattle.std.specs.Prelude.{◌≡◌, ℕ, ◌+◌, ◌<◌, ◌≤◌, All, Bool, false, List, [], length, map, Option}
 use Rattle.std.specs.declared.ops.Range.{Range}
-use Rattle.bidi_base.specs.contracts.char_data.BidiClassPartialEq.TheImpl.{ghosts as class_test}
-use Rattle.bidi_base.specs.contracts.level.LevelPartialEq.TheImpl.{ghosts as level_test}
 use Rattle.bidi_base.specs.declared.char_data.BidiClass.{BidiClass}
 use Rattle.bidi_base.specs.declared.char_data.BidiClass.TheVariants.{L}
 use Rattle.bidi_base.specs.Direction.{is_pure_ltr}
@@ -11,9 +9,10 @@ use Rattle.bidi_base.specs.Isolates.{paragraph_level, stored_classes}
 use Rattle.bidi_base.specs.Levels.{has_rtl}
 use Rattle.bidi_base.specs.Line.{levels_of_line, levels_with_line, char_levels_of_line, char_levels_with_line}
 use Rattle.bidi_base.specs.Paragraphs.{pieces_of, ranges_from}
+use Rattle.bidi_base.specs.PerChar.{HaveClass, HaveLevel}
 use Rattle.bidi_base.specs.Source.{Source}
 use Rattle.bidi_base.specs.Stored.{text_classes, text_levels, stored_levels, paragraph_levels}
-use Rattle.bidi_base.specs.Text.{subrange, per_unit, per_char, is_per_char, IsLine}
+use Rattle.bidi_base.specs.Text.{subrange, per_unit, per_char, IsLine}
 
 -- a text of these characters and their lengths, with the class and the level of each unit
 pub record AnalysedText : Type 0 where
@@ -28,8 +27,8 @@ IsLineOf a line = IsLine a.len_of a.chars line.start line.end
 
 -- all units of a character have one class and one level
 pub record IsPerCharText (a : AnalysedText) : Type 0 where
-  pub classes : IsTrue (is_per_char class_test.eq a.len_of a.chars a.classes)
-  pub levels : IsTrue (is_per_char level_test.eq a.len_of a.chars a.levels)
+  pub classes : HaveClass a.len_of a.chars a.classes
+  pub levels : HaveLevel a.len_of a.chars a.levels
 
 -- the text has its stored classes (X5c) and levels (X1 to I2), and these are the ranges (P1) and the levels
 -- (P2, P3) of its paragraphs; not split, it is one paragraph

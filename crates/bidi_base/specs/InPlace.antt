@@ -2,17 +2,17 @@
 -- neutral passes over those of a sequence.
 use Rattle.std.specs.Prelude.{◌≡◌, ℕ, ◌≤◌, false, List, [], length, map, IsTrue}
 use Rattle.std.specs.List.{list_all}
-use Rattle.bidi_base.specs.contracts.char_data.BidiClassPartialEq.TheImpl.{ghosts as class_test}
 use Rattle.bidi_base.specs.declared.char_data.BidiClass.{BidiClass}
 use Rattle.bidi_base.specs.declared.char_data.BidiClass.TheVariants.{L, BN}
 use Rattle.bidi_base.specs.Classes.{is_weak_resolved}
 use Rattle.bidi_base.specs.Explicit.{explicit_levels, processing_classes}
 use Rattle.bidi_base.specs.Levels.{direction_of}
 use Rattle.bidi_base.specs.Neutral.{n2_rule, neutral_classes}
+use Rattle.bidi_base.specs.PerChar.{HaveClass}
 use Rattle.bidi_base.specs.Places.{at_places, class_at, first_or}
 use Rattle.bidi_base.specs.Sequences.{level_at}
 use Rattle.bidi_base.specs.Source.{Source}
-use Rattle.bidi_base.specs.Text.{is_per_char, per_char, per_unit, place}
+use Rattle.bidi_base.specs.Text.{per_char, per_unit, place}
 use Rattle.bidi_base.specs.Units.{in_runs, kept_in_place, level_run_ranges, AreLines}
 use Rattle.bidi_base.specs.Weak.{weak_classes}
 
@@ -23,7 +23,7 @@ use Rattle.bidi_base.specs.Weak.{weak_classes}
 pub record CanFindExplicitLevels (len_of : ℕ → ℕ) (chars : List ℕ) (paragraph : ℕ) (stored_units : List BidiClass)
     (level_units : List ℕ) (class_units : List BidiClass) (found : List (ℕ × ℕ)) : Type 0 where
   pub explicit : paragraph ≤ 125
-  pub original : IsTrue (is_per_char class_test.eq len_of chars stored_units)
+  pub original : HaveClass len_of chars stored_units
   pub levels : length level_units ≡ length stored_units
   pub processing : class_units ≡ stored_units
   pub runs : found ≡ []
@@ -46,7 +46,7 @@ classes_in len_of chars runs old units = at_places L units (map (place len_of ch
 
 -- its runs cut no character, and the units of a character have one class
 pub record CanResolveWeakTypes (len_of : ℕ → ℕ) (chars : List ℕ) (runs : List (ℕ × ℕ)) (old : List BidiClass) : Type 0 where
-  pub per_char : IsTrue (is_per_char class_test.eq len_of chars old)
+  pub per_char : HaveClass len_of chars old
   pub fits : AreLines len_of chars runs
 
 -- W1 to W7 are done: its characters have the classes of the rules, BN stays, and nothing else changes
@@ -55,12 +55,12 @@ pub record AreWeakTypesResolved (len_of : ℕ → ℕ) (chars : List ℕ) (runs 
   pub kept : classes_in len_of chars runs old new ≡ weak_classes sos (classes_in len_of chars runs old old)
   pub removed : (u : ℕ) → class_at old u ≡ BN → class_at new u ≡ BN
   pub outside : (u : ℕ) → in_runs runs u ≡ false → class_at new u ≡ class_at old u
-  pub per_char : IsTrue (is_per_char class_test.eq len_of chars new)
+  pub per_char : HaveClass len_of chars new
 
 -- what CanResolveWeakTypes says, a level and a stored class for each unit, and only classes that W7 leaves
 pub record CanResolveNeutrals (len_of : ℕ → ℕ) (chars : List ℕ) (runs : List (ℕ × ℕ)) (level_units : List ℕ)
     (stored_units old : List BidiClass) : Type 0 where
-  pub per_char : IsTrue (is_per_char class_test.eq len_of chars old)
+  pub per_char : HaveClass len_of chars old
   pub fits : AreLines len_of chars runs
   pub levels : length level_units ≡ length old
   pub original : length stored_units ≡ length old
@@ -81,7 +81,7 @@ pub record AreNeutralsResolved (len_of : ℕ → ℕ) (chars : List ℕ) (source
       ≡ neutral_classes_in len_of chars source runs sos eos level_units stored_units old
   pub removed : (u : ℕ) → class_at old u ≡ BN → class_at new u ≡ BN
   pub outside : (u : ℕ) → in_runs runs u ≡ false → class_at new u ≡ class_at old u
-  pub per_char : IsTrue (is_per_char class_test.eq len_of chars new)
+  pub per_char : HaveClass len_of chars new
 
 -- N0 and N1 are done: with N2, which changes no level, the classes would be those of the rules
 pub record AreNeutralsResolvedUpToN1 (len_of : ℕ → ℕ) (chars : List ℕ) (source : Source) (runs : List (ℕ × ℕ))
@@ -91,4 +91,4 @@ pub record AreNeutralsResolvedUpToN1 (len_of : ℕ → ℕ) (chars : List ℕ) (
       ≡ neutral_classes_in len_of chars source runs sos eos level_units stored_units old
   pub removed : (u : ℕ) → class_at old u ≡ BN → class_at new u ≡ BN
   pub outside : (u : ℕ) → in_runs runs u ≡ false → class_at new u ≡ class_at old u
-  pub per_char : IsTrue (is_per_char class_test.eq len_of chars new)
+  pub per_char : HaveClass len_of chars new

@@ -195,9 +195,11 @@ pub fn compute_counted<T: TextSource, S: Ledger>(
     find_levels_searching::<T, S, Brand>(&paragraph, levels, processing_classes, runs, steps, blank)
 }
 
-/// Finds what [`compute`] finds in a paragraph.
+/// Finds the explicit levels of a paragraph, its classes under overrides and its level runs, as [`compute`] does.
 ///
-/// `classes` must be a copy of the paragraph's stored classes, and gets the classes under overrides.
+/// `levels` must be as long as the paragraph's stored classes, and gets the levels. `classes` must be a copy of the
+/// stored classes, and gets the classes under overrides. `runs` must be empty, and gets the level runs. If an
+/// allocation fails, returns an error, and all three may hold anything.
 pub fn find_levels<T: TextSource>(
     paragraph: &Paragraph<'_, T>,
     levels: &mut [Level],
@@ -253,9 +255,9 @@ fn find_levels_searching<T: TextSource, S: Ledger, L: Ledger>(
 /// Like [`find_levels`], and keeps two counts.
 ///
 /// In `steps` each loop iteration counts one, including those of the functions it calls. A search for a
-/// class counts one for each code unit that it passes over, or for each character by [`Stride::Character`].
+/// class counts one for each code unit that it passes over, or for each character with [`Stride::Character`].
 /// There is at least one step for each character of the paragraph. There are at most four for each code unit,
-/// or for each character by [`Stride::Character`]. The iterations that pop the status stack at a PDI are
+/// or for each character with [`Stride::Character`]. The iterations that pop the status stack at a PDI are
 /// charged to the initiators that filled it. Calls of the text and of the standard library count as no steps.
 ///
 /// In `looked` a search by code units counts each one that it looks at. These are at most twelve for each

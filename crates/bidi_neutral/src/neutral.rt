@@ -81,58 +81,8 @@ impl NeutralResolver {
             original_classes,
             levels,
         };
-        self.resolve_up_to_n1(&leveled, data_source, lent, processing_classes)?;
+        resolve_up_to_n1(self, &leveled, data_source, lent, processing_classes)?;
         settle_rest(embedding, runs, processing_classes);
-        Ok(())
-    }
-
-    /// Like [`NeutralResolver::resolve`], but without N2, and for a sequence that borrows its runs.
-    ///
-    /// Neutrals to which N2 would give the embedding direction stay neutral. The levels are the same, since
-    /// I1 and I2 add nothing to either.
-    pub fn resolve_up_to_n1<D: BidiDataSource, T: TextSource>(
-        &mut self,
-        text: &LeveledText<'_, T>,
-        data_source: &D,
-        sequence: LentSequence<'_>,
-        processing_classes: &mut [BidiClass],
-    ) -> Result<(), AllocError>
-        requires { CanResolveNeutrals T.units (T.characters text.now.text) (map bounds (lent_runs sequence))
-            text.now.levels.now text.now.original_classes.now processing_classes.old }
-        ensures resolved { OnOk result (AreNeutralsResolvedUpToN1 T.units (T.characters text.now.text)
-            (D.source data_source.now) (map bounds (lent_runs sequence.entry)) (lent_sos sequence.entry)
-            (lent_eos sequence.entry) text.now.levels.now text.now.original_classes.now processing_classes.old
-            processing_classes.new) }
-        ensures refused { OnErr result (processing_classes.new ≡ processing_classes.old) }
-    {
-        let LeveledText {
-            text,
-            original_classes,
-            levels,
-        } = *text;
-        let runs = sequence.runs();
-        let sos = sequence.sos();
-        let Some(first) = first_kept(runs, processing_classes) else {
-            return Ok(());
-        };
-        let embedding = levels[first].bidi_class();
-        let eos = sequence.eos();
-        let directions = Directions {
-            embedding,
-            sos,
-            eos,
-        };
-        if stands_alone(directions, runs, processing_classes) {
-            return Ok(());
-        }
-        self.gather(text, data_source, runs, processing_classes)?;
-        let pairs = self.search.finish();
-        let stored = StoredRuns {
-            runs,
-            original_classes,
-        };
-        resolve_pairs(text, stored, directions, pairs, processing_classes);
-        resolve_opposite(directions, runs, processing_classes);
         Ok(())
     }
 
@@ -204,6 +154,56 @@ impl NeutralResolver {
         }
         Ok(())
     }
+}
+
+/// Like [`NeutralResolver::resolve`], but without N2, and for a sequence that borrows its runs.
+///
+/// Neutrals to which N2 would give the embedding direction stay neutral. The levels are the same, since
+/// I1 and I2 add nothing to either.
+pub fn resolve_up_to_n1<D: BidiDataSource, T: TextSource>(
+    resolver: &mut NeutralResolver,
+    leveled: &LeveledText<'_, T>,
+    data_source: &D,
+    sequence: LentSequence<'_>,
+    processing_classes: &mut [BidiClass],
+) -> Result<(), AllocError>
+    requires { CanResolveNeutrals T.units (T.characters leveled.now.text) (map bounds (lent_runs sequence))
+        leveled.now.levels.now leveled.now.original_classes.now processing_classes.old }
+    ensures resolved { OnOk result (AreNeutralsResolvedUpToN1 T.units (T.characters leveled.now.text)
+        (D.source data_source.now) (map bounds (lent_runs sequence.entry)) (lent_sos sequence.entry)
+        (lent_eos sequence.entry) leveled.now.levels.now leveled.now.original_classes.now processing_classes.old
+        processing_classes.new) }
+    ensures refused { OnErr result (processing_classes.new ≡ processing_classes.old) }
+{
+    let LeveledText {
+        text,
+        original_classes,
+        levels,
+    } = *leveled;
+    let runs = sequence.runs();
+    let sos = sequence.sos();
+    let Some(first) = first_kept(runs, processing_classes) else {
+        return Ok(());
+    };
+    let embedding = levels[first].bidi_class();
+    let eos = sequence.eos();
+    let directions = Directions {
+        embedding,
+        sos,
+        eos,
+    };
+    if stands_alone(directions, runs, processing_classes) {
+        return Ok(());
+    }
+    resolver.gather(text, data_source, runs, processing_classes)?;
+    let pairs = resolver.search.finish();
+    let stored = StoredRuns {
+        runs,
+        original_classes,
+    };
+    resolve_pairs(text, stored, directions, pairs, processing_classes);
+    resolve_opposite(directions, runs, processing_classes);
+    Ok(())
 }
 
 /// Resolves the neutrals of a sequence in place: N0 to N2 over its characters that are not BN.

@@ -22,7 +22,7 @@ use bidi_base::data_source::BidiDataSource;
 use bidi_base::level::Level;
 use bidi_base::search::{ClassTest, first_passing};
 use bidi_explicit::explicit::{Paragraph, Stride, find_levels};
-use bidi_rules::implicit::{NeutralResolver, resolve_levels, resolve_weak_lent};
+use bidi_rules::implicit::{NeutralResolver, resolve_levels, resolve_up_to_n1, resolve_weak_lent};
 use bidi_rules::leveled_text::LeveledText;
 use bidi_rules::prepare::{LentSequence, LevelRunVec, RunLinks};
 use bidi_text::text::TextSource;
@@ -69,7 +69,7 @@ pub struct LevelResolver {
 }
 
 impl LevelResolver {
-    ghost use Rattle.bidi_paragraphs.specs.Paragraph.{IsOneAUnit, HaveOwnLevel, AreOfRules};
+    ghost use Rattle.bidi_paragraphs.specs.Paragraph.{IsOneAUnit, HaveOneLevel, AreOfRules};
 
     /// Creates a resolver. Does not allocate.
     pub fn new(alloc: Global) -> LevelResolver {
@@ -159,7 +159,7 @@ impl LevelResolver {
         requires long { IsOneAUnit paragraph.now levels.old }
         requires some { 0 < length levels.old }
         requires flat { is_flat (map (D.source paragraph.now.data_source.now).class_of (T.characters paragraph.now.text)) ≡ true }
-        ensures per_char { OnOk result (HaveOwnLevel paragraph.now levels.new) }
+        ensures per_char { OnOk result (HaveOneLevel paragraph.now levels.new) }
         ensures resolved { OnOk result (AreOfRules paragraph.now levels.new) }
     {
         levels.fill(paragraph.level);
@@ -174,8 +174,13 @@ impl LevelResolver {
             original_classes: paragraph.original_classes,
             levels,
         };
-        self.neutrals
-            .resolve_up_to_n1(&leveled, paragraph.data_source, sequence, classes)?;
+        resolve_up_to_n1(
+            &mut self.neutrals,
+            &leveled,
+            paragraph.data_source,
+            sequence,
+            classes,
+        )?;
         resolve_levels(classes, levels);
         Ok(())
     }
@@ -187,7 +192,7 @@ impl LevelResolver {
         levels: &mut [Level],
     ) -> Result<(), AllocError>
         requires { IsOneAUnit paragraph.now levels.old }
-        ensures per_char { OnOk result (HaveOwnLevel paragraph.now levels.new) }
+        ensures per_char { OnOk result (HaveOneLevel paragraph.now levels.new) }
         ensures resolved { OnOk result (AreOfRules paragraph.now levels.new) }
     {
         self.prepare(paragraph, levels)?;
@@ -208,8 +213,13 @@ impl LevelResolver {
                     original_classes: paragraph.original_classes,
                     levels,
                 };
-                self.neutrals
-                    .resolve_up_to_n1(&leveled, paragraph.data_source, sequence, classes)?;
+                resolve_up_to_n1(
+                    &mut self.neutrals,
+                    &leveled,
+                    paragraph.data_source,
+                    sequence,
+                    classes,
+                )?;
             }
         }
         resolve_levels(classes, levels);
@@ -224,7 +234,7 @@ impl LevelResolver {
     ) -> Result<(), AllocError>
         requires long { IsOneAUnit paragraph.now levels.old }
         requires some { 0 < length levels.old }
-        ensures per_char { OnOk result (HaveOwnLevel paragraph.now levels.new) }
+        ensures per_char { OnOk result (HaveOneLevel paragraph.now levels.new) }
         ensures resolved { OnOk result (AreOfRules paragraph.now levels.new) }
     {
         if paragraph.flags.is_flat() {

@@ -1,6 +1,6 @@
 -- The steps of the pass over units that joins level runs to isolating run sequences.
-use Rattle.std.specs.Prelude.{◌≡◌, ℕ, ◌+◌, ◌-◌, ◌<◌, ◌≤◌, Bool, true, false, ◌||◌, ◌==◌, if◌then◌else◌, IsTrue, List, length, Option, Some, None}
-use Rattle.std.specs.List.{fold, list_any}
+use Rattle.std.specs.Prelude.{◌≡◌, ℕ, ◌+◌, ◌-◌, ◌<◌, ◌≤◌, Bool, true, false, ◌||◌, ◌==◌, if◌then◌else◌, List, length, Option, Some, None}
+use Rattle.std.specs.List.{fold}
 use Rattle.bidi_base.specs.declared.char_data.BidiClass.{BidiClass}
 use Rattle.bidi_base.specs.declared.char_data.BidiClass.TheVariants.{L}
 use Rattle.bidi_base.specs.Classes.{is_initiator, is_kept, is_pdi}
@@ -34,10 +34,6 @@ is_kept_in classes = fold (λ found class. found || is_kept class) false classes
 -- a class that opens or closes an isolate
 abbrev pub is_isolate_control : BidiClass → Bool
 is_isolate_control c = is_initiator c || is_pdi c
-
--- where a class opens an isolate, the flag is set
-abbrev pub IsFlagged : List BidiClass → Bool → Type 0
-IsFlagged classes flag = IsTrue (list_any is_initiator classes) → IsTrue flag
 
 -- what waits once the characters from a up to b were read, of which the one before `last` waits for the sequence at s
 abbrev pub read_range : List BidiClass → ℕ → ℕ → ℕ → ℕ → List (Option ℕ) → List (Option ℕ)

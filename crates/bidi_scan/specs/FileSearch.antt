@@ -37,15 +37,15 @@ abbrev pub still_found : FileSearch → List ℕ → List FoundAt
 still_found search bytes =
     found_from unicode_source search.wanted (search.lines + 1) (file_lines_of (utf8_decoded bytes))
 
--- the lines with these are appended to others
+-- a search appends to the lines in which it found something those that it finds in these bytes
 abbrev pub Finds : FileSearch → List ℕ → List FoundLine → List FoundLine → Type 0
 Finds search bytes old new = map line_of new ≡ map line_of old ++ still_found search bytes
 
--- a search that follows has counted the lines of these bytes
+-- a search over these bytes adds the number of their lines
 abbrev pub CountsLines : FileSearch → List ℕ → FileSearch → Type 0
 CountsLines old bytes new = new.lines ≡ old.lines + length (file_lines_of (utf8_decoded bytes))
 
--- where they or those before them stop being UTF-8
+-- the index at which the bytes searched so far, followed by these, stop being UTF-8
 abbrev pub still_invalid : FileSearch → List ℕ → Option ℕ
 still_invalid search bytes = fault_from search.invalid search.offset bytes
 

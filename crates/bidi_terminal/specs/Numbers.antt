@@ -9,7 +9,7 @@ abbrev pub number_of : List ℕ → Option ℕ
 number_of word =
     if nat_le 1 (length word) && nat_le (length word) 3 && list_all is_ascii_digit word then Some (digits_value 10 word) else None
 
--- a hexadecimal digit
+-- the hexadecimal digit of a number below 16, and F of any other
 abbrev pub hex_digit : ℕ → List ℕ
 hex_digit digit =
     if digit == 0 then codes "0"

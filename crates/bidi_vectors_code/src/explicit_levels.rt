@@ -137,7 +137,7 @@ fn worked_paragraph(rt: HostRuntime) -> Result<(), Fail> {
     Ok(())
 }
 
-// Runs the counted pass, which takes few steps for each code unit.
+// Runs the counted pass, which takes at most four steps for each code unit.
 fn find_counted<S: Ledger, L: Ledger>(
     text: StrText,
     classes: &[BidiClass],

@@ -1,6 +1,5 @@
 //! The calls over a line, given classes and levels that the caller has kept.
 
-ghost use Rattle.std.specs.Prelude.{IsTrue};
 ghost use Rattle.std.specs.Char.{len_utf8};
 ghost use Rattle.std.specs.Str.{chars};
 ghost use Rattle.bidi_base.specs.PerChar.{HaveClass, HaveLevel};

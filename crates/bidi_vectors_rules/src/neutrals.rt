@@ -13,7 +13,7 @@ use bidi_base::char_data::BidiClass;
 use bidi_base::data_source::{BidiMatchedOpeningBracket, TableBidiData};
 use bidi_base::level::Level;
 use bidi_plain::plain::{implicit, neutral, weak};
-use bidi_rules::implicit::{NeutralResolver, resolve_neutral};
+use bidi_rules::implicit::{NeutralResolver, resolve_neutral, resolve_up_to_n1};
 use bidi_rules::leveled_text::LeveledText;
 use bidi_rules::prepare::IsolatingRunSequence;
 use bidi_text::text::{StrText, is_per_char};
@@ -145,7 +145,7 @@ impl Neutrals<'_> {
         Ok(())
     }
 
-    // Resolves the neutrals by `NeutralResolver::resolve_up_to_n1`.
+    // Resolves the neutrals by `resolve_up_to_n1`.
     fn resolve_up_to_n1(
         self,
         resolver: &mut NeutralResolver,
@@ -158,7 +158,7 @@ impl Neutrals<'_> {
             original_classes: self.original,
             levels: self.levels,
         };
-        resolver.resolve_up_to_n1(&leveled, self.source, lent, classes)?;
+        resolve_up_to_n1(resolver, &leveled, self.source, lent, classes)?;
         Ok(())
     }
 }
@@ -176,7 +176,7 @@ impl Call {
         match self {
             Call::Alone => "implicit::resolve_neutral",
             Call::ByOneResolver => "NeutralResolver::resolve",
-            Call::UpToN1 => "NeutralResolver::resolve_up_to_n1",
+            Call::UpToN1 => "resolve_up_to_n1",
         }
     }
 

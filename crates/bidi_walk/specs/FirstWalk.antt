@@ -28,7 +28,7 @@ at_depth depth (Some u) = if u.depth == depth then Some u else None
 abbrev pub waiting : ℕ → List Undecided → Option Undecided
 waiting depth undecided = at_depth depth (innermost undecided)
 
--- and without that one
+-- the undecided isolates of a paragraph, without the one that waits, if there is one
 abbrev pub without_waiting : ParagraphState → List Undecided
 without_waiting r =
     if is_some (waiting r.depth r.undecided.items) then outer r.undecided.items else r.undecided.items
@@ -148,10 +148,10 @@ pub record IsStop (source : Source) (len_of : ℕ → ℕ) (stop_classes : BidiC
   pub written : AreWritten source len_of (read ++ stop.c ∷ []) from (stop.start + len_of stop.c) old new
   pub turns : is ≡ with_classes was (map source.class_of read)
 
--- what a reader of a text requires of the place at which it begins, and of the classes that it writes to
-pub record CanRead (len_of : ℕ → ℕ) (chars : List ℕ) (from : Progress) (classes : List BidiClass) : Type 0 where
+-- what a reader of a text requires of the index from which it reads, and of the classes that it writes to
+pub record CanRead (len_of : ℕ → ℕ) (chars : List ℕ) (from : ℕ) (classes : List BidiClass) : Type 0 where
   pub sized : length classes ≡ text_len len_of chars
-  pub begins : IsTrue (is_boundary len_of chars from.at)
+  pub begins : IsTrue (is_boundary len_of chars from)
 
 -- a set has each class that would change the flags
 abbrev pub HasEachChange : ClassSet → ParagraphFlags → Type 0

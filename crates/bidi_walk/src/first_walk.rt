@@ -155,7 +155,7 @@ fn read_some<D: BidiDataSource, T: TextSource>(
     progress: &mut Progress,
     stop_classes: ClassSet,
 ) -> Option<Stop>
-    requires { CanRead T.units (T.characters text) progress.old classes.old }
+    requires { CanRead T.units (T.characters text) progress.old.at classes.old }
     ensures stop { IsReadOn (D.source data_source.now) T.units (T.characters text) (has stop_classes) progress.old
         result progress.new classes.old classes.new }
     ensures passed { GoesOn (length classes.new) result progress.old progress.new }
@@ -175,7 +175,7 @@ fn seek_stop<D: BidiDataSource, T: TextSource>(
     progress: &mut Progress,
     stop_classes: ClassSet,
 ) -> Option<Stop>
-    requires { CanRead T.units (T.characters text) progress.old classes.old }
+    requires { CanRead T.units (T.characters text) progress.old.at classes.old }
     ensures stop { IsReadOn (D.source data_source.now) T.units (T.characters text) (has stop_classes) progress.old
         result progress.new classes.old classes.new }
     ensures end { result ≡ None → progress.new.at ≡ text_len T.units (T.characters text) }
@@ -207,7 +207,7 @@ fn next_stop<D: BidiDataSource, T: TextSource>(
     state: &mut ParagraphState,
     near: bool,
 ) -> Option<Stop>
-    requires { CanRead T.units (T.characters text) (record { at = from; flags = state.old.flags }) classes.old }
+    requires { CanRead T.units (T.characters text) from classes.old }
     ensures stop { IsReadOn (D.source data_source.now) T.units (T.characters text) (stops_at state.old)
         (record { at = from; flags = state.old.flags }) result
         (record { at = text_len T.units (T.characters text); flags = state.new.flags }) classes.old classes.new }
@@ -285,7 +285,7 @@ fn ends_paragraph<D: BidiDataSource, T: TextSource>(
 /// `base` or the characters (P2, P3) give their levels.
 ///
 /// If `split` is `None`, the whole text is one paragraph, even if it is empty. Any base level is accepted.
-/// The paragraphs reuse the memory of `memory`, and the pass uses its allocator.
+/// The paragraphs take over the lists of `memory`, and grow them with its allocator.
 ///
 /// It allocates for more than one paragraph, and for undecided FSI that are open at the same time. If an
 /// allocation fails, `classes` may hold anything.

@@ -87,23 +87,25 @@ units p low high = seen_from p.runs p.old low high
 abbrev pub AreAlike : List BidiClass → ℕ → ℕ → Type 0
 AreAlike units from to = (k : ℕ) → from ≤ k → k < to → class_at units k ≡ class_at units from
 
--- two for each unit of some runs: the maximum of iterations of a loop over the runs and their units
+-- two for each code unit of some runs: the most iterations of a loop over the runs and their units, and the most units that
+-- a search looks at
 abbrev pub two_a_unit : List (Range ℕ) → ℕ
 two_a_unit runs = 2 * length (units_in_runs (map bounds runs))
 
 -- what W1 to W7 require of a sequence that borrows its runs
-abbrev pub CanResolve : (ℕ → ℕ) → List ℕ → LentSequence → List BidiClass → Type 0
-CanResolve len_of chars sequence old = CanResolveWeakTypes len_of chars (map bounds (lent_runs sequence)) old
+abbrev pub CanResolveWeak : (ℕ → ℕ) → List ℕ → LentSequence → List BidiClass → Type 0
+CanResolveWeak len_of chars sequence old = CanResolveWeakTypes len_of chars (map bounds (lent_runs sequence)) old
 
--- they are done
-abbrev pub IsResolved : (ℕ → ℕ) → List ℕ → LentSequence → List BidiClass → List BidiClass → Type 0
-IsResolved len_of chars sequence old new =
+-- W1 to W7 are done in the sequence
+abbrev pub IsWeakResolved : (ℕ → ℕ) → List ℕ → LentSequence → List BidiClass → List BidiClass → Type 0
+IsWeakResolved len_of chars sequence old new =
     AreWeakTypesResolved len_of chars (map bounds (lent_runs sequence)) (lent_sos sequence) old new
 
--- how many units it has, and how many characters begin in it
+-- how many code units a sequence has
 abbrev pub unit_count_of : LentSequence → ℕ
 unit_count_of sequence = length (units_in_runs (map bounds (lent_runs sequence)))
 
+-- how many characters begin in a sequence
 abbrev pub char_count_of : (ℕ → ℕ) → List ℕ → LentSequence → ℕ
 char_count_of len_of chars sequence = length (chars_in_runs len_of chars (map bounds (lent_runs sequence)))
 

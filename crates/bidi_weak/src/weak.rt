@@ -10,7 +10,7 @@ ghost use Rattle.bidi_base.specs.Weak.{carried};
 ghost use Rattle.bidi_base.specs.declared.char_data.BidiClass.{BidiClass};
 ghost use Rattle.bidi_runs.specs.RunSequence.{runs as runs_of, sos as sos_of};
 ghost use Rattle.bidi_weak.specs.WeakPass.{is_mark_or_number};
-ghost use Rattle.bidi_weak.specs.WeakWalk.{char_count_of, is_any_of, is_any_wide, len_at, part_of, two_a_unit, unit_count_of, wide_part_of, CanResolve, IsMarked, IsResolved, IsWalked};
+ghost use Rattle.bidi_weak.specs.WeakWalk.{char_count_of, is_any_of, is_any_wide, len_at, part_of, two_a_unit, unit_count_of, wide_part_of, CanResolveWeak, IsMarked, IsWalked, IsWeakResolved};
 
 mod before;
 mod next;
@@ -87,8 +87,8 @@ pub fn resolve_weak_lent<T: TextSource>(
     sequence: LentSequence<'_>,
     processing_classes: &mut [BidiClass],
 )
-    requires { CanResolve T.units (T.characters text) sequence processing_classes.old }
-    ensures { IsResolved T.units (T.characters text) sequence.entry processing_classes.old processing_classes.new }
+    requires { CanResolveWeak T.units (T.characters text) sequence processing_classes.old }
+    ensures { IsWeakResolved T.units (T.characters text) sequence.entry processing_classes.old processing_classes.new }
 {
     resolve_weak_fresh::<T, Brand>(text, sequence, processing_classes, Blank::new(1))
 }
@@ -100,11 +100,11 @@ fn resolve_weak_fresh<T: TextSource, S: Ledger>(
     classes: &mut [BidiClass],
     blank: Blank,
 )
-    requires sequence { CanResolve T.units (T.characters text) sequence classes.old }
+    requires sequence { CanResolveWeak T.units (T.characters text) sequence classes.old }
     requires name { blank.name ≡ S.name }
     requires parts { blank.parts ≡ S.parts }
     requires one { blank.parts ≡ 1 }
-    ensures { IsResolved T.units (T.characters text) sequence.entry classes.old classes.new }
+    ensures { IsWeakResolved T.units (T.characters text) sequence.entry classes.old classes.new }
 {
     let mut steps = Steps::<S>::new(blank);
     resolve_weak_searching::<T, S, Brand>(text, sequence, classes, &mut steps, Blank::new(1))
@@ -118,11 +118,11 @@ fn resolve_weak_searching<T: TextSource, S: Ledger, L: Ledger>(
     steps: &mut Steps<S>,
     blank: Blank,
 )
-    requires sequence { CanResolve T.units (T.characters text) sequence classes.old }
+    requires sequence { CanResolveWeak T.units (T.characters text) sequence classes.old }
     requires name { blank.name ≡ L.name }
     requires parts { blank.parts ≡ L.parts }
     requires one { blank.parts ≡ 1 }
-    ensures resolved { IsResolved T.units (T.characters text) sequence.entry classes.old classes.new }
+    ensures resolved { IsWeakResolved T.units (T.characters text) sequence.entry classes.old classes.new }
     ensures at_least { steps.old + char_count_of T.units (T.characters text) sequence.entry ≤ steps.new }
     ensures at_most { steps.new ≤ steps.old + 8 * unit_count_of sequence.entry }
 {
@@ -142,8 +142,8 @@ fn resolve_weak_lent_counted<T: TextSource, S: Ledger, L: Ledger>(
     steps: &mut Steps<S>,
     looked: &mut Steps<L>,
 )
-    requires { CanResolve T.units (T.characters text) sequence classes.old }
-    ensures resolved { IsResolved T.units (T.characters text) sequence.entry classes.old classes.new }
+    requires { CanResolveWeak T.units (T.characters text) sequence classes.old }
+    ensures resolved { IsWeakResolved T.units (T.characters text) sequence.entry classes.old classes.new }
     ensures at_least { steps.old + char_count_of T.units (T.characters text) sequence.entry ≤ steps.new }
     ensures at_most { steps.new ≤ steps.old + 8 * unit_count_of sequence.entry }
     ensures looked { looked.new ≤ looked.old + 11 * unit_count_of sequence.entry }

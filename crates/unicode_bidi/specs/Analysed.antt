@@ -1,25 +1,17 @@
 -- What the algorithm finds in a text in any encoding: its paragraphs, and the class and the level of each character.
-use Rattle.std.specs.Prelude.{◌≡◌, ℕ, Bool, true, false, List, [], ◌∷◌, Option, None, All, IfSome, IsTrue, slice_range}
-use Rattle.bidi_base.specs.contracts.char_data.BidiClassPartialEq.TheImpl.{ghosts as class_test}
-use Rattle.bidi_base.specs.contracts.level.LevelPartialEq.TheImpl.{ghosts as level_test}
+use Rattle.std.specs.Prelude.{◌≡◌, ℕ, Bool, true, false, List, [], ◌∷◌, Option, None, All, IfSome, slice_range}
 use Rattle.bidi_base.specs.declared.char_data.BidiClass.{BidiClass}
 use Rattle.bidi_base.specs.Analysed.{AnalysedText, IsAnalysis, IsParagraphAnalysis, IsPerCharText, HasCharValues, classes_of_chars, levels_of_chars}
 use Rattle.bidi_base.specs.Laws.{HasOwnUnits, AreLevelsFrom, BoundaryNeutralsAreAlike, StaysLeftToRight}
 use Rattle.bidi_base.specs.Paragraphs.{pieces_of, ranges_from, AreParagraphRanges}
+use Rattle.bidi_base.specs.PerChar.{HaveClass}
 use Rattle.bidi_base.specs.Source.{Source}
 use Rattle.bidi_base.specs.Stored.{text_classes, text_levels, stored_levels, paragraph_levels}
-use Rattle.bidi_base.specs.Text.{per_unit, is_per_char, text_len}
+use Rattle.bidi_base.specs.Text.{per_unit, text_len}
 use Rattle.bidi_walk.specs.declared.paragraph_info.ParagraphInfo.{ParagraphInfo}
 use Rattle.bidi_walk.specs.declared.split_rule.SplitRule.{SplitRule}
 use Rattle.bidi_walk.specs.ParagraphInfo.{level_of, range_of, ranges_of, levels_of}
 use Rattle.bidi_walk.specs.SplitRule.{pieces_by, AreParagraphRangesBy, IsAnalysisBy}
-
--- these classes, or these levels, one for each code unit of a text, are the same along each of its characters
-abbrev pub AreClassesPerChar : AnalysedText → List BidiClass → Type 0
-AreClassesPerChar a classes = IsTrue (is_per_char class_test.eq a.len_of a.chars classes)
-
-abbrev pub AreLevelsPerChar : AnalysedText → List ℕ → Type 0
-AreLevelsPerChar a levels = IsTrue (is_per_char level_test.eq a.len_of a.chars levels)
 
 -- ---- a text and its paragraphs
 
@@ -86,4 +78,4 @@ module _ (source : Source) (base : Option ℕ) where
     -- every code unit is in one paragraph, and separators are only at the ends of paragraphs
     pub parted : AreParagraphRanges source len_of chars (ranges_of paragraphs)
     -- all code units of a character have the same class
-    pub per_char : IsTrue (is_per_char class_test.eq len_of chars stored)
+    pub per_char : HaveClass len_of chars stored

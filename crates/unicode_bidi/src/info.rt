@@ -6,7 +6,8 @@ ghost use Rattle.bidi_base.specs.Levels.{has_rtl as has_rtl_of};
 ghost use Rattle.bidi_base.specs.Text.{IsLine};
 ghost use Rattle.bidi_walk.specs.ParagraphInfo.{level_of, range_of};
 ghost use Rattle.bidi_lines.specs.LineOrder.{IsLineOrder};
-ghost use Rattle.unicode_bidi.specs.Analysed.{AreClassesPerChar, AreLevelsPerChar, IsAnalysedBy, ObeysLaws};
+ghost use Rattle.bidi_base.specs.PerChar.{HaveClass, HaveLevel};
+ghost use Rattle.unicode_bidi.specs.Analysed.{IsAnalysedBy, ObeysLaws};
 
 use crate::engine;
 use bidi_base::char_data::BidiClass;
@@ -65,7 +66,7 @@ impl<T: TextSource> BidiInfo<T> {
     /// An FSI whose isolate has a deciding character is RLI or LRI here (X5c).
     pub fn original_classes(&self) -> &[BidiClass]
         ensures classes { result.now ≡ original_classes self.now }
-        ensures per_char { AreClassesPerChar (analysed_of self.now) result.now }
+        ensures per_char { let a = analysed_of self.now in HaveClass a.len_of a.chars result.now }
     {
         self.analysed.original_classes()
     }
@@ -76,7 +77,7 @@ impl<T: TextSource> BidiInfo<T> {
     /// the paragraph level.
     pub fn levels(&self) -> &[Level]
         ensures levels { result.now ≡ levels_of_info self.now }
-        ensures per_char { AreLevelsPerChar (analysed_of self.now) result.now }
+        ensures per_char { let a = analysed_of self.now in HaveLevel a.len_of a.chars result.now }
     {
         self.analysed.levels()
     }

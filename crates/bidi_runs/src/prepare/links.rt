@@ -9,7 +9,7 @@ ghost use Rattle.bidi_base.specs.Places.{last_or};
 ghost use Rattle.bidi_base.specs.Sequences.{sequences, HasExplicitLevels};
 ghost use Rattle.bidi_base.specs.Text.{IsLine, is_boundary, per_char};
 ghost use Rattle.bidi_base.specs.Units.{bounds, level_run_ranges, AreLines};
-ghost use Rattle.bidi_runs.specs.Joining.{read_units, IsFlagged};
+ghost use Rattle.bidi_runs.specs.Joining.{read_units};
 
 use super::joining::{kept_end, level_after, read_run, side};
 use super::waiting::Waiting;
@@ -121,37 +121,37 @@ impl RunLinks {
 
     /// Links the level runs of a paragraph to its isolating run sequences (BD13, X10).
     ///
-    /// The arguments, and the fields of `text`, are the arguments of
+    /// The arguments, and the fields of `leveled`, are the arguments of
     /// [`isolating_run_sequences`](super::isolating_run_sequences). If an allocation fails, returns an error, and the
     /// links are those of no paragraph.
     pub fn link<T: TextSource>(
         &mut self,
-        text: &LeveledText<'_, T>,
+        leveled: &LeveledText<'_, T>,
         para_level: Level,
         runs: &[LevelRun],
         has_isolate_controls: bool,
     ) -> Result<(), AllocError>
-        requires original { HaveClass T.units (T.characters text.now.text) text.now.original_classes.now }
-        requires levels { HaveLevel T.units (T.characters text.now.text) text.now.levels.now }
-        requires runs { let stored = per_char L T.units (T.characters text.now.text) text.now.original_classes.now in
+        requires original { HaveClass T.units (T.characters leveled.now.text) leveled.now.original_classes.now }
+        requires levels { HaveLevel T.units (T.characters leveled.now.text) leveled.now.levels.now }
+        requires runs { let stored = per_char L T.units (T.characters leveled.now.text) leveled.now.original_classes.now in
             map bounds runs.now
-            ≡ level_run_ranges T.units (T.characters text.now.text) stored
-            (per_char 0 T.units (T.characters text.now.text) text.now.levels.now) }
-        requires isolates { IsFlagged text.now.original_classes.now has_isolate_controls }
-        ensures sequences { let stored = per_char L T.units (T.characters text.now.text) text.now.original_classes.now in
-            OnOk result (sequences_of T.units (T.characters text.now.text) stored
+            ≡ level_run_ranges T.units (T.characters leveled.now.text) stored
+            (per_char 0 T.units (T.characters leveled.now.text) leveled.now.levels.now) }
+        requires isolates { IsFlagged leveled.now.original_classes.now has_isolate_controls }
+        ensures sequences { let stored = per_char L T.units (T.characters leveled.now.text) leveled.now.original_classes.now in
+            OnOk result (sequences_of T.units (T.characters leveled.now.text) stored
             (linked_sequences self.new (map bounds runs.now))
-            ≡ sequences para_level stored (per_char 0 T.units (T.characters text.now.text) text.now.levels.now)) }
+            ≡ sequences para_level stored (per_char 0 T.units (T.characters leveled.now.text) leveled.now.levels.now)) }
         // Only the levels of characters that X9 keeps need be the explicit ones.
-        ensures explicit { let stored = per_char L T.units (T.characters text.now.text) text.now.original_classes.now in
+        ensures explicit { let stored = per_char L T.units (T.characters leveled.now.text) leveled.now.original_classes.now in
             OnOk result (HasExplicitLevels para_level stored
-            (per_char 0 T.units (T.characters text.now.text) text.now.levels.now)
-            → sequences_of T.units (T.characters text.now.text) stored (linked_sequences self.new (map bounds runs.now))
+            (per_char 0 T.units (T.characters leveled.now.text) leveled.now.levels.now)
+            → sequences_of T.units (T.characters leveled.now.text) stored (linked_sequences self.new (map bounds runs.now))
             ≡ sequences para_level stored (explicit_levels para_level stored)) }
         ensures runs { OnOk result
             (IsPermutation (map bounds runs.now) (flat_map (λ s. s.runs) (linked_sequences self.new (map bounds runs.now)))) }
         ensures fits { OnOk result
-            (All (λ s. AreLines T.units (T.characters text.now.text) s.runs)
+            (All (λ s. AreLines T.units (T.characters leveled.now.text) s.runs)
             (linked_sequences self.new (map bounds runs.now))) }
         ensures linked { OnOk result (AreLinked self.new (map bounds runs.now)) }
     {
@@ -159,7 +159,7 @@ impl RunLinks {
             text,
             original_classes,
             levels,
-        } = *text;
+        } = *leveled;
         self.restart(runs.len())?;
         let mut level_before = para_level;
         for run in runs {

@@ -1,4 +1,4 @@
-//! A count of loop iterations, or of code units that searches look at. Only contracts see it.
+//! A count that only contracts see: of loop iterations, of code units that searches look at, or of failed calls.
 
 ghost use Rattle.std.specs.Prelude.{◌≡◌, ◌+◌};
 
@@ -6,8 +6,8 @@ use std::marker::{Brand, Model};
 use std::mem::size_of;
 use std::sync::ledger::{Blank, Book, Ledger, Share};
 
-/// The number of loop iterations so far. A second one of the same type has the code units that searches have
-/// looked at.
+/// A count so far: of loop iterations, or of what else its owner counts. The passes of the rules keep a second one, of
+/// the code units that searches have looked at.
 ///
 /// Contracts see it as a number. It takes no bytes at run time, and only [`Steps::tick`] and
 /// [`Steps::tick_by`] change it. The parameter names the ledger that keeps the count.
@@ -41,14 +41,14 @@ impl<L: Ledger> Steps<L> {
         Steps { book, share }
     }
 
-    /// Counts one more iteration, or one more code unit.
+    /// Adds one to the count.
     pub fn tick(&mut self)
         ensures { self.new ≡ self.old + 1 }
     {
         self.book.add(&mut self.share, 1);
     }
 
-    /// Counts `count` more iterations, or code units.
+    /// Adds `count` to the count.
     pub fn tick_by(&mut self, count: usize)
         ensures { self.new ≡ self.old + count }
     {

@@ -24,7 +24,7 @@ fn skim_each<D: BidiDataSource, T: TextSource>(
     limit: usize,
     sought: ClassSet,
 ) -> Option<Stop>
-    requires place { CanRead T.units (T.characters text) progress.old classes.old }
+    requires place { CanRead T.units (T.characters text) progress.old.at classes.old }
     requires sought { HasEachChange sought progress.old.flags }
     ensures { IsReadOn (D.source data_source.now) T.units (T.characters text) (has sought) progress.old
         result progress.new classes.old classes.new }
@@ -91,7 +91,7 @@ fn skim_blocks<D: BidiDataSource, T: TextSource>(
     progress: &mut Progress,
     stop_classes: ClassSet,
 )
-    requires { CanRead T.units (T.characters text) progress.old classes.old }
+    requires { CanRead T.units (T.characters text) progress.old.at classes.old }
     ensures read { IsSkimmed (D.source data_source.now) T.units (has stop_classes)
         (ahead T.units (T.characters text) progress.old.at) progress.old.at progress.new.at classes.old classes.new
         progress.old.flags progress.new.flags }
@@ -129,7 +129,7 @@ pub(super) fn skim<D: BidiDataSource, T: TextSource>(
     progress: &mut Progress,
     stop_classes: ClassSet,
 ) -> Option<Stop>
-    requires { CanRead T.units (T.characters text) progress.old classes.old }
+    requires { CanRead T.units (T.characters text) progress.old.at classes.old }
     ensures { IsReadOn (D.source data_source.now) T.units (T.characters text) (has stop_classes) progress.old
         result progress.new classes.old classes.new }
 {

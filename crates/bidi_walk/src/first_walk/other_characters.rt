@@ -126,7 +126,7 @@ fn read_block<D: BidiDataSource, T: TextSource>(
     progress: &mut Progress,
     sought: ClassSet,
 ) -> Option<Stop>
-    requires place { CanRead T.units (T.characters text) progress.old classes.old }
+    requires place { CanRead T.units (T.characters text) progress.old.at classes.old }
     requires sought { HasEachChange sought progress.old.flags }
     ensures stop { IsReadOn (D.source data_source.now) T.units (T.characters text) (has sought) progress.old
         result progress.new classes.old classes.new }
@@ -186,7 +186,7 @@ fn read_in_place<D: BidiDataSource, T: TextSource>(
     limit: usize,
     sought: ClassSet,
 ) -> Option<Stop>
-    requires place { CanRead T.units (T.characters text) progress.old classes.old }
+    requires place { CanRead T.units (T.characters text) progress.old.at classes.old }
     requires sought { HasEachChange sought progress.old.flags }
     requires room { limit + (AT_ONCE - 1) ≤ length classes.old }
     ensures stop { IsReadOn (D.source data_source.now) T.units (T.characters text) (has sought) progress.old
@@ -222,7 +222,7 @@ fn read_low_blocks<D: BidiDataSource, T: TextSource>(
     progress: &mut Progress,
     sought: ClassSet,
 ) -> Option<Stop>
-    requires place { CanRead T.units (T.characters text) progress.old classes.old }
+    requires place { CanRead T.units (T.characters text) progress.old.at classes.old }
     requires sought { HasEachChange sought progress.old.flags }
     ensures stop { IsReadOn (D.source data_source.now) T.units (T.characters text) (has sought) progress.old
         result progress.new classes.old classes.new }
@@ -263,7 +263,7 @@ pub(super) fn read_on<D: BidiDataSource, T: TextSource>(
     progress: &mut Progress,
     stop_classes: ClassSet,
 ) -> Option<Stop>
-    requires { CanRead T.units (T.characters text) progress.old classes.old }
+    requires { CanRead T.units (T.characters text) progress.old.at classes.old }
     ensures stop { IsReadOn (D.source data_source.now) T.units (T.characters text) (has stop_classes) progress.old
         result progress.new classes.old classes.new }
     ensures passed { GoesOn (length classes.new) result progress.old progress.new }

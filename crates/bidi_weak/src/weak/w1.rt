@@ -2,7 +2,7 @@
 
 ghost use Rattle.std.specs.Prelude.{◌≡◌, ◌+◌, ◌-◌, ◌*◌, ◌≤◌, length, map, find, reverse, All, IsTrue};
 ghost use Rattle.bidi_base.specs.Classes.{is_kept_in_place, is_l_or_r, is_nsm};
-ghost use Rattle.bidi_base.specs.Units.{bounds, are_ordered, units_in_runs};
+ghost use Rattle.bidi_base.specs.Units.{are_ordered, bounds};
 ghost use Rattle.bidi_base.specs.Weak.{carried};
 ghost use Rattle.bidi_weak.specs.WeakWalk.{is_any_of, two_a_unit, IsMarked, Marks};
 

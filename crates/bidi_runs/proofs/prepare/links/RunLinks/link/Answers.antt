@@ -9,7 +9,7 @@ use Rattle.bidi_runs.proofs.prepare.links.RunLinks.link.Goals as goal
 use Rattle.bidi_runs.proofs.prepare.links.RunLinks.link.Goals.{In-loop-run}
 
 -- the run that comes
-run_at : (g : Over) (c : In-loop-run g) → Comes g.T.TextSource.units g.met.T.TextSource.has_units (g.T.TextSource.characters c.args.text.now.text) c.args.text.now.original_classes.now c.args.text.now.levels.now c.args.runs.now
+run_at : (g : Over) (c : In-loop-run g) → Comes g.T.TextSource.units g.met.T.TextSource.has_units (g.T.TextSource.characters c.args.leveled.now.text) c.args.leveled.now.original_classes.now c.args.leveled.now.levels.now c.args.runs.now
     (record { classes = c.requires.original; levels = c.requires.levels; runs_are = c.requires.runs }) c.loop-run.run-index (get_or c.args.runs.now c.loop-run.run-index no_range)
 run_at g c = search (rules, comes)
 
