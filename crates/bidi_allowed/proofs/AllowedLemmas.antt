@@ -1,11 +1,9 @@
 -- What a search over all indexes finds, and the value of a few digits.
-use Rattle.bidi_base.proofs.Common.{◌≡◌, ℕ, ◌+◌, ◌-◌, ◌*◌, ◌<◌, ◌≤◌, Bool, true, false, List, length, get_or, take, find, Some}
-use Rattle.bidi_base.proofs.Common.{None, arith, rules, list_all, list_all_at, range_with_len, map, get_or-map, sym}
-use Rattle.bidi_base.proofs.Common.{flat_map, flat_map-append, append-nil, list_any, list_any-append, ◌++◌, ◌∷◌, [], ap, ◌∙◌, take_more, map-append, append_assoc, not, length-map, take-map}
-use Rattle.std.specs.Char.{is_ascii_digit}
-use Rattle.std.specs.Str.Parse.{digits_value}
+use Rattle.bidi_base.proofs.Common.{◌≡◌, ℕ, ◌+◌, ◌-◌, ◌*◌, ◌<◌, ◌≤◌, Bool, true, false, List, length, get_or, take, find, Some, None, arith, rules, list_all, list_all_at, range_with_len, map}
+use Rattle.bidi_base.proofs.Common.{get_or-map, sym, flat_map, flat_map-append, append-nil, list_any, list_any-append, ◌++◌, ◌∷◌, [], ap, ◌∙◌, take_more, map-append, append_assoc, not, length-map}
+use Rattle.bidi_base.proofs.Common.{take-map, is_ascii_digit, digits_value, IsNumeralModel, numerals_by_value, digits_value_short}
 use Rattle.std.specs.Char.{digit_value}
-use Rattle.std.proofs.lemmas.Str.Parse.{IsNumeralModel, numerals_by_value, digits_value_short, digits_value-take-le}
+use Rattle.std.proofs.lemmas.Str.Parse.{digits_value-take-le}
 use Rattle.std.proofs.lemmas.Int.Digits.{digits_value_more}
 use Rattle.std.proofs.lemmas.Str.{digit_value_digit}
 use denote.Bor.{Bor}

@@ -1,9 +1,8 @@
 -- What options before others ask for, where words are texts.
-use Rattle.bidi_base.proofs.Common.{◌≡◌, refl, sym, ap, ◌∙◌, ℕ, ◌-◌, ◌<◌, ◌≤◌, Bool, true, false, List, [], ◌∷◌, Some, None, Ok, Err}
-use Rattle.bidi_base.proofs.Common.{length, get_or, map, drop, string_bytes, arith, codes, slice_range, take_all}
+use Rattle.bidi_base.proofs.Common.{◌≡◌, refl, sym, ap, ◌∙◌, ℕ, ◌-◌, ◌<◌, ◌≤◌, Bool, true, false, List, [], ◌∷◌, Some, None, Ok, Err, length, get_or, map, drop, string_bytes, arith, codes}
+use Rattle.bidi_base.proofs.Common.{slice_range, take_all, length-drop}
 use Rattle.std.specs.Str.{bytes_eq}
 use Rattle.std.specs.declared.string.String.{String}
-use Rattle.std.proofs.lemmas.List.{length-drop}
 use Rattle.bidi_terminal.specs.Bases.{base_named}
 use Rattle.bidi_terminal.specs.Numbers.{number_of}
 use Rattle.bidi_terminal.specs.declared.base.Base.{Base}

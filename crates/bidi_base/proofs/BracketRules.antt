@@ -1,9 +1,8 @@
 -- N0 pair by pair: what a pair takes, and which characters take it.
-use Rattle.bidi_base.proofs.Common.{◌≡◌, ℕ, zero, suc, ◌+◌, ◌-◌, ◌<◌, ◌≤◌, Bool, true, false, ◌&&◌, ◌||◌, cond, eqb, ltb, leb, List, [], ◌∷◌, map, length, get_or, take, drop, reverse}
-use Rattle.bidi_base.proofs.Common.{replicate, find, filter_map, Some, None, option_map, is_some, refl, sym, ap, ◌∙◌, arith, length-take, length-drop, common_steps, list_all, list_any}
-use Rattle.bidi_base.proofs.Common.{prefix_len, option_map_or, le-leb, take_rest, fill_by_all, length-map-range_with_len, get_or-map-range_with_len, prefix_len-le-length, BidiClass, L}
-use Rattle.bidi_base.proofs.Common.{as_direction, is_nsm, same_class, class_at, indexes, nearest_direction, pair_direction, is_mark_after, goes_with_pair, with_pair, n0_pair, n0}
-use Rattle.std.proofs.Common.{slice_range}
+use Rattle.bidi_base.proofs.Common.{◌≡◌, ℕ, zero, suc, ◌+◌, ◌-◌, ◌<◌, ◌≤◌, Bool, true, false, ◌&&◌, ◌||◌, cond, eqb, ltb, leb, List, [], ◌∷◌, map, length, get_or, take, drop, reverse, replicate}
+use Rattle.bidi_base.proofs.Common.{find, filter_map, Some, None, option_map, is_some, refl, sym, ap, ◌∙◌, arith, length-take, length-drop, common_steps, list_all, list_any, prefix_len}
+use Rattle.bidi_base.proofs.Common.{option_map_or, le-leb, take_rest, fill_by_all, length-map-range_with_len, get_or-map-range_with_len, prefix_len-le-length, BidiClass, L, as_direction, is_nsm}
+use Rattle.bidi_base.proofs.Common.{same_class, class_at, indexes, nearest_direction, pair_direction, is_mark_after, goes_with_pair, with_pair, n0_pair, n0, slice_range}
 use Rattle.std.proofs.lemmas.List.Sums.{fold_more}
 use borrow.Rule.Slice.PartMut.{put_mid}
 use Rattle.bidi_base.proofs.Lists.{put_mid-after, length-put_mid}

@@ -1,10 +1,9 @@
 -- The search for bracket pairs over the brackets of a sequence alone: a stack of openings, each with the place of its pair in the list of pairs.
-use Rattle.bidi_base.proofs.Common.{◌≡◌, ℕ, zero, suc, ◌+◌, ◌-◌, ◌<◌, ◌≤◌, Bool, true, false, not, cond, eqb, ltb, List, [], ◌∷◌}
-use Rattle.bidi_base.proofs.Common.{◌++◌, map, length, get_or, take, drop, set, filter_map, find, Option, Some}
-use Rattle.bidi_base.proofs.Common.{None, option_map, refl, ap, ◌∙◌, ◌⊎◌, arith, inl, inr, add-one, append-nil, append_assoc, common_steps, range_with_len, cases_Bool, length-map, map_push, take-map}
-use Rattle.bidi_base.proofs.Common.{get_or-map, drop_more, drop_all, All-nil, filter-append, filter_map-append, find-append, slice_get-get_or, BidiMatchedOpeningBracket, find_last, max_open_brackets}
-use Rattle.bidi_base.proofs.Common.{bracket_at, is_opening, is_closing, is_same_bracket, pairs_of, Bracket, Waiting, brackets_from, closed_before, AreWithin, IsAt, HasRead}
-use Rattle.std.proofs.Common.{filter}
+use Rattle.bidi_base.proofs.Common.{◌≡◌, ℕ, zero, suc, ◌+◌, ◌-◌, ◌<◌, ◌≤◌, Bool, true, false, not, cond, eqb, ltb, List, [], ◌∷◌, ◌++◌, map, length, get_or, take, drop, set, filter_map, find}
+use Rattle.bidi_base.proofs.Common.{Option, Some, None, option_map, refl, ap, ◌∙◌, ◌⊎◌, arith, inl, inr, add-one, append-nil, append_assoc, common_steps, range_with_len, cases_Bool, length-map}
+use Rattle.bidi_base.proofs.Common.{map_push, take-map, get_or-map, drop_more, drop_all, All-nil, filter-append, filter_map-append, find-append, slice_get-get_or, BidiMatchedOpeningBracket}
+use Rattle.bidi_base.proofs.Common.{find_last, max_open_brackets, bracket_at, is_opening, is_closing, is_same_bracket, pairs_of, Bracket, Waiting, brackets_from, closed_before, AreWithin, IsAt}
+use Rattle.bidi_base.proofs.Common.{HasRead, filter}
 use Rattle.std.specs.List.{slice_get}
 use Rattle.bidi_base.proofs.ChainLemmas.{range_with_len-append}
 use Rattle.bidi_base.proofs.PlacesLemmas.{find_last-index, range_with_len-more}

@@ -1,10 +1,8 @@
 -- Facts on lists and searches that several files use.
 use Rattle.bidi_base.proofs.Common.{◌≡◌, ℕ, zero, suc, ◌+◌, ◌-◌, ◌<◌, ◌≤◌, Bool, true, false, cond, ◌&&◌, List, [], ◌∷◌, ◌++◌, length, map, get_or, take, drop, reverse, filter_map, find, Option}
 use Rattle.bidi_base.proofs.Common.{Some, None, option_map, refl, sym, ap, ◌∙◌, arith, ◌⊎◌, inl, inr, append-nil, length-append, length-drop, list_all, option_or, cases_Bool, and_parts}
-use Rattle.bidi_base.proofs.Common.{reverse-append, reverse-reverse, take-append-le, take_all, length-take-le, get_or-append_right, length-replicate, filter-append, last_or}
-use Rattle.std.proofs.Common.{filter}
-use Rattle.std.specs.Prelude.{replicate}
-use Rattle.std.proofs.lemmas.List.{get_or-drop}
+use Rattle.bidi_base.proofs.Common.{reverse-append, reverse-reverse, take-append-le, take_all, length-take-le, get_or-append_right, length-replicate, filter-append, last_or, filter, replicate}
+use Rattle.bidi_base.proofs.Common.{get_or-drop}
 use mathlib.Core.List.{reverse_aux}
 use borrow.Rule.Slice.PartMut.{put_mid}
 

@@ -1,12 +1,9 @@
 -- Bracket pairs never cross: each stands behind those that open before it, or within them.
-use Rattle.bidi_base.proofs.Common.{◌≡◌, ℕ, zero, suc, ◌+◌, ◌<◌, true, false, ◌&&◌, eqb, ltb, List, [], ◌∷◌, ◌++◌, length, get_or}
-use Rattle.bidi_base.proofs.Common.{find, filter_map, Option, Some, subst, ◌⊎◌, arith, inl, inr, add-one, rules, All}
-use Rattle.bidi_base.proofs.Common.{range_with_len, AllByRecursion, cases_lt, get_or_append_left, get_or-append_seam, All-append}
-use Rattle.bidi_base.proofs.Common.{All-cons, All-nil, All-from_recursion, list_any_at, AllPairs-cons, BidiClass}
-use Rattle.bidi_base.proofs.Common.{BidiMatchedOpeningBracket, bracket_at, is_opening, is_closing, is_taken, is_available, partner}
-use Rattle.bidi_base.proofs.Common.{closed_pairs, pairs_of, bracket_pairs, IsBehindOrWithin, AreNestedPairs, closed_before}
+use Rattle.bidi_base.proofs.Common.{◌≡◌, ℕ, zero, suc, ◌+◌, ◌<◌, true, false, ◌&&◌, eqb, ltb, List, [], ◌∷◌, ◌++◌, length, get_or, find, filter_map, Option, Some, subst, ◌⊎◌, arith, inl, inr}
+use Rattle.bidi_base.proofs.Common.{add-one, rules, All, range_with_len, AllByRecursion, cases_lt, get_or_append_left, get_or-append_seam, All-append, All-cons, All-nil, All-from_recursion}
+use Rattle.bidi_base.proofs.Common.{list_any_at, AllPairs-cons, BidiClass, BidiMatchedOpeningBracket, bracket_at, is_opening, is_closing, is_taken, is_available, partner, closed_pairs, pairs_of}
+use Rattle.bidi_base.proofs.Common.{bracket_pairs, IsBehindOrWithin, AreNestedPairs, closed_before, length-append}
 use Rattle.std.specs.List.{AllPairs}
-use Rattle.std.proofs.lemmas.List.{length-append}
 use Rattle.bidi_base.proofs.PlacesLemmas.{find_last-range_with_len}
 use Rattle.bidi_base.proofs.PairsLemmas.{closed_before-more, with_closing-none, with_closing-other, with_closing-pair, bracket_pairs-in_order}
 use Rattle.bidi_base.proofs.Lists.{find-passes, find-index, cases_Option}

@@ -1,13 +1,9 @@
 -- Bracket pairs in one pass from the front: what is closed and what waits at each place, and what the pass has found at its end.
-use Rattle.bidi_base.proofs.Common.{◌≡◌, ℕ, zero, suc, ◌+◌, ◌-◌, ◌<◌, ◌≤◌, Bool, true, false, ◌&&◌, eqb, ltb, leb, List, [], ◌∷◌}
-use Rattle.bidi_base.proofs.Common.{◌++◌, length, get_or, take, filter_map, find, Option, Some, None, refl, ap, subst}
-use Rattle.bidi_base.proofs.Common.{◌∙◌, ◌⊎◌, arith, inl, inr, append-nil, append_assoc, add-one, lt-ltb, le-ltb, rules}
-use Rattle.bidi_base.proofs.Common.{common_steps, ⊤, range_with_len, AllByRecursion, All-from_recursion, find-append}
-use Rattle.bidi_base.proofs.Common.{list_any-append, fold_push, BidiClass, BidiMatchedOpeningBracket, between, indexes, find_last}
-use Rattle.bidi_base.proofs.Common.{max_open_brackets, counted_brackets, bracket_at, is_opening, is_closing}
-use Rattle.bidi_base.proofs.Common.{is_same_bracket, is_taken, is_available, available, partner, with_closing, closed_pairs}
-use Rattle.bidi_base.proofs.Common.{bracket_limit, pairs_of, bracket_pairs, closed_before, IsUnderWay, and-true}
-use Rattle.std.proofs.Common.{filter}
+use Rattle.bidi_base.proofs.Common.{◌≡◌, ℕ, zero, suc, ◌+◌, ◌-◌, ◌<◌, ◌≤◌, Bool, true, false, ◌&&◌, eqb, ltb, leb, List, [], ◌∷◌, ◌++◌, length, get_or, take, filter_map, find, Option, Some, None}
+use Rattle.bidi_base.proofs.Common.{refl, ap, subst, ◌∙◌, ◌⊎◌, arith, inl, inr, append-nil, append_assoc, add-one, lt-ltb, le-ltb, rules, common_steps, ⊤, range_with_len, AllByRecursion}
+use Rattle.bidi_base.proofs.Common.{All-from_recursion, find-append, list_any-append, fold_push, BidiClass, BidiMatchedOpeningBracket, between, indexes, find_last, max_open_brackets}
+use Rattle.bidi_base.proofs.Common.{counted_brackets, bracket_at, is_opening, is_closing, is_same_bracket, is_taken, is_available, available, partner, with_closing, closed_pairs, bracket_limit}
+use Rattle.bidi_base.proofs.Common.{pairs_of, bracket_pairs, closed_before, IsUnderWay, and-true, filter}
 use Rattle.bidi_base.specs.Brackets.{ArePairsWithin}
 use Rattle.bidi_base.proofs.PlacesLemmas.{range_with_len-more, find-between-is, find-between-is_None, find_last-range_with_len}
 use Rattle.bidi_base.proofs.BracketsLemmas.{AllClosedBefore, available-opening, available-pair, available-other}

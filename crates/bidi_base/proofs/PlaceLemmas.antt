@@ -1,11 +1,9 @@
 -- Places by index: the place of the k-th character, ranges between two places, and turns of loops over a text.
-use Rattle.bidi_base.proofs.Common.{zero, suc, drop-cons, ◌≡◌, ℕ, ◌+◌, ◌-◌, ◌<◌, ◌≤◌, true, List, [], ◌∷◌, length, take, drop, get_or}
-use Rattle.bidi_base.proofs.Common.{Option, Some, None, inl, inr, refl, sym, ◌∙◌, ap, arith, length-take, length-drop}
-use Rattle.bidi_base.proofs.Common.{length-append, common_steps, cases_lt, slice_range, Count, Yields, take-append-add}
-use Rattle.bidi_base.proofs.Common.{take-append_seam, take-append-drop, drop-drop, take_all, take-take, sum_by-append, sum_by-cons}
-use Rattle.bidi_base.proofs.Common.{count_by-le-length, text_len, place, char_indices_from, char_indices, indices_lengths_from, char_at, is_boundary, IsLine, char_index, subrange, one_unit, Gives}
-use Rattle.std.proofs.lemmas.List.{get_or-drop}
-use Rattle.std.proofs.lemmas.List.Sums.{sum_by_more, sum_by_more_le, sum_by-take-le}
+use Rattle.bidi_base.proofs.Common.{zero, suc, drop-cons, ◌≡◌, ℕ, ◌+◌, ◌-◌, ◌<◌, ◌≤◌, true, List, [], ◌∷◌, length, take, drop, get_or, Option, Some, None, inl, inr, refl, sym, ◌∙◌, ap, arith}
+use Rattle.bidi_base.proofs.Common.{length-take, length-drop, length-append, common_steps, cases_lt, slice_range, Count, Yields, take-append-add, take-append_seam, take-append-drop, drop-drop}
+use Rattle.bidi_base.proofs.Common.{take_all, take-take, sum_by-append, sum_by-cons, count_by-le-length, text_len, place, char_indices_from, char_indices, indices_lengths_from, char_at}
+use Rattle.bidi_base.proofs.Common.{is_boundary, IsLine, char_index, subrange, one_unit, Gives, get_or-drop, sum_by_more, sum_by_more_le}
+use Rattle.std.proofs.lemmas.List.Sums.{sum_by-take-le}
 use Rattle.bidi_base.specs.Text.{indices_lengths}
 use Rattle.bidi_base.proofs.TextLemmas.{HasUnits, char_at-append, is_boundary-append, char_index-append, cut_at}
 use Rattle.bidi_base.proofs.GivesLemmas.{turn_drop, end}

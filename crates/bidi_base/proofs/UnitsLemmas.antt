@@ -1,7 +1,6 @@
 -- What the test `is_per_char` says of entries that go with units.
 use Rattle.bidi_base.proofs.Common.{◌≡◌, ℕ, zero, suc, ◌<◌, ◌≤◌, Bool, true, false, nat_le, List, [], ◌∷◌, length, take, drop, refl, ap, ◌∙◌, arith, length-append, length-take, common_steps}
-use Rattle.bidi_base.proofs.Common.{nil_from_length, take-append-drop, length-replicate, nat_tests, list_all, text_len, per_unit, per_char, is_per_char, IsPerChar, and_parts}
-use Rattle.std.specs.Prelude.{replicate}
+use Rattle.bidi_base.proofs.Common.{nil_from_length, take-append-drop, length-replicate, nat_tests, list_all, text_len, per_unit, per_char, is_per_char, IsPerChar, and_parts, replicate}
 use Rattle.bidi_base.specs.Text.{all_same}
 use Rattle.bidi_base.proofs.TextLemmas.{HasUnits, zero_test}
 use Rattle.bidi_base.proofs.PerUnit.{length-per_unit, per_char-per_unit}

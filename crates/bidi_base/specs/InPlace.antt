@@ -1,6 +1,6 @@
 -- What the passes in place require and establish: the explicit pass over the units of a paragraph, and the weak and
 -- neutral passes over those of a sequence.
-use Rattle.std.specs.Prelude.{◌≡◌, ℕ, ◌≤◌, false, List, [], length, map, IsTrue}
+use Rattle.std.specs.Prelude.{◌≡◌, ℕ, ◌≤◌, false, List, [], length, map, IsTrue, OnErr, OnOk, Result}
 use Rattle.std.specs.List.{list_all}
 use Rattle.bidi_base.specs.declared.char_data.BidiClass.{BidiClass}
 use Rattle.bidi_base.specs.declared.char_data.BidiClass.TheVariants.{L, BN}
@@ -92,3 +92,8 @@ pub record AreNeutralsResolvedUpToN1 (len_of : ℕ → ℕ) (chars : List ℕ) (
   pub removed : (u : ℕ) → class_at old u ≡ BN → class_at new u ≡ BN
   pub outside : (u : ℕ) → in_runs runs u ≡ false → class_at new u ≡ class_at old u
   pub per_char : HaveClass len_of chars new
+
+-- a call that may fail either did its work, or left these classes as they were
+pub record IsDoneOrUnchanged {A E : Type 0} (result : Result A E) (done : Type 0) (old new : List BidiClass) : Type 0 where
+  pub resolved : OnOk result done
+  pub refused : OnErr result (new ≡ old)

@@ -1,7 +1,6 @@
 -- Bytes without the UTF-8 of a direction control or mark decode to other characters.
-use Rattle.bidi_base.proofs.Common.{◌≡◌, ℕ, zero, suc, ◌+◌, ◌<◌, ◌≤◌, true, false, ◌||◌, ◌==◌, List, [], ◌∷◌, ◌++◌, Option, None, Some, length, get_or, drop, refl, sym, ap, subst, ◌∙◌, arith}
-use Rattle.bidi_base.proofs.Common.{All, nat_le, cases_Bool, cases_eq, inl, inr, and_parts, or_cases, leb-true, eqb-true, false_from_ne_true, drop_all, drop_more, nat_tests}
-use Rattle.std.proofs.Common.{⊎_elim}
+use Rattle.bidi_base.proofs.Common.{◌≡◌, ℕ, zero, suc, ◌+◌, ◌<◌, ◌≤◌, true, false, ◌||◌, ◌==◌, List, [], ◌∷◌, ◌++◌, Option, None, Some, length, get_or, drop, refl, sym, ap, subst, ◌∙◌, arith, All}
+use Rattle.bidi_base.proofs.Common.{nat_le, cases_Bool, cases_eq, inl, inr, and_parts, or_cases, leb-true, eqb-true, false_from_ne_true, drop_all, drop_more, nat_tests, ⊎_elim}
 use Rattle.memchr.specs.Find.{IsFirstByte, is_byte2}
 use Rattle.std.specs.Char.{encode_utf8}
 use Rattle.bstr.specs.Utf8.{decoded, or_replacement}

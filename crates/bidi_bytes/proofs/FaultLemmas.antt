@@ -1,12 +1,10 @@
 -- Where bytes stop being UTF-8 that are cut behind an ASCII byte.
 use Rattle.bidi_base.proofs.Common.{◌≡◌, ℕ, ◌+◌, ◌-◌, ◌<◌, ◌≤◌, false, ◌==◌, List, [], ◌∷◌, ◌++◌, Option, None, Some, length, get_or, take, drop, refl, sym, ap, subst, ◌∙◌, arith, length-append}
-use Rattle.bidi_base.proofs.Common.{IsUtf8, append_assoc, take_all, cases_lt, cond-true, cond-false, eq-eqb, nat_tests, get_or-append_seam, length-take-le, take-append-drop, option_map}
-use Rattle.std.proofs.Common.{⊎_elim, zero-add}
-use Rattle.std.proofs.Math.Seq.{take-append-add, take-append_seam, drop-append_seam}
-use Rattle.std.proofs.lemmas.List.{take-append-le}
-use Rattle.std.proofs.lemmas.Str.{IsUtf8-nil, IsUtf8-append, IsUtf8-take, IsUtf8-drop, IsCharBoundary-from_take, IsCharBoundary-after_ascii, utf8_valid_len-IsUtf8, utf8_valid_len-IsValidUpTo}
+use Rattle.bidi_base.proofs.Common.{IsUtf8, append_assoc, take_all, cases_lt, cond-true, cond-false, eq-eqb, nat_tests, get_or-append_seam, length-take-le, take-append-drop, option_map, ⊎_elim}
+use Rattle.bidi_base.proofs.Common.{zero-add, take-append-add, take-append_seam, drop-append_seam, take-append-le, IsUtf8-nil, IsUtf8-append, IsUtf8-take, IsUtf8-drop, IsCharBoundary-from_take}
+use Rattle.bidi_base.proofs.Common.{IsCharBoundary-after_ascii, utf8_valid_len-IsUtf8, utf8_valid_len}
+use Rattle.std.proofs.lemmas.Str.{utf8_valid_len-IsValidUpTo}
 use Rattle.std.specs.Str.{IsValidUpTo}
-use Rattle.std.specs.Str.Lossy.{utf8_valid_len}
 use Rattle.bstr.proofs.lemmas.LossyLemmas.{utf8_valid_len-cases}
 use Rattle.bidi_bytes.specs.Decoded.{utf8_fault, fault_from}
 

@@ -1,12 +1,9 @@
 -- The lines of decoded bytes.
-use Rattle.bidi_base.proofs.Common.{◌≡◌, ℕ, zero, suc, ◌+◌, ◌<◌, ◌≤◌, true, false, ◌||◌, ◌&&◌, ◌==◌, not, List, [], ◌∷◌, ◌++◌}
-use Rattle.bidi_base.proofs.Common.{length, get_or, take, drop, refl, sym, ap, ◌∙◌, arith, append_assoc, cases_lt}
-use Rattle.bidi_base.proofs.Common.{inl, inr, nat_tests, take_more, drop_more, take_all, drop_all, take-append-drop, append-nil}
-use Rattle.bidi_base.proofs.Common.{add-zero, get_or-drop, get_or-take, get_or_default, length-drop, length-take}
-use Rattle.bidi_base.proofs.Common.{cases_Bool, cond-true, cond-false, eqb-true, and_parts, false_from_ne_true, Some, None, nil_from_length, length-append, get_or_append_left}
-use Rattle.std.proofs.Common.{⊎_elim}
+use Rattle.bidi_base.proofs.Common.{◌≡◌, ℕ, zero, suc, ◌+◌, ◌<◌, ◌≤◌, true, false, ◌||◌, ◌&&◌, ◌==◌, not, List, [], ◌∷◌, ◌++◌, length, get_or, take, drop, refl, sym, ap, ◌∙◌, arith, append_assoc}
+use Rattle.bidi_base.proofs.Common.{cases_lt, inl, inr, nat_tests, take_more, drop_more, take_all, drop_all, take-append-drop, append-nil, add-zero, get_or-drop, get_or-take, get_or_default}
+use Rattle.bidi_base.proofs.Common.{length-drop, length-take, cases_Bool, cond-true, cond-false, eqb-true, and_parts, false_from_ne_true, Some, None, nil_from_length, length-append}
+use Rattle.bidi_base.proofs.Common.{get_or_append_left, ⊎_elim, All-drop}
 use Rattle.memchr.specs.Find.{IsFirstByte, IsLastByte, is_byte2}
-use Rattle.std.proofs.lemmas.List.Elements.{All-drop}
 use Rattle.bidi_bytes.specs.Decoded.{utf8_decoded, utf8_fault, fault_from}
 use Rattle.bidi_bytes.specs.FileLines.{is_break, is_before_line_feed, ends_file_line, break_end, file_lines_of}
 use Rattle.bidi_bytes.proofs.CutLemmas.{HasNoBreak, file_lines-append, file_lines-one, file_lines-whole}

@@ -1,7 +1,7 @@
 -- What bytes decode to, piece by piece.
-use Rattle.bidi_base.proofs.Common.{◌≡◌, ℕ, zero, suc, ◌<◌, ◌≤◌, true, List, [], ◌∷◌, ◌++◌, Option, None, Some, length, get_or, drop, map, refl, sym, ap}
-use Rattle.bidi_base.proofs.Common.{◌∙◌, arith, All, All-nil, All-cons, All-head, All-tail, length-drop, map-append, chars, nat_tests}
-use Rattle.std.proofs.lemmas.Str.{chars-encodes, byte_from_char}
+use Rattle.bidi_base.proofs.Common.{◌≡◌, ℕ, zero, suc, ◌<◌, ◌≤◌, true, List, [], ◌∷◌, ◌++◌, Option, None, Some, length, get_or, drop, map, refl, sym, ap, ◌∙◌, arith, All, All-nil, All-cons}
+use Rattle.bidi_base.proofs.Common.{All-head, All-tail, length-drop, map-append, chars, nat_tests, byte_from_char}
+use Rattle.std.proofs.lemmas.Str.{chars-encodes}
 use Rattle.bstr.specs.Utf8.{decoded, good, or_replacement, pieces, lossy_chars}
 use Rattle.bstr.proofs.lemmas.PieceLemmas.{value-1, piece-bounds, pieces-append, lossy_chars-step, lossy_chars-nil}
 use Rattle.bstr.proofs.lemmas.LossyLemmas.{lossy_chars-utf8_lossy}

@@ -1,12 +1,10 @@
 -- How many characters a text has, counted by its units.
-use Rattle.bidi_base.proofs.Common.{◌≡◌, ℕ, true, false, lt-ltb, le-ltb, ◌+◌, ◌/◌, ◌≤◌, inl, inr, cases_lt, List, [], ◌∷◌, ◌++◌, length, refl, sym, ap, ◌∙◌, arith, nat_tests}
-use Rattle.bidi_base.proofs.Common.{and_parts, list_all, chars, encode_utf8, IsUtf8, text_len, per_unit, per_char, utf16_text, sum_by-cons, sum_by-append, if◌then◌else◌}
+use Rattle.bidi_base.proofs.Common.{◌≡◌, ℕ, true, false, lt-ltb, le-ltb, ◌+◌, ◌/◌, ◌≤◌, inl, inr, cases_lt, List, [], ◌∷◌, ◌++◌, length, refl, sym, ap, ◌∙◌, arith, nat_tests, and_parts, list_all}
+use Rattle.bidi_base.proofs.Common.{chars, encode_utf8, IsUtf8, text_len, per_unit, per_char, utf16_text, sum_by-cons, sum_by-append, if◌then◌else◌, encodes-chars, is_character}
 use Rattle.std.specs.List.{count_by}
 use lib.Utf8.{encode, encodes, next}
-use Rattle.std.proofs.lemmas.Str.{encodes-chars}
 use Rattle.bidi_base.proofs.PerUnit.{per_char-per_unit}
 use Rattle.bidi_base.proofs.TextLemmas.{HasUnits, length-le-text_len}
-use Rattle.bidi_base.specs.Utf16.{is_character}
 use Rattle.bidi_calls.specs.Everything.{begins_character}
 
 count_by-append : (xs ys : List ℕ) → count_by begins_character (xs ++ ys) ≡ count_by begins_character xs + count_by begins_character ys

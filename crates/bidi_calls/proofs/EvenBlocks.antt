@@ -1,9 +1,8 @@
 -- Sixteen units at once: those that go on with a character, and those that differ from the unit before.
-use Rattle.bidi_base.proofs.Common.{◌≡◌, ℕ, suc, ◌+◌, ◌-◌, ◌/◌, ◌<◌, ◌≤◌, ◌^◌, ◌%◌, Bool, true, false, not, ◌&&◌, ◌||◌, ◌↔◌, inl, inr}
-use Rattle.bidi_base.proofs.Common.{eqb, bit_or, nat_le, nat_lt, nat_tests, cond, IsTrue, list_all, list_all_at}
-use Rattle.bidi_base.proofs.Common.{List, [], ◌∷◌, length, get_or, map, replicate, refl, sym, ap, ap₂, ◌∙◌, arith, length-map, length-replicate, get_or-replicate, length-chunk, cases_Bool, not-true}
-use Rattle.std.proofs.Common.{bit_and}
-use Rattle.std.proofs.lemmas.Simd.{get_or-chunk, get_or-zip2, length-zip2, mask_l-mod}
+use Rattle.bidi_base.proofs.Common.{◌≡◌, ℕ, suc, ◌+◌, ◌-◌, ◌/◌, ◌<◌, ◌≤◌, ◌^◌, ◌%◌, Bool, true, false, not, ◌&&◌, ◌||◌, ◌↔◌, inl, inr, eqb, bit_or, nat_le, nat_lt, nat_tests, cond, IsTrue}
+use Rattle.bidi_base.proofs.Common.{list_all, list_all_at, List, [], ◌∷◌, length, get_or, map, replicate, refl, sym, ap, ap₂, ◌∙◌, arith, length-map, length-replicate, get_or-replicate}
+use Rattle.bidi_base.proofs.Common.{length-chunk, cases_Bool, not-true, bit_and, mask_l-mod}
+use Rattle.std.proofs.lemmas.Simd.{get_or-chunk, get_or-zip2, length-zip2}
 use lib.Lanes.{chunk, mask_l, top, zip2}
 use Rattle.bidi_numbers.specs.Texts.{goes_on}
 use Rattle.bidi_numbers.proofs.BlockLemmas.{empty_mask}

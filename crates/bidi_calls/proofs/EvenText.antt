@@ -1,8 +1,8 @@
 -- Classes and levels that are equal along each character of a text are those that are equal within each.
 use Rattle.bidi_base.proofs.Common.{◌≡◌, ◌==◌, ℕ, zero, suc, ◌-◌, ◌<◌, ◌≤◌, Bool, true, false, not, ◌&&◌, ◌↔◌, IsTrue, nat_tests, List, ◌++◌, length, get_or, take, drop, map, refl, sym, ap, ◌∙◌}
 use Rattle.bidi_base.proofs.Common.{subst, inl, inr, arith, cases_Bool, eqb-true, list_all, length-map, length-take-le, get_or-map, get_or-range_with_len, range_with_len, take-append-drop}
-use Rattle.bidi_base.proofs.Common.{text_len, is_per_char, is_boundary, class_number, zero-add, len_utf8, chars, IsUtf8, IsCharBoundary, utf16_text, utf16_len, splits_pair}
-use Rattle.std.proofs.lemmas.Str.{chars-append, IsUtf8-take}
+use Rattle.bidi_base.proofs.Common.{text_len, is_per_char, is_boundary, class_number, zero-add, len_utf8, chars, IsUtf8, IsCharBoundary, utf16_text, utf16_len, splits_pair, chars-append}
+use Rattle.bidi_base.proofs.Common.{IsUtf8-take, is_character}
 use Rattle.bidi_base.specs.declared.char_data.BidiClass.{BidiClass}
 use Rattle.bidi_base.specs.declared.char_data.BidiClass.TheVariants.{L}
 use Rattle.bidi_base.proofs.TextLemmas.{HasUnits, is_boundary-append}
@@ -11,7 +11,6 @@ use Rattle.bidi_text.proofs.StrLemmas.{has_units as utf8_has_units, text_len-cha
 use Rattle.bidi_text.proofs.Utf16Lemmas.{has_units as utf16_has_units, text_len-utf16, utf16_text-cut, is_boundary-inside, pair_at, NoPairAt-from_splits_pair}
 use Rattle.bidi_numbers.specs.Numbers.{class_numbered, is_class}
 use Rattle.bidi_numbers.specs.Texts.{goes_on}
-use Rattle.bidi_base.specs.Utf16.{is_character}
 use Rattle.bidi_calls.specs.Even.{IsEvenBetween}
 use Rattle.bidi_calls.proofs.EvenBlocks.{list_all_each}
 use Rattle.bidi_calls.proofs.EvenChars.{steady_from_test, test_from_steady, boundary_zero}

@@ -1,10 +1,8 @@
 -- What a search tells that stops where a text decides its base direction.
 use Rattle.bidi_base.proofs.Common.{◌≡◌, ◌⊎◌, ◌∙◌, ℕ, zero, suc, ◌+◌, ◌<◌, ◌≤◌, Bool, true, false, ◌||◌, ◌==◌, if◌then◌else◌, List, [], ◌∷◌, ◌++◌, length, take, drop, map, map-append, list_all}
 use Rattle.bidi_base.proofs.Common.{prefix_len, Result, Ok, Err, refl, sym, ap, arith, IsUtf8, chars, chars-nil, and_parts, nil_from_length, length-take, drop_all, drop-cons, get_or, Source}
+use Rattle.bidi_base.proofs.Common.{is_utf8, utf8_valid_len, IsUtf8-nil, is_utf8-from_IsUtf8, utf8_valid_len_le}
 use Rattle.std.specs.Prelude.{take_while}
-use Rattle.std.specs.Str.{is_utf8}
-use Rattle.std.specs.Str.Lossy.{utf8_valid_len}
-use Rattle.std.proofs.lemmas.Str.{IsUtf8-nil, is_utf8-from_IsUtf8, utf8_valid_len_le}
 use Rattle.bidi_base.specs.declared.char_data.Direction.{Direction}
 use Rattle.bidi_base.specs.declared.char_data.Direction.TheVariants.{Ltr, Rtl, Mixed}
 use Rattle.unicode_bidi.specs.declared.direction_search.DirectionSearch.{DirectionSearch}

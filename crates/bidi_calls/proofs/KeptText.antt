@@ -1,7 +1,6 @@
 -- The text of a line whose classes and levels are kept, and equal within each character.
-use Rattle.bidi_base.proofs.Common.{◌≡◌, ℕ, ◌+◌, true, false, Some, nat_le, List, length, refl, sym, ap, subst, ◌∙◌, arith, take_all, le_refl}
-use Rattle.bidi_base.proofs.Common.{char_index, subrange, text_len, per_char, per_unit, line_text, levels_of_line, IsLine, IsPerChar}
-use Rattle.std.proofs.Math.Nat.{sub-zero}
+use Rattle.bidi_base.proofs.Common.{◌≡◌, ℕ, ◌+◌, true, false, Some, nat_le, List, length, refl, sym, ap, subst, ◌∙◌, arith, take_all, le_refl, char_index, subrange, text_len, per_char, per_unit}
+use Rattle.bidi_base.proofs.Common.{line_text, levels_of_line, IsLine, IsPerChar, sub-zero}
 use Rattle.bidi_base.specs.declared.char_data.BidiClass.TheVariants.{L}
 use Rattle.bidi_base.proofs.PerUnit.{length-per_char}
 use Rattle.bidi_base.proofs.PlaceLemmas.{place-zero, place-end, char_index-place}

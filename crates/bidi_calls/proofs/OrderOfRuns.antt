@@ -1,13 +1,10 @@
 -- The order of a line's characters, from the visual runs of its units.
-use Rattle.bidi_base.proofs.Common.{◌≡◌, ℕ, ◌+◌, ◌-◌, ◌<◌, ◌≤◌, Bool, List, length, length-reverse, get_or, subst, Range, run_of}
-use Rattle.bidi_base.proofs.Common.{map, flat_map, reverse, if◌then◌else◌, refl, sym, ap, ◌∙◌, arith, map-id}
-use Rattle.bidi_base.proofs.Common.{le_refl, length-take-le, slice_range, take, take_all, get_or-map, length-map, flat_map-map}
-use Rattle.bidi_base.proofs.Common.{zero-add, between, is_odd, true, is_boundary, char_index, place, subrange}
-use Rattle.bidi_base.proofs.Common.{per_char, per_unit, text_len, IsLine, IsPerChar, Run, run_level, visual_order, visual_runs, written_run, written_runs, IsLevelRun, AreVisualRuns}
-use Rattle.std.proofs.Common.{All}
+use Rattle.bidi_base.proofs.Common.{◌≡◌, ℕ, ◌+◌, ◌-◌, ◌<◌, ◌≤◌, Bool, List, length, length-reverse, get_or, subst, Range, run_of, map, flat_map, reverse, if◌then◌else◌, refl, sym, ap, ◌∙◌, arith}
+use Rattle.bidi_base.proofs.Common.{map-id, le_refl, length-take-le, slice_range, take, take_all, get_or-map, length-map, flat_map-map, zero-add, between, is_odd, true, is_boundary, char_index}
+use Rattle.bidi_base.proofs.Common.{place, subrange, per_char, per_unit, text_len, IsLine, IsPerChar, Run, run_level, visual_order, visual_runs, written_run, written_runs, IsLevelRun}
+use Rattle.bidi_base.proofs.Common.{AreVisualRuns, All, sum_by_more}
 use Rattle.std.proofs.lemmas.List.Concat.{length-flat_map}
 use Rattle.std.proofs.lemmas.List.Folds.{length-flat_map-take}
-use Rattle.std.proofs.lemmas.List.Sums.{sum_by_more}
 use Rattle.bidi_base.proofs.PerUnit.{length-per_char}
 use Rattle.bidi_base.proofs.PlaceLemmas.{place-zero, place-end, place-sum, is_boundary-place, char_index-le, char_index-place, place-char_index, IsLine-places, line_places}
 use Rattle.bidi_base.proofs.TextLemmas.{HasUnits, length-le-text_len}

@@ -1,7 +1,6 @@
 -- The visual runs of a line, counted from its first unit and from that of the text.
-use Rattle.bidi_base.proofs.Common.{◌≡◌, ℕ, ◌+◌, ◌-◌, ◌<◌, ◌≤◌, ◌==◌, List, [], ◌∷◌, length, get_or, map, refl, sym, ap, ◌∙◌, arith, Range, get_or-map, length-map, map-map}
-use Rattle.bidi_base.proofs.Common.{cases_Bool, inl, inr, Run, run_of, level_runs_from, level_runs, run_level, visual_runs, visual_order, at_places, AreVisualRuns}
-use Rattle.std.proofs.Common.{All}
+use Rattle.bidi_base.proofs.Common.{◌≡◌, ℕ, ◌+◌, ◌-◌, ◌<◌, ◌≤◌, ◌==◌, List, [], ◌∷◌, length, get_or, map, refl, sym, ap, ◌∙◌, arith, Range, get_or-map, length-map, map-map, cases_Bool, inl, inr}
+use Rattle.bidi_base.proofs.Common.{Run, run_of, level_runs_from, level_runs, run_level, visual_runs, visual_order, at_places, AreVisualRuns, All}
 use Rattle.bidi_lines.proofs.Ordered.{visual_order-is}
 use Rattle.bidi_lines.proofs.Pieces.{at_places-map}
 use Rattle.bidi_lines.proofs.VisualRuns.{order_below}

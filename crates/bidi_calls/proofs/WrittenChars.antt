@@ -1,11 +1,10 @@
 -- A line whose units are characters, written run by run.
-use Rattle.bidi_base.proofs.Common.{◌≡◌, ℕ, ◌≤◌, Bool, List, [], ◌∷◌, ◌++◌, length, get_or, map, flat_map, reverse, if◌then◌else◌}
-use Rattle.bidi_base.proofs.Common.{refl, sym, ap, ◌∙◌, arith, cases_Bool, inl, inr, map-id, get_or-map, get_or-take}
-use Rattle.bidi_base.proofs.Common.{get_or-drop, length-map, same_number_lists, slice_range, is_odd, between, Run, run_level, visual_order, written_run, written_runs, AreVisualRuns, zero-add}
+use Rattle.bidi_base.proofs.Common.{◌≡◌, ℕ, ◌≤◌, Bool, List, [], ◌∷◌, ◌++◌, length, get_or, map, flat_map, reverse, if◌then◌else◌, refl, sym, ap, ◌∙◌, arith, cases_Bool, inl, inr, map-id}
+use Rattle.bidi_base.proofs.Common.{get_or-map, get_or-take, get_or-drop, length-map, same_number_lists, slice_range, is_odd, between, Run, run_level, visual_order, written_run, written_runs}
+use Rattle.bidi_base.proofs.Common.{AreVisualRuns, zero-add, map-append}
 use Rattle.bidi_base.proofs.Lists.{map-reverse}
 use Rattle.bidi_lines.proofs.LineInText.{length-part}
 use Rattle.bidi_lines.proofs.Pieces.{get_or-between, length-between}
-use Rattle.std.proofs.lemmas.List.{map-append}
 use Rattle.bidi_calls.specs.Shown.{chars_at}
 
 -- those at consecutive indexes

@@ -1,6 +1,5 @@
 -- The clusters of a text follow one another, and cut no character.
-use Rattle.bidi_base.proofs.Common.{true, ℕ, ◌+◌, ◌<◌, ◌≤◌, zero, suc, List, [], ◌∷◌, length, map, drop, get_or, arith, IsUtf8, IsCharBoundary, Source, All-head, All-tail, ⊤}
-use Rattle.std.proofs.Common.{All}
+use Rattle.bidi_base.proofs.Common.{true, ℕ, ◌+◌, ◌<◌, ◌≤◌, zero, suc, List, [], ◌∷◌, length, map, drop, get_or, arith, IsUtf8, IsCharBoundary, Source, All-head, All-tail, ⊤, All}
 use Rattle.unicode_segmentation.specs.Grapheme.{graphemes, is_grapheme_break}
 use Rattle.unicode_segmentation.specs.Segments.{with_offsets}
 use Rattle.unicode_segmentation.proofs.SegmentsLemmas.{IsPieceOf, All-IsPieceOf}

@@ -1,7 +1,6 @@
 -- The findings of a line, one character more.
-use Rattle.bidi_base.proofs.Common.{◌≡◌, ℕ, ◌+◌, ◌<◌, Bool, false, List, ◌++◌, Option, length, get_or, take, map, arith, append_assoc, common_steps, range_with_len}
-use Rattle.bidi_base.proofs.Common.{append-nil, flat_map, holds_number, option_to_list, get_or-map, get_or_default, get_or-map-range_with_len, indexes}
-use Rattle.std.proofs.lemmas.Grind.{flat_map-append}
+use Rattle.bidi_base.proofs.Common.{◌≡◌, ℕ, ◌+◌, ◌<◌, Bool, false, List, ◌++◌, Option, length, get_or, take, map, arith, append_assoc, common_steps, range_with_len, append-nil, flat_map}
+use Rattle.bidi_base.proofs.Common.{holds_number, option_to_list, get_or-map, get_or_default, get_or-map-range_with_len, indexes, flat_map-append}
 use Rattle.bidi_controls.proofs.IndexLemmas.{next_index}
 use Rattle.bidi_base.specs.declared.char_data.BidiClass.{BidiClass}
 use Rattle.bidi_controls.specs.Findings.{finding_of, line_finding_of, findings_at, finding_line, report_of}

@@ -1,9 +1,7 @@
 -- The levels of a line that is analysed as one paragraph, as a list of characters, and its order.
-use Rattle.bidi_base.proofs.Common.{◌≡◌, ℕ, ◌<◌, List, All, length, map, Option, None, sym, ap, subst, ◌∙◌, arith, append-nil, indexes, length-map, line_levels}
-use Rattle.bidi_base.proofs.Common.{paragraph_level, stored_classes, first_or, Source, stored_levels, text_classes, text_levels, paragraph_levels, one_unit}
-use Rattle.std.proofs.lemmas.List.Sorted.{All-permutation}
+use Rattle.bidi_base.proofs.Common.{◌≡◌, ℕ, ◌<◌, List, All, length, map, Option, None, sym, ap, subst, ◌∙◌, arith, append-nil, indexes, length-map, line_levels, paragraph_level, stored_classes}
+use Rattle.bidi_base.proofs.Common.{first_or, Source, stored_levels, text_classes, text_levels, paragraph_levels, one_unit, All-permutation, IsVisualOrder}
 use Rattle.bidi_base.specs.declared.char_data.BidiClass.{BidiClass}
-use Rattle.bidi_base.specs.Order.{IsVisualOrder}
 use Rattle.bidi_base.proofs.PerUnit.{per_unit-one_unit}
 use Rattle.bidi_laws.proofs.LevelLaws.{length-stored_levels}
 use Rattle.bidi_laws.proofs.StoredSteps.{length-stored_classes}

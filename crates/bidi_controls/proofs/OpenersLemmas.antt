@@ -1,6 +1,5 @@
 -- Isolates among the openers that are open, by their number.
-use Rattle.bidi_base.proofs.Common.{◌≡◌, ℕ, ◌+◌, ◌<◌, true, cond, List, [], ◌∷◌, None, count_by, refl, arith, zero-add, inl, inr, cases_Bool, sum_by-cons}
-use Rattle.std.specs.Prelude.{is_some}
+use Rattle.bidi_base.proofs.Common.{◌≡◌, ℕ, ◌+◌, ◌<◌, true, cond, List, [], ◌∷◌, None, count_by, refl, arith, zero-add, inl, inr, cases_Bool, sum_by-cons, is_some}
 use Rattle.bidi_controls.specs.OpenOpeners.{innermost_isolate, outside_isolate}
 use Rattle.bidi_controls.specs.declared.openers.Opener.{Opener}
 

@@ -1,8 +1,7 @@
 -- Lines without direction controls and marks: one character more, and what is found in them.
-use Rattle.bidi_base.proofs.Common.{◌≡◌, ℕ, zero, suc, ◌+◌, ◌<◌, ◌≤◌, ⊤, SplitTest, cut_after, cr_lf_together, onto_first}
-use Rattle.bidi_base.proofs.Common.{get_or_default, Bool, true, false, if◌then◌else◌, List, [], ◌∷◌, ◌++◌, Option}
-use Rattle.bidi_base.proofs.Common.{None, length, get_or, take, map, refl, ap, sym, subst, arith, ◌∙◌, take_more, flat_map, holds_number, get_or-map, range_with_len, class_at, Source}
-use Rattle.std.proofs.lemmas.List.Elements.{All-push, All-head, All-tail, All-cons, All-nil}
+use Rattle.bidi_base.proofs.Common.{◌≡◌, ℕ, zero, suc, ◌+◌, ◌<◌, ◌≤◌, ⊤, SplitTest, cut_after, cr_lf_together, onto_first, get_or_default, Bool, true, false, if◌then◌else◌, List, [], ◌∷◌, ◌++◌}
+use Rattle.bidi_base.proofs.Common.{Option, None, length, get_or, take, map, refl, ap, sym, subst, arith, ◌∙◌, take_more, flat_map, holds_number, get_or-map, range_with_len, class_at, Source}
+use Rattle.bidi_base.proofs.Common.{All-push, All-head, All-tail, All-cons, All-nil}
 use Rattle.bidi_base.specs.declared.char_data.BidiClass.{BidiClass}
 use Rattle.bidi_controls.specs.Controls.{control_of}
 use Rattle.bidi_controls.specs.Findings.{wants_every_control, finding_of, line_finding_of, findings_at, differing_place, findings_in_line, findings_in_paragraph, findings_in_paragraphs}

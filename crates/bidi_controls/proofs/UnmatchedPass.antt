@@ -1,9 +1,8 @@
 -- The walk along a line: what is open, and which of the characters read so far are controls without a match.
-use Rattle.bidi_base.proofs.Common.{◌≡◌, ℕ, ◌+◌, ◌<◌, Bool, true, false, ◌||◌, ◌&&◌, cond, leb, List, [], ◌∷◌, ◌++◌, length, get_or, map, find, Option, Some, None, refl, sym, ap, ◌∙◌}
-use Rattle.bidi_base.proofs.Common.{arith, length-append, add-one, list_any, range_with_len, cases_lt, false_from_ne_true, length-set, get_or_append_left, get_or_push, fill_by_all}
-use Rattle.bidi_base.proofs.Common.{length-range_with_len, get_or-range_with_len, list_any_none, list_any_at, is_opener, class_at, between, is_initiator_at}
-use Rattle.std.specs.Prelude.{is_some, is_none}
-use Rattle.std.proofs.lemmas.List.{get_or-set_same, get_or-set_other}
+use Rattle.bidi_base.proofs.Common.{◌≡◌, ℕ, ◌+◌, ◌<◌, Bool, true, false, ◌||◌, ◌&&◌, cond, leb, List, [], ◌∷◌, ◌++◌, length, get_or, map, find, Option, Some, None, refl, sym, ap, ◌∙◌, arith}
+use Rattle.bidi_base.proofs.Common.{length-append, add-one, list_any, range_with_len, cases_lt, false_from_ne_true, length-set, get_or_append_left, get_or_push, fill_by_all, length-range_with_len}
+use Rattle.bidi_base.proofs.Common.{get_or-range_with_len, list_any_none, list_any_at, is_opener, class_at, between, is_initiator_at, is_some, get_or-set_same, get_or-set_other}
+use Rattle.std.specs.Prelude.{is_none}
 use Rattle.bidi_base.specs.declared.char_data.BidiClass.{BidiClass}
 use Rattle.bidi_base.proofs.ChainLemmas.{holds_number-true}
 use Rattle.bidi_laws.proofs.OpenersStack.{openers_read, closed_by, opened_by, left_at, below_isolate}

@@ -1,12 +1,8 @@
 -- The explicit pass by stretches: where no control comes the status stands still, so the characters there have one level and are under one override.
-use Rattle.bidi_base.proofs.Common.{◌≡◌, ℕ, zero, suc, ◌+◌, ◌-◌, ◌<◌, ◌≤◌, ◌^◌, Bool, true, false, not, List, [], ◌∷◌, ◌++◌, length}
-use Rattle.bidi_base.proofs.Common.{get_or, set, Option, Some, None, refl, sym, ap, subst, ◌∙◌, arith, inl, inr}
-use Rattle.bidi_base.proofs.Common.{length-take, eq-eqb, common_steps, cases_Bool, cases_lt, cases_eq, ext_get_or, length-replicate}
-use Rattle.bidi_base.proofs.Common.{get_or-append_right, is_kept, is_kept_in_place, is_removed, then_some, class_at}
-use Rattle.bidi_base.proofs.Common.{IsFirst, is_kept_at, level_at, State, start, closed, step, state_at, char_index, is_boundary}
-use Rattle.bidi_base.proofs.Common.{place, text_len, is_per_char, per_unit, IsPerChar, level_run_ranges, add-zero}
-use Rattle.std.specs.Prelude.{if◌then◌else◌}
-use Rattle.std.proofs.lemmas.List.{get_or-drop}
+use Rattle.bidi_base.proofs.Common.{◌≡◌, ℕ, zero, suc, ◌+◌, ◌-◌, ◌<◌, ◌≤◌, ◌^◌, Bool, true, false, not, List, [], ◌∷◌, ◌++◌, length, get_or, set, Option, Some, None, refl, sym, ap, subst, ◌∙◌}
+use Rattle.bidi_base.proofs.Common.{arith, inl, inr, length-take, eq-eqb, common_steps, cases_Bool, cases_lt, cases_eq, ext_get_or, length-replicate, get_or-append_right, is_kept}
+use Rattle.bidi_base.proofs.Common.{is_kept_in_place, is_removed, then_some, class_at, IsFirst, is_kept_at, level_at, State, start, closed, step, state_at, char_index, is_boundary, place}
+use Rattle.bidi_base.proofs.Common.{text_len, is_per_char, per_unit, IsPerChar, level_run_ranges, add-zero, if◌then◌else◌, get_or-drop, answer_class, answer_level}
 use Rattle.bidi_base.specs.declared.char_data.BidiClass.{BidiClass}
 use Rattle.bidi_base.specs.declared.char_data.BidiClass.TheVariants.{L, BN}
 use Rattle.bidi_laws.proofs.ExplicitLemmas.{length-explicit_levels, length-processing_classes, level_at-explicit_levels, class_at-processing_classes}
@@ -19,7 +15,6 @@ use Rattle.bidi_base.proofs.UnitsLemmas.{length-from_IsPerChar, per_unit-from_Is
 use Rattle.bidi_text.proofs.PerCharTests.{class_test}
 use Rattle.bidi_base.specs.contracts.char_data.BidiClassPartialEq.TheImpl.{ghosts}
 use Rattle.bidi_runs.specs.ExplicitPass.{IsCutTo, filled, differs, runs_before, run_start}
-use Rattle.bidi_base.specs.StatusMachine.{answer_class, answer_level}
 use Rattle.bidi_explicit.specs.Control.{is_control}
 use Rattle.bidi_explicit.specs.ExplicitStretches.{overridden, put_over, run_met, runs_met, IsOverridden, Paragraph, stored, levels_of, classes_of, IsReadTo}
 use Rattle.bidi_explicit.specs.Stride.{count_to, count_of}

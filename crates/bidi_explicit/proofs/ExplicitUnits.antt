@@ -1,11 +1,9 @@
 -- The pass over units that gives explicit levels, classes and level runs: what it has written once it read some characters.
 use native.Mathlib.Numerals.{unary_clauses}
-use Rattle.bidi_base.proofs.Common.{◌≡◌, ℕ, zero, suc, ◌+◌, ◌<◌, ◌≤◌, ◌^◌, true, List, [], ◌∷◌, length, get_or, set, unwrap_or, refl, sym, ap, ◌∙◌, arith, length-append}
-use Rattle.bidi_base.proofs.Common.{common_steps, take-append-drop, length-replicate, is_paragraph_separator, is_removed, class_at, text_len, per_unit, per_char, is_per_char}
-use Rattle.bidi_base.proofs.Common.{explicit_levels, processing_class, processing_classes, State, closed, step, state_at, counted, IsWithinDepth, IsPoppable, suc-add}
-use Rattle.std.specs.Prelude.{◌||◌, if◌then◌else◌}
-use Rattle.std.proofs.lemmas.List.{length-take, length-drop}
-use Rattle.bidi_base.specs.StatusMachine.{answer_class, answer_level}
+use Rattle.bidi_base.proofs.Common.{◌≡◌, ℕ, zero, suc, ◌+◌, ◌<◌, ◌≤◌, ◌^◌, true, List, [], ◌∷◌, length, get_or, set, unwrap_or, refl, sym, ap, ◌∙◌, arith, length-append, common_steps}
+use Rattle.bidi_base.proofs.Common.{take-append-drop, length-replicate, is_paragraph_separator, is_removed, class_at, text_len, per_unit, per_char, is_per_char, explicit_levels, processing_class}
+use Rattle.bidi_base.proofs.Common.{processing_classes, State, closed, step, state_at, counted, IsWithinDepth, IsPoppable, suc-add, ◌||◌, if◌then◌else◌, length-take, length-drop, answer_class}
+use Rattle.bidi_base.proofs.Common.{answer_level}
 use Rattle.bidi_base.specs.declared.char_data.BidiClass.{BidiClass}
 use Rattle.bidi_base.specs.declared.char_data.BidiClass.TheVariants.{L, BN}
 use Rattle.bidi_laws.proofs.ExplicitLemmas.{length-explicit_levels, level_at-explicit_levels, class_at-processing_classes}

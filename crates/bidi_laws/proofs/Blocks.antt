@@ -1,10 +1,9 @@
 -- A block of classes that pass a test: what is seen over it, and how a pass that rewrites block by block goes on.
-use Rattle.bidi_base.proofs.Common.{◌≡◌, ℕ, zero, suc, ◌+◌, ◌-◌, ◌<◌, ◌≤◌, Bool, true, false, List, [], ◌∷◌, length, get_or, take, drop, replicate, reverse, sym, ap, ◌∙◌, arith}
-use Rattle.bidi_base.proofs.Common.{inl, inr, length-take, length-drop, length-append, get_or-take, get_or-drop, common_steps, cases_lt, length-replicate, get_or-replicate}
-use Rattle.bidi_base.proofs.Common.{drop_more, drop_all, take_rest, ext_get_or, length-take-le, get_or-append_right, prefix_len-le-length, prefix_len, in_context}
+use Rattle.bidi_base.proofs.Common.{◌≡◌, ℕ, zero, suc, ◌+◌, ◌-◌, ◌<◌, ◌≤◌, Bool, true, false, List, [], ◌∷◌, length, get_or, take, drop, replicate, reverse, sym, ap, ◌∙◌, arith, inl, inr}
+use Rattle.bidi_base.proofs.Common.{length-take, length-drop, length-append, get_or-take, get_or-drop, common_steps, cases_lt, length-replicate, get_or-replicate, drop_more, drop_all, take_rest}
+use Rattle.bidi_base.proofs.Common.{ext_get_or, length-take-le, get_or-append_right, prefix_len-le-length, prefix_len, in_context, drop-drop}
 use Rattle.bidi_base.specs.declared.char_data.BidiClass.{BidiClass}
 use Rattle.bidi_base.specs.declared.char_data.BidiClass.TheVariants.{L}
-use Rattle.std.proofs.Common.{drop-drop}
 use Rattle.std.proofs.lemmas.List.Sums.{prefix_len_passes, prefix_len_stops}
 use Rattle.std.proofs.lemmas.Slice.{take-put_mid, take-put_mid_below, drop-put_mid}
 use borrow.Rule.Slice.PartMut.{put_mid}

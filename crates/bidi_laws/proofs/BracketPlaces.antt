@@ -1,14 +1,12 @@
 -- Brackets pair alike where their indexes are other numbers that rise with them, as places do.
-use Rattle.bidi_base.proofs.Common.{◌≡◌, ℕ, zero, suc, ◌+◌, ◌-◌, ◌<◌, ◌≤◌, Bool, ltb, eqb, List, [], ◌∷◌, ◌++◌, map, length, get_or, slice_get, take, set, Option, Some, None, refl, sym}
-use Rattle.bidi_base.proofs.Common.{ap, ◌∙◌, arith, inl, inr, cases_Bool, cases_lt, length-map, map-set, map_push, get_or-map, get_or_default, All-nil, slice_get-get_or}
-use Rattle.bidi_base.proofs.Common.{max_open_brackets, counted_brackets, bracket_pairs, pairs_of, brackets_from, found_brackets, ArePairsOf, find_last, AreWithin, IsAt}
+use Rattle.bidi_base.proofs.Common.{◌≡◌, ℕ, zero, suc, ◌+◌, ◌-◌, ◌<◌, ◌≤◌, Bool, ltb, eqb, List, [], ◌∷◌, ◌++◌, map, length, get_or, slice_get, take, set, Option, Some, None, refl, sym, ap, ◌∙◌}
+use Rattle.bidi_base.proofs.Common.{arith, inl, inr, cases_Bool, cases_lt, length-map, map-set, map_push, get_or-map, get_or_default, All-nil, slice_get-get_or, max_open_brackets}
+use Rattle.bidi_base.proofs.Common.{counted_brackets, bracket_pairs, pairs_of, brackets_from, found_brackets, ArePairsOf, find_last, AreWithin, IsAt, filter, replicate}
 use Rattle.bidi_base.specs.declared.brackets.Bracket.{Bracket}
 use Rattle.bidi_base.specs.declared.brackets.Waiting.{Waiting}
 use Rattle.bidi_base.specs.declared.char_data.BidiClass.{BidiClass}
 use Rattle.bidi_base.specs.declared.char_data.BidiClass.TheVariants.{ON}
 use Rattle.bidi_base.specs.declared.data_source.BidiMatchedOpeningBracket.{BidiMatchedOpeningBracket}
-use Rattle.std.proofs.Common.{filter}
-use Rattle.std.specs.Prelude.{replicate}
 use Rattle.bidi_base.proofs.BracketSearch.{AreWithin-opening, AreWithin-pair, IsAt-start, IsAt-opening, IsAt-unmatched, IsAt-pair, IsAt-full, IsAt-end}
 use Rattle.bidi_base.proofs.Lists.{cases_Option}
 use Rattle.bidi_base.proofs.PlacesLemmas.{find_last-index}

@@ -1,13 +1,11 @@
 -- The base direction of a text in one walk, which counts the isolates that are open.
-use Rattle.bidi_base.proofs.Common.{◌≡◌, ◌↔◌, ℕ, ◌+◌, ◌-◌, ◌≤◌, Bool, true, false, ◌&&◌, cond, if◌then◌else◌, List, [], ◌∷◌, drop, map, find, Option, Some, None, is_some}
-use Rattle.bidi_base.proofs.Common.{refl, ap, ◌∙◌, ◌⊎◌, inl, inr, arith, onto_first, option_or, cases_Bool, is_strong, is_initiator, is_pdi, is_paragraph_separator}
-use Rattle.bidi_base.proofs.Common.{direction_by, base_direction, deciding_class, paragraph_level, paragraphs_of, each_separator, first_or, Source}
+use Rattle.bidi_base.proofs.Common.{◌≡◌, ◌↔◌, ℕ, ◌+◌, ◌-◌, ◌≤◌, Bool, true, false, ◌&&◌, cond, if◌then◌else◌, List, [], ◌∷◌, drop, map, find, Option, Some, None, is_some, refl, ap, ◌∙◌, ◌⊎◌, inl}
+use Rattle.bidi_base.proofs.Common.{inr, arith, onto_first, option_or, cases_Bool, is_strong, is_initiator, is_pdi, is_paragraph_separator, direction_by, base_direction, deciding_class}
+use Rattle.bidi_base.proofs.Common.{paragraph_level, paragraphs_of, each_separator, first_or, Source, option_and_then, full_base_direction}
 use Rattle.bidi_base.specs.declared.char_data.BidiClass.{BidiClass}
 use Rattle.bidi_base.specs.declared.char_data.Direction.{Direction}
 use Rattle.bidi_base.specs.declared.char_data.Direction.TheVariants.{Rtl, Mixed}
-use Rattle.std.specs.Prelude.{option_and_then}
 use Rattle.bidi_base.specs.declared.char_data.BidiClass.TheVariants.{B}
-use Rattle.bidi_base.specs.Direction.{full_base_direction}
 use Rattle.bidi_laws.proofs.IsolatesLemmas.{direction_by-Rtl}
 use Rattle.bidi_laws.proofs.IsolateWalk.{kind_of, initiator-kind, pdi-kind, depth_by, is_zero, deciding_from, deciding_class-from}
 use Rattle.bidi_base.proofs.Lists.{cases_Option}

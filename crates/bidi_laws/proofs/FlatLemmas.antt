@@ -1,18 +1,13 @@
 -- A paragraph in which no embedding and no isolate begins: one level, and one sequence of all that X9 keeps.
-use Rattle.bidi_base.proofs.Common.{◌≡◌, ℕ, zero, suc, ◌+◌, ◌-◌, ◌<◌, ◌≤◌, Bool, true, false, cond, List, [], ◌∷◌, length, map, max}
-use Rattle.bidi_base.proofs.Common.{find, Option, Some, None, refl, sym, ap, ◌∙◌, arith, inl, inr, add-one, filter}
-use Rattle.bidi_base.proofs.Common.{range_with_len, both_ways, or_parts, ext_get_or, length-map, get_or-map, get_or_past}
-use Rattle.bidi_base.proofs.Common.{get_or-replicate, length-replicate, list_any_at, IsPermutation-refl, is_initiator, is_embedding}
-use Rattle.bidi_base.proofs.Common.{is_opener, is_removed, direction_of, chain, class_at, at_places, last_or, indexes, stored_class}
-use Rattle.bidi_base.proofs.Common.{stored_classes, is_inside, is_embedded, is_open_at, open_at, status_inside, status_at}
-use Rattle.bidi_base.proofs.Common.{explicit_level, explicit_class, explicit_levels, explicit_classes, processing_class}
-use Rattle.bidi_base.proofs.Common.{processing_classes, has_places, is_kept_at, is_first, kept_places, level_at, level_or, kept_before}
-use Rattle.bidi_base.proofs.Common.{next_kept, resumed_at, successor, start_class, end_class, sequence_from, sequences}
-use Rattle.bidi_base.proofs.Common.{neutral_classes, resolved_levels, AreResolved, levels_in, is_flat, run_levels, kept_of}
+use Rattle.bidi_base.proofs.Common.{◌≡◌, ℕ, zero, suc, ◌+◌, ◌-◌, ◌<◌, ◌≤◌, Bool, true, false, cond, List, [], ◌∷◌, length, map, max, find, Option, Some, None, refl, sym, ap, ◌∙◌, arith, inl, inr}
+use Rattle.bidi_base.proofs.Common.{add-one, filter, range_with_len, both_ways, or_parts, ext_get_or, length-map, get_or-map, get_or_past, get_or-replicate, length-replicate, list_any_at}
+use Rattle.bidi_base.proofs.Common.{IsPermutation-refl, is_initiator, is_embedding, is_opener, is_removed, direction_of, chain, class_at, at_places, last_or, indexes, stored_class, stored_classes}
+use Rattle.bidi_base.proofs.Common.{is_inside, is_embedded, is_open_at, open_at, status_inside, status_at, explicit_level, explicit_class, explicit_levels, explicit_classes, processing_class}
+use Rattle.bidi_base.proofs.Common.{processing_classes, has_places, is_kept_at, is_first, kept_places, level_at, level_or, kept_before, next_kept, resumed_at, successor, start_class, end_class}
+use Rattle.bidi_base.proofs.Common.{sequence_from, sequences, neutral_classes, resolved_levels, AreResolved, levels_in, is_flat, run_levels, kept_of, replicate}
 use Rattle.bidi_base.specs.declared.char_data.BidiClass.{BidiClass}
 use Rattle.bidi_base.specs.declared.char_data.BidiClass.TheVariants.{L, BN}
 use Rattle.bidi_base.specs.declared.data_source.BidiMatchedOpeningBracket.{BidiMatchedOpeningBracket}
-use Rattle.std.specs.Prelude.{replicate}
 use Rattle.bidi_base.specs.Flat.{whole_run}
 use Rattle.bidi_base.proofs.ChainLemmas.{chain-None, filter_range-none, filter_range-agree, filter_chain_from}
 use Rattle.bidi_laws.proofs.ExplicitLemmas.{length-explicit_levels, level_at-explicit_levels, length-explicit_classes}

@@ -1,13 +1,10 @@
 -- Isolates in one walk from the front, which counts those that are open: the matching PDI (BD9), the deciding character (P2), and what an FSI becomes (X5c).
-use Rattle.bidi_base.proofs.Common.{◌≡◌, ℕ, zero, suc, ◌+◌, ◌-◌, ◌<◌, ◌≤◌, Bool, true, false, not, ◌&&◌, ◌||◌, cond, List, [], ◌∷◌, ◌++◌}
-use Rattle.bidi_base.proofs.Common.{length, take, drop, map, find, Option, Some, None, unwrap_or, option_map, refl}
-use Rattle.bidi_base.proofs.Common.{ap, ◌∙◌, arith, inl, inr, lt-ltb, le-ltb, length-drop, range_with_len, list_any, take_more}
-use Rattle.bidi_base.proofs.Common.{cases_Bool, is_strong, class_at, count_between, is_closed_at, is_before, match_of}
-use Rattle.bidi_base.proofs.Common.{is_initiator_at, is_pdi_at, is_initiator, is_pdi, matching_pdi, is_inside, is_isolated}
-use Rattle.bidi_base.proofs.Common.{deciding_class, isolated_classes, resolved_fsi, stored_class, stored_classes}
+use Rattle.bidi_base.proofs.Common.{◌≡◌, ℕ, zero, suc, ◌+◌, ◌-◌, ◌<◌, ◌≤◌, Bool, true, false, not, ◌&&◌, ◌||◌, cond, List, [], ◌∷◌, ◌++◌, length, take, drop, map, find, Option, Some, None}
+use Rattle.bidi_base.proofs.Common.{unwrap_or, option_map, refl, ap, ◌∙◌, arith, inl, inr, lt-ltb, le-ltb, length-drop, range_with_len, list_any, take_more, cases_Bool, is_strong, class_at}
+use Rattle.bidi_base.proofs.Common.{count_between, is_closed_at, is_before, match_of, is_initiator_at, is_pdi_at, is_initiator, is_pdi, matching_pdi, is_inside, is_isolated, deciding_class}
+use Rattle.bidi_base.proofs.Common.{isolated_classes, resolved_fsi, stored_class, stored_classes, get_or-drop}
 use Rattle.bidi_base.specs.declared.char_data.BidiClass.{BidiClass}
 use Rattle.bidi_base.specs.declared.char_data.BidiClass.TheVariants.{L, LRI, RLI, FSI, PDI}
-use Rattle.std.proofs.lemmas.List.{get_or-drop}
 use Rattle.std.proofs.Math.Seq.{take-nil}
 use Rattle.bidi_laws.proofs.MatchingLemmas.{count_between-more, count_between-none}
 

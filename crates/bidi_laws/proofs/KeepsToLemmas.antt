@@ -1,13 +1,13 @@
 -- A paragraph without a character that may leave its level: all its levels are that one.
-use Rattle.bidi_base.proofs.Common.{◌≡◌, ℕ, Bool, true, false, not, ◌&&◌, ◌||◌, cond, List, [], ◌∷◌, length, Option, None, refl, sym, ◌∙◌, arith, list_all, list_any, and_parts, or_parts, cases_Bool}
-use Rattle.bidi_base.proofs.Common.{inl, inr, not-true, get_or-replicate, length-replicate, is_opener, is_kept, is_nsm, is_al, is_en, is_et, is_l, is_l_or_r, is_strong, is_weak_resolved, same_class}
-use Rattle.bidi_base.proofs.Common.{is_odd, direction_of, at_places, nearest, nearest_is, in_context, carried, w1_rule, w2_rule, w3_rule, w4_rule, w5_rule, w6_rule, w7_rule, w1, w2, w3, w4, w5, w6}
-use Rattle.bidi_base.proofs.Common.{weak_classes, may_turn, is_pure_ltr, implicit_levels, kept_places, levels_in, is_flat, may_leave, run_levels, kept_of}
+use Rattle.bidi_base.proofs.Common.{◌≡◌, ℕ, Bool, true, false, not, ◌&&◌, ◌||◌, cond, List, [], ◌∷◌, length, Option, None, refl, sym, ◌∙◌, arith, list_all, list_any, and_parts, or_parts}
+use Rattle.bidi_base.proofs.Common.{cases_Bool, inl, inr, not-true, get_or-replicate, length-replicate, is_opener, is_kept, is_nsm, is_al, is_en, is_et, is_l, is_l_or_r, is_strong}
+use Rattle.bidi_base.proofs.Common.{is_weak_resolved, same_class, is_odd, direction_of, at_places, nearest, nearest_is, in_context, carried, w1_rule, w2_rule, w3_rule, w4_rule, w5_rule, w6_rule}
+use Rattle.bidi_base.proofs.Common.{w7_rule, w1, w2, w3, w4, w5, w6, weak_classes, may_turn, is_pure_ltr, implicit_levels, kept_places, levels_in, is_flat, may_leave, run_levels, kept_of}
+use Rattle.bidi_base.proofs.Common.{replicate, keeps_to}
 use Rattle.bidi_base.specs.declared.char_data.BidiClass.{BidiClass}
 use Rattle.bidi_base.specs.declared.char_data.BidiClass.TheVariants.{L, R, AL, EN, ET, NSM}
 use Rattle.bidi_base.specs.declared.data_source.BidiMatchedOpeningBracket.{BidiMatchedOpeningBracket}
-use Rattle.std.specs.Prelude.{replicate}
-use Rattle.bidi_base.specs.Flat.{turns, keeps_to}
+use Rattle.bidi_base.specs.Flat.{turns}
 use Rattle.bidi_laws.proofs.NeutralLemmas.{direction_of-l_or_r}
 use Rattle.bidi_laws.proofs.OneDirection.{goes_with, neutral_classes-one}
 use Rattle.bidi_laws.proofs.ContextLemmas.{list_all-mapped}

@@ -1,11 +1,10 @@
 -- Lines of given width: how many characters fit, and the lines of a paragraph as ranges of units.
 use Rattle.bidi_base.proofs.Common.{◌≡◌, ◌≢◌, ℕ, zero, suc, ◌+◌, ◌-◌, ◌<◌, ◌≤◌, Bool, leb, List, [], ◌∷◌, length, get_or, map, take, drop, Some, slice_get, refl, sym, ap, ◌∙◌, arith, inl, inr}
 use Rattle.bidi_base.proofs.Common.{length-drop, common_steps, slice_range, range_with_len, IsPermutation, le-leb, take-append-drop, drop-drop, drop-take, get_or-map, get_or_default, length-map}
-use Rattle.bidi_base.proofs.Common.{same_lists, length-range_with_len, get_or-range_with_len, All-permutation, Contains-permutation, length_permutation, slice_get-get_or, All-nil, All-cons, lines_of}
-use Rattle.bidi_base.proofs.Common.{line_ranges, visual_places, visual_place, IsVisualOrder, ranges_from, IsPartition, indexes, find_last, place, text_len, char_index, subrange, IsLine}
-use Rattle.std.proofs.Common.{All, length-take-le}
-use Rattle.std.proofs.lemmas.Option.{slice_get_within, get_or_from_slice_get}
-use Rattle.bidi_base.specs.Layout.{fitting, line_length, lines_up_to, AreInverse}
+use Rattle.bidi_base.proofs.Common.{same_lists, length-range_with_len, get_or-range_with_len, All-permutation, Contains-permutation, length_permutation, slice_get-get_or, All-nil, All-cons}
+use Rattle.bidi_base.proofs.Common.{lines_of, line_ranges, visual_places, visual_place, IsVisualOrder, ranges_from, IsPartition, indexes, find_last, place, text_len, char_index, subrange, IsLine}
+use Rattle.bidi_base.proofs.Common.{All, length-take-le, slice_get_within, get_or_from_slice_get, AreInverse}
+use Rattle.bidi_base.specs.Layout.{fitting, line_length, lines_up_to}
 use Rattle.bidi_base.proofs.Lists.{cases_Option}
 use Rattle.bidi_laws.proofs.ParagraphsLemmas.{joined, ranges_from-IsPartition}
 use Rattle.bidi_base.proofs.PlaceLemmas.{CharTurn, place-more, place-end, place-mono, place-lt, place-slice_range, char_index-place, IsLine-places, line_places, text_len-subrange}

@@ -1,10 +1,9 @@
 -- The levels of a paragraph do not depend on the order in which its sequences are resolved.
 use Rattle.bidi_base.proofs.Common.{◌≡◌, ℕ, suc, ◌+◌, ◌<◌, ◌≤◌, Bool, true, false, not, cond, eqb, List, [], ◌∷◌, map, length, count_by, Option, add-one, refl, sym, ap, ◌∙◌, arith, rules}
 use Rattle.bidi_base.proofs.Common.{map-append, sum_by, IsPermutation, sum_by-cons, sum_by-IsPermutation, class_at, at_places, is_removed, stored_classes, explicit_levels, explicit_classes}
-use Rattle.bidi_base.proofs.Common.{RunSequence, level_at, is_kept_at, kept_places, sequences, sequence_levels, AreResolved, level_in, filled_levels, levels_in}
+use Rattle.bidi_base.proofs.Common.{RunSequence, level_at, is_kept_at, kept_places, sequences, sequence_levels, AreResolved, level_in, filled_levels, levels_in, flat_map, zip}
 use Rattle.bidi_base.specs.declared.char_data.BidiClass.{BidiClass}
 use Rattle.bidi_base.specs.declared.data_source.BidiMatchedOpeningBracket.{BidiMatchedOpeningBracket}
-use Rattle.std.specs.Prelude.{flat_map, zip}
 use Rattle.std.proofs.lemmas.List.Sums.{sum_by-le-sum_by}
 use Rattle.bidi_laws.proofs.SequencesLemmas.{IsPermutation-sequences}
 use Rattle.bidi_laws.proofs.LevelTableLemmas.{sum_by-flat_map, level_in-sum, count_by-zip, count_at-range, count_at-in}

@@ -1,10 +1,9 @@
 -- N0 reads source classes for nonspacing marks alone, so stored classes serve as well.
-use Rattle.bidi_base.proofs.Common.{◌≡◌, ℕ, List, [], ◌∷◌, map, fold, Option, refl, arith, slice_range, list_all, get_or_past, take-map, list_all-map}
-use Rattle.bidi_base.proofs.Common.{is_nsm, at_places, stored_classes, is_mark_after, goes_with_pair, with_pair, n0_pair, n0, neutral_classes}
+use Rattle.bidi_base.proofs.Common.{◌≡◌, ℕ, List, [], ◌∷◌, map, fold, Option, refl, arith, slice_range, list_all, get_or_past, take-map, list_all-map, is_nsm, at_places, stored_classes}
+use Rattle.bidi_base.proofs.Common.{is_mark_after, goes_with_pair, with_pair, n0_pair, n0, neutral_classes, drop-map}
 use Rattle.bidi_base.specs.declared.char_data.BidiClass.{BidiClass}
 use Rattle.bidi_base.specs.declared.char_data.BidiClass.TheVariants.{L}
 use Rattle.bidi_base.specs.declared.data_source.BidiMatchedOpeningBracket.{BidiMatchedOpeningBracket}
-use Rattle.std.proofs.lemmas.List.{drop-map}
 use Rattle.bidi_laws.proofs.StoredLemmas.{class_at-stored_classes}
 use Rattle.bidi_laws.proofs.StoredSteps.{length-stored_classes}
 

@@ -1,9 +1,8 @@
 -- What N0 for one pair leaves: all before its opening, and all within a later pair whose opening is no mark.
-use Rattle.bidi_base.proofs.Common.{◌≡◌, ℕ, ◌+◌, ◌-◌, ◌<◌, ◌≤◌, false, List, length, arith, length-take, length-drop, get_or-take, get_or-drop, list_all_at}
-use Rattle.bidi_base.proofs.Common.{length-map-range_with_len, get_or-map-range_with_len, is_nsm, class_at, IsBehindOrWithin, is_mark_after, goes_with_pair, with_pair, n0_pair}
+use Rattle.bidi_base.proofs.Common.{◌≡◌, ℕ, ◌+◌, ◌-◌, ◌<◌, ◌≤◌, false, List, length, arith, length-take, length-drop, get_or-take, get_or-drop, list_all_at, length-map-range_with_len}
+use Rattle.bidi_base.proofs.Common.{get_or-map-range_with_len, is_nsm, class_at, IsBehindOrWithin, is_mark_after, goes_with_pair, with_pair, n0_pair, slice_range}
 use Rattle.bidi_base.specs.declared.char_data.BidiClass.{BidiClass}
 use Rattle.bidi_base.specs.declared.char_data.BidiClass.TheVariants.{L}
-use Rattle.std.proofs.Common.{slice_range}
 
 pub is_mark_after-before : (source : List BidiClass) (b k : ℕ) → k ≤ b → is_mark_after source b k ≡ false
 unfolding is_mark_after

@@ -1,8 +1,7 @@
 -- Paragraphs (P1): a text that is cut while it is read, and what the pieces and their ranges are.
-use Rattle.bidi_base.proofs.Common.{◌≡◌, ℕ, ◌+◌, ◌<◌, Bool, true, false, List, [], ◌∷◌, ◌++◌, length, flat_map, refl, sym, ap, subst, ◌∙◌, append_assoc, arith, length-append, All}
-use Rattle.bidi_base.proofs.Common.{IsTrue, ⊤, onto_first, length-map, All-nil, All-cons, All-head, All-tail, sum_by-append, is_paragraph_separator, Source, text_classes, text_len}
-use Rattle.bidi_base.proofs.Common.{subrange, IsLine, SplitTest, cut_after, each_separator, paragraphs_of, pieces_of, ranges_from, IsPartition, ends_with_separator}
-use Rattle.std.proofs.lemmas.List.{append-nil}
+use Rattle.bidi_base.proofs.Common.{◌≡◌, ℕ, ◌+◌, ◌<◌, Bool, true, false, List, [], ◌∷◌, ◌++◌, length, flat_map, refl, sym, ap, subst, ◌∙◌, append_assoc, arith, length-append, All, IsTrue, ⊤}
+use Rattle.bidi_base.proofs.Common.{onto_first, length-map, All-nil, All-cons, All-head, All-tail, sum_by-append, is_paragraph_separator, Source, text_classes, text_len, subrange, IsLine}
+use Rattle.bidi_base.proofs.Common.{SplitTest, cut_after, each_separator, paragraphs_of, pieces_of, ranges_from, IsPartition, ends_with_separator, append-nil}
 use Rattle.bidi_base.specs.Paragraphs.{AllButLast, has_inner_separator, AreParagraphRanges}
 use Rattle.bidi_base.proofs.TextLemmas.{HasUnits, subrange-middle, is_boundary-append, length-le-text_len}
 use Rattle.bidi_laws.proofs.StoredSteps.{length-stored_classes}

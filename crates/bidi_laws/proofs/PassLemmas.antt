@@ -1,12 +1,9 @@
 -- A pass that begins sequences and lets them go on: once each kept character stands in one of them, once, they are the isolating run sequences.
-use Rattle.bidi_base.proofs.Common.{◌≡◌, ℕ, zero, suc, ◌+◌, ◌<◌, ◌≤◌, Bool, true, not, cond, List, [], ◌∷◌, ◌++◌, length, map, get_or}
-use Rattle.bidi_base.proofs.Common.{set, count_by, append-nil, append_assoc, Some, None, refl, sym, arith, filter}
-use Rattle.bidi_base.proofs.Common.{range_with_len, sum_by, IsPermutation, sum_by-cons, sum_by-append, IsPermutation-trans}
-use Rattle.bidi_base.proofs.Common.{IsPermutation-append_left, IsPermutation-append_right, IsPermutation-append_comm}
-use Rattle.bidi_base.proofs.Common.{sum_by-IsPermutation, last_or, RunSequence, is_kept_at, kept_places, successor, is_first}
-use Rattle.bidi_base.proofs.Common.{with_ends, sequence_from, sequences, flat_map-append, flat_map-map, filter-append}
+use Rattle.bidi_base.proofs.Common.{◌≡◌, ℕ, zero, suc, ◌+◌, ◌<◌, ◌≤◌, Bool, true, not, cond, List, [], ◌∷◌, ◌++◌, length, map, get_or, set, count_by, append-nil, append_assoc, Some, None, refl}
+use Rattle.bidi_base.proofs.Common.{sym, arith, filter, range_with_len, sum_by, IsPermutation, sum_by-cons, sum_by-append, IsPermutation-trans, IsPermutation-append_left}
+use Rattle.bidi_base.proofs.Common.{IsPermutation-append_right, IsPermutation-append_comm, sum_by-IsPermutation, last_or, RunSequence, is_kept_at, kept_places, successor, is_first, with_ends}
+use Rattle.bidi_base.proofs.Common.{sequence_from, sequences, flat_map-append, flat_map-map, filter-append, flat_map, is_some}
 use Rattle.bidi_base.specs.declared.char_data.BidiClass.{BidiClass}
-use Rattle.std.specs.Prelude.{flat_map, is_some}
 use Rattle.bidi_base.proofs.ChainLemmas.{range_with_len-append, Follows, Follows-chain, Follows-join, IsMaximal-chain}
 use Rattle.bidi_laws.proofs.SuccessorLemmas.{successor-IsLaterKept}
 use Rattle.bidi_laws.proofs.PermutationLemmas.{count_of-IsPermutation, Ascends, Ascends-filter, Ascends-range, same_ascending}

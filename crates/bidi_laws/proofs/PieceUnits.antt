@@ -1,7 +1,6 @@
 -- One value a unit of a text that is cut into pieces: the range of each piece has the piece's own values.
-use Rattle.bidi_base.proofs.Common.{◌≡◌, ℕ, ◌+◌, List, [], ◌∷◌, ◌++◌, length, refl, append_assoc, arith, length-append, common_steps}
-use Rattle.bidi_base.proofs.Common.{All, All-nil, All-cons, sum_by-append, HasOwnUnits, ranges_from, text_len, per_unit}
-use Rattle.std.specs.Prelude.{flat_map}
+use Rattle.bidi_base.proofs.Common.{◌≡◌, ℕ, ◌+◌, List, [], ◌∷◌, ◌++◌, length, refl, append_assoc, arith, length-append, common_steps, All, All-nil, All-cons, sum_by-append, HasOwnUnits}
+use Rattle.bidi_base.proofs.Common.{ranges_from, text_len, per_unit, flat_map}
 use Rattle.bidi_laws.proofs.ParagraphsLemmas.{joined}
 use Rattle.bidi_base.proofs.PerUnit.{length-per_unit, per_unit-append}
 use Rattle.bidi_base.proofs.TextLemmas.{HasUnits, subrange-middle}

@@ -1,9 +1,8 @@
 -- The steps of the pass that reads a paragraph, as its calls leave them.
-use Rattle.bidi_base.proofs.Common.{◌≡◌, ℕ, suc, ◌+◌, ◌-◌, ◌<◌, Bool, ◌&&◌, cond, List, [], ◌∷◌, ◌++◌, length, get_or, set, take, drop, Some, refl, sym, ap, subst}
-use Rattle.bidi_base.proofs.Common.{◌∙◌, arith, length-take, length-append, All, Range, take-append-drop, take-take, drop_more, get_or-append-add, All-head}
-use Rattle.bidi_base.proofs.Common.{All-tail, is_strong, place, per_unit, class_at, resolved_fsi, innermost, outer, is_fsi, filled, met_units}
+use Rattle.bidi_base.proofs.Common.{◌≡◌, ℕ, suc, ◌+◌, ◌-◌, ◌<◌, Bool, ◌&&◌, cond, List, [], ◌∷◌, ◌++◌, length, get_or, set, take, drop, Some, refl, sym, ap, subst, ◌∙◌, arith, length-take}
+use Rattle.bidi_base.proofs.Common.{length-append, All, Range, take-append-drop, take-take, drop_more, get_or-append-add, All-head, All-tail, is_strong, place, per_unit, class_at, resolved_fsi}
+use Rattle.bidi_base.proofs.Common.{innermost, outer, is_fsi, filled, met_units, slice_get}
 use Rattle.bidi_base.specs.declared.char_data.BidiClass.{BidiClass}
-use Rattle.std.specs.Prelude.{slice_get}
 use Rattle.std.proofs.lemmas.List.{set_split, set-append_right}
 use Rattle.bidi_base.proofs.PlaceLemmas.{place-more}
 use Rattle.bidi_base.proofs.PerUnit.{per_unit-append, take-per_unit, drop-per_unit, get_or-per_unit-place}

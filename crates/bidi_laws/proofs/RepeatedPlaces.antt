@@ -1,10 +1,10 @@
 -- The units of some characters: what stands at them is what stands at the characters, repeated; and the units that a pass reads are those of the characters that it reads.
 use Rattle.bidi_base.proofs.Common.{◌≡◌, ◌≢◌, ◌⊎◌, ℕ, zero, suc, ◌+◌, ◌-◌, ◌<◌, ◌≤◌, Bool, true, List, [], ◌∷◌, ◌++◌, length, map, get_or, replicate, refl, sym, ap, ◌∙◌, arith, inl, inr, filter}
-use Rattle.bidi_base.proofs.Common.{range_with_len, cases_eq, flat_map-append, All-nil, All-cons, All-head, All-tail, All-append, All-filter, filter-append, length-map, ext_get_or, is_kept_in_place}
-use Rattle.bidi_base.proofs.Common.{between, class_at, at_places, text_len, place, per_unit, per_char, IsPerChar, IsLine, char_index, chars_in_runs, kept_in_place, units_in_runs, AreLines}
+use Rattle.bidi_base.proofs.Common.{range_with_len, cases_eq, flat_map-append, All-nil, All-cons, All-head, All-tail, All-append, All-filter, filter-append, length-map, ext_get_or}
+use Rattle.bidi_base.proofs.Common.{is_kept_in_place, between, class_at, at_places, text_len, place, per_unit, per_char, IsPerChar, IsLine, char_index, chars_in_runs, kept_in_place, units_in_runs}
+use Rattle.bidi_base.proofs.Common.{AreLines, flat_map}
 use Rattle.bidi_base.specs.declared.char_data.BidiClass.{BidiClass}
 use Rattle.bidi_base.specs.declared.char_data.BidiClass.TheVariants.{L}
-use Rattle.std.specs.Prelude.{flat_map}
 use Rattle.std.specs.List.{All}
 use Rattle.bidi_base.proofs.ChainLemmas.{range_with_len-append, filter_range-none}
 use Rattle.bidi_base.proofs.PlaceLemmas.{line_places, place-mono, place-more, unit_of}

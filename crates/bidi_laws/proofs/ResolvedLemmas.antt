@@ -1,14 +1,11 @@
 -- What the levels of sequences are, once some of them are resolved and once all are: bounds, and what they do not depend on.
-use Rattle.bidi_base.proofs.Common.{◌≡◌, ℕ, suc, ◌+◌, ◌<◌, ◌≤◌, true, cond, eqb, List, [], ◌∷◌, ◌++◌, length, get_or, map}
-use Rattle.bidi_base.proofs.Common.{count_by, Option, None, refl, ap, ◌∙◌, arith, rules, AllByRecursion, length-map}
-use Rattle.bidi_base.proofs.Common.{map-append, sum_by-cons, sum_by-append, is_removed, first_or, Source, stored_classes}
-use Rattle.bidi_base.proofs.Common.{explicit_levels, explicit_classes, RunSequence, is_kept_at, level_at, sequences}
-use Rattle.bidi_base.proofs.Common.{weak_classes, n0_pair, n0, neutral_classes, implicit_levels, resolved_levels}
-use Rattle.bidi_base.proofs.Common.{sequence_levels, level_in, filled_levels, levels_in, stored_levels, All-from_recursion}
+use Rattle.bidi_base.proofs.Common.{◌≡◌, ℕ, suc, ◌+◌, ◌<◌, ◌≤◌, true, cond, eqb, List, [], ◌∷◌, ◌++◌, length, get_or, map, count_by, Option, None, refl, ap, ◌∙◌, arith, rules, AllByRecursion}
+use Rattle.bidi_base.proofs.Common.{length-map, map-append, sum_by-cons, sum_by-append, is_removed, first_or, Source, stored_classes, explicit_levels, explicit_classes, RunSequence, is_kept_at}
+use Rattle.bidi_base.proofs.Common.{level_at, sequences, weak_classes, n0_pair, n0, neutral_classes, implicit_levels, resolved_levels, sequence_levels, level_in, filled_levels, levels_in}
+use Rattle.bidi_base.proofs.Common.{stored_levels, All-from_recursion, flat_map, zip}
 use Rattle.bidi_base.specs.declared.char_data.BidiClass.{BidiClass}
 use Rattle.bidi_base.specs.declared.char_data.BidiClass.TheVariants.{BN}
 use Rattle.bidi_base.specs.declared.data_source.BidiMatchedOpeningBracket.{BidiMatchedOpeningBracket}
-use Rattle.std.specs.Prelude.{flat_map, zip}
 use Rattle.std.specs.List.{All}
 use Rattle.bidi_base.proofs.PlacesLemmas.{length-in_context}
 use Rattle.bidi_laws.proofs.StoredSteps.{length-stored_classes}

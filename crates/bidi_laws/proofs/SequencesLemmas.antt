@@ -1,8 +1,7 @@
 -- Isolating run sequences: each kept character stands in exactly one, once.
-use Rattle.bidi_base.proofs.Common.{◌≡◌, ℕ, ◌<◌, true, false, List, [], ◌∷◌, length, Some, refl, arith, filter, IsPermutation, filter-append, flat_map-map}
-use Rattle.bidi_base.proofs.Common.{holds_number, chain, RunSequence, is_kept_at, kept_places, successor, is_first, sequence_from, sequences}
+use Rattle.bidi_base.proofs.Common.{◌≡◌, ℕ, ◌<◌, true, false, List, [], ◌∷◌, length, Some, refl, arith, filter, IsPermutation, filter-append, flat_map-map, holds_number, chain, RunSequence}
+use Rattle.bidi_base.proofs.Common.{is_kept_at, kept_places, successor, is_first, sequence_from, sequences, flat_map}
 use Rattle.bidi_base.specs.declared.char_data.BidiClass.{BidiClass}
-use Rattle.std.specs.Prelude.{flat_map}
 use Rattle.bidi_base.proofs.ChainLemmas.{holds_number-from, IsLinked, none_in_range, fails_in_range, IsPermutation-chains, filter_chain_from}
 use Rattle.bidi_laws.proofs.PermutationLemmas.{IsPermutation-filter}
 use Rattle.bidi_laws.proofs.SuccessorLemmas.{successor-IsLaterKept, successor-injective}

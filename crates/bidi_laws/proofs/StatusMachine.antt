@@ -1,14 +1,12 @@
 -- The directional status stack answers at each character the level and the class that the definitions give.
-use Rattle.bidi_base.proofs.Common.{◌≡◌, ℕ, zero, suc, ◌+◌, ◌<◌, ◌≤◌, Bool, true, false, not, ◌&&◌, cond, leb, eqb, List, [], ◌∷◌}
-use Rattle.bidi_base.proofs.Common.{◌++◌, common_steps, length, map, reverse, refl, ap, ◌∙◌, arith, ◌⊎◌, inl}
-use Rattle.bidi_base.proofs.Common.{inr, eq-eqb, cases_Bool, cases_eq, both_ways, cond-true, cond-false, is_initiator, class_at}
-use Rattle.bidi_base.proofs.Common.{Status, override_of, asked_level, status_inside, status_at, explicit_level}
-use Rattle.bidi_base.proofs.Common.{explicit_class, State, start, fits_in, entry_of, taken, refused, entered, drop_isolate, close_isolate, close_embedding, closed, opened, state_at}
+use Rattle.bidi_base.proofs.Common.{◌≡◌, ℕ, zero, suc, ◌+◌, ◌<◌, ◌≤◌, Bool, true, false, not, ◌&&◌, cond, leb, eqb, List, [], ◌∷◌, ◌++◌, common_steps, length, map, reverse, refl, ap, ◌∙◌, arith}
+use Rattle.bidi_base.proofs.Common.{◌⊎◌, inl, inr, eq-eqb, cases_Bool, cases_eq, both_ways, cond-true, cond-false, is_initiator, class_at, Status, override_of, asked_level, status_inside}
+use Rattle.bidi_base.proofs.Common.{status_at, explicit_level, explicit_class, State, start, fits_in, entry_of, taken, refused, entered, drop_isolate, close_isolate, close_embedding, closed}
+use Rattle.bidi_base.proofs.Common.{opened, state_at, nat_le, if◌then◌else◌, answer_level, answer_class}
 use Rattle.bidi_base.specs.declared.char_data.BidiClass.{BidiClass}
-use Rattle.std.specs.Prelude.{nat_le, if◌then◌else◌}
 use Rattle.bidi_base.specs.Levels.{max_depth}
 use Rattle.bidi_laws.proofs.OpenersStack.{below_isolate, below_embedding, closed_by, opened_by, openers_read, left_at, open_at-closed_by}
-use Rattle.bidi_base.specs.StatusMachine.{start_status, answer_level, answer_class}
+use Rattle.bidi_base.specs.StatusMachine.{start_status}
 
 -- the state that a stack of openers leaves, each entered in text order
 unfoldable pub state_of : ℕ → List BidiClass → List ℕ → State

@@ -1,9 +1,8 @@
 -- There is one visual order: a list that is one is the one that `visual_order` computes.
-use Rattle.bidi_base.proofs.Common.{◌≡◌, ℕ, zero, suc, ◌+◌, ◌<◌, Bool, true, false, cond, eqb, List, [], ◌∷◌, map, length, get_or, take, drop, find, count_by, fold, AllPairs}
-use Rattle.bidi_base.proofs.Common.{Contains, Option, Some, None, unwrap_or, refl, ◌∙◌, arith, eqb-true, length-drop, get_or-take, get_or-drop, range_with_len, get_or-map}
-use Rattle.bidi_base.proofs.Common.{same_lists, length-map, get_or_default, length-range_with_len, get_or-range_with_len, sum_by-append, sum_by-IsPermutation, Contains-permutation}
-use Rattle.bidi_base.proofs.Common.{length_permutation, All-permutation, indexes, stands_left, visual_place, index_at_visual, visual_order, IsVisualOrder}
-use Rattle.std.proofs.Common.{All, length-take-le, take-append-drop}
+use Rattle.bidi_base.proofs.Common.{◌≡◌, ℕ, zero, suc, ◌+◌, ◌<◌, Bool, true, false, cond, eqb, List, [], ◌∷◌, map, length, get_or, take, drop, find, count_by, fold, AllPairs, Contains, Option}
+use Rattle.bidi_base.proofs.Common.{Some, None, unwrap_or, refl, ◌∙◌, arith, eqb-true, length-drop, get_or-take, get_or-drop, range_with_len, get_or-map, same_lists, length-map, get_or_default}
+use Rattle.bidi_base.proofs.Common.{length-range_with_len, get_or-range_with_len, sum_by-append, sum_by-IsPermutation, Contains-permutation, length_permutation, All-permutation, indexes}
+use Rattle.bidi_base.proofs.Common.{stands_left, visual_place, index_at_visual, visual_order, IsVisualOrder, All, length-take-le, take-append-drop}
 use Rattle.bidi_base.proofs.PlacesLemmas.{IsLeast, find-range_with_len, find-range_with_len-None}
 use Rattle.bidi_laws.proofs.OrderLemmas.{stands_left-other}
 

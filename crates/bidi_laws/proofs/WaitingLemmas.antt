@@ -1,9 +1,8 @@
 -- A pass over level runs: what is open waits for its match, and a run goes on with the sequence whose initiator its first character matches.
-use Rattle.bidi_base.proofs.Common.{◌≡◌, ◌≢◌, ℕ, zero, suc, ◌+◌, ◌<◌, ◌≤◌, true, false, List, [], ◌∷◌, ◌++◌, length, map, get_or, set, length-append, append-nil, Option, Some, None}
-use Rattle.bidi_base.proofs.Common.{refl, subst, arith, ◌⊎◌, eq-eqb, ne_eqb, filter, range_with_len, IsPermutation, false_from_ne_true, get_or_append_left, length-set, last_or}
-use Rattle.bidi_base.proofs.Common.{is_initiator_at, is_pdi_at, matching_pdi, is_kept_at, kept_places, next_kept, have_one_level, successor, is_first, sequences}
+use Rattle.bidi_base.proofs.Common.{◌≡◌, ◌≢◌, ℕ, zero, suc, ◌+◌, ◌<◌, ◌≤◌, true, false, List, [], ◌∷◌, ◌++◌, length, map, get_or, set, length-append, append-nil, Option, Some, None, refl, subst}
+use Rattle.bidi_base.proofs.Common.{arith, ◌⊎◌, eq-eqb, ne_eqb, filter, range_with_len, IsPermutation, false_from_ne_true, get_or_append_left, length-set, last_or, is_initiator_at, is_pdi_at}
+use Rattle.bidi_base.proofs.Common.{matching_pdi, is_kept_at, kept_places, next_kept, have_one_level, successor, is_first, sequences, get_or-set_same, get_or-set_other}
 use Rattle.bidi_base.specs.declared.char_data.BidiClass.{BidiClass}
-use Rattle.std.proofs.lemmas.List.{get_or-set_same, get_or-set_other}
 use Rattle.bidi_laws.proofs.ReadStack.{Member, IsReadStack, IsReadStack-more, IsReadStack-stay}
 use Rattle.bidi_laws.proofs.OpenMatches.{IsReadStack-match, IsReadStack-matched, IsReadStack-no_match}
 use Rattle.bidi_laws.proofs.IsolatesLemmas.{initiators_apart, pdis_apart, matching_pdi-is_pdi}

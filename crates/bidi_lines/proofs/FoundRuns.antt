@@ -1,12 +1,10 @@
 -- What a program's list of runs is: runs are ranges there.
-use Rattle.bidi_base.proofs.Common.{◌≡◌, ℕ, ◌+◌, ◌<◌, ◌≤◌, false, List, [], ◌∷◌, map, length, get_or, refl, sym}
-use Rattle.bidi_base.proofs.Common.{subst, le_refl, ◌∙◌, arith, rules, Range, get_or-map, length-map}
-use Rattle.bidi_base.proofs.Common.{length-range_with_len, IsPermutation-refl, has_rtl, indexes, at_places, visual_order, IsVisualOrder, Run, run_of, level_runs, run_level, visual_runs, AreVisualRuns}
-use Rattle.std.proofs.Common.{All}
+use Rattle.bidi_base.proofs.Common.{◌≡◌, ℕ, ◌+◌, ◌<◌, ◌≤◌, false, List, [], ◌∷◌, map, length, get_or, refl, sym, subst, le_refl, ◌∙◌, arith, rules, Range, get_or-map, length-map}
+use Rattle.bidi_base.proofs.Common.{length-range_with_len, IsPermutation-refl, has_rtl, indexes, at_places, visual_order, IsVisualOrder, Run, run_of, level_runs, run_level, visual_runs}
+use Rattle.bidi_base.proofs.Common.{AreVisualRuns, All, drop_all}
 use Rattle.bidi_lines.proofs.Ordered.{visual_order-still, none_odd}
 use Rattle.bidi_laws.proofs.VisualOrderLemmas.{visual_order-unique}
 use Rattle.bidi_lines.proofs.Pieces.{at_places-map}
-use Rattle.std.proofs.lemmas.List.{drop_all}
 use Rattle.bidi_lines.proofs.RunsLemmas.{Follow, level_runs-each, level_runs-follow, level_runs-more}
 use Rattle.bidi_lines.proofs.VisualRuns.{all-runs, visual_runs-are}
 

@@ -1,7 +1,6 @@
 -- A pass that brings the value of each character's first unit to the character's index.
-use Rattle.bidi_base.proofs.Common.{◌≡◌, ◌≢◌, ◌∙◌, ℕ, ◌+◌, ◌-◌, ◌<◌, ◌≤◌, List, length, get_or, take, set, arith, true, false, sym, ap, char_index}
-use Rattle.bidi_base.proofs.Common.{get_or-set_other, take_more, take_more_set, take_all, place, text_len, per_char, is_boundary}
-use Rattle.std.proofs.Common.{length-set, length-take-le}
+use Rattle.bidi_base.proofs.Common.{◌≡◌, ◌≢◌, ◌∙◌, ℕ, ◌+◌, ◌-◌, ◌<◌, ◌≤◌, List, length, get_or, take, set, arith, true, false, sym, ap, char_index, get_or-set_other, take_more, take_more_set}
+use Rattle.bidi_base.proofs.Common.{take_all, place, text_len, per_char, is_boundary, length-set, length-take-le}
 use Rattle.std.proofs.lemmas.List.{take-set}
 use Rattle.bidi_base.proofs.TextLemmas.{HasUnits, length-le-text_len}
 use Rattle.bidi_base.proofs.PlaceLemmas.{place-more, place-more-le, place-le-back, place-lt, place-end, is_boundary-place, place-char_index, char_index-le}

@@ -1,7 +1,6 @@
 -- The levels of the whole text, those of one of its lines after L1.
-use Rattle.bidi_base.proofs.Common.{◌≡◌, ℕ, ◌-◌, ◌≤◌, List, ◌++◌, length, take, drop, arith, append_assoc, length-append}
-use Rattle.bidi_base.proofs.Common.{length-drop, common_steps, slice_range, drop-drop, line_levels, levels_with_line}
-use Rattle.std.proofs.Common.{length-take-le}
+use Rattle.bidi_base.proofs.Common.{◌≡◌, ℕ, ◌-◌, ◌≤◌, List, ◌++◌, length, take, drop, arith, append_assoc, length-append, length-drop, common_steps, slice_range, drop-drop, line_levels}
+use Rattle.bidi_base.proofs.Common.{levels_with_line, length-take-le}
 use Rattle.bidi_base.specs.declared.char_data.BidiClass.{BidiClass}
 use Rattle.bidi_lines.proofs.LineLevels.{length-line_levels}
 

@@ -1,12 +1,9 @@
 -- L1 along a line: the level that each place takes, and what a pass over the line keeps true.
-use Rattle.bidi_base.proofs.Common.{◌≡◌, ℕ, zero, suc, ◌+◌, ◌-◌, ◌<◌, ◌≤◌, ◌≢◌, if◌then◌else◌, ◌&&◌, ◌||◌, Bool, true, false, not, nat_lt, List, [], ◌∷◌, length, get_or, drop, set}
-use Rattle.bidi_base.proofs.Common.{refl, sym, ap, ◌∙◌, arith, inl, inr, drop-cons, get_or-set_other, get_or-set_same, add-zero, common_steps, same_number_lists, cases_lt, cases_Bool}
-use Rattle.bidi_base.proofs.Common.{get_or_default, list_any_at, list_any_none, is_removed, is_odd, has_rtl, is_reset, line_levels_after, line_levels, class_at}
-use Rattle.std.proofs.Common.{length-set}
+use Rattle.bidi_base.proofs.Common.{◌≡◌, ℕ, zero, suc, ◌+◌, ◌-◌, ◌<◌, ◌≤◌, ◌≢◌, if◌then◌else◌, ◌&&◌, ◌||◌, Bool, true, false, not, nat_lt, List, [], ◌∷◌, length, get_or, drop, set, refl, sym, ap}
+use Rattle.bidi_base.proofs.Common.{◌∙◌, arith, inl, inr, drop-cons, get_or-set_other, get_or-set_same, add-zero, common_steps, same_number_lists, cases_lt, cases_Bool, get_or_default}
+use Rattle.bidi_base.proofs.Common.{list_any_at, list_any_none, is_removed, is_odd, has_rtl, is_reset, line_levels_after, line_levels, class_at, length-set, is_separator, is_blank}
 use Rattle.bidi_base.specs.declared.char_data.BidiClass.{BidiClass}
 use Rattle.bidi_base.specs.declared.char_data.BidiClass.TheVariants.{L}
-use Rattle.bidi_base.specs.Classes.{is_separator}
-use Rattle.bidi_base.specs.Line.{is_blank}
 use Rattle.bidi_lines.specs.Stops.{is_stop, IsSteadyAt}
 
 -- ---- classes

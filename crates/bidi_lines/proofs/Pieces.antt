@@ -1,10 +1,9 @@
 -- Lists made of pieces: what holds of each pair in them, and their permutations.
-use Rattle.bidi_base.proofs.Common.{◌≡◌, ℕ, zero, suc, ◌+◌, ◌-◌, ◌<◌, ◌≤◌, List, [], ◌∷◌, ◌++◌, map, flat_map, reverse, length}
-use Rattle.bidi_base.proofs.Common.{get_or, set, AllPairs, refl, arith, append_assoc, suc-add, range_with_len}
-use Rattle.bidi_base.proofs.Common.{IsPermutation, common_steps, get_or-map, get_or-reverse, length-reverse, All-append, All-head}
-use Rattle.bidi_base.proofs.Common.{All-tail, length-range_with_len, get_or-range_with_len, IsPermutation-refl}
-use Rattle.bidi_base.proofs.Common.{IsPermutation-sym, IsPermutation-trans, IsPermutation-append_left, IsPermutation-append_right, IsPermutation-append_comm, between, at_places}
-use Rattle.std.proofs.Common.{swap, All}
+use Rattle.bidi_base.proofs.Common.{◌≡◌, ℕ, zero, suc, ◌+◌, ◌-◌, ◌<◌, ◌≤◌, List, [], ◌∷◌, ◌++◌, map, flat_map, reverse, length, get_or, set, AllPairs, refl, arith, append_assoc, suc-add}
+use Rattle.bidi_base.proofs.Common.{range_with_len, IsPermutation, common_steps, get_or-map, get_or-reverse, length-reverse, All-append, All-head, All-tail, length-range_with_len}
+use Rattle.bidi_base.proofs.Common.{get_or-range_with_len, IsPermutation-refl, IsPermutation-sym, IsPermutation-trans, IsPermutation-append_left, IsPermutation-append_right}
+use Rattle.bidi_base.proofs.Common.{IsPermutation-append_comm, between, at_places, All}
+use Rattle.std.proofs.Common.{swap}
 use Rattle.std.proofs.Math.Nat.{zero-add}
 use Rattle.std.proofs.lemmas.List.Sorted.{IsPermutation-keeps, IsPermutation-append}
 

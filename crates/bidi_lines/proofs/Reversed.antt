@@ -1,12 +1,9 @@
 -- What the annex's reversals leave: each pair stands as the levels between its items ask.
-use Rattle.bidi_base.proofs.Common.{◌≡◌, ℕ, zero, suc, ◌+◌, ◌-◌, ◌<◌, ◌≤◌, fold, get_or, nat_lt, max, List, [], ◌∷◌, ◌++◌, length}
-use Rattle.bidi_base.proofs.Common.{AllPairs, Contains, arith, ◌⊎◌, inl, inr, eqb-true, le_refl, ap, min, add-zero, suc-add}
-use Rattle.bidi_base.proofs.Common.{cases_lt, cases_Bool, IsPermutation, All-cons, All-nil, All-tail, filter_passes, AllPairs-cons}
-use Rattle.bidi_base.proofs.Common.{length-range_with_len, get_or-range_with_len, All-permutation, Contains-permutation}
-use Rattle.bidi_base.proofs.Common.{IsPermutation-refl, IsPermutation-trans, IsPermutation-cons, IsPermutation-append_right, IsPermutation-middle, is_odd, indexes, least, order_by_reversals}
-use Rattle.std.proofs.Common.{filter, All}
+use Rattle.bidi_base.proofs.Common.{◌≡◌, ℕ, zero, suc, ◌+◌, ◌-◌, ◌<◌, ◌≤◌, fold, get_or, nat_lt, max, List, [], ◌∷◌, ◌++◌, length, AllPairs, Contains, arith, ◌⊎◌, inl, inr, eqb-true, le_refl, ap}
+use Rattle.bidi_base.proofs.Common.{min, add-zero, suc-add, cases_lt, cases_Bool, IsPermutation, All-cons, All-nil, All-tail, filter_passes, AllPairs-cons, length-range_with_len}
+use Rattle.bidi_base.proofs.Common.{get_or-range_with_len, All-permutation, Contains-permutation, IsPermutation-refl, IsPermutation-trans, IsPermutation-cons, IsPermutation-append_right}
+use Rattle.bidi_base.proofs.Common.{IsPermutation-middle, is_odd, indexes, least, order_by_reversals, filter, All, append-nil}
 use Rattle.std.proofs.Math.Nat.{add-suc}
-use Rattle.std.proofs.lemmas.List.{append-nil}
 use Rattle.bidi_base.specs.Order.{reversed_after, reversals, highest, lowest_odd}
 use Rattle.bidi_laws.proofs.OrderLemmas.{le-least, least_between-le}
 use Rattle.bidi_laws.proofs.VisualOrderLemmas.{contains_index, all_below}

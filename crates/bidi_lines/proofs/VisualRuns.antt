@@ -1,13 +1,9 @@
 -- The level runs in the visual order of their levels, written out, are the visual order of the units.
-use Rattle.bidi_base.proofs.Common.{◌≡◌, ℕ, zero, suc, ◌+◌, ◌-◌, ◌<◌, ◌≤◌, max, true, List, [], ◌∷◌, map, flat_map, length, get_or}
-use Rattle.bidi_base.proofs.Common.{AllPairs, refl, ap, subst, arith, inl, inr, range_with_len, IsPermutation, cases_lt}
-use Rattle.bidi_base.proofs.Common.{cases_order, both_ways, cases_Bool, get_or-map, length-map, same_lists, get_or_default}
-use Rattle.bidi_base.proofs.Common.{flat_map-map, length-range_with_len, get_or-range_with_len, length-map-range_with_len}
-use Rattle.bidi_base.proofs.Common.{get_or-map-range_with_len, All-tail, All-map, All-permutation, IsPermutation-refl, IsPermutation-sym}
-use Rattle.bidi_base.proofs.Common.{IsPermutation-trans, IsPermutation-reverse, is_odd, between, indexes, at_places}
-use Rattle.bidi_base.proofs.Common.{least_between, stands_left, visual_order, IsVisualOrder, Run, level_runs, run_level, visual_runs, written_run, written_runs, IsLevelRun, AreVisualRuns}
-use Rattle.std.proofs.Common.{All}
-use Rattle.std.proofs.lemmas.List.Sorted.{IsPermutation-map}
+use Rattle.bidi_base.proofs.Common.{◌≡◌, ℕ, zero, suc, ◌+◌, ◌-◌, ◌<◌, ◌≤◌, max, true, List, [], ◌∷◌, map, flat_map, length, get_or, AllPairs, refl, ap, subst, arith, inl, inr, range_with_len}
+use Rattle.bidi_base.proofs.Common.{IsPermutation, cases_lt, cases_order, both_ways, cases_Bool, get_or-map, length-map, same_lists, get_or_default, flat_map-map, length-range_with_len}
+use Rattle.bidi_base.proofs.Common.{get_or-range_with_len, length-map-range_with_len, get_or-map-range_with_len, All-tail, All-map, All-permutation, IsPermutation-refl, IsPermutation-sym}
+use Rattle.bidi_base.proofs.Common.{IsPermutation-trans, IsPermutation-reverse, is_odd, between, indexes, at_places, least_between, stands_left, visual_order, IsVisualOrder, Run, level_runs}
+use Rattle.bidi_base.proofs.Common.{run_level, visual_runs, written_run, written_runs, IsLevelRun, AreVisualRuns, All, IsPermutation-map}
 use Rattle.bidi_laws.proofs.OrderLemmas.{least_between-le, stands_left-before, stands_left-after}
 use Rattle.bidi_laws.proofs.VisualOrderLemmas.{stands_left-same, visual_order-unique, all_below}
 use Rattle.bidi_lines.proofs.Least.{least_between-is, least_between-at}

@@ -1,5 +1,5 @@
 -- Where a pass over a line's classes has to look closer (L1).
-use Rattle.std.specs.Prelude.{◌≡◌, ℕ, ◌-◌, ◌<◌, ◌≤◌, Bool, true, false, ◌||◌, List, slice_index}
+use Rattle.std.specs.Prelude.{◌≡◌, ℕ, ◌-◌, ◌<◌, ◌≤◌, Bool, true, false, ◌||◌, List, slice_index, length}
 use Rattle.bidi_base.specs.declared.char_data.BidiClass.{BidiClass}
 use Rattle.bidi_base.specs.Classes.{is_removed, is_separator}
 use Rattle.bidi_base.specs.Line.{is_blank}
@@ -25,3 +25,15 @@ IsSteadyAt classes levels k = IsSteady (class_at classes k) (slice_index levels 
 -- the units from `from` up to `to`
 abbrev pub AreSteady : List BidiClass → List ℕ → ℕ → ℕ → Type 0
 AreSteady classes levels from to = (k : ℕ) → from ≤ k → k < to → IsSteadyAt classes levels k
+
+-- what a search for the next stop requires: a class for each level, and an index behind the first one
+pub record CanSeekStop (classes : List BidiClass) (levels : List ℕ) (from : ℕ) : Type 0 where
+  pub same_len : length levels ≡ length classes
+  pub begins : 0 < from
+  pub ends : from ≤ length levels
+
+-- what it finds: an index up to which there is no stop
+pub record IsSteadyUpTo (classes : List BidiClass) (levels : List ℕ) (from to : ℕ) : Type 0 where
+  pub begins : from ≤ to
+  pub ends : to ≤ length levels
+  pub steady : AreSteady classes levels from to

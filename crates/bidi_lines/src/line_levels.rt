@@ -8,7 +8,7 @@ ghost use Rattle.bidi_base.specs.Places.{class_at};
 ghost use Rattle.bidi_base.specs.Search.{IsFirst};
 ghost use Rattle.bidi_base.specs.Text.{text_len, per_char};
 ghost use Rattle.bidi_lines.specs.Arranged.{SameBelow, SameFrom};
-ghost use Rattle.bidi_lines.specs.Stops.{is_stop, AreBlanks, AreSteady, IsSteady, IsSteadyAt};
+ghost use Rattle.bidi_lines.specs.Stops.{is_stop, AreBlanks, AreSteady, CanSeekStop, IsSteady, IsSteadyAt, IsSteadyUpTo};
 
 use crate::stored::ClassList;
 use crate::visual_order::first_other;
@@ -130,12 +130,8 @@ fn first_break<C: ClassList>(classes: C, levels: &[Level], from: usize) -> usize
 
 // Returns what `steady_end` returns, and tests 16 units at once from the start.
 fn steady_end_by_blocks<C: ClassList>(classes: C, levels: &[Level], from: usize) -> usize
-    requires same_len { length levels.now ≡ length (C.classes classes) }
-    requires begins { 0 < from }
-    requires ends { from ≤ length levels.now }
-    ensures begins { from ≤ result }
-    ensures ends { result ≤ length levels.now }
-    ensures steady { AreSteady (C.classes classes) levels.now from result }
+    requires { CanSeekStop (C.classes classes) levels.now from }
+    ensures { IsSteadyUpTo (C.classes classes) levels.now from result }
 {
     let mut at = from;
     while levels.len() - at >= 16 {
@@ -154,12 +150,8 @@ fn steady_end_by_blocks<C: ClassList>(classes: C, levels: &[Level], from: usize)
 // Returns the first index from `from` on at which the pass of L1 stops, or the number of units if there is none. The
 // first unit is tested by itself: in a stretch of removed units that get another level, the pass stops at each.
 fn steady_end<C: ClassList>(classes: C, levels: &[Level], from: usize) -> usize
-    requires same_len { length levels.now ≡ length (C.classes classes) }
-    requires begins { 0 < from }
-    requires ends { from ≤ length levels.now }
-    ensures begins { from ≤ result }
-    ensures ends { result ≤ length levels.now }
-    ensures steady { AreSteady (C.classes classes) levels.now from result }
+    requires { CanSeekStop (C.classes classes) levels.now from }
+    ensures { IsSteadyUpTo (C.classes classes) levels.now from result }
 {
     if from == levels.len() || is_break(classes.class_at(from), levels[from - 1], levels[from]) {
         return from;

@@ -1,9 +1,8 @@
 -- N0 over units, one pair after another: what is known ahead, and what a bracket and the marks behind it take.
-use Rattle.bidi_base.proofs.Common.{◌≡◌, ℕ, suc, ◌+◌, ◌<◌, ◌≤◌, Bool, true, false, ◌&&◌, ◌||◌, cond, eqb, ltb, List, [], ◌∷◌, length, map, get_or, take, reverse, Option, Some, None, refl}
-use Rattle.bidi_base.proofs.Common.{sym, ap, ◌∙◌, arith, inl, inr, eq-eqb, ne_eqb, length-take, get_or-take, get_or-drop, list_all, list_any, Range, cases_Bool, cases_lt, and_parts}
-use Rattle.bidi_base.proofs.Common.{and_from, get_or-map, length-map, fill_by_all, AreNestedPairs, has_direction, is_kept_in_place, is_l_or_r, is_nsm, stands_for, is_mark_after, n0_pair}
-use Rattle.bidi_base.proofs.Common.{nearest_direction, pair_direction, class_at, is_boundary, place, text_len, IsPerChar, bounds, in_runs, kept_in_place}
-use Rattle.std.proofs.Common.{slice_range}
+use Rattle.bidi_base.proofs.Common.{◌≡◌, ℕ, suc, ◌+◌, ◌<◌, ◌≤◌, Bool, true, false, ◌&&◌, ◌||◌, cond, eqb, ltb, List, [], ◌∷◌, length, map, get_or, take, reverse, Option, Some, None, refl, sym, ap}
+use Rattle.bidi_base.proofs.Common.{◌∙◌, arith, inl, inr, eq-eqb, ne_eqb, length-take, get_or-take, get_or-drop, list_all, list_any, Range, cases_Bool, cases_lt, and_parts, and_from, get_or-map}
+use Rattle.bidi_base.proofs.Common.{length-map, fill_by_all, AreNestedPairs, has_direction, is_kept_in_place, is_l_or_r, is_nsm, stands_for, is_mark_after, n0_pair, nearest_direction}
+use Rattle.bidi_base.proofs.Common.{pair_direction, class_at, is_boundary, place, text_len, IsPerChar, bounds, in_runs, kept_in_place, slice_range}
 use Rattle.bidi_base.specs.declared.char_data.BidiClass.{BidiClass}
 use Rattle.bidi_base.specs.declared.char_data.BidiClass.TheVariants.{L}
 use Rattle.bidi_base.proofs.PlaceLemmas.{is_boundary-place, place-mono, place-le}

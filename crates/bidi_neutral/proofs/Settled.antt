@@ -1,8 +1,7 @@
 -- N2 over the units of a sequence, once N0 and N1 are done.
-use Rattle.bidi_base.proofs.Common.{◌≡◌, ℕ, ◌+◌, ◌<◌, ◌≤◌, true, false, List, [], ◌∷◌, length, map, find, None, refl, ◌∙◌, arith}
-use Rattle.bidi_base.proofs.Common.{All, Range, cases_Bool, All-head, All-tail, is_kept_in_place, direction_of}
-use Rattle.bidi_base.proofs.Common.{n2_rule, neutral_classes, at_places, class_at, first_or, level_at, Source, place, is_per_char, IsPerChar, bounds, in_runs, kept_in_place, units_in_runs}
-use Rattle.bidi_base.specs.InPlace.{AreNeutralsResolved}
+use Rattle.bidi_base.proofs.Common.{◌≡◌, ℕ, ◌+◌, ◌<◌, ◌≤◌, true, false, List, [], ◌∷◌, length, map, find, None, refl, ◌∙◌, arith, All, Range, cases_Bool, All-head, All-tail, is_kept_in_place}
+use Rattle.bidi_base.proofs.Common.{direction_of, n2_rule, neutral_classes, at_places, class_at, first_or, level_at, Source, place, is_per_char, IsPerChar, bounds, in_runs, kept_in_place}
+use Rattle.bidi_base.proofs.Common.{units_in_runs, AreNeutralsResolved}
 use Rattle.bidi_base.specs.declared.char_data.BidiClass.{BidiClass}
 use Rattle.bidi_base.specs.declared.char_data.BidiClass.TheVariants.{L, BN}
 use Rattle.bidi_text.proofs.PerCharTests.{class_eq, class_test}

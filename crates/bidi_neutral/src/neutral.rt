@@ -6,6 +6,7 @@
 ghost use Rattle.std.specs.Prelude.{◌≡◌, List, ◌∷◌, ◌++◌, [], length, map, OnOk, OnErr};
 ghost use Rattle.bidi_base.specs.FoundBrackets.{brackets_from};
 ghost use Rattle.bidi_base.specs.InPlace.{AreNeutralsResolved, AreNeutralsResolvedUpToN1, CanResolveNeutrals};
+ghost use Rattle.bidi_base.specs.InPlace.{IsDoneOrUnchanged};
 ghost use Rattle.bidi_base.specs.PairSearch.{HasRead};
 ghost use Rattle.bidi_base.specs.Text.{text_len, IsLine};
 ghost use Rattle.bidi_base.specs.Units.{bounds, kept_in_place, AreLines};
@@ -65,10 +66,10 @@ impl NeutralResolver {
     ) -> Result<(), AllocError>
         requires { CanResolveNeutrals T.units (T.characters text) (map bounds (runs_of sequence.now)) levels.now
             original_classes.now processing_classes.old }
-        ensures resolved { OnOk result (AreNeutralsResolved T.units (T.characters text) (D.source data_source.now)
+        ensures { IsDoneOrUnchanged result (AreNeutralsResolved T.units (T.characters text) (D.source data_source.now)
             (map bounds (runs_of sequence.now)) (sos_of sequence.now) (eos_of sequence.now) levels.now
-            original_classes.now processing_classes.old processing_classes.new) }
-        ensures refused { OnErr result (processing_classes.new ≡ processing_classes.old) }
+            original_classes.now processing_classes.old processing_classes.new)
+            processing_classes.old processing_classes.new }
     {
         let lent = sequence.lend();
         let runs = lent.runs();
@@ -169,11 +170,11 @@ pub fn resolve_up_to_n1<D: BidiDataSource, T: TextSource>(
 ) -> Result<(), AllocError>
     requires { CanResolveNeutrals T.units (T.characters leveled.now.text) (map bounds (lent_runs sequence))
         leveled.now.levels.now leveled.now.original_classes.now processing_classes.old }
-    ensures resolved { OnOk result (AreNeutralsResolvedUpToN1 T.units (T.characters leveled.now.text)
+    ensures { IsDoneOrUnchanged result (AreNeutralsResolvedUpToN1 T.units (T.characters leveled.now.text)
         (D.source data_source.now) (map bounds (lent_runs sequence.entry)) (lent_sos sequence.entry)
         (lent_eos sequence.entry) leveled.now.levels.now leveled.now.original_classes.now processing_classes.old
-        processing_classes.new) }
-    ensures refused { OnErr result (processing_classes.new ≡ processing_classes.old) }
+        processing_classes.new)
+        processing_classes.old processing_classes.new }
 {
     let LeveledText {
         text,
@@ -230,10 +231,10 @@ pub fn resolve_neutral<D: BidiDataSource, T: TextSource>(
 ) -> Result<(), AllocError>
     requires { CanResolveNeutrals T.units (T.characters text) (map bounds (runs_of sequence.now)) levels.now
         original_classes.now processing_classes.old }
-    ensures resolved { OnOk result (AreNeutralsResolved T.units (T.characters text) (D.source data_source.now)
+    ensures { IsDoneOrUnchanged result (AreNeutralsResolved T.units (T.characters text) (D.source data_source.now)
         (map bounds (runs_of sequence.now)) (sos_of sequence.now) (eos_of sequence.now) levels.now
-        original_classes.now processing_classes.old processing_classes.new) }
-    ensures refused { OnErr result (processing_classes.new ≡ processing_classes.old) }
+        original_classes.now processing_classes.old processing_classes.new)
+        processing_classes.old processing_classes.new }
 {
     NeutralResolver::new(alloc).resolve(
         text,

@@ -1,12 +1,11 @@
 -- Sixteen numbers at once, and the last sixteen of a list.
 use Rattle.bidi_base.proofs.Common.{◌≡◌, ℕ, ◌+◌, ◌-◌, ◌≤◌, ◌^◌, ◌%◌, Bool, true, false, not, eqb, nat_le, nat_lt, nat_tests, cond, list_all, List, [], ◌∷◌, ◌++◌, length, take, drop, map}
-use Rattle.bidi_base.proofs.Common.{replicate, refl, ap, ◌∙◌, arith, length-map, length-chunk, length-drop, take_all, take-take, drop-take, take-append-drop, cases_Bool, inl, inr}
-use Rattle.std.proofs.lemmas.List.Folds.{list_all-append}
+use Rattle.bidi_base.proofs.Common.{replicate, refl, ap, ◌∙◌, arith, length-map, length-chunk, length-drop, take_all, take-take, drop-take, take-append-drop, cases_Bool, inl, inr, list_all-append}
+use Rattle.bidi_base.proofs.Common.{tops_compared, zip2_splat_left, mask_l-mod}
 use Rattle.bidi_base.proofs.Lists.{list_all-take, list_all-drop}
 use lib.Lanes.{chunk, mask_l, top, zip2}
 use mir.Syntax.{Width}
 use mir.Val.{bits, hbits}
-use Rattle.std.proofs.lemmas.Simd.{tops_compared, zip2_splat_left, mask_l-mod}
 
 -- a bit mask is empty where no lane passes
 pub empty_mask : {X : Type 0} (p : X → Bool) (xs : List X) → eqb (mask_l (map p xs)) 0 ≡ list_all (λ x. not (p x)) xs

@@ -1,14 +1,12 @@
 -- The levels of a paragraph's units: of what X9 removed, and of a paragraph that keeps to its level throughout.
-use Rattle.bidi_base.proofs.Common.{◌≡◌, ℕ, zero, suc, ◌+◌, ◌-◌, ◌<◌, ◌≤◌, Bool, true, false, List, [], ◌∷◌, length, get_or, Option, refl, sym, map, ap, ◌∙◌, arith, inl, inr, All}
-use Rattle.bidi_base.proofs.Common.{list_any, cases_Bool, cases_lt, both_ways, not-true, ext_get_or, replicate-append-replicate, get_or_default, get_or-map, length-map, list_any_at}
-use Rattle.bidi_base.proofs.Common.{list_any_none, sum_by-cons, IsPermutation-refl, IsTrue, is_initiator, is_removed, hidden, class_at, resolved_fsi, stored_classes, explicit_levels}
-use Rattle.bidi_base.proofs.Common.{explicit_classes, is_kept_at, level_at, sequences, AreResolved, levels_in, text_len, place, is_per_char, per_unit, per_char}
+use Rattle.bidi_base.proofs.Common.{◌≡◌, ℕ, zero, suc, ◌+◌, ◌-◌, ◌<◌, ◌≤◌, Bool, true, false, List, [], ◌∷◌, length, get_or, Option, refl, sym, map, ap, ◌∙◌, arith, inl, inr, All, list_any}
+use Rattle.bidi_base.proofs.Common.{cases_Bool, cases_lt, both_ways, not-true, ext_get_or, replicate-append-replicate, get_or_default, get_or-map, length-map, list_any_at, list_any_none}
+use Rattle.bidi_base.proofs.Common.{sum_by-cons, IsPermutation-refl, IsTrue, is_initiator, is_removed, hidden, class_at, resolved_fsi, stored_classes, explicit_levels, explicit_classes}
+use Rattle.bidi_base.proofs.Common.{is_kept_at, level_at, sequences, AreResolved, levels_in, text_len, place, is_per_char, per_unit, per_char, replicate, keeps_to}
 use Rattle.std.proofs.Common.{add-zero}
-use Rattle.std.specs.Prelude.{replicate}
 use Rattle.bidi_base.specs.declared.char_data.BidiClass.{BidiClass}
 use Rattle.bidi_base.specs.declared.char_data.BidiClass.TheVariants.{L, FSI}
 use Rattle.bidi_base.specs.declared.data_source.BidiMatchedOpeningBracket.{BidiMatchedOpeningBracket}
-use Rattle.bidi_base.specs.Flat.{keeps_to}
 use Rattle.bidi_paragraphs.specs.Written.{IsWritten}
 use Rattle.bidi_laws.proofs.LevelLaws.{All-per_unit}
 use Rattle.bidi_text.proofs.PerCharTests.{class_eq, class_test, level_eq, level_test}

@@ -1,8 +1,6 @@
 -- A paragraph in which nothing opens a level: the passes over its one run.
-use Rattle.bidi_base.proofs.Common.{◌≡◌, ℕ, true, List, [], ◌∷◌, length, map, Option, arith, filter, Range, All-cons, All-nil, explicit_levels, explicit_classes, is_flat, hidden}
-use Rattle.bidi_base.proofs.Common.{stored_classes, direction_of, has_places, kept_places, sequences, IsLine, text_len, per_unit, AreLines, chars_in_runs, kept_in_runs}
-use Rattle.std.specs.Prelude.{replicate}
-use Rattle.std.proofs.lemmas.List.{append-nil}
+use Rattle.bidi_base.proofs.Common.{◌≡◌, ℕ, true, List, [], ◌∷◌, length, map, Option, arith, filter, Range, All-cons, All-nil, explicit_levels, explicit_classes, is_flat, hidden, stored_classes}
+use Rattle.bidi_base.proofs.Common.{direction_of, has_places, kept_places, sequences, IsLine, text_len, per_unit, AreLines, chars_in_runs, kept_in_runs, replicate, append-nil}
 use Rattle.bidi_base.specs.declared.char_data.BidiClass.{BidiClass}
 use Rattle.bidi_base.specs.declared.char_data.BidiClass.TheVariants.{L}
 use Rattle.bidi_base.specs.declared.data_source.BidiMatchedOpeningBracket.{BidiMatchedOpeningBracket}

@@ -1,12 +1,9 @@
 -- The passes over the units of a paragraph, put together: what they leave once some sequences are resolved, and once all are.
-use Rattle.bidi_base.proofs.Common.{◌≡◌, ℕ, Range, bounds, take_all, zero, suc, ◌+◌, ◌<◌, ◌≤◌, true, false, List, [], ◌∷◌, ◌++◌, length}
-use Rattle.bidi_base.proofs.Common.{get_or, take, map, Option, None, refl, sym, ap, ◌∙◌, arith, filter, list_all, length-map}
-use Rattle.bidi_base.proofs.Common.{get_or-map, get_or_default, get_or-append_seam, take-append_seam, length-append, map-append}
-use Rattle.bidi_base.proofs.Common.{is_kept, is_kept_in_place, is_l_or_r, length-replicate, nil_from_length, get_or-zip, length-zip, is_weak_resolved}
-use Rattle.bidi_base.proofs.Common.{class_at, at_places, first_or, stored_classes, explicit_levels, explicit_classes, processing_classes}
-use Rattle.bidi_base.proofs.Common.{RunSequence, level_at, has_places, sequences, weak_classes, direction_of, n2_rule}
-use Rattle.bidi_base.proofs.Common.{neutral_classes, implicit_level, AreResolved, text_len, place, is_per_char, per_unit, per_char, AreLines, in_runs, kept_in_runs, kept_in_place}
-use Rattle.std.specs.Prelude.{zip, replicate}
+use Rattle.bidi_base.proofs.Common.{◌≡◌, ℕ, Range, bounds, take_all, zero, suc, ◌+◌, ◌<◌, ◌≤◌, true, false, List, [], ◌∷◌, ◌++◌, length, get_or, take, map, Option, None, refl, sym, ap, ◌∙◌, arith}
+use Rattle.bidi_base.proofs.Common.{filter, list_all, length-map, get_or-map, get_or_default, get_or-append_seam, take-append_seam, length-append, map-append, is_kept, is_kept_in_place, is_l_or_r}
+use Rattle.bidi_base.proofs.Common.{length-replicate, nil_from_length, get_or-zip, length-zip, is_weak_resolved, class_at, at_places, first_or, stored_classes, explicit_levels, explicit_classes}
+use Rattle.bidi_base.proofs.Common.{processing_classes, RunSequence, level_at, has_places, sequences, weak_classes, direction_of, n2_rule, neutral_classes, implicit_level, AreResolved, text_len}
+use Rattle.bidi_base.proofs.Common.{place, is_per_char, per_unit, per_char, AreLines, in_runs, kept_in_runs, kept_in_place, zip, replicate}
 use Rattle.std.specs.List.{All}
 use Rattle.bidi_base.specs.declared.char_data.BidiClass.{BidiClass}
 use Rattle.bidi_base.specs.declared.char_data.BidiClass.TheVariants.{L, BN}

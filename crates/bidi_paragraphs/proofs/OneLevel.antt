@@ -1,10 +1,8 @@
 -- A list of classes to which W1 to N2 give one direction: its levels can be read off before W1.
-use Rattle.bidi_base.proofs.Common.{◌≡◌, ℕ, Bool, true, false, not, cond, if◌then◌else◌, List, [], ◌∷◌, ◌⊎◌, inl, inr, length, take}
-use Rattle.bidi_base.proofs.Common.{reverse, filter_map, find, Option, Some, None, option_map, refl, sym, ap, ◌∙◌, arith}
-use Rattle.bidi_base.proofs.Common.{cases_Bool, and_parts, and_from, or_cases, list_all, list_any, in_context, as_direction, is_en, is_et, is_kept, is_l_or_r, is_neutral, is_nsm, is_weak_resolved, same_class}
-use Rattle.bidi_base.proofs.Common.{carried, nearest, nearest_is, w1, w2, w3, w4, w5, w6, w1_rule, w2_rule, w3_rule, w4_rule, w5_rule, w6_rule, w7_rule, weak_classes}
-use Rattle.bidi_base.proofs.Common.{direction_of, nearest_direction, pair_direction, n0, n1_rule, neutral_classes, implicit_level, implicit_levels}
-use Rattle.bidi_base.specs.Brackets.{bracket_pairs}
+use Rattle.bidi_base.proofs.Common.{◌≡◌, ℕ, Bool, true, false, not, cond, if◌then◌else◌, List, [], ◌∷◌, ◌⊎◌, inl, inr, length, take, reverse, filter_map, find, Option, Some, None, option_map}
+use Rattle.bidi_base.proofs.Common.{refl, sym, ap, ◌∙◌, arith, cases_Bool, and_parts, and_from, or_cases, list_all, list_any, in_context, as_direction, is_en, is_et, is_kept, is_l_or_r}
+use Rattle.bidi_base.proofs.Common.{is_neutral, is_nsm, is_weak_resolved, same_class, carried, nearest, nearest_is, w1, w2, w3, w4, w5, w6, w1_rule, w2_rule, w3_rule, w4_rule, w5_rule, w6_rule}
+use Rattle.bidi_base.proofs.Common.{w7_rule, weak_classes, direction_of, nearest_direction, pair_direction, n0, n1_rule, neutral_classes, implicit_level, implicit_levels, bracket_pairs}
 use Rattle.bidi_base.specs.declared.char_data.BidiClass.{BidiClass}
 use Rattle.bidi_base.specs.declared.char_data.BidiClass.TheVariants.{L, EN, ES, ET, AN, CS, NSM, R}
 use Rattle.bidi_base.specs.declared.data_source.BidiMatchedOpeningBracket.{BidiMatchedOpeningBracket}

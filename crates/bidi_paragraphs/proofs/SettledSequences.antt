@@ -1,11 +1,10 @@
 -- The levels of a settled sequence can be read off its classes.
-use Rattle.bidi_base.proofs.Common.{◌≡◌, ℕ, zero, suc, ◌+◌, ◌-◌, ◌<◌, ◌≤◌, Bool, true, false, not, ◌&&◌, List, [], ◌∷◌, length, get_or, map, find, Some, refl, sym, ap, arith, nat_lt, filter, All, list_all}
-use Rattle.bidi_base.proofs.Common.{cases_Bool, and_parts, and_from, All-head, All-tail, All-nil, All-cons, All-map, bounds}
-use Rattle.bidi_base.proofs.Common.{are_ordered, is_l_or_r, is_en, is_kept, is_nsm, is_kept_in_place, is_weak_resolved, in_context}
-use Rattle.bidi_base.proofs.Common.{w1_rule, w2_rule, w3_rule, w4_rule, w5_rule, w6_rule, w7_rule, weak_classes, class_at, at_places, text_len, place, in_runs, units_in_runs, chars_in_runs}
-use Rattle.bidi_base.proofs.Common.{kept_in_place, AreLines, is_per_char, IsPerChar, ◌⊎◌, inl, inr, get_or_past, first_or, indexes, n0, n1_rule, neutral_classes, ◌∙◌, level_at, direction_of}
-use Rattle.std.specs.Prelude.{◌==◌, filter_map, fold, Option, None}
-use Rattle.bidi_base.specs.Brackets.{counted_brackets, bracket_at, with_closing, closed_pairs, bracket_limit, pairs_of, bracket_pairs}
+use Rattle.bidi_base.proofs.Common.{◌≡◌, ℕ, zero, suc, ◌+◌, ◌-◌, ◌<◌, ◌≤◌, Bool, true, false, not, ◌&&◌, List, [], ◌∷◌, length, get_or, map, find, Some, refl, sym, ap, arith, nat_lt, filter, All}
+use Rattle.bidi_base.proofs.Common.{list_all, cases_Bool, and_parts, and_from, All-head, All-tail, All-nil, All-cons, All-map, bounds, are_ordered, is_l_or_r, is_en, is_kept, is_nsm}
+use Rattle.bidi_base.proofs.Common.{is_kept_in_place, is_weak_resolved, in_context, w1_rule, w2_rule, w3_rule, w4_rule, w5_rule, w6_rule, w7_rule, weak_classes, class_at, at_places, text_len}
+use Rattle.bidi_base.proofs.Common.{place, in_runs, units_in_runs, chars_in_runs, kept_in_place, AreLines, is_per_char, IsPerChar, ◌⊎◌, inl, inr, get_or_past, first_or, indexes, n0, n1_rule}
+use Rattle.bidi_base.proofs.Common.{neutral_classes, ◌∙◌, level_at, direction_of, ◌==◌, filter_map, fold, Option, None, counted_brackets, bracket_at, with_closing, closed_pairs, bracket_limit}
+use Rattle.bidi_base.proofs.Common.{pairs_of, bracket_pairs}
 use Rattle.bidi_base.specs.declared.data_source.BidiMatchedOpeningBracket.{BidiMatchedOpeningBracket}
 use Rattle.bidi_base.specs.declared.char_data.BidiClass.{BidiClass}
 use Rattle.bidi_base.specs.declared.char_data.BidiClass.TheVariants.{L, AL, BN, EN, ES, ET, AN, CS, NSM, R}

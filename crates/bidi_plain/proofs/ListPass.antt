@@ -1,8 +1,7 @@
 -- The pass over a list of characters, one by one.
-use Rattle.bidi_base.proofs.Common.{rules, ◌≡◌, ℕ, ◌+◌, ◌-◌, ◌<◌, Bool, true, false, eqb, List, [], ◌∷◌, ◌++◌, length, map, get_or, reverse, length-append, le_refl}
-use Rattle.bidi_base.proofs.Common.{Option, Some, None, refl, sym, ap, ◌∙◌, arith, inl, inr, eqb-true, IfSome, get_or_push, length-set, class_at, last_or, with_ends}
-use Rattle.bidi_base.proofs.Common.{is_kept_at, next_kept, level_at, have_one_level, successor, is_first, sequences, read_class, with_entry, index_of}
-use Rattle.std.proofs.lemmas.List.{get_or-set_same}
+use Rattle.bidi_base.proofs.Common.{rules, ◌≡◌, ℕ, ◌+◌, ◌-◌, ◌<◌, Bool, true, false, eqb, List, [], ◌∷◌, ◌++◌, length, map, get_or, reverse, length-append, le_refl, Option, Some, None, refl, sym}
+use Rattle.bidi_base.proofs.Common.{ap, ◌∙◌, arith, inl, inr, eqb-true, IfSome, get_or_push, length-set, class_at, last_or, with_ends, is_kept_at, next_kept, level_at, have_one_level, successor}
+use Rattle.bidi_base.proofs.Common.{is_first, sequences, read_class, with_entry, index_of, get_or-set_same}
 use Rattle.bidi_base.specs.declared.char_data.BidiClass.{BidiClass}
 use Rattle.bidi_base.specs.SequencePass.{wait_of, choice, waits_before, choice_at, ArePlaces}
 use Rattle.bidi_laws.proofs.ReadStack.{Member}

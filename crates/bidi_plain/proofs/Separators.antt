@@ -1,6 +1,5 @@
 -- W4 from the front, where the class before is read as the pass has left it.
-use Rattle.bidi_base.proofs.Common.{◌≡◌, ℕ, ◌+◌, ◌-◌, ◌<◌, ◌≤◌, List, [], ◌∷◌, length, get_or, take, drop, set, reverse, sym, ◌∙◌, arith, drop_more, drop_all, in_context, w4_rule}
-use Rattle.std.proofs.lemmas.List.{get_or-take}
+use Rattle.bidi_base.proofs.Common.{◌≡◌, ℕ, ◌+◌, ◌-◌, ◌<◌, ◌≤◌, List, [], ◌∷◌, length, get_or, take, drop, set, reverse, sym, ◌∙◌, arith, drop_more, drop_all, in_context, w4_rule, get_or-take}
 use Rattle.bidi_base.specs.declared.char_data.BidiClass.{BidiClass}
 use Rattle.bidi_base.specs.declared.char_data.BidiClass.TheVariants.{L}
 use Rattle.bidi_base.proofs.PlacesLemmas.{reverse-take_more}

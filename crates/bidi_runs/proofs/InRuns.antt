@@ -1,7 +1,7 @@
 -- The units in some ranges that are in order.
-use Rattle.bidi_base.proofs.Common.{◌≡◌, ℕ, zero, suc, ◌+◌, ◌<◌, ◌≤◌, Bool, true, false, ◌&&◌, ◌||◌, leb, ltb, List, [], ◌∷◌, length, get_or, take, drop}
-use Rattle.bidi_base.proofs.Common.{refl, arith, All, and_from, and_left, and_right, le-leb, list_any_at, are_ordered_from, in_runs}
-use Rattle.std.proofs.lemmas.Bool.{lt-ltb, le-ltb, lt-leb}
+use Rattle.bidi_base.proofs.Common.{◌≡◌, ℕ, zero, suc, ◌+◌, ◌<◌, ◌≤◌, Bool, true, false, ◌&&◌, ◌||◌, leb, ltb, List, [], ◌∷◌, length, get_or, take, drop, refl, arith, All, and_from, and_left}
+use Rattle.bidi_base.proofs.Common.{and_right, le-leb, list_any_at, are_ordered_from, in_runs, lt-ltb, le-ltb}
+use Rattle.std.proofs.lemmas.Bool.{lt-leb}
 use Rattle.std.proofs.lemmas.List.Folds.{list_any_more}
 use Rattle.bidi_runs.proofs.WalkLemmas.{are_ordered-front}
 

@@ -1,7 +1,6 @@
 -- Sequences as a list of their own: what holds of those that the links lead to holds of their copies.
-use Rattle.bidi_base.proofs.Common.{◌≡◌, ℕ, ◌+◌, true, List, [], ◌∷◌, ◌++◌, Range, map-append, bounds, length, map, get_or, sym, ap, subst, ◌∙◌}
-use Rattle.bidi_base.proofs.Common.{arith, filter, All, map-map, length-map, get_or-map, flat_map-map, has_places, AreLines}
-use Rattle.std.specs.Prelude.{flat_map}
+use Rattle.bidi_base.proofs.Common.{◌≡◌, ℕ, ◌+◌, true, List, [], ◌∷◌, ◌++◌, Range, map-append, bounds, length, map, get_or, sym, ap, subst, ◌∙◌, arith, filter, All, map-map, length-map}
+use Rattle.bidi_base.proofs.Common.{get_or-map, flat_map-map, has_places, AreLines, flat_map}
 use Rattle.bidi_base.specs.declared.char_data.BidiClass.{BidiClass}
 use Rattle.bidi_runs.specs.declared.prepare.sequence.IsolatingRunSequence.{IsolatingRunSequence}
 use Rattle.bidi_runs.specs.Joining.{JoinedRuns, characters_of}

@@ -1,14 +1,9 @@
 -- The links between all level runs of a paragraph: their chains are the isolating run sequences.
-use Rattle.bidi_base.proofs.Common.{◌≡◌, ℕ, zero, suc, ◌+◌, ◌<◌, ◌≤◌, Bool, true, false, not, cond, List, [], ◌∷◌, ◌++◌, length}
-use Rattle.bidi_base.proofs.Common.{map, get_or, Option, Some, None, is_some, unwrap_or, refl, sym, ap, subst, ◌∙◌}
-use Rattle.bidi_base.proofs.Common.{arith, add-one, append-nil, inl, inr, filter, filter-append, range_with_len, cases_Bool}
-use Rattle.bidi_base.proofs.Common.{both_ways, lt-ltb, le-leb, list_any, flat_map-map, All, All-nil, All-cons, map-append}
-use Rattle.bidi_base.proofs.Common.{IsPermutation, length-map, indexes, is_l_or_r, last_or, holds_number, chain, is_kept_at}
-use Rattle.bidi_base.proofs.Common.{kept_before, next_kept, have_one_level, successor, is_first, start_class, end_class}
-use Rattle.bidi_base.proofs.Common.{sequence_from, sequences, has_places, place, IsLine, AreLines, are_ordered_from, are_ordered, level_run_ranges, chars_in_runs, kept_in_runs}
-use Rattle.std.specs.Prelude.{flat_map}
-use Rattle.std.proofs.lemmas.List.Sorted.{IsPermutation-map}
-use Rattle.bidi_base.specs.Units.{is_run_sequence}
+use Rattle.bidi_base.proofs.Common.{◌≡◌, ℕ, zero, suc, ◌+◌, ◌<◌, ◌≤◌, Bool, true, false, not, cond, List, [], ◌∷◌, ◌++◌, length, map, get_or, Option, Some, None, is_some, unwrap_or, refl, sym, ap}
+use Rattle.bidi_base.proofs.Common.{subst, ◌∙◌, arith, add-one, append-nil, inl, inr, filter, filter-append, range_with_len, cases_Bool, both_ways, lt-ltb, le-leb, list_any, flat_map-map, All}
+use Rattle.bidi_base.proofs.Common.{All-nil, All-cons, map-append, IsPermutation, length-map, indexes, is_l_or_r, last_or, holds_number, chain, is_kept_at, kept_before, next_kept, have_one_level}
+use Rattle.bidi_base.proofs.Common.{successor, is_first, start_class, end_class, sequence_from, sequences, has_places, place, IsLine, AreLines, are_ordered_from, are_ordered, level_run_ranges}
+use Rattle.bidi_base.proofs.Common.{chars_in_runs, kept_in_runs, flat_map, IsPermutation-map, is_run_sequence}
 use Rattle.bidi_base.specs.declared.char_data.BidiClass.{BidiClass}
 use Rattle.bidi_base.specs.declared.char_data.BidiClass.TheVariants.{L}
 use Rattle.bidi_base.proofs.ChainLemmas.{IsLinked, IsPermutation-chains, IsMaximal-chain, Follows, Follows-chain, Follows-join}

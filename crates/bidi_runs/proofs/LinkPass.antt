@@ -1,10 +1,9 @@
 -- One level run after another is linked: what a link says, what waits for the match of an open initiator, and what one more run does.
-use Rattle.bidi_base.proofs.Common.{◌≡◌, ◌≢◌, ℕ, zero, suc, ◌+◌, ◌-◌, ◌<◌, ◌≤◌, true, false, cond, eqb, max, List, [], ◌∷◌, ◌++◌, length, get_or, set, take, reverse, Option, Some, None}
-use Rattle.bidi_base.proofs.Common.{refl, sym, ap, subst, ◌∙◌, arith, ◌⊎◌, inl, inr, range_with_len, cases_Bool, cases_eq, cases_lt, get_or_push, get_or_append_left, length-append}
-use Rattle.bidi_base.proofs.Common.{length-set, reverse-append, eq-eqb, ne_eqb, IfSome, direction_of, class_at, first_or, last_or, is_initiator_at, is_pdi_at, matching_pdi, is_kept_at}
-use Rattle.bidi_base.proofs.Common.{kept_before, next_kept, level_at, level_or, have_one_level, successor, is_first, start_class, end_class, read_class, waiting_for}
+use Rattle.bidi_base.proofs.Common.{◌≡◌, ◌≢◌, ℕ, zero, suc, ◌+◌, ◌-◌, ◌<◌, ◌≤◌, true, false, cond, eqb, max, List, [], ◌∷◌, ◌++◌, length, get_or, set, take, reverse, Option, Some, None, refl, sym}
+use Rattle.bidi_base.proofs.Common.{ap, subst, ◌∙◌, arith, ◌⊎◌, inl, inr, range_with_len, cases_Bool, cases_eq, cases_lt, get_or_push, get_or_append_left, length-append, length-set}
+use Rattle.bidi_base.proofs.Common.{reverse-append, eq-eqb, ne_eqb, IfSome, direction_of, class_at, first_or, last_or, is_initiator_at, is_pdi_at, matching_pdi, is_kept_at, kept_before, next_kept}
+use Rattle.bidi_base.proofs.Common.{level_at, level_or, have_one_level, successor, is_first, start_class, end_class, read_class, waiting_for, get_or-set_same, get_or-set_other}
 use Rattle.std.specs.List.{fold}
-use Rattle.std.proofs.lemmas.List.{get_or-set_same, get_or-set_other}
 use Rattle.bidi_base.specs.declared.char_data.BidiClass.{BidiClass}
 use Rattle.bidi_base.specs.declared.char_data.BidiClass.TheVariants.{L}
 use Rattle.bidi_base.proofs.Lists.{reverse_front, last_or-reverse, reverse_none}

@@ -1,10 +1,7 @@
 -- The open isolates, of which those alike are counted.
-use Rattle.bidi_base.proofs.Common.{◌≡◌, ℕ, suc, ◌+◌, ◌-◌, ◌<◌, List, [], ◌∷◌, ◌++◌, length, get_or, take, Option, Some, None, sym, ap, ◌∙◌}
-use Rattle.bidi_base.proofs.Common.{arith, append-nil, append_assoc, flat_map-append, length-append, take-append_seam}
-use Rattle.std.specs.Prelude.{slice_get, slice_set, replicate}
-use Rattle.std.proofs.lemmas.List.{replicate-append-replicate}
+use Rattle.bidi_base.proofs.Common.{◌≡◌, ℕ, suc, ◌+◌, ◌-◌, ◌<◌, List, [], ◌∷◌, ◌++◌, length, get_or, take, Option, Some, None, sym, ap, ◌∙◌, arith, append-nil, append_assoc, flat_map-append}
+use Rattle.bidi_base.proofs.Common.{length-append, take-append_seam, slice_get, slice_set, replicate, replicate-append-replicate, last_or}
 use Rattle.bidi_base.proofs.Lists.{last_or-append}
-use Rattle.bidi_base.specs.Places.{last_or}
 use Rattle.bidi_runs.specs.Waiting.{open_isolates}
 use Rattle.bidi_runs.specs.declared.prepare.waiting.Alike.{Alike}
 

@@ -1,9 +1,7 @@
 -- Blocks of code units that X9 removes.
-use Rattle.bidi_base.proofs.Common.{◌≡◌, ℕ, ◌+◌, ◌-◌, ◌<◌, ◌≤◌, Bool, false, ◌||◌, List, [], ◌∷◌, length, get_or, take, drop, sym, ◌∙◌, arith}
-use Rattle.bidi_base.proofs.Common.{inl, inr, cases_Bool, get_or-take, length-take, length-drop, both_ways, is_kept, is_kept_at}
-use Rattle.std.proofs.lemmas.List.{get_or-drop}
-use Rattle.std.proofs.lemmas.List.Folds.{list_any_at}
-use Rattle.std.specs.List.{fold, list_any}
+use Rattle.bidi_base.proofs.Common.{◌≡◌, ℕ, ◌+◌, ◌-◌, ◌<◌, ◌≤◌, Bool, false, ◌||◌, List, [], ◌∷◌, length, get_or, take, drop, sym, ◌∙◌, arith, inl, inr, cases_Bool, get_or-take, length-take}
+use Rattle.bidi_base.proofs.Common.{length-drop, both_ways, is_kept, is_kept_at, get_or-drop, list_any_at, list_any}
+use Rattle.std.specs.List.{fold}
 use Rattle.bidi_base.specs.declared.char_data.BidiClass.{BidiClass}
 use Rattle.bidi_base.specs.declared.char_data.BidiClass.TheVariants.{L}
 use Rattle.bidi_runs.specs.Joining.{is_kept_in}

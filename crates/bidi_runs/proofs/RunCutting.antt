@@ -1,7 +1,7 @@
 -- Level runs as a pass over the characters cuts them: what has ended, and where the run that is open began.
 use Rattle.bidi_base.proofs.Common.{◌≡◌, ℕ, ◌+◌, ◌<◌, true, false, cond, List, [], ◌∷◌, ◌++◌, length, Option, Some, None, refl, ◌∙◌, arith, append-nil, common_steps, filter, range_with_len}
-use Rattle.bidi_base.proofs.Common.{reverse-append, map-append, filter-append, indexes, is_kept_at, kept_before, level_at, begins_run, run_starts, place, text_len, ranges_between, level_run_ranges}
-use Rattle.std.specs.Prelude.{option_map}
+use Rattle.bidi_base.proofs.Common.{reverse-append, map-append, filter-append, indexes, is_kept_at, kept_before, level_at, begins_run, run_starts, place, text_len, ranges_between}
+use Rattle.bidi_base.proofs.Common.{level_run_ranges, option_map}
 use Rattle.bidi_base.specs.declared.char_data.BidiClass.{BidiClass}
 use Rattle.bidi_base.proofs.PlacesLemmas.{range_with_len-more}
 use Rattle.bidi_runs.specs.ExplicitPass.{IsCutTo, differs, runs_before, run_start}

@@ -1,10 +1,9 @@
 -- A sequence's runs, as the links lead to them one after another.
-use Rattle.bidi_base.proofs.Common.{◌≡◌, ℕ, zero, suc, ◌+◌, ◌-◌, ◌<◌, ◌≤◌, List, [], ◌∷◌, ◌++◌, length, map, get_or, Option, Some}
-use Rattle.bidi_base.proofs.Common.{None, refl, sym, ap, ◌∙◌, arith, append-nil, append_assoc, drop-cons, take}
-use Rattle.bidi_base.proofs.Common.{drop, take-append-le, drop-append-le, get_or-take, subst, is_some, unwrap_or, IsTrue, get_or_default, Range, map-append, get_or-map, last_or, chain, bounds}
+use Rattle.bidi_base.proofs.Common.{◌≡◌, ℕ, zero, suc, ◌+◌, ◌-◌, ◌<◌, ◌≤◌, List, [], ◌∷◌, ◌++◌, length, map, get_or, Option, Some, None, refl, sym, ap, ◌∙◌, arith, append-nil, append_assoc}
+use Rattle.bidi_base.proofs.Common.{drop-cons, take, drop, take-append-le, drop-append-le, get_or-take, subst, is_some, unwrap_or, IsTrue, get_or_default, Range, map-append, get_or-map, last_or}
+use Rattle.bidi_base.proofs.Common.{chain, bounds, is_run_sequence}
 use Rattle.bidi_base.proofs.ChainLemmas.{chain-None}
 use Rattle.bidi_base.proofs.Lists.{last_or-append}
-use Rattle.bidi_base.specs.Units.{is_run_sequence}
 use Rattle.bidi_base.specs.declared.char_data.BidiClass.{BidiClass}
 use Rattle.bidi_base.specs.declared.char_data.BidiClass.TheVariants.{L}
 use Rattle.bidi_runs.specs.Joining.{JoinedRuns}

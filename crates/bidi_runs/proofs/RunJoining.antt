@@ -1,7 +1,6 @@
 -- The first and the last kept character of a level run, their level, and what is next to the run.
-use Rattle.bidi_base.proofs.Common.{◌≡◌, ℕ, ◌+◌, ◌-◌, ◌<◌, ◌≤◌, true, eqb, max, List, [], ◌∷◌, length, Option, Some, None, refl, arith, ◌⊎◌, inl, inr, filter, range_with_len, cases_eq}
-use Rattle.bidi_base.proofs.Common.{both_ways, and_parts, is_initiator, direction_of, class_at, last_or, between, is_kept_at, kept_before, level_at, end_class, begins_run}
-use Rattle.std.specs.Prelude.{find, if◌then◌else◌, is_some}
+use Rattle.bidi_base.proofs.Common.{◌≡◌, ℕ, ◌+◌, ◌-◌, ◌<◌, ◌≤◌, true, eqb, max, List, [], ◌∷◌, length, Option, Some, None, refl, arith, ◌⊎◌, inl, inr, filter, range_with_len, cases_eq, both_ways}
+use Rattle.bidi_base.proofs.Common.{and_parts, is_initiator, direction_of, class_at, last_or, between, is_kept_at, kept_before, level_at, end_class, begins_run, find, if◌then◌else◌, is_some}
 use Rattle.bidi_base.specs.declared.char_data.BidiClass.{BidiClass}
 use Rattle.bidi_base.proofs.PlacesLemmas.{find-between, find-between-None}
 use Rattle.bidi_laws.proofs.SuccessorLemmas.{next_kept-is, next_kept-is_None, kept_before-is, kept_before-is_None}

@@ -1,13 +1,10 @@
 -- The loop over the level runs of a text: the run that comes, what has been joined before it, and what then.
-use Rattle.bidi_base.proofs.Common.{◌≡◌, ℕ, ◌+◌, ◌-◌, ◌<◌, ◌≤◌, Bool, true, false, cond, eqb, max, List, [], ◌∷◌, ◌++◌, length, map}
-use Rattle.bidi_base.proofs.Common.{get_or, take, Option, refl, sym, ap, subst, ◌∙◌, arith, length-append, rules}
-use Rattle.bidi_base.proofs.Common.{common_steps, IfSome, All, list_any, Range, both_ways, length-map, get_or-map, get_or_default}
-use Rattle.bidi_base.proofs.Common.{get_or_past, nil_from_length, take_more, All-nil, All-cons, list_any_at}
-use Rattle.bidi_base.proofs.Common.{IsPermutation-refl, is_initiator, direction_of, class_at, is_initiator_at, is_kept_at}
-use Rattle.bidi_base.proofs.Common.{level_at, is_l_or_r, Some, None, IsTrue, lt-ltb, le-leb, suc, zero, sequences}
-use Rattle.bidi_base.proofs.Common.{run_starts, waiting_for, place, text_len, per_unit, per_char, is_per_char, is_boundary, IsLine, bounds, kept_in_runs, level_run_ranges, AreLines}
-use Rattle.std.specs.Prelude.{flat_map, IsPermutation}
-use Rattle.bidi_base.specs.Units.{is_run_sequence}
+use Rattle.bidi_base.proofs.Common.{◌≡◌, ℕ, ◌+◌, ◌-◌, ◌<◌, ◌≤◌, Bool, true, false, cond, eqb, max, List, [], ◌∷◌, ◌++◌, length, map, get_or, take, Option, refl, sym, ap, subst, ◌∙◌, arith}
+use Rattle.bidi_base.proofs.Common.{length-append, rules, common_steps, IfSome, All, list_any, Range, both_ways, length-map, get_or-map, get_or_default, get_or_past, nil_from_length, take_more}
+use Rattle.bidi_base.proofs.Common.{All-nil, All-cons, list_any_at, IsPermutation-refl, is_initiator, direction_of, class_at, is_initiator_at, is_kept_at, level_at, is_l_or_r, Some, None, IsTrue}
+use Rattle.bidi_base.proofs.Common.{lt-ltb, le-leb, suc, zero, sequences, run_starts, waiting_for, place, text_len, per_unit, per_char, is_per_char, is_boundary, IsLine, bounds, kept_in_runs}
+use Rattle.bidi_base.proofs.Common.{level_run_ranges, AreLines, flat_map, is_run_sequence}
+use Rattle.std.specs.Prelude.{IsPermutation}
 use Rattle.bidi_base.specs.declared.char_data.BidiClass.{BidiClass}
 use Rattle.bidi_base.specs.declared.char_data.BidiClass.TheVariants.{L}
 use Rattle.bidi_base.proofs.TextLemmas.{HasUnits}

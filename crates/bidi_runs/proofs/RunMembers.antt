@@ -1,8 +1,7 @@
 -- The level runs of a paragraph, one after another, each by the characters that X9 keeps in it.
-use Rattle.bidi_base.proofs.Common.{◌≡◌, ℕ, zero, suc, ◌+◌, ◌-◌, ◌<◌, ◌≤◌, Bool, true, false, List, [], ◌∷◌, ◌++◌, length, get_or, refl, sym, ap, ◌∙◌, arith}
-use Rattle.bidi_base.proofs.Common.{add-one, append-nil, inl, inr, filter, range_with_len, cases_Bool, cases_eq, cases_lt, both_ways, get_or_push, flat_map-append}
-use Rattle.bidi_base.proofs.Common.{first_or, last_or, is_kept_at, kept_places, kept_before, next_kept, have_one_level, begins_run, run_starts}
-use Rattle.std.specs.Prelude.{flat_map}
+use Rattle.bidi_base.proofs.Common.{◌≡◌, ℕ, zero, suc, ◌+◌, ◌-◌, ◌<◌, ◌≤◌, Bool, true, false, List, [], ◌∷◌, ◌++◌, length, get_or, refl, sym, ap, ◌∙◌, arith, add-one, append-nil, inl, inr, filter}
+use Rattle.bidi_base.proofs.Common.{range_with_len, cases_Bool, cases_eq, cases_lt, both_ways, get_or_push, flat_map-append, first_or, last_or, is_kept_at, kept_places, kept_before, next_kept}
+use Rattle.bidi_base.proofs.Common.{have_one_level, begins_run, run_starts, flat_map}
 use Rattle.bidi_base.specs.declared.char_data.BidiClass.{BidiClass}
 use Rattle.bidi_base.proofs.Lists.{cases_Option}
 use Rattle.bidi_base.proofs.PlacesLemmas.{range_with_len-more}

@@ -1,8 +1,7 @@
 -- The characters of a run that open or close an isolate, read one by one.
-use Rattle.bidi_base.proofs.Common.{◌≡◌, ℕ, zero, suc, ◌+◌, ◌-◌, ◌<◌, ◌≤◌, Bool, ◌||◌, true, false, cond, eqb, eq-eqb, List, [], ◌∷◌, ◌++◌, length, get_or, take, replicate, Option}
-use Rattle.bidi_base.proofs.Common.{Some, None, refl, sym, ap, ◌∙◌, arith, append-nil, append_assoc, is_initiator, is_pdi, ne_eqb, inl, inr, then_some, cases_eq, cases_lt, fold_push}
-use Rattle.bidi_base.proofs.Common.{class_at, IsFirst, read_class, place, text_len, per_char, is_per_char, is_boundary, char_index, IsLine, IsPerChar}
-use Rattle.std.proofs.lemmas.List.{replicate-append-replicate}
+use Rattle.bidi_base.proofs.Common.{◌≡◌, ℕ, zero, suc, ◌+◌, ◌-◌, ◌<◌, ◌≤◌, Bool, ◌||◌, true, false, cond, eqb, eq-eqb, List, [], ◌∷◌, ◌++◌, length, get_or, take, replicate, Option, Some, None}
+use Rattle.bidi_base.proofs.Common.{refl, sym, ap, ◌∙◌, arith, append-nil, append_assoc, is_initiator, is_pdi, ne_eqb, inl, inr, then_some, cases_eq, cases_lt, fold_push, class_at, IsFirst}
+use Rattle.bidi_base.proofs.Common.{read_class, place, text_len, per_char, is_per_char, is_boundary, char_index, IsLine, IsPerChar, replicate-append-replicate}
 use Rattle.bidi_base.specs.declared.char_data.BidiClass.{BidiClass}
 use Rattle.bidi_base.specs.declared.char_data.BidiClass.TheVariants.{L}
 use Rattle.bidi_base.specs.contracts.char_data.BidiClassPartialEq.TheImpl.{ghosts}

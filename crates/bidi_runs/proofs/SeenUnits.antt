@@ -1,8 +1,7 @@
 -- The units of a sequence that are not BN: those that a pass over units reads, and the characters that they belong to.
-use Rattle.bidi_base.proofs.Common.{◌≡◌, ◌≢◌, ℕ, zero, suc, ◌+◌, ◌<◌, ◌≤◌, Bool, true, false, List, [], ◌∷◌, ◌++◌, length, map, replicate, refl, ◌∙◌, arith, inl, inr, filter, All}
-use Rattle.bidi_base.proofs.Common.{list_all, range_with_len, cases_Bool, and_parts, and_from, and_left, length-map, All-head, All-tail, filter-append, is_kept_in_place, at_places}
-use Rattle.bidi_base.proofs.Common.{between, class_at, place, per_unit, IsPerChar, are_ordered_from, are_ordered, in_runs, kept_in_place, units_in_runs, AreLines}
-use Rattle.std.proofs.lemmas.List.Folds.{list_all-append}
+use Rattle.bidi_base.proofs.Common.{◌≡◌, ◌≢◌, ℕ, zero, suc, ◌+◌, ◌<◌, ◌≤◌, Bool, true, false, List, [], ◌∷◌, ◌++◌, length, map, replicate, refl, ◌∙◌, arith, inl, inr, filter, All, list_all}
+use Rattle.bidi_base.proofs.Common.{range_with_len, cases_Bool, and_parts, and_from, and_left, length-map, All-head, All-tail, filter-append, is_kept_in_place, at_places, between, class_at, place}
+use Rattle.bidi_base.proofs.Common.{per_unit, IsPerChar, are_ordered_from, are_ordered, in_runs, kept_in_place, units_in_runs, AreLines, list_all-append}
 use Rattle.bidi_base.specs.declared.char_data.BidiClass.{BidiClass}
 use Rattle.bidi_base.specs.declared.char_data.BidiClass.TheVariants.{L}
 use Rattle.bidi_laws.proofs.StoredLemmas.{length-at_places, at_places-append}

@@ -1,10 +1,10 @@
 -- Ranges in order, and the walks over the units of some of them.
-use Rattle.bidi_base.proofs.Common.{◌≡◌, ℕ, zero, suc, ◌+◌, ◌-◌, ◌<◌, ◌≤◌, true, List, [], ◌∷◌, ◌++◌, length, map, get_or, take, drop, reverse, Some, append-nil, refl, sym}
-use Rattle.bidi_base.proofs.Common.{ap, ◌∙◌, arith, IsTrue, map-append, reverse-append, get_or-map, flat_map-append}
-use Rattle.bidi_base.proofs.Common.{MakesProgress, item_count, Range, between, bounds, are_ordered_from, are_ordered, units_in_runs}
+use Rattle.bidi_base.proofs.Common.{◌≡◌, ℕ, zero, suc, ◌+◌, ◌-◌, ◌<◌, ◌≤◌, true, List, [], ◌∷◌, ◌++◌, length, map, get_or, take, drop, reverse, Some, append-nil, refl, sym, ap, ◌∙◌, arith, IsTrue}
+use Rattle.bidi_base.proofs.Common.{map-append, reverse-append, get_or-map, flat_map-append, MakesProgress, item_count, Range, between, bounds, are_ordered_from, are_ordered, units_in_runs}
+use Rattle.bidi_base.proofs.Common.{is_run_sequence}
 use Rattle.std.proofs.lemmas.Slice.{between_to_end}
 use Rattle.bidi_base.specs.declared.char_data.BidiClass.{BidiClass}
-use Rattle.bidi_base.specs.Units.{is_run_sequence, units_from, units_below}
+use Rattle.bidi_base.specs.Units.{units_from, units_below}
 use Rattle.bidi_base.proofs.PlacesLemmas.{range_with_len-more}
 
 -- what stands where a list of runs has none

@@ -1,10 +1,9 @@
 -- A class written over some units of a slice.
 use Rattle.bidi_base.proofs.Common.{◌≡◌, ℕ, ◌+◌, ◌-◌, ◌<◌, ◌≤◌, Bool, true, false, min, max, List, length, get_or, set, take, sym, ap, subst, ◌∙◌, arith, inl, inr, length-take, length-drop}
 use Rattle.bidi_base.proofs.Common.{length-append, get_or-set_other, get_or-set_same, common_steps, cases_lt, cases_eq, cases_Bool, and_parts, and_from, and_left, or_parts, both_ways}
-use Rattle.bidi_base.proofs.Common.{length-replicate, get_or_append_left, get_or-append_right, get_or-replicate, is_kept_in_place, class_at, are_ordered, in_runs}
-use Rattle.std.proofs.Common.{length-set}
+use Rattle.bidi_base.proofs.Common.{length-replicate, get_or_append_left, get_or-append_right, get_or-replicate, is_kept_in_place, class_at, are_ordered, in_runs, length-set, get_or-take}
+use Rattle.bidi_base.proofs.Common.{get_or-drop}
 use Rattle.std.proofs.lemmas.Bool.{and_cases}
-use Rattle.std.proofs.lemmas.List.{get_or-take, get_or-drop}
 use Rattle.bidi_base.specs.declared.char_data.BidiClass.{BidiClass}
 use Rattle.bidi_base.specs.declared.char_data.BidiClass.TheVariants.{L}
 use Rattle.bidi_runs.specs.ExplicitPass.{filled}

@@ -1,10 +1,8 @@
 -- What is found in lines: line by line, and in lines without controls.
-use Rattle.bidi_base.proofs.Common.{◌==◌, map, length-map, flat_map-map, ◌≡◌, ℕ, ◌+◌, true, false, List, [], ◌∷◌, ◌++◌, Option, None}
-use Rattle.bidi_base.proofs.Common.{Some, length, refl, sym, ap, ◌∙◌, arith, append-nil, append_assoc, All, All-nil}
-use Rattle.bidi_base.proofs.Common.{All-cons, All-head, All-tail, All-weaker, onto_first, cases_Bool, inl, inr, nat_tests, flat_map, flat_map-append, nil_from_length, Source, IsUtf8, chars, cond-true}
-use Rattle.std.proofs.lemmas.Str.{utf8_lossy-IsUtf8, utf8_valid_len-IsUtf8}
-use Rattle.std.specs.Prelude.{option_map}
-use Rattle.std.specs.Option.{option_or}
+use Rattle.bidi_base.proofs.Common.{◌==◌, map, length-map, flat_map-map, ◌≡◌, ℕ, ◌+◌, true, false, List, [], ◌∷◌, ◌++◌, Option, None, Some, length, refl, sym, ap, ◌∙◌, arith, append-nil}
+use Rattle.bidi_base.proofs.Common.{append_assoc, All, All-nil, All-cons, All-head, All-tail, All-weaker, onto_first, cases_Bool, inl, inr, nat_tests, flat_map, flat_map-append, nil_from_length}
+use Rattle.bidi_base.proofs.Common.{Source, IsUtf8, chars, cond-true, utf8_valid_len-IsUtf8, option_map, option_or}
+use Rattle.std.proofs.lemmas.Str.{utf8_lossy-IsUtf8}
 use Rattle.std.proofs.Common.{add_assoc}
 use Rattle.bidi_base.specs.declared.char_data.BidiClass.{BidiClass}
 use Rattle.bidi_base.specs.declared.char_data.BidiClass.TheVariants.{LRE, LRO, RLE, RLO, PDF, LRI, RLI, FSI, PDI}

@@ -2,11 +2,10 @@
 use Rattle.bidi_base.proofs.Common.{◌≡◌, ℕ, ◌+◌, ◌-◌, ◌≤◌, List, [], ◌∷◌, ◌++◌, Option, length, map, flat_map, drop, encode_utf8, refl, sym, ap, ◌∙◌, append_assoc, length-append, arith, add-zero}
 use Rattle.bidi_base.proofs.Common.{take-append-add, take-append_seam, drop-append_seam, drop-append-add, slice_range, len_utf8, chars, IsUtf8, take_all, take-append-le, take-append-drop}
 use Rattle.bidi_base.proofs.Common.{drop-append-le, length-map, sum_by-append, encodes-chars, encodes-append, line_text, paragraph_level, stored_classes, lines_of, paragraphs_of, each_separator}
-use Rattle.bidi_base.proofs.Common.{ranges_from, Source, stored_levels, text_classes, text_levels, paragraph_levels, place, text_len, char_index, subrange, per_unit, per_char, IsLine}
+use Rattle.bidi_base.proofs.Common.{ranges_from, Source, stored_levels, text_classes, text_levels, paragraph_levels, place, text_len, char_index, subrange, per_unit, per_char, IsLine, length-drop}
+use Rattle.bidi_base.proofs.Common.{IsUtf8-between}
 use Rattle.std.proofs.Math.Nat.{zero-add}
 use Rattle.std.specs.Prelude.{encode_utf8_all}
-use Rattle.std.proofs.lemmas.List.{length-drop}
-use Rattle.std.proofs.lemmas.Str.{IsUtf8-between}
 use Rattle.bidi_base.specs.declared.char_data.BidiClass.{BidiClass}
 use Rattle.bidi_base.specs.declared.char_data.BidiClass.TheVariants.{L}
 use Rattle.bidi_laws.proofs.LayoutLemmas.{lines_of-joined}

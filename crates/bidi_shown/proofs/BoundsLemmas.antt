@@ -1,7 +1,6 @@
 -- Ranges of bytes that cut no character are lines of the text.
-use Rattle.bidi_base.proofs.Common.{◌≡◌, ◌∙◌, ℕ, ◌<◌, ◌++◌, true, List, [], ◌∷◌, length, take, drop, sym, ap, subst, arith, length-take}
-use Rattle.bidi_base.proofs.Common.{take-append-drop, chars, len_utf8, text_len, is_boundary, IsUtf8, IsCharBoundary, IsLine, Range, slice_range}
-use Rattle.std.proofs.lemmas.Str.{chars-append, IsCharBoundary-start, IsUtf8-between, IsUtf8-take}
+use Rattle.bidi_base.proofs.Common.{◌≡◌, ◌∙◌, ℕ, ◌<◌, ◌++◌, true, List, [], ◌∷◌, length, take, drop, sym, ap, subst, arith, length-take, take-append-drop, chars, len_utf8, text_len, is_boundary}
+use Rattle.bidi_base.proofs.Common.{IsUtf8, IsCharBoundary, IsLine, Range, slice_range, chars-append, IsCharBoundary-start, IsUtf8-between, IsUtf8-take}
 use Rattle.bidi_base.proofs.TextLemmas.{is_boundary-append}
 use Rattle.bidi_text.proofs.StrLemmas.{text_len-chars}
 use Rattle.bidi_columns.specs.Bounds.{IsRangeOf}

@@ -1,7 +1,7 @@
 -- The lines of an analysed paragraph are those of its characters.
-use Rattle.bidi_base.proofs.Common.{◌≡◌, ◌∙◌, ℕ, List, [], ◌∷◌, Option, None, Some, length, map, flat_map, refl, sym, ap, append-nil, length-map, chars, len_utf8, IsUtf8, Source, Run}
-use Rattle.bidi_base.proofs.Common.{Range, run_of, paragraph_level, paragraph_levels, text_classes, text_levels, get_or, stored_classes, stored_levels, per_char, flat_map-map}
-use Rattle.std.proofs.lemmas.Str.{encodes-chars}
+use Rattle.bidi_base.proofs.Common.{◌≡◌, ◌∙◌, ℕ, List, [], ◌∷◌, Option, None, Some, length, map, flat_map, refl, sym, ap, append-nil, length-map, chars, len_utf8, IsUtf8, Source, Run, Range}
+use Rattle.bidi_base.proofs.Common.{run_of, paragraph_level, paragraph_levels, text_classes, text_levels, get_or, stored_classes, stored_levels, per_char, flat_map-map, encodes-chars}
+use Rattle.bidi_base.proofs.Common.{IsPerCharText}
 use Rattle.bidi_base.specs.declared.char_data.BidiClass.{BidiClass}
 use Rattle.bidi_base.specs.declared.char_data.BidiClass.TheVariants.{L}
 use Rattle.bidi_base.proofs.PerUnit.{per_char-per_unit}
@@ -12,7 +12,6 @@ use Rattle.bidi_terminal.specs.Bases.{level_of_base}
 use Rattle.bidi_text.proofs.StrLemmas.{has_units, text_len-chars}
 use Rattle.bidi_visual.specs.Shown.{shown_levels, shown_paragraph, shown_range, shown_ranges}
 use Rattle.bidi_visual.specs.declared.view.View.{View}
-use Rattle.bidi_base.specs.Analysed.{IsPerCharText}
 use Rattle.bidi_walk.specs.ParagraphInfo.{levels_of, ranges_of}
 use Rattle.bidi_walk.specs.SplitRule.{IsAnalysisBy}
 use Rattle.bidi_walk.specs.declared.paragraph_info.ParagraphInfo.{ParagraphInfo}

@@ -1,10 +1,9 @@
 -- In whatever pieces a text comes, the same is shown.
-use Rattle.bidi_base.proofs.Common.{◌≡◌, ◌≢◌, ◌∙◌, ℕ, suc, if◌then◌else◌, length-take, take_more, ◌+◌, ◌-◌, ◌<◌, ◌≤◌, ◌++◌, ◌==◌}
-use Rattle.bidi_base.proofs.Common.{nat_lt, true, false, List, [], ◌∷◌, length, take, drop, get_or, flat_map, refl, sym}
-use Rattle.bidi_base.proofs.Common.{ap, subst, arith, nat_tests, eqb-true, cases_Bool, inl, inr, append_assoc, append-nil}
-use Rattle.bidi_base.proofs.Common.{take-append-drop, take-append_seam, drop-append_seam, flat_map-append, length-append}
-use Rattle.bidi_base.proofs.Common.{get_or-append_seam, chars, chars-nil, encode_utf8, IsUtf8, IsUtf8-past_char, IsCharBoundary, Source, is_paragraph_separator, cr_lf_together, onto_first}
-use Rattle.std.proofs.lemmas.Str.{chars-append, chars_past_char, encode_ascii, IsCharBoundary-before_ascii, IsUtf8-append, IsUtf8-drop, IsCharBoundary-after_ascii, IsUtf8-take}
+use Rattle.bidi_base.proofs.Common.{◌≡◌, ◌≢◌, ◌∙◌, ℕ, suc, if◌then◌else◌, length-take, take_more, ◌+◌, ◌-◌, ◌<◌, ◌≤◌, ◌++◌, ◌==◌, nat_lt, true, false, List, [], ◌∷◌, length, take, drop, get_or}
+use Rattle.bidi_base.proofs.Common.{flat_map, refl, sym, ap, subst, arith, nat_tests, eqb-true, cases_Bool, inl, inr, append_assoc, append-nil, take-append-drop, take-append_seam}
+use Rattle.bidi_base.proofs.Common.{drop-append_seam, flat_map-append, length-append, get_or-append_seam, chars, chars-nil, encode_utf8, IsUtf8, IsUtf8-past_char, IsCharBoundary, Source}
+use Rattle.bidi_base.proofs.Common.{is_paragraph_separator, cr_lf_together, onto_first, chars-append, chars_past_char, encode_ascii, IsCharBoundary-before_ascii, IsUtf8-append, IsUtf8-drop}
+use Rattle.bidi_base.proofs.Common.{IsCharBoundary-after_ascii, IsUtf8-take}
 use Rattle.bidi_unicode.specs.Unicode.{unicode_source}
 use Rattle.bidi_visual.specs.Shown.{own_chars, paragraphs_in, shown_paragraph, shown_text}
 use Rattle.bidi_visual.specs.declared.view.View.{View}

@@ -1,11 +1,8 @@
 -- Parts of rows, and where blocks begin.
-use Rattle.bidi_base.proofs.Common.{◌≡◌, ◌∙◌, ℕ, zero, suc, ◌+◌, ◌-◌, ◌*◌, ◌/◌, ◌<◌, ◌++◌, List, length, get_or, map, flat_map, take, drop, max, subst, arith}
-use Rattle.bidi_base.proofs.Common.{common_steps, All, range_with_len, add-one, drop-take, flat_map_more, map-append, take-append-drop, take-take, take_all}
+use Rattle.bidi_base.proofs.Common.{◌≡◌, ◌∙◌, ℕ, zero, suc, ◌+◌, ◌-◌, ◌*◌, ◌/◌, ◌<◌, ◌++◌, List, length, get_or, map, flat_map, take, drop, max, subst, arith, common_steps, All, range_with_len}
+use Rattle.bidi_base.proofs.Common.{add-one, drop-take, flat_map_more, map-append, take-append-drop, take-take, take_all, flat_map-append, take-map, drop-map, length-range_with_len}
+use Rattle.bidi_base.proofs.Common.{get_or-range_with_len, All-drop, All-take}
 use Rattle.std.proofs.Math.Nat.{mul_comm}
-use Rattle.std.proofs.lemmas.Grind.{flat_map-append}
-use Rattle.std.proofs.lemmas.List.{take-map, drop-map}
-use Rattle.std.proofs.lemmas.List.FromFn.{length-range_with_len, get_or-range_with_len}
-use Rattle.std.proofs.lemmas.List.Elements.{All-drop, All-take}
 use Rattle.bidi_controls.proofs.IndexLemmas.{next_index}
 use Rattle.bidi_stages.specs.Blocks.{block_at, block_count, blocks_of, part_of}
 use Rattle.bidi_stages.specs.declared.blocks.Block.{Block}

@@ -1,9 +1,9 @@
 -- What `parse` answers for a word of digits.
 use Rattle.bidi_base.proofs.Common.{◌≡◌, ℕ, ◌<◌, ◌≤◌, ◌^◌, List, length, Some, None, Result, Ok, Err, Bool, true, nat_le, ◌&&◌, if◌then◌else◌, sym, arith, rules, list_all, result_ok, nat_tests}
-use Rattle.std.specs.Char.{is_ascii_digit}
+use Rattle.bidi_base.proofs.Common.{is_ascii_digit, digits_value, IsNumeralModel, numerals_by_value, digits_value_short}
 use Rattle.std.specs.Result.{OkIff}
-use Rattle.std.specs.Str.Parse.{ParsesUnsigned, digits_value}
-use Rattle.std.proofs.lemmas.Str.Parse.{IsNumeralModel, numerals_by_value, parse_digits, digits_value_short}
+use Rattle.std.specs.Str.Parse.{ParsesUnsigned}
+use Rattle.std.proofs.lemmas.Str.Parse.{parse_digits}
 use Rattle.bidi_terminal.specs.Numbers.{number_of}
 
 digits : IsNumeralModel (λ word. list_all is_ascii_digit word ≡ true) (digits_value 10)

@@ -1,10 +1,10 @@
 -- Sixteen units at once.
-use Rattle.bidi_base.proofs.Common.{◌≡◌, ℕ, ◌+◌, ◌-◌, ◌<◌, ◌≤◌, ◌^◌, ◌%◌, Bool, false, nat_le, nat_tests, cond, List, length, take, drop, get_or, map}
-use Rattle.bidi_base.proofs.Common.{length-map, replicate, sym, ap, ◌∙◌, arith, take_all, length-drop, get_or-take, get_or-drop, slice_range}
+use Rattle.bidi_base.proofs.Common.{◌≡◌, ℕ, ◌+◌, ◌-◌, ◌<◌, ◌≤◌, ◌^◌, ◌%◌, Bool, false, nat_le, nat_tests, cond, List, length, take, drop, get_or, map, length-map, replicate, sym, ap, ◌∙◌, arith}
+use Rattle.bidi_base.proofs.Common.{take_all, length-drop, get_or-take, get_or-drop, slice_range, tops_compared, zip2_splat_left, mask_l-mod}
 use lib.Lanes.{mask_l, top, zip2}
 use mir.Syntax.{Width}
 use mir.Val.{bits, hbits}
-use Rattle.std.proofs.lemmas.Simd.{none_from_empty_mask, tops_compared, zip2_splat_left, mask_l-mod}
+use Rattle.std.proofs.lemmas.Simd.{none_from_empty_mask}
 
 -- `to_bitmask` of the comparison t of a splat with a vector
 bitmask_splat_left : (w : Width) (t : ℕ → ℕ → Bool) (x : ℕ) (n : ℕ) (ys : List ℕ) → length ys ≡ n → n ≤ 64

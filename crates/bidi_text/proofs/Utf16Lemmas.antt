@@ -1,9 +1,9 @@
 -- Units of UTF-16 as a list of characters: `utf16_text us`, with `utf16_len` for the lengths.
 use Rattle.bidi_base.proofs.Common.{zero, suc, ◌≡◌, ◌==◌, ℕ, ◌+◌, ◌-◌, ◌≤◌, Bool, true, false, ◌&&◌, ◌||◌, nat_le, nat_lt, if◌then◌else◌, common_steps, List, [], ◌∷◌, ◌++◌, length, take, drop}
 use Rattle.bidi_base.proofs.Common.{get_or, Option, Some, None, inl, inr, refl, ◌∙◌, ap, arith, length-take, length-drop, get_or-drop, drop-cons, ◌<◌, slice_range, cases_Bool, nat_tests}
-use Rattle.bidi_base.proofs.Common.{sum_by-cons, text_len, char_at, ascii_of, ascii_at, is_boundary, subrange, IsLine, pair_char, lone_char, utf16_text, utf16_len, splits_pair}
-use Rattle.std.proofs.Common.{MatchOption}
-use Rattle.bidi_base.specs.Utf16.{is_pair, IsFirst}
+use Rattle.bidi_base.proofs.Common.{sum_by-cons, text_len, char_at, ascii_of, ascii_at, is_boundary, subrange, IsLine, pair_char, lone_char, utf16_text, utf16_len, splits_pair, MatchOption}
+use Rattle.bidi_base.proofs.Common.{is_pair}
+use Rattle.bidi_base.specs.Utf16.{IsFirst}
 use Rattle.bidi_base.proofs.TextLemmas.{HasUnits, is_boundary-le, char_at-append, char_at-None, char_at-end, subrange-middle}
 
 pub has_units : HasUnits utf16_len

@@ -1,8 +1,8 @@
 -- The level runs of a line's units are those of its characters, where each unit has its character's level.
-use Rattle.bidi_base.proofs.Common.{◌≡◌, ◌≢◌, ℕ, zero, suc, ◌+◌, ◌<◌, ◌≤◌, List, [], ◌∷◌, ◌++◌, map, replicate, length, get_or}
-use Rattle.bidi_base.proofs.Common.{refl, arith, eqb-true, eq-eqb, eqb-false, map-map, get_or-map, length-map}
-use Rattle.bidi_base.proofs.Common.{nil_from_length, sum_by-cons, All-tail, at_places, place, per_unit, visual_order, Run, level_runs_from, level_runs, run_level, visual_runs, IsLevelRun}
-use Rattle.std.proofs.Common.{All, add-zero}
+use Rattle.bidi_base.proofs.Common.{◌≡◌, ◌≢◌, ℕ, zero, suc, ◌+◌, ◌<◌, ◌≤◌, List, [], ◌∷◌, ◌++◌, map, replicate, length, get_or, refl, arith, eqb-true, eq-eqb, eqb-false, map-map, get_or-map}
+use Rattle.bidi_base.proofs.Common.{length-map, nil_from_length, sum_by-cons, All-tail, at_places, place, per_unit, visual_order, Run, level_runs_from, level_runs, run_level, visual_runs}
+use Rattle.bidi_base.proofs.Common.{IsLevelRun, All}
+use Rattle.std.proofs.Common.{add-zero}
 use Rattle.bidi_base.proofs.TextLemmas.{HasUnits}
 use Rattle.bidi_base.proofs.PerUnit.{get_or-per_unit-place}
 use Rattle.bidi_lines.proofs.Ordered.{visual_order-is}

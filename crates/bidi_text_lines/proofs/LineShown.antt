@@ -1,8 +1,7 @@
 -- A line that is shown, by its levels: its runs, its text, and the order of its characters.
 use Rattle.bidi_base.proofs.Common.{◌≡◌, ℕ, ◌-◌, ◌≤◌, List, [], length, take, refl, sym, ap, subst, ◌∙◌, arith, Range, is_odd, has_rtl, reordered_text, line_text, line_levels_after, line_levels}
 use Rattle.bidi_base.proofs.Common.{levels_of_line, text_len, place, char_index, subrange, per_unit, is_per_char, IsLine, All, Run, visual_runs, visual_order, AnalysedText, line_levels_per_char}
-use Rattle.std.proofs.Common.{take_all, slice_range, IsTrue, ◌↔◌, not}
-use Rattle.bidi_base.specs.Analysed.{AreLevelsOfLine, AreRunsOfLine, IsTextOfLine, StaysInOrder}
+use Rattle.bidi_base.proofs.Common.{take_all, slice_range, IsTrue, ◌↔◌, not, AreLevelsOfLine, AreRunsOfLine, IsTextOfLine, StaysInOrder}
 use Rattle.bidi_base.specs.declared.char_data.BidiClass.{BidiClass}
 use Rattle.bidi_text.proofs.PerCharTests.{class_eq, level_eq}
 use Rattle.bidi_base.proofs.TextLemmas.{HasUnits}

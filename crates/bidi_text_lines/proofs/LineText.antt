@@ -1,8 +1,6 @@
 -- The reordered text of a line within a text: its runs are parts of the text.
-use Rattle.bidi_base.proofs.Common.{◌≡◌, ℕ, ◌+◌, ◌-◌, ◌≤◌, List, flat_map, length, get_or, sym, ◌∙◌, arith, flat_map-map}
-use Rattle.bidi_base.proofs.Common.{same_number_lists, place, per_unit, Run, visual_runs, reordered_text, run_text_in, IsLevelRun}
-use Rattle.std.proofs.Common.{slice_range}
-use Rattle.bidi_base.specs.Display.{run_text}
+use Rattle.bidi_base.proofs.Common.{◌≡◌, ℕ, ◌+◌, ◌-◌, ◌≤◌, List, flat_map, length, get_or, sym, ◌∙◌, arith, flat_map-map, same_number_lists, place, per_unit, Run, visual_runs, reordered_text}
+use Rattle.bidi_base.proofs.Common.{run_text_in, IsLevelRun, slice_range, run_text}
 use Rattle.bidi_base.proofs.TextLemmas.{HasUnits}
 use Rattle.bidi_base.proofs.PlaceLemmas.{place-mono, place-slice_range, char_index-place}
 use Rattle.bidi_laws.proofs.OrderLemmas.{get_or-slice_range, length-slice_range}

@@ -1,9 +1,7 @@
 -- L1 over the units of a line is L1 over its characters.
-use Rattle.bidi_base.proofs.Common.{◌≡◌, ℕ, zero, suc, ◌-◌, ◌≤◌, if◌then◌else◌, Bool, List, [], ◌∷◌, ◌++◌, length, take, drop, refl, ap₂, ◌∙◌, arith}
-use Rattle.bidi_base.proofs.Common.{append_assoc, length-drop, slice_range, list_any, or-false, drop-drop, take-append-drop, nil_from_length, list_any-append}
-use Rattle.bidi_base.proofs.Common.{is_removed, is_reset, line_levels_after, line_levels, levels_with_line, place, per_unit, char_index, IsLine}
-use Rattle.std.proofs.Common.{length-take-le}
-use Rattle.std.specs.Prelude.{replicate}
+use Rattle.bidi_base.proofs.Common.{◌≡◌, ℕ, zero, suc, ◌-◌, ◌≤◌, if◌then◌else◌, Bool, List, [], ◌∷◌, ◌++◌, length, take, drop, refl, ap₂, ◌∙◌, arith, append_assoc, length-drop, slice_range}
+use Rattle.bidi_base.proofs.Common.{list_any, or-false, drop-drop, take-append-drop, nil_from_length, list_any-append, is_removed, is_reset, line_levels_after, line_levels, levels_with_line}
+use Rattle.bidi_base.proofs.Common.{place, per_unit, char_index, IsLine, length-take-le, replicate}
 use Rattle.bidi_base.specs.declared.char_data.BidiClass.{BidiClass}
 use Rattle.bidi_base.proofs.TextLemmas.{HasUnits}
 use Rattle.bidi_base.proofs.PlaceLemmas.{place-sum, line_places, IsLineAt}

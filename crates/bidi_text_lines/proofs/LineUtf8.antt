@@ -1,9 +1,6 @@
 -- The bytes of a line of UTF-8, written from left to right, are UTF-8.
-use Rattle.bidi_base.proofs.Common.{ℕ, List, [], ◌∷◌, flat_map, arith, inl, inr, cases_Bool, All-tail, zero, Range, IsUtf8, chars}
-use Rattle.bidi_base.proofs.Common.{encode_utf8, is_odd, IsLine, IsPerChar, Run, run_level, visual_runs, levels_of_line}
-use Rattle.std.proofs.Common.{slice_range, All}
-use Rattle.std.specs.Char.{len_utf8}
-use Rattle.std.proofs.lemmas.Str.{scalars-chars, IsUtf8-nil, IsUtf8-append, IsUtf8-between}
+use Rattle.bidi_base.proofs.Common.{ℕ, List, [], ◌∷◌, flat_map, arith, inl, inr, cases_Bool, All-tail, zero, Range, IsUtf8, chars, encode_utf8, is_odd, IsLine, IsPerChar, Run, run_level}
+use Rattle.bidi_base.proofs.Common.{visual_runs, levels_of_line, slice_range, All, len_utf8, scalars-chars, IsUtf8-nil, IsUtf8-append, IsUtf8-between}
 use Rattle.bidi_base.specs.declared.char_data.BidiClass.{BidiClass}
 use Rattle.bidi_text.proofs.StrLemmas.{has_units, IsCharBoundary-from_is_boundary, subrange-from_str}
 use Rattle.bidi_text_lines.specs.Written.{run_units, shown_units, line_units, AreRunsOfChars}

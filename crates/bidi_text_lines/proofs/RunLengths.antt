@@ -1,9 +1,8 @@
 -- The visual runs of a line have the length of the line.
-use Rattle.bidi_base.proofs.Common.{◌≡◌, ℕ, ◌-◌, List, [], ◌∷◌, length, map, refl, sym, ap, ◌∙◌, arith, Range, length-append, length-map, length-reverse}
-use Rattle.bidi_base.proofs.Common.{length-range_with_len, sum_by, sum_by-cons, visual_order, Run, run_of, written_run, written_runs, AreVisualRuns}
+use Rattle.bidi_base.proofs.Common.{◌≡◌, ℕ, ◌-◌, List, [], ◌∷◌, length, map, refl, sym, ap, ◌∙◌, arith, Range, length-append, length-map, length-reverse, length-range_with_len, sum_by}
+use Rattle.bidi_base.proofs.Common.{sum_by-cons, visual_order, Run, run_of, written_run, written_runs, AreVisualRuns, length_permutation}
 use Rattle.bidi_lines.proofs.Pieces.{length-between}
 use Rattle.bidi_lines.proofs.Ordered.{visual_order-is}
-use Rattle.std.proofs.lemmas.List.Sorted.{length_permutation}
 
 pub length-written_run : (from : ℕ) (levels : List ℕ) (run : Run) → length (written_run from levels run) ≡ run.1 - run.0
 length-written_run from levels run = grind (arith, length-reverse, length-between)

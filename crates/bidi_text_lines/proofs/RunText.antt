@@ -1,9 +1,10 @@
 -- The reordered text of a line is that of its runs, from left to right.
-use Rattle.bidi_base.proofs.Common.{◌≡◌, ℕ, zero, suc, ◌+◌, ◌-◌, ◌<◌, ◌≤◌, List, [], ◌∷◌, ◌++◌, map, flat_map, length, get_or, drop, refl, sym, arith, inl, inr, zero-add, le_refl}
-use Rattle.bidi_base.proofs.Common.{range_with_len, cases_Bool, get_or-map, length-map, drop-drop, flat_map-map, All-tail, All-permutation, IsPermutation-reverse, flat_map-append}
-use Rattle.bidi_base.proofs.Common.{same_number_lists, is_odd, between, place, text_len, per_unit, Run, run_level, visual_runs, written_run, written_runs, reordered_text, IsLevelRun}
-use Rattle.std.proofs.Common.{slice_range, All, add-zero, map-id, take_all}
-use Rattle.bidi_base.specs.Display.{written_char, char_units, run_text}
+use Rattle.bidi_base.proofs.Common.{◌≡◌, ℕ, zero, suc, ◌+◌, ◌-◌, ◌<◌, ◌≤◌, List, [], ◌∷◌, ◌++◌, map, flat_map, length, get_or, drop, refl, sym, arith, inl, inr, zero-add, le_refl, range_with_len}
+use Rattle.bidi_base.proofs.Common.{cases_Bool, get_or-map, length-map, drop-drop, flat_map-map, All-tail, All-permutation, IsPermutation-reverse, flat_map-append, same_number_lists, is_odd}
+use Rattle.bidi_base.proofs.Common.{between, place, text_len, per_unit, Run, run_level, visual_runs, written_run, written_runs, reordered_text, IsLevelRun, slice_range, All, map-id, take_all}
+use Rattle.bidi_base.proofs.Common.{run_text, take-add, sub-zero}
+use Rattle.std.proofs.Common.{add-zero}
+use Rattle.bidi_base.specs.Display.{written_char, char_units}
 use Rattle.bidi_laws.proofs.OrderLemmas.{get_or-slice_range, length-slice_range}
 use Rattle.bidi_base.proofs.TextLemmas.{HasUnits}
 use Rattle.bidi_base.proofs.PlaceLemmas.{place-zero, place-more, place-mono, char_index-place}
@@ -12,8 +13,7 @@ use Rattle.bidi_lines.proofs.Pieces.{All-between, length-between, get_or-between
 use Rattle.bidi_lines.specs.Arranged.{NoneIsOdd}
 use Rattle.bidi_lines.proofs.Ordered.{visual_order-still}
 use Rattle.bidi_lines.proofs.VisualRuns.{visual_runs-are}
-use Rattle.std.proofs.Math.Seq.{take-add}
-use Rattle.std.proofs.Math.Nat.{sub-zero, sub_self}
+use Rattle.std.proofs.Math.Nat.{sub_self}
 use Rattle.bidi_text_lines.proofs.CharRuns.{units_of, place_from, visual_runs-units, run_level-units}
 
 pub flat_map-same_on : {A B : Type 0} (f g : A → List B) (xs : List A) → All (λ x. f x ≡ g x) xs → flat_map f xs ≡ flat_map g xs

@@ -1,9 +1,7 @@
 -- What a shown line gives of each line that it shows.
-use Rattle.bidi_base.proofs.Common.{◌≡◌, ℕ, ◌+◌, ◌-◌, ◌++◌, false, List, length, take, drop, refl, sym, ap, subst, ◌∙◌, arith, Range}
-use Rattle.bidi_base.proofs.Common.{text_len, subrange, per_char, IsLine, visual_runs, AnalysedText, line_levels_per_char}
-use Rattle.std.proofs.Common.{if◌then◌else◌, is_ok, Ok, Err, Result, OnOk, OnErr, slice_range, length-take-le, IsTrue, ◌↔◌, not}
-use Rattle.std.proofs.Math.Seq.{take-append_seam, drop-append_seam}
-use Rattle.bidi_base.specs.Analysed.{AreRunsOfLine, IsTextOfLine, StaysInOrder}
+use Rattle.bidi_base.proofs.Common.{◌≡◌, ℕ, ◌+◌, ◌-◌, ◌++◌, false, List, length, take, drop, refl, sym, ap, subst, ◌∙◌, arith, Range, text_len, subrange, per_char, IsLine, visual_runs}
+use Rattle.bidi_base.proofs.Common.{AnalysedText, line_levels_per_char, if◌then◌else◌, is_ok, Ok, Err, Result, OnOk, OnErr, slice_range, length-take-le, IsTrue, ◌↔◌, not, take-append_seam}
+use Rattle.bidi_base.proofs.Common.{drop-append_seam, AreRunsOfLine, IsTextOfLine, StaysInOrder}
 use Rattle.bidi_base.proofs.TextLemmas.{HasUnits}
 use Rattle.bidi_text_lines.specs.declared.shown_line.ShownLine.{ShownLine}
 use Rattle.bidi_text_lines.specs.ShownLine.{text_of, levels, runs, Shows, AppendsTextOfLine}

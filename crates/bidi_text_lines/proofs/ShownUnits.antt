@@ -1,7 +1,6 @@
 -- The units of a line that is shown are as many as those of the line.
-use Rattle.bidi_base.proofs.Common.{◌≡◌, ℕ, zero, ◌+◌, ◌-◌, ◌≤◌, List, [], ◌∷◌, length, reverse, flat_map, refl, ap, ◌∙◌, arith, inl, inr, All-tail, IsPermutation-reverse, cases_Bool}
-use Rattle.bidi_base.proofs.Common.{sum_by-cons, sum_by-IsPermutation, length-append, length-map, is_odd, text_len, subrange, IsLine, Run, run_level, written_runs, visual_runs}
-use Rattle.std.proofs.Common.{All}
+use Rattle.bidi_base.proofs.Common.{◌≡◌, ℕ, zero, ◌+◌, ◌-◌, ◌≤◌, List, [], ◌∷◌, length, reverse, flat_map, refl, ap, ◌∙◌, arith, inl, inr, All-tail, IsPermutation-reverse, cases_Bool, sum_by-cons}
+use Rattle.bidi_base.proofs.Common.{sum_by-IsPermutation, length-append, length-map, is_odd, text_len, subrange, IsLine, Run, run_level, written_runs, visual_runs, All}
 use Rattle.bidi_base.proofs.TextLemmas.{HasUnits}
 use Rattle.bidi_base.proofs.PlaceLemmas.{text_len-subrange}
 use Rattle.bidi_lines.proofs.LineInText.{length-part}

@@ -1,8 +1,6 @@
 -- A line none of whose levels is odd: its runs, written one after the other, are its units.
-use Rattle.bidi_base.proofs.Common.{◌≡◌, ℕ, ◌+◌, ◌-◌, ◌≤◌, ◌<◌, ◌++◌, false, List, [], ◌∷◌, drop, length, get_or, flat_map, ap, sym, ◌∙◌, arith}
-use Rattle.bidi_base.proofs.Common.{list_any_none, map, length-map, get_or-map, drop-drop, has_rtl, is_odd, Run, run_level, level_runs}
-use Rattle.std.proofs.Common.{slice_range}
-use Rattle.std.proofs.Math.Seq.{take-add}
+use Rattle.bidi_base.proofs.Common.{◌≡◌, ℕ, ◌+◌, ◌-◌, ◌≤◌, ◌<◌, ◌++◌, false, List, [], ◌∷◌, drop, length, get_or, flat_map, ap, sym, ◌∙◌, arith, list_any_none, map, length-map, get_or-map}
+use Rattle.bidi_base.proofs.Common.{drop-drop, has_rtl, is_odd, Run, run_level, level_runs, slice_range, take-add}
 use Rattle.bidi_lines.proofs.Ordered.{none_odd}
 use Rattle.bidi_lines.proofs.RunsLemmas.{Follow, level_runs-follow, level_runs-each}
 use Rattle.bidi_lines.proofs.FoundRuns.{visual_runs-still}

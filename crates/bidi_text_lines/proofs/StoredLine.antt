@@ -1,7 +1,7 @@
 -- A line of a text whose stored classes and levels pass the test `is_per_char`, as those of the info types do.
-use Rattle.bidi_base.proofs.Common.{◌≡◌, ℕ, ◌≤◌, List, length, refl, ◌∙◌, arith, IsTrue, slice_range, Range, AnalysedText, line_levels_per_char, has_rtl, levels_of_line}
-use Rattle.bidi_base.proofs.Common.{levels_with_line, char_levels_of_line, char_levels_with_line, text_len, subrange, per_char, is_per_char, IsLine, IsPerChar}
-use Rattle.bidi_base.specs.Analysed.{AreLevelsWithLine, AreLevelsOfLine, IsTextOfLine, StaysInOrder, levels_with_line_per_char}
+use Rattle.bidi_base.proofs.Common.{◌≡◌, ℕ, ◌≤◌, List, length, refl, ◌∙◌, arith, IsTrue, slice_range, Range, AnalysedText, line_levels_per_char, has_rtl, levels_of_line, levels_with_line}
+use Rattle.bidi_base.proofs.Common.{char_levels_of_line, char_levels_with_line, text_len, subrange, per_char, is_per_char, IsLine, IsPerChar, AreLevelsOfLine, IsTextOfLine, StaysInOrder}
+use Rattle.bidi_base.specs.Analysed.{AreLevelsWithLine, levels_with_line_per_char}
 use Rattle.bidi_base.specs.declared.char_data.BidiClass.{BidiClass}
 use Rattle.bidi_base.proofs.PerUnit.{length-per_char, per_char-per_unit}
 use Rattle.bidi_base.proofs.PlaceLemmas.{line_places, text_len-subrange}

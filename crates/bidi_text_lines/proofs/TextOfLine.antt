@@ -1,8 +1,7 @@
 -- A line of a text whose classes and levels are one a unit, equal within each character: its levels, its runs and its text are those of its characters.
 use Rattle.bidi_base.proofs.Common.{◌≡◌, ℕ, ◌+◌, ◌-◌, ◌<◌, ◌≤◌, List, [], length, get_or, map, flat_map, sym, ap, ◌∙◌, arith, false, slice_range, Range, get_or-map, length-map, Run, run_of}
 use Rattle.bidi_base.proofs.Common.{run_text_in, visual_runs, reordered_text, line_text, IsLevelRun, AreVisualRuns, is_odd, has_rtl, line_levels, line_levels_after, levels_of_line}
-use Rattle.bidi_base.proofs.Common.{levels_with_line, visual_order, text_len, char_index, subrange, per_unit, per_char, IsLine, IsPerChar, char_levels_of_line, char_levels_with_line}
-use Rattle.std.proofs.Common.{All}
+use Rattle.bidi_base.proofs.Common.{levels_with_line, visual_order, text_len, char_index, subrange, per_unit, per_char, IsLine, IsPerChar, char_levels_of_line, char_levels_with_line, All}
 use Rattle.bidi_base.specs.declared.char_data.BidiClass.{BidiClass}
 use Rattle.bidi_base.specs.declared.char_data.BidiClass.TheVariants.{L}
 use Rattle.bidi_base.proofs.TextLemmas.{HasUnits}

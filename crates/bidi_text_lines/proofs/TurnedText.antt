@@ -1,10 +1,8 @@
 -- The bytes of a text, turned round one by one, are its characters last first.
-use Rattle.bidi_base.proofs.Common.{◌≡◌, ℕ, zero, suc, ◌+◌, ◌-◌, ◌/◌, ◌%◌, ◌<◌, ◌≤◌, Bool, true, nat_lt, List, [], ◌∷◌, ◌++◌, length}
-use Rattle.bidi_base.proofs.Common.{get_or, reverse, flat_map, refl, sym, ap, subst, ◌∙◌, arith, inl, inr, cases_lt}
-use Rattle.bidi_base.proofs.Common.{and_parts, append-nil, list_all, chars, encode_utf8_all, IsUtf8, flat_map-append}
-use Rattle.bidi_base.proofs.Common.{get_or-reverse, reverse-append, reverse-reverse, length-reverse, same_number_lists}
+use Rattle.bidi_base.proofs.Common.{◌≡◌, ℕ, zero, suc, ◌+◌, ◌-◌, ◌/◌, ◌%◌, ◌<◌, ◌≤◌, Bool, true, nat_lt, List, [], ◌∷◌, ◌++◌, length, get_or, reverse, flat_map, refl, sym, ap, subst, ◌∙◌, arith}
+use Rattle.bidi_base.proofs.Common.{inl, inr, cases_lt, and_parts, append-nil, list_all, chars, encode_utf8_all, IsUtf8, flat_map-append, get_or-reverse, reverse-append, reverse-reverse}
+use Rattle.bidi_base.proofs.Common.{length-reverse, same_number_lists, encode_ascii, encodes-chars, IsUtf8-nil, IsUtf8-append, IsUtf8-encode}
 use Rattle.std.specs.Char.{encode_utf8}
-use Rattle.std.proofs.lemmas.Str.{encode_ascii, encodes-chars, IsUtf8-nil, IsUtf8-append, IsUtf8-encode}
 use lib.Utf8.{scalar, scalars}
 use Rattle.bidi_text_lines.specs.Turned.{turned_byte, turned_at, behind_two}
 

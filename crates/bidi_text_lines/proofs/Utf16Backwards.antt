@@ -1,9 +1,6 @@
 -- Units of UTF-16 without surrogates are their characters.
-use Rattle.bidi_base.proofs.Common.{◌≡◌, ℕ, ◌<◌, ◌^◌, true, false, List, [], ◌∷◌, ◌++◌, suc, get_or, reverse, flat_map, refl, sym, ap, ap₂}
-use Rattle.bidi_base.proofs.Common.{◌∙◌, arith, and_parts, append-nil, list_all, utf16_text, flat_map-append, reverse-append}
-use Rattle.std.specs.Char.Escape.{encode_utf16}
-use Rattle.bidi_base.specs.Utf16.{is_pair, lone_char}
-use Rattle.bidi_base.specs.Utf16.{is_character}
+use Rattle.bidi_base.proofs.Common.{◌≡◌, ℕ, ◌<◌, ◌^◌, true, false, List, [], ◌∷◌, ◌++◌, suc, get_or, reverse, flat_map, refl, sym, ap, ap₂, ◌∙◌, arith, and_parts, append-nil, list_all, utf16_text}
+use Rattle.bidi_base.proofs.Common.{flat_map-append, reverse-append, encode_utf16, is_pair, lone_char, is_character}
 
 lone_char-character : (u : ℕ) → u < 2 ^ 16 → is_character u ≡ true → lone_char u ≡ u
 lone_char-character u fits h = grind arith

@@ -1,9 +1,7 @@
 -- A pass that writes the runs of a line, one after the other, to parts of a list.
-use Rattle.bidi_base.proofs.Common.{◌≡◌, ℕ, ◌+◌, ◌-◌, ◌<◌, ◌≤◌, Bool, true, false, List, ◌++◌, flat_map, reverse, length, get_or, take, drop, map, ap, sym, subst, ◌∙◌, arith}
-use Rattle.bidi_base.proofs.Common.{append_assoc, length-append, Range, get_or-map, get_or_default, length-map, take_more, flat_map-append, is_odd, subrange, IsLine, Run, run_of}
-use Rattle.std.proofs.Common.{All, slice_range, length-take-le}
-use Rattle.std.proofs.Math.Seq.{take-append_seam}
-use Rattle.std.proofs.lemmas.List.{append-nil}
+use Rattle.bidi_base.proofs.Common.{◌≡◌, ℕ, ◌+◌, ◌-◌, ◌<◌, ◌≤◌, Bool, true, false, List, ◌++◌, flat_map, reverse, length, get_or, take, drop, map, ap, sym, subst, ◌∙◌, arith, append_assoc}
+use Rattle.bidi_base.proofs.Common.{length-append, Range, get_or-map, get_or_default, length-map, take_more, flat_map-append, is_odd, subrange, IsLine, Run, run_of, All, slice_range}
+use Rattle.bidi_base.proofs.Common.{length-take-le, take-append_seam, append-nil}
 use Rattle.bidi_text_lines.specs.Written.{run_units}
 
 -- the ranges of runs cut no character if the runs do not

@@ -1,17 +1,9 @@
 -- The records of the passes over code units, and the clauses that they stand for, in the words of the definitions.
-use Rattle.bidi_base.proofs.Common.{◌≡◌, ◌↔◌, ℕ, false, List, map, IsTrue, refl}
-use Rattle.std.proofs.Common.{Result, Ok, Err, OnOk, OnErr}
+use Rattle.bidi_base.proofs.Common.{◌≡◌, ◌↔◌, ℕ, false, List, map, IsTrue, refl, Result, Ok, Err, OnOk, OnErr, explicit_levels, processing_classes, AreExplicitLevels, AreWeakTypesResolved}
+use Rattle.bidi_base.proofs.Common.{AreNeutralsResolved, neutral_classes, at_places, class_at, first_or, level_at, Source, is_per_char, per_char, per_unit, place, in_runs, kept_in_place}
+use Rattle.bidi_base.proofs.Common.{level_run_ranges, weak_classes}
 use Rattle.bidi_base.specs.declared.char_data.BidiClass.{BidiClass}
 use Rattle.bidi_base.specs.declared.char_data.BidiClass.TheVariants.{L, BN}
-use Rattle.bidi_base.specs.Explicit.{explicit_levels, processing_classes}
-use Rattle.bidi_base.specs.InPlace.{AreExplicitLevels, AreWeakTypesResolved, AreNeutralsResolved}
-use Rattle.bidi_base.specs.Neutral.{neutral_classes}
-use Rattle.bidi_base.specs.Places.{at_places, class_at, first_or}
-use Rattle.bidi_base.specs.Sequences.{level_at}
-use Rattle.bidi_base.specs.Source.{Source}
-use Rattle.bidi_base.specs.Text.{is_per_char, per_char, per_unit, place}
-use Rattle.bidi_base.specs.Units.{in_runs, kept_in_place, level_run_ranges}
-use Rattle.bidi_base.specs.Weak.{weak_classes}
 use Rattle.bidi_text.proofs.PerCharTests.{class_eq}
 
 module _ (len_of : ℕ → ℕ) (chars : List ℕ) where

@@ -1,7 +1,6 @@
 -- A line without an odd level shows its characters in order.
-use Rattle.bidi_base.proofs.Common.{◌≡◌, ℕ, ◌+◌, ◌-◌, ◌≤◌, ◌<◌, ◌++◌, Bool, false, List, [], ◌∷◌, drop, length, get_or, flat_map, encode_utf8, ap, sym, ◌∙◌, arith, list_any_none, map}
-use Rattle.bidi_base.proofs.Common.{length-map, get_or-map, drop-drop, flat_map-append, has_rtl, is_odd, Run, run_level, level_runs, slice_range, Source, take_all, list_any, ◌==◌}
-use Rattle.std.proofs.Math.Seq.{take-add}
+use Rattle.bidi_base.proofs.Common.{◌≡◌, ℕ, ◌+◌, ◌-◌, ◌≤◌, ◌<◌, ◌++◌, Bool, false, List, [], ◌∷◌, drop, length, get_or, flat_map, encode_utf8, ap, sym, ◌∙◌, arith, list_any_none, map, length-map}
+use Rattle.bidi_base.proofs.Common.{get_or-map, drop-drop, flat_map-append, has_rtl, is_odd, Run, run_level, level_runs, slice_range, Source, take_all, list_any, ◌==◌, take-add}
 use Rattle.bidi_lines.proofs.Ordered.{none_odd}
 use Rattle.bidi_lines.proofs.RunsLemmas.{Follow, level_runs-follow, level_runs-each}
 use Rattle.bidi_lines.proofs.FoundRuns.{visual_runs-still}

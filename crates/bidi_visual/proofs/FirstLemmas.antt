@@ -1,11 +1,9 @@
 -- The first paragraph of a text, and those after it.
-use Rattle.std.proofs.Math.Seq.{take-add}
-use Rattle.std.proofs.lemmas.Str.{IsCharBoundary-past_char, IsUtf8-drop, IsUtf8-take, chars_past_char}
+use Rattle.bidi_base.proofs.Common.{take-add, IsUtf8-drop, IsUtf8-take, chars_past_char, ◌+◌, ◌≢◌, take, drop, if◌then◌else◌, encode_utf8, chars, IsUtf8, IsCharBoundary, length-encode, drop-drop}
+use Rattle.bidi_base.proofs.Common.{drop-append_seam, take-append_seam, append_assoc, begins_with_line_feed, eqb-true, nat_tests, ◌==◌, ◌≡◌, ℕ, ◌<◌, true, false, not, List, [], ◌∷◌, ◌++◌, length}
+use Rattle.bidi_base.proofs.Common.{refl, sym, ap, ◌∙◌, arith, cases_Bool, inl, inr, Source, cr_lf_together, is_paragraph_separator, and_parts, cond, take_while-cons}
+use Rattle.std.proofs.lemmas.Str.{IsCharBoundary-past_char}
 use Rattle.bidi_text.proofs.StrLemmas.{chars-push}
-use Rattle.bidi_base.proofs.Common.{◌+◌, ◌≢◌, take, drop, if◌then◌else◌, encode_utf8, chars, IsUtf8, IsCharBoundary, length-encode, drop-drop, drop-append_seam}
-use Rattle.bidi_base.proofs.Common.{take-append_seam, append_assoc, begins_with_line_feed, eqb-true, nat_tests, ◌==◌, ◌≡◌, ℕ, ◌<◌, true, false, not, List, [], ◌∷◌, ◌++◌}
-use Rattle.bidi_base.proofs.Common.{length, refl, sym, ap, ◌∙◌, arith, cases_Bool, inl, inr, Source, cr_lf_together, is_paragraph_separator, and_parts, cond}
-use Rattle.std.proofs.lemmas.List.Sums.{take_while-cons}
 use Rattle.bidi_visual.specs.Shown.{own_chars, after_first, paragraphs_in, shown_paragraph, shown_text}
 use Rattle.bidi_visual.specs.declared.view.View.{View}
 

@@ -1,14 +1,10 @@
 -- Lines of printable ASCII are shown unchanged, if lines are not cut and go from left to right.
-use Rattle.bidi_base.proofs.Common.{◌≡◌, ◌∙◌, ℕ, zero, suc, ◌+◌, ◌-◌, ◌<◌, ◌≤◌, ◌++◌, ◌==◌, ◌&&◌, Bool, true, false, not, List, [], ◌∷◌}
-use Rattle.bidi_base.proofs.Common.{Some, length, length-drop, get_or-drop, map, take, drop, get_or, replicate, flat_map}
-use Rattle.bidi_base.proofs.Common.{refl, sym, ap, subst, arith, nat_tests, and_parts, or_parts, cases_Bool, inl, inr, length-map}
-use Rattle.bidi_base.proofs.Common.{length-replicate, append_assoc, append-nil, not-true, take_all, take_more, take-append-drop}
-use Rattle.bidi_base.proofs.Common.{drop_more, drop-drop, codes, list_all, list_any, slice_range, range_with_len, encode_utf8, chars}
-use Rattle.bidi_base.proofs.Common.{len_utf8, IsUtf8, IsUtf8-past_char, is_paragraph_separator, has_rtl, is_odd, is_reset}
-use Rattle.bidi_base.proofs.Common.{is_removed, line_levels, line_levels_after, stored_classes, stored_levels, paragraph_level, level_by, text_len, char_index, may_turn, is_strong, IsCharBoundary}
-use Rattle.std.proofs.Math.Seq.{take-add}
-use Rattle.std.proofs.lemmas.List.Sums.{take_while-cons}
-use Rattle.std.proofs.lemmas.Str.{encode_ascii, chars_past_char, IsUtf8-drop}
+use Rattle.bidi_base.proofs.Common.{◌≡◌, ◌∙◌, ℕ, zero, suc, ◌+◌, ◌-◌, ◌<◌, ◌≤◌, ◌++◌, ◌==◌, ◌&&◌, Bool, true, false, not, List, [], ◌∷◌, Some, length, length-drop, get_or-drop, map, take, drop}
+use Rattle.bidi_base.proofs.Common.{get_or, replicate, flat_map, refl, sym, ap, subst, arith, nat_tests, and_parts, or_parts, cases_Bool, inl, inr, length-map, length-replicate, append_assoc}
+use Rattle.bidi_base.proofs.Common.{append-nil, not-true, take_all, take_more, take-append-drop, drop_more, drop-drop, codes, list_all, list_any, slice_range, range_with_len, encode_utf8, chars}
+use Rattle.bidi_base.proofs.Common.{len_utf8, IsUtf8, IsUtf8-past_char, is_paragraph_separator, has_rtl, is_odd, is_reset, is_removed, line_levels, line_levels_after, stored_classes}
+use Rattle.bidi_base.proofs.Common.{stored_levels, paragraph_level, level_by, text_len, char_index, may_turn, is_strong, IsCharBoundary, take-add, take_while-cons, encode_ascii, chars_past_char}
+use Rattle.bidi_base.proofs.Common.{IsUtf8-drop}
 use Rattle.ucd_bidi.proofs.BidiClassLemmas.{bidi_class_stepped}
 use Rattle.ucd_table.specs.Steps.{step_value}
 use Rattle.ucd_table.proofs.Computing.{tables}

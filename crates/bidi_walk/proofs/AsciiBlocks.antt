@@ -1,6 +1,6 @@
 -- A block of ASCII characters whose classes are looked up and written one after another.
 use Rattle.bidi_base.proofs.Common.{◌≡◌, ◌∙◌, ℕ, ◌+◌, ◌^◌, ◌<◌, zero, suc, true, false, subst, List, length, take, get_or, set, refl, sym, ap, inl, inr, arith, add-one, cases_eq, class_at, Source}
-use Rattle.std.proofs.lemmas.List.{take-set-le, get_or-set_other, get_or-set_same}
+use Rattle.bidi_base.proofs.Common.{take-set-le, get_or-set_other, get_or-set_same}
 use Rattle.bidi_base.specs.declared.char_data.BidiClass.{BidiClass}
 use Rattle.bidi_base.specs.declared.char_data.BidiClass.TheVariants.{L}
 use Rattle.bidi_walk.specs.declared.class_set.ClassSet.{ClassSet}

@@ -1,10 +1,10 @@
 -- Sets of classes: what is in them, and which tests of what is in them agree.
-use Rattle.bidi_base.proofs.Common.{◌≡◌, ℕ, ◌^◌, ◌<◌, ◌≢◌, bit_or, Bool, true, false, not, ◌==◌, ◌&&◌, ◌||◌, List, [], ◌∷◌, get_or, refl, arith, inl, inr, common_steps}
-use Rattle.bidi_base.proofs.Common.{list_any, cases_Bool, cases_lt, both_ways, false_from_ne_true, list_any_none, list_any_at, class_number, same_class}
-use Rattle.std.proofs.Common.{bit_and, bit_xor}
-use Rattle.std.specs.Int.{bit_at}
+use Rattle.bidi_base.proofs.Common.{◌≡◌, ℕ, ◌^◌, ◌<◌, ◌≢◌, bit_or, Bool, true, false, not, ◌==◌, ◌&&◌, ◌||◌, List, [], ◌∷◌, get_or, refl, arith, inl, inr, common_steps, list_any, cases_Bool}
+use Rattle.bidi_base.proofs.Common.{cases_lt, both_ways, false_from_ne_true, list_any_none, list_any_at, class_number, same_class, bit_and, bit_at, bit_at_or, bit_at_and, bit_at-zero}
+use Rattle.bidi_base.proofs.Common.{bit_at-pow_other, bit_at-lt, same_from_bits}
+use Rattle.std.proofs.Common.{bit_xor}
 use Rattle.std.proofs.Math.Nat.{min-zero}
-use Rattle.std.proofs.lemmas.Nat.Bits.{bit_at_or, bit_at_and, bit_at_xor, bit_at-zero, bit_at-pow_other, bit_at_above, bit_at-lt, same_from_bits}
+use Rattle.std.proofs.lemmas.Nat.Bits.{bit_at_xor, bit_at_above}
 use Rattle.std.proofs.lemmas.Nat.{or_lt}
 use Rattle.bidi_base.specs.declared.char_data.BidiClass.{BidiClass}
 use Rattle.bidi_base.specs.declared.char_data.BidiClass.TheVariants.{L}

@@ -1,10 +1,8 @@
 -- What a paragraph's flags say of its classes.
-use Rattle.bidi_base.proofs.Common.{◌≡◌, ◌∙◌, ℕ, ◌<◌, ◌^◌, ◌==◌, zero, suc, bit_or, Bool, false, not, ◌||◌, List, [], ◌∷◌, ◌++◌, length, get_or, arith, refl, sym, ap, inl, inr, cases_eq, cases_Bool}
-use Rattle.bidi_base.proofs.Common.{common_steps, nat_tests, list_any, class_number, Source, is_initiator, is_opener, is_removed, may_turn, is_pure_ltr, is_flat, may_leave, or_assoc, or-false}
-use Rattle.std.proofs.Common.{bit_and}
-use Rattle.std.specs.Int.{bit_at}
-use Rattle.std.proofs.lemmas.Nat.Bits.{bit_at_or, bit_at_and, bit_at-zero, bit_at-lt, bit_at-pow_same, bit_at-pow_other, same_from_bits}
-use Rattle.bidi_base.specs.Flat.{keeps_to}
+use Rattle.bidi_base.proofs.Common.{◌≡◌, ◌∙◌, ℕ, ◌<◌, ◌^◌, ◌==◌, zero, suc, bit_or, Bool, false, not, ◌||◌, List, [], ◌∷◌, ◌++◌, length, get_or, arith, refl, sym, ap, inl, inr, cases_eq}
+use Rattle.bidi_base.proofs.Common.{cases_Bool, common_steps, nat_tests, list_any, class_number, Source, is_initiator, is_opener, is_removed, may_turn, is_pure_ltr, is_flat, may_leave, or_assoc}
+use Rattle.bidi_base.proofs.Common.{or-false, bit_and, bit_at, bit_at_or, bit_at_and, bit_at-zero, bit_at-lt, bit_at-pow_other, same_from_bits, keeps_to}
+use Rattle.std.proofs.lemmas.Nat.Bits.{bit_at-pow_same}
 use Rattle.bidi_base.specs.declared.char_data.BidiClass.{BidiClass}
 use Rattle.bidi_walk.specs.ClassSet.{has, with, any_of}
 use Rattle.bidi_walk.specs.FirstWalk.{set_of_first}

@@ -1,6 +1,6 @@
 -- A block of characters below U+0800 whose classes are looked up and written one after another.
-use Rattle.bidi_base.proofs.Common.{◌≡◌, ◌∙◌, ℕ, ◌+◌, ◌<◌, ◌≤◌, false, List, length, take, get_or, set, ap, inl, inr, arith, cases_eq, class_at, Source}
-use Rattle.std.proofs.lemmas.List.{take-set-le, get_or-set_other, get_or-set_same}
+use Rattle.bidi_base.proofs.Common.{◌≡◌, ◌∙◌, ℕ, ◌+◌, ◌<◌, ◌≤◌, false, List, length, take, get_or, set, ap, inl, inr, arith, cases_eq, class_at, Source, take-set-le, get_or-set_other}
+use Rattle.bidi_base.proofs.Common.{get_or-set_same}
 use Rattle.bidi_base.specs.declared.char_data.BidiClass.{BidiClass}
 use Rattle.bidi_base.specs.declared.char_data.BidiClass.TheVariants.{L}
 use Rattle.bidi_walk.specs.declared.class_set.ClassSet.{ClassSet}

@@ -1,7 +1,6 @@
 -- Units that get one value, as the walk over a text writes them.
-use Rattle.bidi_base.proofs.Common.{◌≡◌, ℕ, ◌+◌, ◌-◌, ◌≤◌, List, ◌++◌, length, take, drop, arith, append_assoc, common_steps, Range}
-use Rattle.bidi_base.proofs.Common.{take-append-add, take-append-le, drop-append-le, take-take, drop-take, filled}
-use Rattle.std.specs.Prelude.{replicate}
+use Rattle.bidi_base.proofs.Common.{◌≡◌, ℕ, ◌+◌, ◌-◌, ◌≤◌, List, ◌++◌, length, take, drop, arith, append_assoc, common_steps, Range, take-append-add, take-append-le, drop-append-le, take-take}
+use Rattle.bidi_base.proofs.Common.{drop-take, filled, replicate}
 
 -- ---- the units before some place
 

@@ -1,13 +1,10 @@
 -- Characters on which nothing but the flags depends, read one after another.
-use Rattle.bidi_base.proofs.Common.{Bool, None, Option, inl, inr, cases_lt, class_at, take_more, get_or, subst, zero, suc, ◌≡◌, ℕ, ◌+◌}
-use Rattle.bidi_base.proofs.Common.{◌-◌, ◌<◌, ◌≤◌, true, false, List, [], ◌∷◌, ◌++◌, length, take, drop, map, Some}
-use Rattle.bidi_base.proofs.Common.{set, refl, sym, ap, ◌∙◌, arith, add-one, append_assoc, length-take, length-drop}
-use Rattle.bidi_base.proofs.Common.{drop-append_seam, take-append-add, map-append, length-map, take-append-le, take-append-drop}
-use Rattle.bidi_base.proofs.Common.{nat_tests, All-nil, All-append, All-push, sum_by-append, sum_by-cons, Source, text_len, char_at, ascii_of, ascii_at, char_index, is_boundary, subrange, IsLine}
-use Rattle.std.specs.Prelude.{replicate, MatchOption}
+use Rattle.bidi_base.proofs.Common.{Bool, None, Option, inl, inr, cases_lt, class_at, take_more, get_or, subst, zero, suc, ◌≡◌, ℕ, ◌+◌, ◌-◌, ◌<◌, ◌≤◌, true, false, List, [], ◌∷◌, ◌++◌, length}
+use Rattle.bidi_base.proofs.Common.{take, drop, map, Some, set, refl, sym, ap, ◌∙◌, arith, add-one, append_assoc, length-take, length-drop, drop-append_seam, take-append-add, map-append}
+use Rattle.bidi_base.proofs.Common.{length-map, take-append-le, take-append-drop, nat_tests, All-nil, All-append, All-push, sum_by-append, sum_by-cons, Source, text_len, char_at, ascii_of}
+use Rattle.bidi_base.proofs.Common.{ascii_at, char_index, is_boundary, subrange, IsLine, replicate, MatchOption, append-nil}
 use Rattle.std.proofs.Math.Nat.{add_assoc}
 use Rattle.std.proofs.Math.Seq.{take-suc-set}
-use Rattle.std.proofs.lemmas.List.{append-nil}
 use Rattle.bidi_base.specs.declared.char_data.BidiClass.{BidiClass}
 use Rattle.bidi_base.specs.declared.char_data.BidiClass.TheVariants.{L}
 use Rattle.bidi_base.proofs.PlaceLemmas.{text_len-subrange}

@@ -1,14 +1,9 @@
 -- What the walk over a text holds once n characters were read.
-use Rattle.bidi_base.proofs.Common.{◌≡◌, ℕ, ◌+◌, ◌<◌, ◌≤◌, true, false, List, [], ◌∷◌, ◌++◌, length, get_or, take, drop, map, Option}
-use Rattle.bidi_base.proofs.Common.{Some, None, is_some, option_map, refl, sym, ap, ◌∙◌, arith, ◌-◌, ◌⊎◌, inl, inr, ◌&&◌}
-use Rattle.bidi_base.proofs.Common.{◌==◌, if◌then◌else◌, is_initiator, is_strong, is_pdi, subst, cases_Bool, false_from_ne_true}
-use Rattle.bidi_base.proofs.Common.{All-nil, append_assoc, length-append, length-take, common_steps, All, is_none, Range}
-use Rattle.bidi_base.proofs.Common.{nil_from_length, map-append, length-map, take_more, take_all, drop_all, get_or-append-add}
-use Rattle.bidi_base.proofs.Common.{length-take-le, take-append-drop, sum_by-append, is_paragraph_separator, deciding_class}
-use Rattle.bidi_base.proofs.Common.{paragraph_level, stored_classes, class_at, ranges_from, innermost, met_units, Source, text_classes, paragraph_levels, char_at, place, text_len, per_unit}
-use Rattle.std.specs.Prelude.{replicate}
-use Rattle.std.proofs.lemmas.List.{append-nil}
-use Rattle.std.proofs.lemmas.List.Concat.{flat_map-append}
+use Rattle.bidi_base.proofs.Common.{◌≡◌, ℕ, ◌+◌, ◌<◌, ◌≤◌, true, false, List, [], ◌∷◌, ◌++◌, length, get_or, take, drop, map, Option, Some, None, is_some, option_map, refl, sym, ap, ◌∙◌, arith}
+use Rattle.bidi_base.proofs.Common.{◌-◌, ◌⊎◌, inl, inr, ◌&&◌, ◌==◌, if◌then◌else◌, is_initiator, is_strong, is_pdi, subst, cases_Bool, false_from_ne_true, All-nil, append_assoc, length-append}
+use Rattle.bidi_base.proofs.Common.{length-take, common_steps, All, is_none, Range, nil_from_length, map-append, length-map, take_more, take_all, drop_all, get_or-append-add, length-take-le}
+use Rattle.bidi_base.proofs.Common.{take-append-drop, sum_by-append, is_paragraph_separator, deciding_class, paragraph_level, stored_classes, class_at, ranges_from, innermost, met_units, Source}
+use Rattle.bidi_base.proofs.Common.{text_classes, paragraph_levels, char_at, place, text_len, per_unit, replicate, append-nil, flat_map-append}
 use Rattle.bidi_base.specs.declared.char_data.BidiClass.{BidiClass}
 use Rattle.bidi_base.specs.declared.char_data.BidiClass.TheVariants.{L}
 use Rattle.bidi_base.proofs.TextLemmas.{HasUnits, char_at-append, length-le-text_len}

@@ -1,11 +1,9 @@
 -- The open isolates of an FSI that no character decided yet: what they are once some characters were read, and after one more.
-use Rattle.bidi_base.proofs.Common.{◌≡◌, ℕ, zero, suc, ◌+◌, ◌-◌, ◌<◌, ◌≤◌, Bool, true, false, ◌&&◌, ◌||◌, cond, List, [], ◌∷◌, ◌++◌, length, take, map, Option, Some, None, refl, ap}
-use Rattle.bidi_base.proofs.Common.{◌∙◌, arith, length-append, get_or-set_same, get_or-set_other, All, option_or, option_to_list, get_or-append, add-zero, get_or-append_seam, Range}
-use Rattle.bidi_base.proofs.Common.{cond_both, length-take-le, length-map, map-append, get_or-map, option_map, common_steps, All-nil, All-cons, All-head, All-tail, All-take}
-use Rattle.bidi_base.proofs.Common.{is_strong, is_initiator, is_pdi, stored_classes, class_at, innermost, outer, opened_by, decided_by, is_fsi}
+use Rattle.bidi_base.proofs.Common.{◌≡◌, ℕ, zero, suc, ◌+◌, ◌-◌, ◌<◌, ◌≤◌, Bool, true, false, ◌&&◌, ◌||◌, cond, List, [], ◌∷◌, ◌++◌, length, take, map, Option, Some, None, refl, ap, ◌∙◌, arith}
+use Rattle.bidi_base.proofs.Common.{length-append, get_or-set_same, get_or-set_other, All, option_or, option_to_list, get_or-append, add-zero, get_or-append_seam, Range, cond_both, length-take-le}
+use Rattle.bidi_base.proofs.Common.{length-map, map-append, get_or-map, option_map, common_steps, All-nil, All-cons, All-head, All-tail, All-take, is_strong, is_initiator, is_pdi, stored_classes}
+use Rattle.bidi_base.proofs.Common.{class_at, innermost, outer, opened_by, decided_by, is_fsi, append-nil, All-push}
 use Rattle.std.specs.Option.{is_some}
-use Rattle.std.proofs.lemmas.List.{append-nil}
-use Rattle.std.proofs.lemmas.List.Elements.{All-push}
 use Rattle.bidi_base.specs.declared.char_data.BidiClass.{BidiClass}
 use Rattle.bidi_laws.proofs.ReadingLemmas.{outer-take, innermost-All}
 use Rattle.bidi_laws.proofs.StoredSteps.{innermost-map, onto_later, resolved-strong, open_initiators, open_initiators-push}

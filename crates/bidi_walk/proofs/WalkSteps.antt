@@ -1,9 +1,7 @@
 -- The walk over a text from one character to the next on which more than the flags depends.
-use Rattle.bidi_base.proofs.Common.{◌≡◌, ℕ, ◌+◌, ◌≤◌, false, List, [], ◌∷◌, ◌++◌, length, take, drop, map, refl, sym, ap, subst, ◌∙◌}
-use Rattle.bidi_base.proofs.Common.{arith, append_assoc, length-append, length-drop, length-take, Option, All, Range}
-use Rattle.bidi_base.proofs.Common.{add-zero, take-append_seam, drop-append_seam, map-append, length-map, take-take, drop-drop, All-tail, sum_by-append, sum_by-cons, Source, text_len, place, per_unit}
-use Rattle.std.specs.Prelude.{replicate}
-use Rattle.std.proofs.lemmas.List.{append-nil}
+use Rattle.bidi_base.proofs.Common.{◌≡◌, ℕ, ◌+◌, ◌≤◌, false, List, [], ◌∷◌, ◌++◌, length, take, drop, map, refl, sym, ap, subst, ◌∙◌, arith, append_assoc, length-append, length-drop, length-take}
+use Rattle.bidi_base.proofs.Common.{Option, All, Range, add-zero, take-append_seam, drop-append_seam, map-append, length-map, take-take, drop-drop, All-tail, sum_by-append, sum_by-cons, Source}
+use Rattle.bidi_base.proofs.Common.{text_len, place, per_unit, replicate, append-nil}
 use Rattle.bidi_base.specs.declared.char_data.BidiClass.{BidiClass}
 use Rattle.bidi_laws.proofs.ReadingLemmas.{char_units}
 use Rattle.bidi_base.proofs.TextLemmas.{HasUnits}

@@ -6,7 +6,7 @@ ghost use Rattle.bidi_base.specs.Paragraphs.{begins_with_line_feed, ranges_from}
 ghost use Rattle.bidi_base.specs.Stored.{text_classes, paragraph_levels};
 ghost use Rattle.bidi_base.specs.Text.{place as place_of, text_len, per_unit};
 ghost use Rattle.bidi_walk.specs.ClassSet.{has};
-ghost use Rattle.bidi_walk.specs.FirstWalk.{classes_after, stops_at, waiting, with_flags, AreWithin, CanRead, GoesOn, IsClosed, IsFresh, IsReadBy, IsReadOn, StopsCounting};
+ghost use Rattle.bidi_walk.specs.FirstWalk.{classes_after, stops_at, waiting, with_flags, AreWithin, CanRead, IsClosed, IsFresh, IsReadBy, IsReadOn, IsSomeRead, StopsCounting};
 ghost use Rattle.bidi_walk.specs.declared.first_walk.paragraph_state.ParagraphState.{ParagraphState};
 ghost use Rattle.bidi_walk.specs.ParagraphInfo.{ranges_of, levels_of};
 ghost use Rattle.bidi_walk.specs.ParagraphFlags.{paragraph_flags};
@@ -156,9 +156,8 @@ fn read_some<D: BidiDataSource, T: TextSource>(
     stop_classes: ClassSet,
 ) -> Option<Stop>
     requires { CanRead T.units (T.characters text) progress.old.at classes.old }
-    ensures stop { IsReadOn (D.source data_source.now) T.units (T.characters text) (has stop_classes) progress.old
-        result progress.new classes.old classes.new }
-    ensures passed { GoesOn (length classes.new) result progress.old progress.new }
+    ensures { IsSomeRead (D.source data_source.now) T.units (T.characters text) (has stop_classes) progress.old result
+        progress.new classes.old classes.new }
 {
     if let Some(stop) = skim(data_source, text, classes, progress, stop_classes) {
         return Some(stop);

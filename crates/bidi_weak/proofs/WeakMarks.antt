@@ -1,11 +1,9 @@
 -- W1 over units, one after another.
-use Rattle.bidi_base.proofs.Common.{◌≡◌, ℕ, zero, suc, ◌+◌, ◌-◌, ◌<◌, ◌≤◌, Bool, true, false, List, [], ◌∷◌, ◌++◌, length, map}
-use Rattle.bidi_base.proofs.Common.{get_or, set, refl, sym, ap, ◌∙◌, arith, inl, inr, append_assoc, append-nil}
-use Rattle.bidi_base.proofs.Common.{length-take, length-drop, get_or-set_same, get_or-set_other, All, filter, slice_range, list_any, range_with_len, reverse, take, drop, if◌then◌else◌, nearest, common_steps, Range, All-nil, All-cons, All-head, All-tail}
-use Rattle.bidi_base.proofs.Common.{list_any_at, cases_eq, cases_Bool, both_ways, and_from, and_parts, and_left, and_right, are_ordered, bounds, in_runs, is_kept_in_place, is_nsm, at_places, class_at, carried}
-use Rattle.std.proofs.Common.{length-set}
+use Rattle.bidi_base.proofs.Common.{◌≡◌, ℕ, zero, suc, ◌+◌, ◌-◌, ◌<◌, ◌≤◌, Bool, true, false, List, [], ◌∷◌, ◌++◌, length, map, get_or, set, refl, sym, ap, ◌∙◌, arith, inl, inr, append_assoc}
+use Rattle.bidi_base.proofs.Common.{append-nil, length-take, length-drop, get_or-set_same, get_or-set_other, All, filter, slice_range, list_any, range_with_len, reverse, take, drop, if◌then◌else◌}
+use Rattle.bidi_base.proofs.Common.{nearest, common_steps, Range, All-nil, All-cons, All-head, All-tail, list_any_at, cases_eq, cases_Bool, both_ways, and_from, and_parts, and_left, and_right}
+use Rattle.bidi_base.proofs.Common.{are_ordered, bounds, in_runs, is_kept_in_place, is_nsm, at_places, class_at, carried, length-set, get_or-take, get_or-drop, set-get_or}
 use Rattle.std.proofs.Math.Numerals.{add-one}
-use Rattle.std.proofs.lemmas.List.{get_or-take, get_or-drop, set-get_or}
 use Rattle.bidi_base.specs.declared.char_data.BidiClass.{BidiClass}
 use Rattle.bidi_base.specs.declared.char_data.BidiClass.TheVariants.{L}
 use Rattle.bidi_laws.proofs.StoredLemmas.{at_places-append}

@@ -1,8 +1,7 @@
 -- The weak passes over the units of a text: what stands at the characters once all are done.
-use Rattle.bidi_base.proofs.Common.{◌≡◌, ℕ, zero, suc, ◌+◌, ◌-◌, ◌<◌, ◌≤◌, Bool, true, false, List, [], length, map, get_or, refl, sym, ap, ◌∙◌, arith, inl, inr, All, filter}
-use Rattle.bidi_base.proofs.Common.{range_with_len, cases_Bool, cases_eq, and_parts, and_left, and_right, length-map, is_kept_in_place, at_places, class_at, carried, w1_rule, w1}
-use Rattle.bidi_base.proofs.Common.{weak_classes, place, per_unit, IsLine, IsPerChar, are_ordered, in_runs, kept_in_place, units_in_runs, AreLines}
-use Rattle.bidi_base.specs.InPlace.{AreWeakTypesResolved}
+use Rattle.bidi_base.proofs.Common.{◌≡◌, ℕ, zero, suc, ◌+◌, ◌-◌, ◌<◌, ◌≤◌, Bool, true, false, List, [], length, map, get_or, refl, sym, ap, ◌∙◌, arith, inl, inr, All, filter, range_with_len}
+use Rattle.bidi_base.proofs.Common.{cases_Bool, cases_eq, and_parts, and_left, and_right, length-map, is_kept_in_place, at_places, class_at, carried, w1_rule, w1, weak_classes, place, per_unit}
+use Rattle.bidi_base.proofs.Common.{IsLine, IsPerChar, are_ordered, in_runs, kept_in_place, units_in_runs, AreLines, AreWeakTypesResolved}
 use Rattle.bidi_base.specs.declared.char_data.BidiClass.{BidiClass}
 use Rattle.bidi_base.specs.declared.char_data.BidiClass.TheVariants.{L}
 use Rattle.bidi_base.proofs.PlaceLemmas.{char_at-place, line_places, place-more, place-mono, unit_of}

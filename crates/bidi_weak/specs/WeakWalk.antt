@@ -186,3 +186,8 @@ pub record AreChanged (start end : ℕ) (old new : List BidiClass) : Type 0 wher
   pub changed : (u : ℕ) → start ≤ u → u < end → class_at new u ≡ left_over (class_at old u)
   pub below : (u : ℕ) → u < start → class_at new u ≡ class_at old u
   pub above : (u : ℕ) → end ≤ u → class_at new u ≡ class_at old u
+
+-- and one step is counted for each of them
+pub record AreChangedAndCounted (start end : ℕ) (old new : List BidiClass) (before after : ℕ) : Type 0 where
+  pub changed : AreChanged start end old new
+  pub steps : after ≡ before + (end - start)

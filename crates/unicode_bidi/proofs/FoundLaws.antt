@@ -1,8 +1,6 @@
 -- What follows of the analysis of a text that is cut into its paragraphs.
-use Rattle.bidi_base.proofs.Common.{◌≡◌, ◌≤◌, ℕ, Bool, true, false, refl, text_len, List, [], ◌∷◌, map, arith, then_some, All, IfSome, slice_range, AnalysedText, IsPerCharText}
-use Rattle.bidi_base.proofs.Common.{paragraph_level, stored_classes, HasOwnUnits, AreLevelsFrom, ranges_from, Source, text_classes, text_levels, stored_levels, per_unit, IsLine}
-use Rattle.std.proofs.lemmas.List.{append-nil}
-use Rattle.std.specs.Prelude.{Option, Some, None}
+use Rattle.bidi_base.proofs.Common.{◌≡◌, ◌≤◌, ℕ, Bool, true, false, refl, text_len, List, [], ◌∷◌, map, arith, then_some, All, IfSome, slice_range, AnalysedText, IsPerCharText, paragraph_level}
+use Rattle.bidi_base.proofs.Common.{stored_classes, HasOwnUnits, AreLevelsFrom, ranges_from, Source, text_classes, text_levels, stored_levels, per_unit, IsLine, append-nil, Option, Some, None}
 use Rattle.bidi_base.specs.declared.char_data.BidiClass.TheVariants.{L}
 use Rattle.bidi_base.specs.Analysed.{HasCharValues}
 use Rattle.bidi_laws.proofs.CrLfLemmas.{together-AreCrLfParagraphRanges}

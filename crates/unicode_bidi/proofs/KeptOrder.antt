@@ -1,10 +1,8 @@
 -- Lists of indexes that are kept only if they differ from the indexes in their own order.
-use Rattle.bidi_base.proofs.Common.{◌≡◌, ◌≢◌, ℕ, ◌+◌, ◌<◌, ◌≤◌, List, [], ◌∷◌, Option, length, get_or, slice_get, Some, None, refl, sym, ap, ◌∙◌, arith, inl, inr, cases_lt}
-use Rattle.bidi_base.proofs.Common.{slice_get-get_or, length_permutation, length-range_with_len, get_or-range_with_len, same_number_lists, indexes, IsVisualOrder, visual_places}
-use Rattle.std.proofs.Common.{IfSome}
-use Rattle.std.proofs.lemmas.Option.{slice_get_past, slice_get_within, get_or_from_slice_get}
-use Rattle.std.specs.List.{range_with_len}
-use Rattle.bidi_base.specs.Layout.{AreInverse}
+use Rattle.bidi_base.proofs.Common.{◌≡◌, ◌≢◌, ℕ, ◌+◌, ◌<◌, ◌≤◌, List, [], ◌∷◌, Option, length, get_or, slice_get, Some, None, refl, sym, ap, ◌∙◌, arith, inl, inr, cases_lt, slice_get-get_or}
+use Rattle.bidi_base.proofs.Common.{length_permutation, length-range_with_len, get_or-range_with_len, same_number_lists, indexes, IsVisualOrder, visual_places, IfSome, slice_get_within}
+use Rattle.bidi_base.proofs.Common.{get_or_from_slice_get, range_with_len, AreInverse}
+use Rattle.std.proofs.lemmas.Option.{slice_get_past}
 use Rattle.bidi_laws.proofs.LayoutLemmas.{visual_places-inverse}
 use Rattle.unicode_bidi.specs.KeptOrder.{entries}
 

@@ -1,12 +1,9 @@
 -- The levels of a text, written paragraph by paragraph.
-use Rattle.bidi_base.proofs.Common.{◌≡◌, Option, ℕ, ◌+◌, ◌-◌, ◌<◌, ◌≤◌, List, [], ◌∷◌, ◌++◌, length, get_or, take, drop, map, refl, subst}
-use Rattle.bidi_base.proofs.Common.{◌∙◌, append_assoc, append-nil, arith, length-append, zero-add, take-append_seam}
-use Rattle.bidi_base.proofs.Common.{drop-append-add, Range, All, IfSome, slice_range, get_or-map, take_more, drop_more, drop-drop}
-use Rattle.bidi_base.proofs.Common.{length-map, flat_map-map, sum_by-append, map-map, paragraph_level, stored_classes}
-use Rattle.bidi_base.proofs.Common.{HasOwnUnits, AreLevelsFrom, ranges_from, Source, levels_in, stored_levels, text_classes, text_levels, paragraph_levels, text_len, subrange, per_unit, IsLine}
+use Rattle.bidi_base.proofs.Common.{◌≡◌, Option, ℕ, ◌+◌, ◌-◌, ◌<◌, ◌≤◌, List, [], ◌∷◌, ◌++◌, length, get_or, take, drop, map, refl, subst, ◌∙◌, append_assoc, append-nil, arith, length-append}
+use Rattle.bidi_base.proofs.Common.{zero-add, take-append_seam, drop-append-add, Range, All, IfSome, slice_range, get_or-map, take_more, drop_more, drop-drop, length-map, flat_map-map}
+use Rattle.bidi_base.proofs.Common.{sum_by-append, map-map, paragraph_level, stored_classes, HasOwnUnits, AreLevelsFrom, ranges_from, Source, levels_in, stored_levels, text_classes, text_levels}
+use Rattle.bidi_base.proofs.Common.{paragraph_levels, text_len, subrange, per_unit, IsLine, flat_map, flat_map-append}
 use Rattle.bidi_text_lines.proofs.RunText.{flat_map-same_on}
-use Rattle.std.specs.Prelude.{flat_map}
-use Rattle.std.proofs.lemmas.List.Concat.{flat_map-append}
 use Rattle.bidi_base.specs.declared.char_data.BidiClass.{BidiClass}
 use Rattle.bidi_laws.proofs.LevelLaws.{paragraph_level-few, length-stored_levels, stored_levels-AreLevelsFrom, All-per_unit}
 use Rattle.bidi_laws.proofs.StoredSteps.{length-stored_classes}

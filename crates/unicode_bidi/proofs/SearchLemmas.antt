@@ -1,11 +1,10 @@
 -- The search for a base direction, step by step, finds what the walk over a whole text finds.
-use Rattle.bidi_base.proofs.Common.{◌≡◌, ◌∙◌, ap, ℕ, zero, suc, ◌+◌, ◌≤◌, Bool, true, false, not, ◌&&◌, ◌||◌, ◌==◌, if◌then◌else◌}
-use Rattle.bidi_base.proofs.Common.{List, [], ◌∷◌, ◌++◌, length, drop, map, list_any, refl, and_parts, Some}
-use Rattle.bidi_base.proofs.Common.{direction_by, inl, inr, arith, cases_Bool, is_strong, is_initiator, is_pdi, is_paragraph_separator, ne_eqb, base_direction, paragraphs_of, each_separator, Source}
+use Rattle.bidi_base.proofs.Common.{◌≡◌, ◌∙◌, ap, ℕ, zero, suc, ◌+◌, ◌≤◌, Bool, true, false, not, ◌&&◌, ◌||◌, ◌==◌, if◌then◌else◌, List, [], ◌∷◌, ◌++◌, length, drop, map, list_any, refl}
+use Rattle.bidi_base.proofs.Common.{and_parts, Some, direction_by, inl, inr, arith, cases_Bool, is_strong, is_initiator, is_pdi, is_paragraph_separator, ne_eqb, base_direction, paragraphs_of}
+use Rattle.bidi_base.proofs.Common.{each_separator, Source, full_base_direction}
 use Rattle.bidi_base.specs.declared.char_data.BidiClass.{BidiClass}
 use Rattle.bidi_base.specs.declared.char_data.Direction.{Direction}
 use Rattle.bidi_base.specs.declared.char_data.Direction.TheVariants.{Mixed}
-use Rattle.bidi_base.specs.Direction.{full_base_direction}
 use Rattle.bidi_laws.proofs.DirectionWalk.{direction_from, direction_from-is}
 use Rattle.bidi_laws.proofs.IsolateWalk.{is_zero, depth_by, kind_of, initiator-kind, pdi-kind}
 use Rattle.unicode_bidi.specs.DirectionSteps.{depth_after, search_step, search_on, search_in, direction_found}

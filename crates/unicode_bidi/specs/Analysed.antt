@@ -1,5 +1,5 @@
 -- What the algorithm finds in a text in any encoding: its paragraphs, and the class and the level of each character.
-use Rattle.std.specs.Prelude.{◌≡◌, ℕ, Bool, true, false, List, [], ◌∷◌, Option, None, All, IfSome, slice_range}
+use Rattle.std.specs.Prelude.{◌≡◌, ℕ, Bool, true, false, List, [], ◌∷◌, Option, None, All, IfOk, IfSome, Result, slice_range}
 use Rattle.bidi_base.specs.declared.char_data.BidiClass.{BidiClass}
 use Rattle.bidi_base.specs.Analysed.{AnalysedText, IsAnalysis, IsParagraphAnalysis, IsPerCharText, HasCharValues, classes_of_chars, levels_of_chars}
 use Rattle.bidi_base.specs.Laws.{HasOwnUnits, AreLevelsFrom, BoundaryNeutralsAreAlike, StaysLeftToRight}
@@ -66,6 +66,12 @@ module _ (source : Source) (base : Option ℕ) where
     pub boundary_neutrals_alike : BoundaryNeutralsAreAlike source base
     -- if no class in a paragraph of level 0 can change the direction, all its levels are 0
     pub stays_left_to_right : StaysLeftToRight source base
+
+  -- what a constructor establishes: if it succeeds, the result has the text and is its analysis; and the laws hold
+  pub record Constructs {I E : Type 0} (text_of : I → List ℕ) (units : List ℕ) (is_analysis : I → Type 0) (result : Result I E) : Type 0 where
+    pub text : IfOk result (λ i. text_of i ≡ units)
+    pub analysed : IfOk result is_analysis
+    pub laws : ObeysLaws
 
   -- ---- before any level is resolved
 

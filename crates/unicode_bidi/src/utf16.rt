@@ -8,7 +8,7 @@ ghost use Rattle.std.specs.Char.Escape.{encode_utf16};
 ghost use Rattle.std.specs.Cow.{cow_slice_items, IsBorrowedSlice};
 ghost use Rattle.bidi_base.specs.Analysed.{IsLineOf, IsTextOfLine, StaysInOrder};
 ghost use Rattle.bidi_walk.specs.ParagraphInfo.{level_of};
-ghost use Rattle.unicode_bidi.specs.Analysed.{IsAnalysed, IsAnalysedBy, IsAnalysedAsOne, ObeysLaws, HasParagraphs};
+ghost use Rattle.unicode_bidi.specs.Analysed.{Constructs, HasParagraphs, IsAnalysed, IsAnalysedAsOne, IsAnalysedBy};
 
 use crate::{info, initial_info, paragraph, paragraph_bidi_info};
 use bidi_base::data_source::BidiDataSource;
@@ -59,10 +59,9 @@ impl<'t> info::BidiInfo<Utf16Text<'t>> {
         default_para_level: Option<Level>,
     ) -> Result<BidiInfo<'t>, AllocError>
         requires { IfSome default_para_level (λ level. level ≤ 125) }
-        ensures text { IfOk result (λ i. text_of i ≡ text.now) }
-        ensures analysed { IfOk result (λ i. IsAnalysed (D.source data_source.now) default_para_level true
-            (analysed_of i) (paragraphs i)) }
-        ensures laws { ObeysLaws (D.source data_source.now) default_para_level }
+        ensures { Constructs (D.source data_source.now) default_para_level text_of text.now
+            (λ i. IsAnalysed (D.source data_source.now) default_para_level
+            true (analysed_of i) (paragraphs i)) result }
     {
         let rule = SplitRule::EachSeparator;
         BidiInfo::new_with_rule(alloc, data_source, text, default_para_level, rule)
@@ -84,10 +83,9 @@ impl<'t> info::BidiInfo<Utf16Text<'t>> {
         rule: SplitRule,
     ) -> Result<BidiInfo<'t>, AllocError>
         requires { IfSome default_para_level (λ level. level ≤ 125) }
-        ensures text { IfOk result (λ i. text_of i ≡ text.now) }
-        ensures analysed { IfOk result (λ i. IsAnalysedBy (D.source data_source.now) default_para_level (Some rule)
-            (analysed_of i) (paragraphs i)) }
-        ensures laws { ObeysLaws (D.source data_source.now) default_para_level }
+        ensures { Constructs (D.source data_source.now) default_para_level text_of text.now
+            (λ i. IsAnalysedBy (D.source data_source.now) default_para_level
+            (Some rule) (analysed_of i) (paragraphs i)) result }
     {
         let text = Utf16Text::new(text);
         info::BidiInfo::of_text(alloc, data_source, text, default_para_level, rule)
@@ -136,10 +134,9 @@ impl<'t> paragraph_bidi_info::ParagraphBidiInfo<Utf16Text<'t>> {
         default_para_level: Option<Level>,
     ) -> Result<ParagraphBidiInfo<'t>, AllocError>
         requires { IfSome default_para_level (λ level. level ≤ 125) }
-        ensures text { IfOk result (λ i. text_of i ≡ text.now) }
-        ensures analysed { IfOk result (λ i. IsAnalysedAsOne (D.source data_source.now) default_para_level
-            (analysed_of i) (paragraph_level i) (is_pure_ltr i)) }
-        ensures laws { ObeysLaws (D.source data_source.now) default_para_level }
+        ensures { Constructs (D.source data_source.now) default_para_level text_of text.now
+            (λ i. IsAnalysedAsOne (D.source data_source.now) default_para_level
+            (analysed_of i) (paragraph_level i) (is_pure_ltr i)) result }
     {
         paragraph_bidi_info::ParagraphBidiInfo::of_text(
             alloc,

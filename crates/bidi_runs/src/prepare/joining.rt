@@ -6,7 +6,7 @@ ghost use Rattle.bidi_base.specs.declared.char_data.BidiClass.TheVariants.{L};
 ghost use Rattle.bidi_base.specs.Explicit.{explicit_levels};
 ghost use Rattle.bidi_base.specs.Levels.{direction_of};
 ghost use Rattle.bidi_base.specs.Search.{IsFirst};
-ghost use Rattle.bidi_base.specs.Sequences.{is_kept_at, sequences, HasExplicitLevels};
+ghost use Rattle.bidi_base.specs.Sequences.{is_kept_at, sequences, HasExplicitLevels, IsFlagged};
 ghost use Rattle.bidi_base.specs.Text.{IsLine, is_boundary, per_char};
 ghost use Rattle.bidi_base.specs.Units.{bounds, level_run_ranges, AreLines};
 ghost use Rattle.bidi_runs.specs.Joining.{level_after_run, is_isolate_control, is_kept_in, IsKeptEnd, read_units};

@@ -6,7 +6,7 @@ ghost use Rattle.bidi_base.specs.PerChar.{HaveClass, HaveLevel};
 ghost use Rattle.bidi_base.specs.declared.char_data.BidiClass.TheVariants.{L};
 ghost use Rattle.bidi_base.specs.Explicit.{explicit_levels};
 ghost use Rattle.bidi_base.specs.Places.{last_or};
-ghost use Rattle.bidi_base.specs.Sequences.{sequences, HasExplicitLevels};
+ghost use Rattle.bidi_base.specs.Sequences.{sequences, HasExplicitLevels, IsFlagged};
 ghost use Rattle.bidi_base.specs.Text.{IsLine, is_boundary, per_char};
 ghost use Rattle.bidi_base.specs.Units.{bounds, level_run_ranges, AreLines};
 ghost use Rattle.bidi_runs.specs.Joining.{read_units};

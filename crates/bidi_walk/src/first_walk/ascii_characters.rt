@@ -2,7 +2,7 @@
 ghost use Rattle.std.specs.Prelude.{◌≡◌, ℕ, ◌+◌, ◌<◌, ◌≤◌, length, get_or, take};
 ghost use Rattle.bidi_base.specs.Places.{class_at};
 ghost use Rattle.bidi_walk.specs.ClassSet.{has};
-ghost use Rattle.bidi_walk.specs.FirstWalk.{ahead, set_of_first, CanRead, HasEachChange, IsReadOn, IsSkimmed};
+ghost use Rattle.bidi_walk.specs.FirstWalk.{ahead, set_of_first, CanRead, CanSeek, IsReadOn, IsSkimmed};
 ghost use Rattle.bidi_walk.specs.declared.first_walk.ascii_characters.TheConstants.{ASCII_BLOCK};
 
 use super::progress::Progress;
@@ -24,8 +24,7 @@ fn skim_each<D: BidiDataSource, T: TextSource>(
     limit: usize,
     sought: ClassSet,
 ) -> Option<Stop>
-    requires place { CanRead T.units (T.characters text) progress.old.at classes.old }
-    requires sought { HasEachChange sought progress.old.flags }
+    requires { CanSeek T.units (T.characters text) sought progress.old classes.old }
     ensures { IsReadOn (D.source data_source.now) T.units (T.characters text) (has sought) progress.old
         result progress.new classes.old classes.new }
 {

@@ -5,7 +5,7 @@ ghost use Rattle.bidi_base.specs.declared.char_data.BidiClass.{BidiClass};
 ghost use Rattle.bidi_base.specs.Places.{class_at};
 ghost use Rattle.bidi_base.specs.Text.{text_len, is_boundary as is_boundary_of};
 ghost use Rattle.bidi_walk.specs.ClassSet.{has};
-ghost use Rattle.bidi_walk.specs.FirstWalk.{ahead, CanRead, GoesOn, HasEachChange, IsStop, IsReadOn, IsSkimmed};
+ghost use Rattle.bidi_walk.specs.FirstWalk.{ahead, CanRead, CanSeek, HasEachChange, IsReadOn, IsSkimmed, IsSomeRead, IsStop};
 ghost use Rattle.bidi_walk.specs.declared.first_walk.unit_classes.TheConstants.{AT_ONCE};
 ghost use Rattle.bidi_walk.specs.declared.paragraph_flags.ParagraphFlags.{ParagraphFlags};
 ghost use Rattle.bidi_walk.specs.declared.first_walk.other_characters.TheConstants.{LOW_BLOCK, LOW_LIMIT};
@@ -126,11 +126,9 @@ fn read_block<D: BidiDataSource, T: TextSource>(
     progress: &mut Progress,
     sought: ClassSet,
 ) -> Option<Stop>
-    requires place { CanRead T.units (T.characters text) progress.old.at classes.old }
-    requires sought { HasEachChange sought progress.old.flags }
-    ensures stop { IsReadOn (D.source data_source.now) T.units (T.characters text) (has sought) progress.old
-        result progress.new classes.old classes.new }
-    ensures passed { GoesOn (length classes.new) result progress.old progress.new }
+    requires { CanSeek T.units (T.characters text) sought progress.old classes.old }
+    ensures { IsSomeRead (D.source data_source.now) T.units (T.characters text) (has sought) progress.old result
+        progress.new classes.old classes.new }
 {
     let start = progress.at;
     let end = block_end(text, start);
@@ -186,8 +184,7 @@ fn read_in_place<D: BidiDataSource, T: TextSource>(
     limit: usize,
     sought: ClassSet,
 ) -> Option<Stop>
-    requires place { CanRead T.units (T.characters text) progress.old.at classes.old }
-    requires sought { HasEachChange sought progress.old.flags }
+    requires seek { CanSeek T.units (T.characters text) sought progress.old classes.old }
     requires room { limit + (AT_ONCE - 1) ≤ length classes.old }
     ensures stop { IsReadOn (D.source data_source.now) T.units (T.characters text) (has sought) progress.old
         result progress.new classes.old classes.new }
@@ -222,8 +219,7 @@ fn read_low_blocks<D: BidiDataSource, T: TextSource>(
     progress: &mut Progress,
     sought: ClassSet,
 ) -> Option<Stop>
-    requires place { CanRead T.units (T.characters text) progress.old.at classes.old }
-    requires sought { HasEachChange sought progress.old.flags }
+    requires { CanSeek T.units (T.characters text) sought progress.old classes.old }
     ensures stop { IsReadOn (D.source data_source.now) T.units (T.characters text) (has sought) progress.old
         result progress.new classes.old classes.new }
 {
@@ -264,9 +260,8 @@ pub(super) fn read_on<D: BidiDataSource, T: TextSource>(
     stop_classes: ClassSet,
 ) -> Option<Stop>
     requires { CanRead T.units (T.characters text) progress.old.at classes.old }
-    ensures stop { IsReadOn (D.source data_source.now) T.units (T.characters text) (has stop_classes) progress.old
-        result progress.new classes.old classes.new }
-    ensures passed { GoesOn (length classes.new) result progress.old progress.new }
+    ensures { IsSomeRead (D.source data_source.now) T.units (T.characters text) (has stop_classes) progress.old result
+        progress.new classes.old classes.new }
 {
     let end = progress.at.saturating_add(BLOCK);
     let sought = progress.flags.sought_with(stop_classes);

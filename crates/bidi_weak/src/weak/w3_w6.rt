@@ -5,7 +5,7 @@ ghost use Rattle.bidi_base.specs.Places.{class_at};
 ghost use Rattle.bidi_base.specs.Units.{bounds, are_ordered, in_runs, units_in_runs};
 ghost use Rattle.bidi_runs.specs.Written.{KeepsOutside};
 ghost use Rattle.bidi_weak.specs.WeakPass.{left_over};
-ghost use Rattle.bidi_weak.specs.WeakWalk.{two_a_unit, AreChanged};
+ghost use Rattle.bidi_weak.specs.WeakWalk.{two_a_unit, AreChangedAndCounted};
 
 use super::MANY;
 use bidi_base::char_data::BidiClass::{self, AL, CS, ES, ET, ON, R};
@@ -33,8 +33,7 @@ pub fn resolve_w3_w6<S: Ledger>(runs: &[LevelRun], classes: &mut [BidiClass], st
 /// Changes each class in a run by itself.
 fn change_run<S: Ledger>(run: &LevelRun, classes: &mut [BidiClass], steps: &mut Steps<S>)
     requires { run.now.end ≤ length classes.old }
-    ensures changed { AreChanged run.now.start run.now.end classes.old classes.new }
-    ensures steps { steps.new ≡ steps.old + (run.now.end - run.now.start) }
+    ensures { AreChangedAndCounted run.now.start run.now.end classes.old classes.new steps.old steps.new }
 {
     if run.end.saturating_sub(run.start) < MANY {
         change_few(run.start, run.end, classes, steps);
@@ -46,8 +45,7 @@ fn change_run<S: Ledger>(run: &LevelRun, classes: &mut [BidiClass], steps: &mut 
 /// Changes a few classes one by one. Writes only those that become others.
 fn change_few<S: Ledger>(start: usize, end: usize, classes: &mut [BidiClass], steps: &mut Steps<S>)
     requires { end ≤ length classes.old }
-    ensures changed { AreChanged start end classes.old classes.new }
-    ensures steps { steps.new ≡ steps.old + (end - start) }
+    ensures { AreChangedAndCounted start end classes.old classes.new steps.old steps.new }
 {
     for unit in start..end {
         steps.tick();
@@ -58,8 +56,7 @@ fn change_few<S: Ledger>(start: usize, end: usize, classes: &mut [BidiClass], st
 /// Changes many classes. The loop has no branch, so that it changes many code units at once.
 fn change_many<S: Ledger>(start: usize, end: usize, classes: &mut [BidiClass], steps: &mut Steps<S>)
     requires { end ≤ length classes.old }
-    ensures changed { AreChanged start end classes.old classes.new }
-    ensures steps { steps.new ≡ steps.old + (end - start) }
+    ensures { AreChangedAndCounted start end classes.old classes.new steps.old steps.new }
 {
     for unit in start..end {
         steps.tick();

@@ -1,6 +1,5 @@
-use Rattle.std.proofs.Common.{subst, map, List, ℕ, Bor}
-use Rattle.std.specs.List.Sorted.{IsPermutation}
-use Rattle.std.proofs.lemmas.List.Sorted.{IsPermutation-map}
+use Rattle.bidi_base.proofs.Common.{subst, map, List, ℕ, IsPermutation, IsPermutation-map}
+use Rattle.std.proofs.Common.{Bor}
 use Rattle.bidi.proofs.entries.names_in_order.Goals as goal
 
 pub returns-clause-names : goal.returns-clause-names

@@ -1,6 +1,4 @@
-use Rattle.std.proofs.Common.{rules, ◌==◌}
-use Rattle.std.proofs.lemmas.Iterator.Consumers.{map_from_collect, YieldsList-at, YieldsList-from_filter}
-use Rattle.std.proofs.lemmas.Iterator.Splits.{YieldsList-from_slice_split}
+use Rattle.bidi_base.proofs.Common.{rules, ◌==◌, map_from_collect, YieldsList-at, YieldsList-from_filter, YieldsList-from_slice_split}
 use borrow.Author.Tests.{tests}
 use Rattle.bidi.specs.Entries.{is_searched}
 use Rattle.bidi.proofs.entries.searched_names.Goals as goal

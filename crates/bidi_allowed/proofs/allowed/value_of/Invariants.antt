@@ -1,5 +1,4 @@
-use Rattle.bidi_base.proofs.Common.{◌≡◌, take}
-use Rattle.std.specs.Str.Parse.{digits_value}
+use Rattle.bidi_base.proofs.Common.{◌≡◌, take, digits_value}
 use Rattle.bidi_allowed.proofs.allowed.value_of.Given as goal
 
 abbrev pub invariant-loop-digit : goal.invariant-loop-digit

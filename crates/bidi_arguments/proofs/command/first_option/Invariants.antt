@@ -1,5 +1,4 @@
-use Rattle.bidi_base.proofs.Common.{◌≡◌, map, drop, string_bytes}
-use Rattle.std.proofs.Common.{find}
+use Rattle.bidi_base.proofs.Common.{◌≡◌, map, drop, string_bytes, find}
 use Rattle.bidi_arguments.specs.Options.{is_option}
 use Rattle.bidi_arguments.proofs.command.first_option.Given as goal
 

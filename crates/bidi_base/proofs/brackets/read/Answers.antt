@@ -1,8 +1,8 @@
 -- What a bracket does to a search that is under way.
-use Rattle.bidi_base.proofs.Common.{◌≡◌, ◌==◌, Bool, List, Result, get_or, None, sym, subst, ◌∙◌, arith, common_steps, get_or_default, Waiting, find_last}
+use Rattle.bidi_base.proofs.Common.{◌≡◌, ◌==◌, Bool, List, Result, get_or, None, sym, subst, ◌∙◌, arith, common_steps, get_or_default, Waiting, find_last, ltb-true}
 use Rattle.std.specs.Result.{IfOk}
 use Rattle.std.specs.declared.alloc.AllocError.{AllocError}
-use Rattle.std.proofs.lemmas.Bool.{ltb-true, ltb-false}
+use Rattle.std.proofs.lemmas.Bool.{ltb-false}
 use Rattle.bidi_base.proofs.BracketSearch.{IsAt-opening, IsAt-unmatched, IsAt-pair, IsAt-full}
 use Rattle.bidi_base.proofs.brackets.read.Goals as goal
 

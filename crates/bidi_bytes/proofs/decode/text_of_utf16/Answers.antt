@@ -1,5 +1,4 @@
-use Rattle.bidi_base.proofs.Common.{arith, chars_from_encodes}
-use Rattle.std.proofs.lemmas.Str.{IsUtf8-string_bytes}
+use Rattle.bidi_base.proofs.Common.{arith, chars_from_encodes, IsUtf8-string_bytes}
 use Rattle.bidi_bytes.specs.Decoded.{utf16_decoded}
 use Rattle.bidi_bytes.proofs.decode.text_of_utf16.Goals as goal
 

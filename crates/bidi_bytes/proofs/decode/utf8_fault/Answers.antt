@@ -1,5 +1,4 @@
-use Rattle.bidi_base.proofs.Common.{arith}
-use Rattle.std.proofs.lemmas.Str.{utf8_valid_len-IsUtf8}
+use Rattle.bidi_base.proofs.Common.{arith, utf8_valid_len-IsUtf8}
 use Rattle.bidi_bytes.proofs.decode.utf8_fault.Goals as goal
 
 pub returns-in-Ok : goal.returns-in-Ok

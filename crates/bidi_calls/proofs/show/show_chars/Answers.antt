@@ -1,5 +1,4 @@
-use Rattle.bidi_base.proofs.Common.{rules, ◌≡◌, map, get_or, length, length-map, refl, sym, ap, ◌∙◌, arith, run_of, visual_runs, visual_order}
-use Rattle.bidi_base.specs.Text.{one_unit}
+use Rattle.bidi_base.proofs.Common.{rules, ◌≡◌, map, get_or, length, length-map, refl, sym, ap, ◌∙◌, arith, run_of, visual_runs, visual_order, one_unit}
 use Rattle.bidi_calls.proofs.OneUnit.{order_of_line-one_unit, length-shown_chars, length-reordered_chars}
 use Rattle.bidi_calls.proofs.ShownLine.{length-order, told-room}
 use Rattle.bidi_calls.proofs.ShownRuns.{length-rows}

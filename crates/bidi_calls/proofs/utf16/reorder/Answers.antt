@@ -1,5 +1,4 @@
-use Rattle.bidi_base.proofs.Common.{rules, ◌≡◌, ◌+◌, true, false, sym, refl, ap, ◌∙◌, arith, nat_tests, ℕ, length, length-take-le, utf16_text, utf16_len}
-use Rattle.std.specs.Char.Escape.{encode_utf16}
+use Rattle.bidi_base.proofs.Common.{rules, ◌≡◌, ◌+◌, true, false, sym, refl, ap, ◌∙◌, arith, nat_tests, ℕ, length, length-take-le, utf16_text, utf16_len, encode_utf16}
 use Rattle.bidi_text.proofs.Utf16Lemmas.{has_units, text_len-utf16}
 use Rattle.bidi_calls.proofs.KeptText.{kept-text, length-kept, told-uneven, told-room}
 use Rattle.bidi_calls.specs.Shown.{is_even}

@@ -1,5 +1,4 @@
-use Rattle.bidi_base.proofs.Common.{◌≡◌, ◌+◌, true, sym, ap, ◌∙◌, arith, utf16_text, utf16_len}
-use Rattle.std.specs.Char.Escape.{encode_utf16}
+use Rattle.bidi_base.proofs.Common.{◌≡◌, ◌+◌, true, sym, ap, ◌∙◌, arith, utf16_text, utf16_len, encode_utf16}
 use Rattle.bidi_text.proofs.Utf16Lemmas.{has_units, text_len-utf16}
 use Rattle.bidi_calls.proofs.KeptText.{kept-text}
 use Rattle.bidi_calls.proofs.ShownLine.{told-even}

@@ -1,6 +1,5 @@
-use Rattle.bidi_base.proofs.Common.{rules, ◌≡◌, ◌+◌, true, false, sym, refl, ap, ◌∙◌, arith, length, length-take-le, chars}
-use Rattle.std.specs.Char.{encode_utf8, len_utf8}
-use Rattle.std.proofs.lemmas.Str.{length-encode}
+use Rattle.bidi_base.proofs.Common.{rules, ◌≡◌, ◌+◌, true, false, sym, refl, ap, ◌∙◌, arith, length, length-take-le, chars, len_utf8, length-encode}
+use Rattle.std.specs.Char.{encode_utf8}
 use Rattle.bidi_text.proofs.StrLemmas.{has_units, text_len-chars}
 use Rattle.bidi_calls.proofs.KeptText.{kept-text, length-kept, told-uneven, told-room}
 use Rattle.bidi_calls.specs.Shown.{is_even}

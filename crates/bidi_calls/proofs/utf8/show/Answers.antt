@@ -1,6 +1,5 @@
-use Rattle.bidi_base.proofs.Common.{◌≡◌, ◌+◌, true, sym, ap, ◌∙◌, arith, chars}
-use Rattle.std.specs.Char.{encode_utf8, len_utf8}
-use Rattle.std.proofs.lemmas.Str.{length-encode}
+use Rattle.bidi_base.proofs.Common.{◌≡◌, ◌+◌, true, sym, ap, ◌∙◌, arith, chars, len_utf8, length-encode}
+use Rattle.std.specs.Char.{encode_utf8}
 use Rattle.bidi_text.proofs.StrLemmas.{has_units, text_len-chars}
 use Rattle.bidi_calls.proofs.KeptText.{kept-text}
 use Rattle.bidi_calls.proofs.ShownLine.{told-even}

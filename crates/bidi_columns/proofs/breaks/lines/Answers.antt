@@ -1,5 +1,4 @@
-use Rattle.bidi_base.proofs.Common.{◌≤◌, sym, subst, arith, append_assoc, append-nil, map-append, All-nil, All-push, Run, length, common_steps}
-use Rattle.std.proofs.lemmas.Str.{IsCharBoundary-start}
+use Rattle.bidi_base.proofs.Common.{◌≤◌, sym, subst, arith, append_assoc, append-nil, map-append, All-nil, All-push, Run, length, common_steps, IsCharBoundary-start}
 use Rattle.bidi_columns.specs.Bounds.{IsRangeOf}
 use Rattle.bidi_columns.specs.Breaks.{lines_of_text}
 use Rattle.bidi_columns.proofs.ClusterLemmas.{clusters_of-placed, ArePlaced-drop}

@@ -1,5 +1,4 @@
-use Rattle.bidi_base.proofs.Common.{◌≡◌, ◌++◌, length, map, run_of}
-use Rattle.std.proofs.Common.{All}
+use Rattle.bidi_base.proofs.Common.{◌≡◌, ◌++◌, length, map, run_of, All}
 use Rattle.bidi_columns.specs.Bounds.{IsRangeOf}
 use Rattle.bidi_columns.specs.Breaks.{lines_of}
 use Rattle.bidi_columns.specs.Clusters.{clusters_of}

@@ -1,5 +1,4 @@
-use Rattle.bidi_base.proofs.Common.{◌≡◌, ◌++◌, map}
-use Rattle.std.proofs.Common.{All}
+use Rattle.bidi_base.proofs.Common.{◌≡◌, ◌++◌, map, All}
 use Rattle.unicode_segmentation.specs.Iter.{grapheme_indices_left}
 use Rattle.unicode_segmentation.proofs.SegmentsLemmas.{IsPieceOf}
 use Rattle.bidi_columns.specs.Clusters.{cluster_at, clusters_of}

@@ -1,5 +1,4 @@
-use Rattle.bidi_base.proofs.Common.{ap, ◌∙◌, sym, map-id, YieldsList-end}
-use Rattle.std.proofs.lemmas.Iterator.{YieldsList-from_chars}
+use Rattle.bidi_base.proofs.Common.{ap, ◌∙◌, sym, map-id, YieldsList-end, YieldsList-from_chars}
 use Rattle.bidi_columns.specs.Clusters.{width_of}
 use Rattle.bidi_columns.proofs.cluster.width.Goals as goal
 

@@ -1,5 +1,4 @@
-use Rattle.bidi_base.proofs.Common.{◌≡◌, take}
-use Rattle.bidi_base.specs.Places.{at_places}
+use Rattle.bidi_base.proofs.Common.{◌≡◌, take, at_places}
 use Rattle.bidi_controls.proofs.displayed.write_in_order.Given as goal
 
 abbrev pub invariant-loop-index : goal.invariant-loop-index

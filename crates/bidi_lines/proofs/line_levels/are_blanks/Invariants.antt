@@ -1,5 +1,4 @@
-use Rattle.bidi_base.proofs.Common.{◌≡◌, ℕ, ◌+◌, ◌<◌, ◌≤◌, true, class_at}
-use Rattle.bidi_base.specs.Line.{is_blank}
+use Rattle.bidi_base.proofs.Common.{◌≡◌, ℕ, ◌+◌, ◌<◌, ◌≤◌, true, class_at, is_blank}
 use Rattle.bidi_lines.proofs.line_levels.are_blanks.Given as goal
 
 abbrev pub invariant-loop-j : goal.invariant-loop-j

@@ -1,5 +1,4 @@
-use Rattle.bidi_base.proofs.Common.{◌≡◌, ℕ, ◌-◌, ◌<◌, ◌≤◌, true, class_at}
-use Rattle.bidi_base.specs.Line.{is_blank}
+use Rattle.bidi_base.proofs.Common.{◌≡◌, ℕ, ◌-◌, ◌<◌, ◌≤◌, true, class_at, is_blank}
 use Rattle.bidi_lines.proofs.line_levels.blank_blocks_start.Given as goal
 
 abbrev pub invariant-loop-start : goal.invariant-loop-start

@@ -1,5 +1,5 @@
-use Rattle.bidi_base.proofs.Common.{◌≡◌, ◌∙◌, ℕ, ◌+◌, ◌<◌, List, length, inl, inr, get_or, ap, sym, subst, arith, rules, common_steps, cases_Bool, le_refl, get_or_default, length_push, text_len, place, is_boundary}
-use Rattle.std.specs.Prelude.{slice_set}
+use Rattle.bidi_base.proofs.Common.{◌≡◌, ◌∙◌, ℕ, ◌+◌, ◌<◌, List, length, inl, inr, get_or, ap, sym, subst, arith, rules, common_steps, cases_Bool, le_refl, get_or_default, length_push, text_len}
+use Rattle.bidi_base.proofs.Common.{place, is_boundary, slice_set}
 use Rattle.bidi_base.proofs.TextLemmas.{HasUnits, length-le-text_len}
 use Rattle.bidi_base.proofs.PlaceLemmas.{length_turn, length_end}
 use Rattle.bidi_lines.proofs.Gathered.{IsGathered-more, IsGathered-end, IsTaken, IsTaken-inside, IsTaken-more, IsTaken-end, IsTaken-le, IsSwept, IsSwept-next, taken-all}

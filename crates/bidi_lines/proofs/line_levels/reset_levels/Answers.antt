@@ -1,6 +1,4 @@
-use Rattle.bidi_base.proofs.Common.{◌≡◌, ℕ, ◌-◌, ◌<◌, ◌≤◌, true, false, List, length, get_or, set, sym, ◌∙◌, arith, inl, inr, cases_lt, get_or_default, class_at}
-use Rattle.std.proofs.Common.{length-set}
-use Rattle.bidi_base.specs.Classes.{is_separator}
+use Rattle.bidi_base.proofs.Common.{◌≡◌, ℕ, ◌-◌, ◌<◌, ◌≤◌, true, false, List, length, get_or, set, sym, ◌∙◌, arith, inl, inr, cases_lt, get_or_default, class_at, length-set, is_separator}
 use Rattle.bidi_lines.specs.Stops.{is_stop}
 use Rattle.bidi_lines.proofs.LineLevels.{IsSweptTo-start, IsSweptTo-removed, IsSweptTo-plain, IsSweptTo-steady, IsSweptTo-separator, IsSweptTo-end, AreLastBlanks, level_before}
 use Rattle.bidi_lines.proofs.line_levels.reset_levels.Goals as goal

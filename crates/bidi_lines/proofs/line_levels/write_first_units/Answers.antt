@@ -1,5 +1,4 @@
-use Rattle.bidi_base.proofs.Common.{◌≡◌, ◌∙◌, ℕ, ◌+◌, ◌<◌, List, length, inl, inr, subst, arith, rules, common_steps, cases_Bool, get_or_default, text_len, is_boundary}
-use Rattle.std.specs.Prelude.{slice_set}
+use Rattle.bidi_base.proofs.Common.{◌≡◌, ◌∙◌, ℕ, ◌+◌, ◌<◌, List, length, inl, inr, subst, arith, rules, common_steps, cases_Bool, get_or_default, text_len, is_boundary, slice_set}
 use Rattle.bidi_base.proofs.TextLemmas.{HasUnits}
 use Rattle.bidi_lines.proofs.Gathered.{IsTaken, IsTaken-inside, IsTaken-more, IsTaken-end, IsTaken-le, taken-all}
 use Rattle.bidi_lines.proofs.line_levels.write_first_units.Goals as goal

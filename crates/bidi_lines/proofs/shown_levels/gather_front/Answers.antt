@@ -1,5 +1,4 @@
-use Rattle.bidi_base.proofs.Common.{◌≡◌, ◌≤◌, ◌++◌, ℕ, List, take, length, ◌∙◌, arith, take-append-le}
-use Rattle.std.proofs.lemmas.List.{length-take-le}
+use Rattle.bidi_base.proofs.Common.{◌≡◌, ◌≤◌, ◌++◌, ℕ, List, take, length, ◌∙◌, arith, take-append-le, length-take-le}
 use Rattle.bidi_base.proofs.TextLemmas.{length-le-text_len}
 use Rattle.bidi_lines.proofs.shown_levels.gather_front.Goals as goal
 

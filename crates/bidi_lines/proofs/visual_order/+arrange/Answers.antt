@@ -1,5 +1,4 @@
-use Rattle.bidi_base.proofs.Common.{ℕ, List, le_refl, ◌<◌, ◌≤◌, slice_index, arith, ◌∙◌, sym}
-use Rattle.std.proofs.lemmas.Bool.{leb-true}
+use Rattle.bidi_base.proofs.Common.{ℕ, List, le_refl, ◌<◌, ◌≤◌, slice_index, arith, ◌∙◌, sym, leb-true}
 use Rattle.bidi_lines.specs.Arranged.{AtLeast}
 use Rattle.bidi_lines.proofs.Stretches.{IsArrangedTo-run, IsArrangedTo-stretch, IsNextPart-level, IsNextPart-nested, IsNextPart-turned}
 use Rattle.bidi_lines.proofs.visual_order.+arrange.Goals as goal

@@ -1,5 +1,4 @@
-use Rattle.bidi_base.proofs.Common.{ℕ, nat_le, Bool, arith, w8, bitmask_splat}
-use Rattle.std.proofs.lemmas.Bool.{leb-true}
+use Rattle.bidi_base.proofs.Common.{ℕ, nat_le, Bool, arith, w8, bitmask_splat, leb-true}
 use borrow.Author.Tests.{leb-false}
 use Rattle.bidi_lines.proofs.Lanes.{counted_lanes, lanes_long}
 use Rattle.bidi_lines.proofs.visual_order.first_at_most.Goals as goal

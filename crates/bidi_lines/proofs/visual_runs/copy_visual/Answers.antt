@@ -1,5 +1,4 @@
-use Rattle.bidi_base.proofs.Common.{ap, ◌∙◌, arith, length, length-map}
-use Rattle.std.proofs.Common.{Ok, Err, Result, OnOk}
+use Rattle.bidi_base.proofs.Common.{ap, ◌∙◌, arith, length, length-map, Ok, Err, Result, OnOk}
 use Rattle.bidi_lines.proofs.FoundRuns.{runs_within, visual_runs-found}
 use Rattle.bidi_lines.proofs.VisualRuns.{order_below}
 use Rattle.bidi_lines.proofs.visual_runs.copy_visual.Goals as goal

@@ -38,27 +38,33 @@ pub stands_alone-requires : goal.stands_alone-requires
 stands_alone-requires g c =
     runs-within g.T.TextSource.units g.met.T.TextSource.has_units (g.T.TextSource.characters c.args.leveled.now.text) c.runs-runs.result.now c.sos-sos.result c.args.processing_classes.now (ready g (goal.at.stands_alone-requires g c).After-sos-sos)
 
-pub returns-in_default-clause-resolved : goal.returns-in_default-clause-resolved
-returns-in_default-clause-resolved g c =
+pub returns-in_default : goal.returns-in_default
+returns-in_default g c =
     let eos = lent_eos c.args.sequence in
-    IsUpToN1-sequence g.T.TextSource.units (g.T.TextSource.characters c.args.leveled.now.text) (g.D.BidiDataSource.source c.args.data_source.now) c.args.leveled.now.levels.now c.args.leveled.now.original_classes.now c.args.processing_classes.now c.args.processing_classes.now c.args.sequence c.runs-runs.result.now c.sos-sos.result eos c.runs-runs.ensures c.sos-sos.ensures refl
-    (IsUpToN1-none g.T.TextSource.units g.met.T.TextSource.has_units (g.T.TextSource.characters c.args.leveled.now.text) (g.D.BidiDataSource.source c.args.data_source.now) c.args.leveled.now.levels.now c.args.leveled.now.original_classes.now c.args.processing_classes.now c.runs-runs.result.now c.sos-sos.result eos (ready g (goal.at.returns-in_default-clause-resolved g c).After-sos-sos) (sym c.in_default.is ∙ c.first_kept.ensures))
+    record {
+      resolved = IsUpToN1-sequence g.T.TextSource.units (g.T.TextSource.characters c.args.leveled.now.text) (g.D.BidiDataSource.source c.args.data_source.now) c.args.leveled.now.levels.now c.args.leveled.now.original_classes.now c.args.processing_classes.now c.args.processing_classes.now c.args.sequence c.runs-runs.result.now c.sos-sos.result eos c.runs-runs.ensures c.sos-sos.ensures refl
+          (IsUpToN1-none g.T.TextSource.units g.met.T.TextSource.has_units (g.T.TextSource.characters c.args.leveled.now.text) (g.D.BidiDataSource.source c.args.data_source.now) c.args.leveled.now.levels.now c.args.leveled.now.original_classes.now c.args.processing_classes.now c.runs-runs.result.now c.sos-sos.result eos (ready g (goal.at.returns-in_default g c).After-sos-sos) (sym c.in_default.is ∙ c.first_kept.ensures));
+      refused = grind arith;
+    }
 
 pub bounds-levels-first : goal.bounds-levels-first
 bounds-levels-first g c =
     omega (arith, first-within g.T.TextSource.units g.met.T.TextSource.has_units (g.T.TextSource.characters c.args.leveled.now.text) c.runs-runs.result.now c.sos-sos.result c.args.processing_classes.now (ready g (goal.at.bounds-levels-first g c).After-sos-sos) c.in-Some.first (sym c.in-Some.is ∙ c.first_kept.ensures), c.requires.levels)
 
 -- one direction alone
-pub returns-then-stands_alone-clause-resolved : goal.returns-then-stands_alone-clause-resolved
-returns-then-stands_alone-clause-resolved g c =
-    grind (
-      arith,
-      ready g (goal.at.returns-then-stands_alone-clause-resolved g c).After-sos-sos,
-      begins g (goal.at.returns-then-stands_alone-clause-resolved g c).After-eos-eos (ready g (goal.at.returns-then-stands_alone-clause-resolved g c).After-sos-sos),
-      side g (goal.at.returns-then-stands_alone-clause-resolved g c).After-eos-eos (ready g (goal.at.returns-then-stands_alone-clause-resolved g c).After-sos-sos),
-      IsUpToN1-sequence g.T.TextSource.units (g.T.TextSource.characters c.args.leveled.now.text) (g.D.BidiDataSource.source c.args.data_source.now) c.args.leveled.now.levels.now c.args.leveled.now.original_classes.now c.args.processing_classes.now c.args.processing_classes.now c.args.sequence c.runs-runs.result.now c.sos-sos.result c.eos-eos.result c.runs-runs.ensures c.sos-sos.ensures c.eos-eos.ensures,
-      IsUpToN1-one g.T.TextSource.units g.met.T.TextSource.has_units (g.T.TextSource.characters c.args.leveled.now.text) c.runs-runs.result.now c.sos-sos.result c.args.processing_classes.now (ready g (goal.at.returns-then-stands_alone-clause-resolved g c).After-sos-sos) c.bidi_class-embedding.result (side g (goal.at.returns-then-stands_alone-clause-resolved g c).After-eos-eos (ready g (goal.at.returns-then-stands_alone-clause-resolved g c).After-sos-sos)) (c.stands_alone.ensures.classes c.if-stands_alone.true) (g.D.BidiDataSource.source c.args.data_source.now) c.args.leveled.now.levels.now c.args.leveled.now.original_classes.now c.eos-eos.result c.in-Some.first (c.stands_alone.ensures.sos c.if-stands_alone.true) (c.stands_alone.ensures.eos c.if-stands_alone.true),
-    )
+pub returns-then-stands_alone : goal.returns-then-stands_alone
+returns-then-stands_alone g c =
+    record {
+      resolved = grind (
+        arith,
+        ready g (goal.at.returns-then-stands_alone g c).After-sos-sos,
+        begins g (goal.at.returns-then-stands_alone g c).After-eos-eos (ready g (goal.at.returns-then-stands_alone g c).After-sos-sos),
+        side g (goal.at.returns-then-stands_alone g c).After-eos-eos (ready g (goal.at.returns-then-stands_alone g c).After-sos-sos),
+        IsUpToN1-sequence g.T.TextSource.units (g.T.TextSource.characters c.args.leveled.now.text) (g.D.BidiDataSource.source c.args.data_source.now) c.args.leveled.now.levels.now c.args.leveled.now.original_classes.now c.args.processing_classes.now c.args.processing_classes.now c.args.sequence c.runs-runs.result.now c.sos-sos.result c.eos-eos.result c.runs-runs.ensures c.sos-sos.ensures c.eos-eos.ensures,
+        IsUpToN1-one g.T.TextSource.units g.met.T.TextSource.has_units (g.T.TextSource.characters c.args.leveled.now.text) c.runs-runs.result.now c.sos-sos.result c.args.processing_classes.now (ready g (goal.at.returns-then-stands_alone g c).After-sos-sos) c.bidi_class-embedding.result (side g (goal.at.returns-then-stands_alone g c).After-eos-eos (ready g (goal.at.returns-then-stands_alone g c).After-sos-sos)) (c.stands_alone.ensures.classes c.if-stands_alone.true) (g.D.BidiDataSource.source c.args.data_source.now) c.args.leveled.now.levels.now c.args.leveled.now.original_classes.now c.eos-eos.result c.in-Some.first (c.stands_alone.ensures.sos c.if-stands_alone.true) (c.stands_alone.ensures.eos c.if-stands_alone.true),
+      );
+      refused = grind arith;
+    }
 
 pub gather-requires-clause-lines : goal.gather-requires-clause-lines
 gather-requires-clause-lines g c = (ready g (goal.at.gather-requires-clause-lines g c).After-sos-sos).lines
@@ -131,8 +137,11 @@ resolved g c embedding r paired_here =
     (IsUpToN1-paired g.T.TextSource.units g.met.T.TextSource.has_units (g.T.TextSource.characters c.args.leveled.now.text) (g.D.BidiDataSource.source c.args.data_source.now) c.args.leveled.now.original_classes.now c.args.processing_classes.now c.resolve_pairs.new.classes c.runs-runs.result.now c.bidi_class-embedding.result c.sos-sos.result
     r paired_here (ap is_l_or_r embedding ∙ direction_of-l_or_r (level_at c.args.leveled.now.levels.now c.in-Some.first)) c.eos-eos.result c.resolve_opposite.new.classes c.resolve_opposite.auto.classes c.resolve_opposite.ensures.kept c.resolve_opposite.ensures.others c.resolve_opposite.ensures.own c.args.leveled.now.levels.now c.in-Some.first (sym c.in-Some.is ∙ c.first_kept.ensures) embedding)
 
-pub returns-clause-resolved : goal.returns-clause-resolved
-returns-clause-resolved g c =
-    let r = ready g (goal.at.returns-clause-resolved g c).After-sos-sos in
-    resolved g (goal.at.returns-clause-resolved g c).After-resolve_opposite (begins g (goal.at.returns-clause-resolved g c).After-eos-eos r) r
-    (paired g (goal.at.returns-clause-resolved g c).After-resolve_pairs r)
+pub returns : goal.returns
+returns g c =
+    let r = ready g (goal.at.returns g c).After-sos-sos in
+    record {
+      resolved = resolved g (goal.at.returns g c).After-resolve_opposite (begins g (goal.at.returns g c).After-eos-eos r) r
+          (paired g (goal.at.returns g c).After-resolve_pairs r);
+      refused = grind arith;
+    }

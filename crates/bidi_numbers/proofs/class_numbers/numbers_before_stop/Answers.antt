@@ -1,6 +1,5 @@
-use Rattle.bidi_base.proofs.Common.{◌≡◌, ℕ, ◌+◌, ◌-◌, List, not, eqb, cond, map, take, drop, ap, ◌∙◌, arith, w8, bitmask_splat, map-map, length-map}
+use Rattle.bidi_base.proofs.Common.{◌≡◌, ℕ, ◌+◌, ◌-◌, List, not, eqb, cond, map, take, drop, ap, ◌∙◌, arith, w8, bitmask_splat, map-map, length-map, take-map, drop-map}
 use lib.Lanes.{chunk, mask_l}
-use Rattle.std.proofs.lemmas.List.{take-map, drop-map}
 use Rattle.bidi_base.proofs.SearchLanes.{is_marked, mark_of, lanes_none, lanes_first}
 use Rattle.bidi_lines.specs.Stops.{is_stop}
 use Rattle.bidi_numbers.specs.Numbers.{class_numbered}

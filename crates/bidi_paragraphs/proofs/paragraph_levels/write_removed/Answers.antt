@@ -1,5 +1,4 @@
-use Rattle.bidi_base.proofs.Common.{arith, inl, inr, cases_lt, get_or-set_same, get_or-set_other, ◌∙◌, ◌≡◌}
-use Rattle.std.proofs.Common.{length-set}
+use Rattle.bidi_base.proofs.Common.{arith, inl, inr, cases_lt, get_or-set_same, get_or-set_other, ◌∙◌, ◌≡◌, length-set}
 use Rattle.bidi_paragraphs.proofs.paragraph_levels.write_removed.Goals as goal
 
 pub loop-at-preserved : goal.loop-at-preserved

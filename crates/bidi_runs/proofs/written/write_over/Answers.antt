@@ -1,5 +1,4 @@
-use Rattle.bidi_base.proofs.Common.{◌≡◌, ℕ, Bool, get_or, sym, ◌∙◌, ap, inl, inr, arith, cases_Bool, is_kept_in_place}
-use Rattle.std.proofs.lemmas.List.{set-get_or}
+use Rattle.bidi_base.proofs.Common.{◌≡◌, ℕ, Bool, get_or, sym, ◌∙◌, ap, inl, inr, arith, cases_Bool, is_kept_in_place, set-get_or}
 use Rattle.bidi_base.specs.declared.char_data.BidiClass.TheVariants.{L}
 use Rattle.bidi_runs.proofs.WrittenOver.{IsWrittenOver-skip, IsWrittenOver-set, IsWrittenOver-end}
 use Rattle.bidi_runs.proofs.written.write_over.Goals as goal

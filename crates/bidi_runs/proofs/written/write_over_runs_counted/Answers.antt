@@ -1,6 +1,5 @@
-use Rattle.bidi_base.proofs.Common.{◌≡◌, ℕ, ◌<◌, ◌&&◌, true, false, List, length, map, drop, get_or, ltb, ◌∙◌, sym, ap, inl, inr}
-use Rattle.bidi_base.proofs.Common.{arith, rules, cases_lt, get_or-map, length-map, take_all, Range, bounds}
-use Rattle.std.specs.Prelude.{max, min}
+use Rattle.bidi_base.proofs.Common.{◌≡◌, ℕ, ◌<◌, ◌&&◌, true, false, List, length, map, drop, get_or, ltb, ◌∙◌, sym, ap, inl, inr, arith, rules, cases_lt, get_or-map, length-map, take_all, Range}
+use Rattle.bidi_base.proofs.Common.{bounds, max, min}
 use Rattle.bidi_runs.proofs.CountBelow.{count_below-none, count_below-more, count_below-parts, count_below-monotone, ends_ascend}
 use Rattle.bidi_runs.proofs.InRuns.{run_some}
 use Rattle.bidi_runs.proofs.WalkLemmas.{no_range, are_ordered-drop}

@@ -1,5 +1,4 @@
-use Rattle.bidi_base.proofs.Common.{◌≡◌, ◌∙◌, ℕ, List, sym, ap, map, IfOk-weaker}
-use Rattle.std.proofs.lemmas.Str.{IsUtf8-string_bytes}
+use Rattle.bidi_base.proofs.Common.{◌≡◌, ◌∙◌, ℕ, List, sym, ap, map, IfOk-weaker, IsUtf8-string_bytes}
 use Rattle.bidi_unicode.specs.Unicode.{unicode_source}
 use Rattle.bidi_bytes.specs.Decoded.{decoded, utf8_decoded, utf8_fault, first_invalid}
 use Rattle.bidi_bytes.specs.FileLines.{file_lines_of}

@@ -1,5 +1,4 @@
-use Rattle.bidi_base.proofs.Common.{◌≡◌, ◌∙◌, append_assoc, sym, ap, arith, len_utf8, chars, text_len, subrange, levels_of_line, IsLine, slice_range, AnalysedText}
-use Rattle.bidi_base.specs.Analysed.{AreLevelsOfLine}
+use Rattle.bidi_base.proofs.Common.{◌≡◌, ◌∙◌, append_assoc, sym, ap, arith, len_utf8, chars, text_len, subrange, levels_of_line, IsLine, slice_range, AnalysedText, AreLevelsOfLine}
 use Rattle.bidi_base.proofs.PerUnit.{length-per_char}
 use Rattle.bidi_lines.specs.ShownLevels.{levels as kept_levels}
 use Rattle.bidi_text.proofs.StrLemmas.{has_units, subrange-from_str}

@@ -1,5 +1,4 @@
-use Rattle.bidi_base.proofs.Common.{◌≡◌, ◌+◌, false, is_odd, has_rtl, line_levels, length, ap, sym, ◌∙◌, arith}
-use Rattle.std.proofs.Common.{slice_range}
+use Rattle.bidi_base.proofs.Common.{◌≡◌, ◌+◌, false, is_odd, has_rtl, line_levels, length, ap, sym, ◌∙◌, arith, slice_range}
 use Rattle.bidi_lines.proofs.LineLevels.{length-line_levels, has_rtl-even}
 use Rattle.bidi_text_lines.proofs.StillLine.{shown_units-still}
 use Rattle.bidi_text_lines.proofs.line_text.write_line.Goals as goal

@@ -1,5 +1,4 @@
-use Rattle.bidi_base.proofs.Common.{◌≡◌, ℕ, List, map, flat_map, arith, flat_map-map, map-id, ◌∙◌, YieldsList-end}
-use Rattle.std.proofs.lemmas.Iterator.Adapters.{YieldsList-from_vec}
+use Rattle.bidi_base.proofs.Common.{◌≡◌, ℕ, List, map, flat_map, arith, flat_map-map, map-id, ◌∙◌, YieldsList-end, YieldsList-from_vec}
 use Rattle.bidi_vectors_examples.specs.Runs.{shown_run}
 use Rattle.bidi_vectors_examples.proofs.callers.mirrored_line.Goals as goal
 

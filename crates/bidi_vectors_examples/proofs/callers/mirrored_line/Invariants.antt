@@ -1,5 +1,4 @@
-use Rattle.bidi_base.proofs.Common.{◌≡◌, flat_map}
-use Rattle.std.specs.Prelude.{string_bytes}
+use Rattle.bidi_base.proofs.Common.{◌≡◌, flat_map, string_bytes}
 use Rattle.bidi_vectors_examples.specs.Runs.{shown_run}
 use Rattle.bidi_vectors_examples.proofs.callers.mirrored_line.Given as goal
 

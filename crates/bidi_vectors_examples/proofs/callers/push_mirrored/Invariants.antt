@@ -1,5 +1,5 @@
-use Rattle.bidi_base.proofs.Common.{◌≡◌, ◌++◌, reverse, flat_map, rev_source, chars_rest}
-use Rattle.std.specs.Prelude.{encode_utf8, encode_utf8_all, string_bytes, unwrap_or}
+use Rattle.bidi_base.proofs.Common.{◌≡◌, ◌++◌, reverse, flat_map, rev_source, chars_rest, encode_utf8, string_bytes, unwrap_or}
+use Rattle.std.specs.Prelude.{encode_utf8_all}
 use Rattle.bidi_unicode.specs.Unicode.{mirrored_of}
 use Rattle.bidi_vectors_examples.proofs.callers.push_mirrored.Given as goal
 

@@ -1,12 +1,12 @@
-use Rattle.bidi_base.proofs.Common.{◌≡◌, ℕ, List, None, map, length-map, ap, ◌∙◌, IfOk-weaker, length, per_unit, per_char, chars, len_utf8}
-use Rattle.bidi_base.proofs.Common.{encode_utf8, line_text, stored_classes, stored_levels, paragraph_level, Source, arith, IsUtf8, IsLine}
+use Rattle.bidi_base.proofs.Common.{◌≡◌, ℕ, List, None, map, length-map, ap, ◌∙◌, IfOk-weaker, length, per_unit, per_char, chars, len_utf8, encode_utf8, line_text, stored_classes, stored_levels}
+use Rattle.bidi_base.proofs.Common.{paragraph_level, Source, arith, IsUtf8, IsLine, IsCharBoundary-start}
 use Rattle.bidi_base.proofs.PerUnit.{per_char-per_unit}
 use Rattle.bidi_base.specs.declared.char_data.BidiClass.{BidiClass}
 use Rattle.bidi_base.specs.declared.char_data.BidiClass.TheVariants.{L}
 use Rattle.bidi_laws.proofs.LevelLaws.{length-stored_levels}
 use Rattle.bidi_laws.proofs.StoredSteps.{length-stored_classes}
 use Rattle.bidi_text.proofs.StrLemmas.{has_units, is_boundary-from_str}
-use Rattle.std.proofs.lemmas.Str.{IsCharBoundary-start, IsCharBoundary-end}
+use Rattle.std.proofs.lemmas.Str.{IsCharBoundary-end}
 use Rattle.bidi_unicode.specs.Unicode.{unicode_source}
 use Rattle.bidi_vectors_examples.specs.Runs.{shown_paragraph}
 use Rattle.bidi_vectors_examples.proofs.callers.shown_line.Goals as goal

@@ -1,5 +1,4 @@
-use Rattle.bidi_base.proofs.Common.{arith, common_steps}
-use Rattle.std.proofs.lemmas.Str.{chars_past_char}
+use Rattle.bidi_base.proofs.Common.{arith, common_steps, chars_past_char}
 use Rattle.bidi_visual.proofs.FirstLemmas.{after-other, after-return}
 use Rattle.bidi_visual.proofs.first.after_separator.Goals as goal
 

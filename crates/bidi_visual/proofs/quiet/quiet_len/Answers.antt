@@ -1,4 +1,4 @@
-use Rattle.std.proofs.lemmas.Str.{IsCharBoundary-start}
+use Rattle.bidi_base.proofs.Common.{IsCharBoundary-start}
 use Rattle.bidi_visual.proofs.quiet.quiet_len.Goals as goal
 
 pub returns-then-is_some-clause-boundary : goal.returns-then-is_some-clause-boundary

@@ -1,5 +1,4 @@
-use Rattle.bidi_base.proofs.Common.{◌≡◌, ℕ, ◌<◌, ◌≤◌, ◌+◌, ◌-◌, true, List, length, get_or, arith}
-use Rattle.std.proofs.lemmas.Str.{IsCharBoundary-start, IsCharBoundary-after_ascii}
+use Rattle.bidi_base.proofs.Common.{◌≡◌, ℕ, ◌<◌, ◌≤◌, ◌+◌, ◌-◌, true, List, length, get_or, arith, IsCharBoundary-start, IsCharBoundary-after_ascii}
 use Rattle.bidi_visual.specs.Quiet.{is_quiet}
 use Rattle.bidi_visual.proofs.QuietLemmas.{quiet-line, quiet-longer}
 use Rattle.bidi_visual.proofs.quiet.quiet_lines.Goals as goal

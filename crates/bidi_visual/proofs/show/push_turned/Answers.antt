@@ -1,5 +1,4 @@
-use Rattle.bidi_base.proofs.Common.{append_assoc, arith}
-use Rattle.std.proofs.lemmas.List.Concat.{flat_map-append}
+use Rattle.bidi_base.proofs.Common.{append_assoc, arith, flat_map-append}
 use Rattle.bidi_visual.proofs.TurnedLemmas.{turned_step-mark, turned_step-letter}
 use Rattle.bidi_visual.proofs.show.push_turned.Goals as goal
 

@@ -8,7 +8,9 @@ read_on-requires g c = record {
   begins = is_boundary-skimmed _ _ _ _ _ _ _ _ _ _ c.in_default.ensures g.met.T.TextSource.has_units (g.T.TextSource.characters c.args.text) c.requires.begins refl;
 }
 
-pub returns-clause-stop : goal.returns-clause-stop
-returns-clause-stop g c =
-    stop-on _ _ _ _ _ _ _ _ _ _ c.in_default.ensures g.met.T.TextSource.has_units (g.T.TextSource.characters c.args.text) c.requires.begins refl
-    c.read_on.result c.read_on.new.progress.at c.read_on.new.classes c.read_on.new.progress.flags c.read_on.ensures.stop
+pub returns : goal.returns
+returns g c = record {
+  stop = stop-on _ _ _ _ _ _ _ _ _ _ c.in_default.ensures g.met.T.TextSource.has_units (g.T.TextSource.characters c.args.text) c.requires.begins refl
+      c.read_on.result c.read_on.new.progress.at c.read_on.new.classes c.read_on.new.progress.flags c.read_on.ensures.stop;
+  passed = grind arith;
+}

@@ -1,5 +1,4 @@
-use Rattle.bidi_base.proofs.Common.{not, ◌≡◌, ◌∙◌, ◌+◌, ℕ, ◌<◌, List, ◌⊎◌, inl, inr, length, true, refl, sym, ap, subst, arith, common_steps, is_none, cases_Bool, place}
-use Rattle.std.proofs.lemmas.List.{with_items_is}
+use Rattle.bidi_base.proofs.Common.{not, ◌≡◌, ◌∙◌, ◌+◌, ℕ, ◌<◌, List, ◌⊎◌, inl, inr, length, true, refl, sym, ap, subst, arith, common_steps, is_none, cases_Bool, place, with_items_is}
 use Rattle.bidi_base.proofs.PlaceLemmas.{is_boundary-place, place-end}
 use Rattle.bidi_walk.specs.declared.first_walk.paragraph_state.ParagraphState.{ParagraphState}
 use Rattle.bidi_walk.proofs.TextRead.{seen, same_range, open_within, depth-le, drawn-is, IsTextRead-more, IsTextRead-stop_counting, IsTextDone-close, IsRead}

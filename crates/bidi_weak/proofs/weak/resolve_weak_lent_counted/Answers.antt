@@ -1,5 +1,5 @@
 -- The three steps, one behind another.
-use Rattle.bidi_base.proofs.Common.{◌≡◌, ℕ, true, false, List, length, map, arith, Range, class_at, is_per_char, IsPerChar, bounds, are_ordered, in_runs, AreLines, carried}
+use Rattle.bidi_base.proofs.Common.{◌≡◌, ℕ, true, false, List, length, map, arith, Range, class_at, is_per_char, IsPerChar, bounds, are_ordered, in_runs, AreLines, carried, AreWeakTypesResolved}
 use Rattle.bidi_base.specs.declared.char_data.BidiClass.{BidiClass}
 use Rattle.bidi_text.proofs.PerCharTests.{class_eq, class_test}
 use Rattle.bidi_base.proofs.TextLemmas.{HasUnits}
@@ -9,7 +9,6 @@ use Rattle.bidi_runs.specs.RunSequence.{lent_runs, lent_sos}
 use Rattle.bidi_weak.specs.WeakPass.{left_over}
 use Rattle.bidi_weak.specs.WeakWalk.{len_at, IsMarked, IsWalked}
 use Rattle.bidi_weak.proofs.CountedUnits.{characters-at_most}
-use Rattle.bidi_base.specs.InPlace.{AreWeakTypesResolved}
 use Rattle.bidi_weak.proofs.WeakText.{AreWeakTypesResolved-passes, lines-within}
 use Rattle.bidi_weak.proofs.weak.resolve_weak_lent_counted.Goals as goal
 

@@ -1,6 +1,5 @@
-use Rattle.bidi_base.proofs.Common.{◌≡◌, ◌∙◌, sym, ap, arith, len_utf8, chars, text_len, subrange, levels_of_line}
+use Rattle.bidi_base.proofs.Common.{◌≡◌, ◌∙◌, sym, ap, arith, len_utf8, chars, text_len, subrange, levels_of_line, AreLevelsOfLine}
 use Rattle.bidi_text.proofs.StrLemmas.{has_units}
-use Rattle.bidi_base.specs.Analysed.{AreLevelsOfLine}
 use Rattle.bidi_lines.specs.ShownLevels.{levels as kept_levels}
 use Rattle.unicode_bidi.specs.BidiInfo.{text, analysed}
 use Rattle.bidi_walk.specs.ParagraphInfo.{level_of}

@@ -1,5 +1,4 @@
-use Rattle.bidi_base.proofs.Common.{◌≡◌, ◌+◌, ℕ, List, arith, map-append}
-use Rattle.std.proofs.lemmas.List.{append_assoc, append-nil}
+use Rattle.bidi_base.proofs.Common.{◌≡◌, ◌+◌, ℕ, List, arith, map-append, append_assoc, append-nil}
 use Rattle.bidi_laws.proofs.LayoutLemmas.{FirstLine, first_line, line_ranges-none, line_ranges-IsPartition}
 use Rattle.unicode_bidi.proofs.layout.lines_of.Goals as goal
 use Rattle.unicode_bidi.proofs.layout.lines_of.Goals.{After-first_line_len}

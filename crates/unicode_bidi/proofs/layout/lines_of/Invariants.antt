@@ -1,5 +1,4 @@
-use Rattle.bidi_base.proofs.Common.{◌≡◌, ◌-◌, ◌++◌, map, run_of, line_ranges, IsLine}
-use Rattle.std.proofs.Common.{All}
+use Rattle.bidi_base.proofs.Common.{◌≡◌, ◌-◌, ◌++◌, map, run_of, line_ranges, IsLine, All}
 use Rattle.unicode_bidi.proofs.layout.lines_of.Given as goal
 
 -- the lines so far, with those of what is left, are those of the range

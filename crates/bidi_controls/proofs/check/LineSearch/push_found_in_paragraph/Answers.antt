@@ -1,5 +1,4 @@
-use Rattle.bidi_base.proofs.Common.{◌≡◌, ℕ, ◌++◌, Bool, List, Option, flat_map, indexes, map, refl, ap, ◌∙◌, Source}
-use Rattle.std.proofs.Common.{Ok, Err, Result, OnOk}
+use Rattle.bidi_base.proofs.Common.{◌≡◌, ℕ, ◌++◌, Bool, List, Option, flat_map, indexes, map, refl, ap, ◌∙◌, Source, Ok, Err, Result, OnOk}
 use Rattle.bidi_controls.specs.Findings.{wants_every_control, findings_at, findings_in_paragraph, differing_place}
 use Rattle.bidi_controls.specs.declared.finding.Finding.{Finding}
 use Rattle.bidi_controls.specs.declared.finding.Wanted.{Wanted}

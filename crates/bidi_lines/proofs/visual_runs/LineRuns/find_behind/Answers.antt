@@ -1,5 +1,4 @@
-use Rattle.bidi_base.proofs.Common.{◌≡◌, ap, sym, ◌∙◌, arith, length, length-map, map, run_of, level_runs}
-use Rattle.std.proofs.Common.{Ok, Err, Result, OnOk}
+use Rattle.bidi_base.proofs.Common.{◌≡◌, ap, sym, ◌∙◌, arith, length, length-map, map, run_of, level_runs, Ok, Err, Result, OnOk}
 use Rattle.bidi_lines.proofs.FoundRuns.{visual_runs-whole, AreVisualRuns-from_same}
 use Rattle.bidi_lines.proofs.visual_runs.LineRuns.find_behind.Goals as goal
 

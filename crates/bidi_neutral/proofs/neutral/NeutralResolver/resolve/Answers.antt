@@ -38,12 +38,15 @@ within g c =
 pub bounds-levels-first : goal.bounds-levels-first
 bounds-levels-first g c = within g c
 
-pub returns-in_default-clause-resolved : goal.returns-in_default-clause-resolved
-returns-in_default-clause-resolved g c =
+pub returns-in_default : goal.returns-in_default
+returns-in_default g c =
     let none = simp c.runs-runs.ensures at (sym c.in_default.is ∙ c.first_kept.ensures) in
-    IsResolved-alike _ _ _ _ _ _ _ _ _ _ _ _ _ c.lend-lent.ensures.runs c.lend-lent.ensures.sos c.lend-lent.ensures.eos
-    (resolved-none g.T.TextSource.units g.met.T.TextSource.has_units (g.T.TextSource.characters c.args.text) (g.D.BidiDataSource.source c.args.data_source.now) c.args.levels.now c.args.original_classes.now c.args.processing_classes.now
-    (lent_runs c.lend-lent.result) (lent_sos c.lend-lent.result) (lent_eos c.lend-lent.result) c.requires.per_char (ready g (goal.at.returns-in_default-clause-resolved g c).After-runs-runs) none)
+    record {
+      resolved = IsResolved-alike _ _ _ _ _ _ _ _ _ _ _ _ _ c.lend-lent.ensures.runs c.lend-lent.ensures.sos c.lend-lent.ensures.eos
+          (resolved-none g.T.TextSource.units g.met.T.TextSource.has_units (g.T.TextSource.characters c.args.text) (g.D.BidiDataSource.source c.args.data_source.now) c.args.levels.now c.args.original_classes.now c.args.processing_classes.now
+          (lent_runs c.lend-lent.result) (lent_sos c.lend-lent.result) (lent_eos c.lend-lent.result) c.requires.per_char (ready g (goal.at.returns-in_default g c).After-runs-runs) none);
+      refused = grind arith;
+    }
 
 pub resolve_up_to_n1-requires : goal.resolve_up_to_n1-requires
 resolve_up_to_n1-requires g c = given g (goal.at.resolve_up_to_n1-requires g c).After-runs-runs
@@ -56,8 +59,8 @@ resolved : (g : Over) (c : goal.After-processing_classes-2-1 g)
     → IsResolved g.T.TextSource.units (g.T.TextSource.characters c.args.text) (g.D.BidiDataSource.source c.args.data_source.now) c.args.levels.now c.args.original_classes.now c.args.processing_classes.now c.settle_rest.new.classes
     (lent_runs c.lend-lent.result) (lent_sos c.lend-lent.result) (lent_eos c.lend-lent.result)
 resolved g c =
-    let first = (goal.at.returns-clause-resolved g c).In-Some in
-    let r = ready g (goal.at.returns-clause-resolved g c).After-runs-runs in
+    let first = (goal.at.returns g c).In-Some in
+    let r = ready g (goal.at.returns g c).After-runs-runs in
     let units = g.T.TextSource.units in
     let chars = g.T.TextSource.characters c.args.text in
     let runs = lent_runs c.lend-lent.result in
@@ -74,5 +77,8 @@ resolved g c =
     (λ u inside. c.settle_rest.ensures.changed u (simp same_runs inside))
     (λ u out. c.settle_rest.ensures.same u (simp same_runs out))
 
-pub returns-clause-resolved : goal.returns-clause-resolved
-returns-clause-resolved g c = IsResolved-alike _ _ _ _ _ _ _ _ _ _ _ _ _ c.lend-lent.ensures.runs c.lend-lent.ensures.sos c.lend-lent.ensures.eos (resolved g c)
+pub returns : goal.returns
+returns g c = record {
+  resolved = IsResolved-alike _ _ _ _ _ _ _ _ _ _ _ _ _ c.lend-lent.ensures.runs c.lend-lent.ensures.sos c.lend-lent.ensures.eos (resolved g c);
+  refused = grind arith;
+}

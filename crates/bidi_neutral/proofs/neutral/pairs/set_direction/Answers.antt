@@ -1,6 +1,5 @@
-use Rattle.bidi_base.proofs.Common.{◌≡◌, ℕ, ◌+◌, ◌≤◌, ◌&&◌, List, length, map, drop, refl, sym, subst, ap, arith, common_steps, All}
-use Rattle.bidi_base.proofs.Common.{and_from, is_kept_in_place, class_at, place, text_len, bounds, in_runs, AreLines}
-use Rattle.std.proofs.lemmas.List.Elements.{All-drop}
+use Rattle.bidi_base.proofs.Common.{◌≡◌, ℕ, ◌+◌, ◌≤◌, ◌&&◌, List, length, map, drop, refl, sym, subst, ap, arith, common_steps, All, and_from, is_kept_in_place, class_at, place, text_len, bounds}
+use Rattle.bidi_base.proofs.Common.{in_runs, AreLines, All-drop}
 use Rattle.bidi_base.specs.declared.char_data.BidiClass.{BidiClass}
 use Rattle.bidi_base.proofs.PlaceLemmas.{is_boundary-place, place-mono}
 use Rattle.bidi_base.proofs.TextLemmas.{is_boundary-le}

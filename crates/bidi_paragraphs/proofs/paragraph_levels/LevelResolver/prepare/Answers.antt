@@ -1,7 +1,6 @@
-use Rattle.bidi_base.proofs.Common.{◌≡◌, ◌∙◌, List, ℕ, map, ap, arith, explicit_levels, per_char, bounds}
+use Rattle.bidi_base.proofs.Common.{◌≡◌, ◌∙◌, List, ℕ, map, ap, arith, explicit_levels, per_char, bounds, AreExplicitLevels}
 use Rattle.bidi_base.specs.declared.char_data.BidiClass.{BidiClass}
 use Rattle.bidi_base.specs.declared.char_data.BidiClass.TheVariants.{L}
-use Rattle.bidi_base.specs.InPlace.{AreExplicitLevels}
 use Rattle.bidi_laws.proofs.ExplicitLemmas.{length-explicit_levels}
 use Rattle.bidi_base.proofs.PerUnit.{length-per_char, per_char-per_unit}
 use Rattle.bidi_base.proofs.UnitsLemmas.{is_per_char-per_unit}

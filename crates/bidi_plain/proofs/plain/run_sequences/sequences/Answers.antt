@@ -1,5 +1,4 @@
-use Rattle.bidi_base.proofs.Common.{◌∙◌, YieldsList-end, map-id}
-use Rattle.std.proofs.lemmas.Iterator.Adapters.{YieldsList-from_vec}
+use Rattle.bidi_base.proofs.Common.{◌∙◌, YieldsList-end, map-id, YieldsList-from_vec}
 use Rattle.bidi_laws.proofs.AgreeLemmas.{sequences-explicit_levels}
 use Rattle.bidi_plain.proofs.plain.run_sequences.sequences.Goals as goal
 

@@ -1,5 +1,4 @@
-use Rattle.bidi_base.proofs.Common.{◌≡◌, ◌∙◌, ◌++◌, ℕ, List, None, length, take, drop, get_or, ap, subst, arith, chars, Source, take-append_seam}
-use Rattle.bidi_base.specs.Analysed.{IsPerCharText}
+use Rattle.bidi_base.proofs.Common.{◌≡◌, ◌∙◌, ◌++◌, ℕ, List, None, length, take, drop, get_or, ap, subst, arith, chars, Source, take-append_seam, IsPerCharText}
 use Rattle.bidi_terminal.specs.Bases.{level_of_base}
 use Rattle.bidi_walk.specs.ParagraphInfo.{ranges_of, levels_of}
 use Rattle.bidi_walk.specs.SplitRule.{IsAnalysisBy}

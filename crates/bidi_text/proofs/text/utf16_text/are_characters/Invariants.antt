@@ -1,5 +1,4 @@
-use Rattle.bidi_base.proofs.Common.{◌≡◌, nat_le, take, list_all}
-use Rattle.bidi_base.specs.Utf16.{is_character}
+use Rattle.bidi_base.proofs.Common.{◌≡◌, nat_le, take, list_all, is_character}
 use Rattle.bidi_text.proofs.text.utf16_text.are_characters.Given as goal
 
 -- the least distance so far tells whether each unit is a character

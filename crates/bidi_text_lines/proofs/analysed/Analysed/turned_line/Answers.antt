@@ -1,5 +1,4 @@
-use Rattle.bidi_base.proofs.Common.{◌≡◌, ℕ, List, ◌++◌, length, take, ap, ◌∙◌, arith}
-use Rattle.std.proofs.Math.Seq.{take-append_seam}
+use Rattle.bidi_base.proofs.Common.{◌≡◌, ℕ, List, ◌++◌, length, take, ap, ◌∙◌, arith, take-append_seam}
 use Rattle.bidi_text_lines.specs.Analysed.{text_of}
 use Rattle.bidi_text_lines.proofs.StoredLine.{same_len, within, has_rtl-chars, classes_IsPerChar, levels_IsPerChar}
 use Rattle.bidi_text_lines.proofs.TextOfLine.{visual_runs_at_boundaries}

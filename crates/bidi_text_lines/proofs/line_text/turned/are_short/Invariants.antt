@@ -1,5 +1,4 @@
-use Rattle.bidi_base.proofs.Common.{◌≡◌, nat_lt, take}
-use Rattle.std.specs.List.{list_all}
+use Rattle.bidi_base.proofs.Common.{◌≡◌, nat_lt, take, list_all}
 use Rattle.bidi_text_lines.proofs.line_text.turned.are_short.Given as goal
 
 -- the greatest byte so far tells whether all are short

@@ -1,7 +1,5 @@
-use Rattle.bidi_base.proofs.Common.{◌≡◌, ℕ, ◌+◌, ◌≤◌, ◌<◌, List, [], ◌∷◌, ◌++◌, length, take, flat_map, reverse, arith, common_steps}
-use Rattle.bidi_base.proofs.Common.{reverse-append, reverse-reverse, sum_by-cons, take_all, nat_tests, text_len, utf16_text, utf16_len}
-use Rattle.std.specs.Char.Escape.{encode_utf16}
-use Rattle.std.proofs.lemmas.List.Sums.{sum_by-append}
+use Rattle.bidi_base.proofs.Common.{◌≡◌, ℕ, ◌+◌, ◌≤◌, ◌<◌, List, [], ◌∷◌, ◌++◌, length, take, flat_map, reverse, arith, common_steps, reverse-append, reverse-reverse, sum_by-cons, take_all}
+use Rattle.bidi_base.proofs.Common.{nat_tests, text_len, utf16_text, utf16_len, encode_utf16, sum_by-append}
 use Rattle.bidi_text.proofs.Utf16Lemmas.{text_len-utf16}
 use Rattle.bidi_text_lines.proofs.WrittenRuns.{written_part}
 use Rattle.bidi_text_lines.proofs.line_text.utf16.write_chars_reversed.Goals as goal

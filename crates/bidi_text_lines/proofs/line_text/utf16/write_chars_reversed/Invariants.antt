@@ -1,5 +1,4 @@
-use Rattle.bidi_base.proofs.Common.{◌≡◌, ◌++◌, take, flat_map, reverse, rev_source, text_len, utf16_text, utf16_len}
-use Rattle.std.specs.Char.Escape.{encode_utf16}
+use Rattle.bidi_base.proofs.Common.{◌≡◌, ◌++◌, take, flat_map, reverse, rev_source, text_len, utf16_text, utf16_len, encode_utf16}
 use Rattle.bidi_text_lines.proofs.line_text.utf16.write_chars_reversed.Given as goal
 
 abbrev pub invariant-loop-c : goal.invariant-loop-c

@@ -1,6 +1,5 @@
-use Rattle.bidi_base.proofs.Common.{◌≡◌, ℕ, List, ◌++◌, length, reverse, flat_map, take, arith, common_steps, chars, encode_utf8_all}
-use Rattle.bidi_base.proofs.Common.{IsUtf8, nil_from_length, reverse-reverse, chars_from_encodes, length-append, take_all}
-use Rattle.std.specs.Prelude.{encode_utf8}
+use Rattle.bidi_base.proofs.Common.{◌≡◌, ℕ, List, ◌++◌, length, reverse, flat_map, take, arith, common_steps, chars, encode_utf8_all, IsUtf8, nil_from_length, reverse-reverse, chars_from_encodes}
+use Rattle.bidi_base.proofs.Common.{length-append, take_all, encode_utf8}
 use Rattle.bidi_text_lines.proofs.WrittenRuns.{written_part}
 use Rattle.bidi_text_lines.proofs.line_text.utf8.write_chars_reversed.Goals as goal
 

@@ -1,5 +1,5 @@
-use Rattle.bidi_base.proofs.Common.{◌≡◌, ◌++◌, length, take, flat_map, reverse, rev_source, chars_rest}
-use Rattle.std.specs.Prelude.{encode_utf8, encode_utf8_all}
+use Rattle.bidi_base.proofs.Common.{◌≡◌, ◌++◌, length, take, flat_map, reverse, rev_source, chars_rest, encode_utf8}
+use Rattle.std.specs.Prelude.{encode_utf8_all}
 use Rattle.bidi_text_lines.proofs.line_text.utf8.write_chars_reversed.Given as goal
 
 abbrev pub invariant-loop-c : goal.invariant-loop-c

@@ -1,5 +1,4 @@
-use Rattle.bidi_base.proofs.Common.{◌≡◌, List, [], refl, sym, ◌∙◌, arith}
-use Rattle.std.proofs.Common.{Ok, Err, Result, OnOk, OnErr}
+use Rattle.bidi_base.proofs.Common.{◌≡◌, List, [], refl, sym, ◌∙◌, arith, Ok, Err, Result, OnOk, OnErr}
 use Rattle.bidi_text_lines.proofs.LineShown.{empty-IsLine, empty-runs, empty-runs_of_chars}
 use Rattle.bidi_text_lines.proofs.shown_line.ShownLine.clear.Goals as goal
 

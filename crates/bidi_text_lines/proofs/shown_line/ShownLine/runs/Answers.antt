@@ -1,5 +1,4 @@
-use Rattle.bidi_base.specs.Analysed.{AreRunsOfLine}
-use Rattle.bidi_base.proofs.Common.{sym, subst}
+use Rattle.bidi_base.proofs.Common.{AreRunsOfLine, sym, subst}
 use Rattle.bidi_text_lines.proofs.ShownLines.{runs_of_shown}
 use Rattle.bidi_text_lines.proofs.shown_line.ShownLine.runs.Goals as goal
 

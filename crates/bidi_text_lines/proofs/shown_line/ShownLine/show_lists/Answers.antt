@@ -1,5 +1,4 @@
-use Rattle.bidi_base.proofs.Common.{◌≡◌, ◌-◌, ℕ, [], List, refl, ap, sym, subst, ◌∙◌, arith, length, take, has_rtl, IsLine, visual_runs, levels_of_line}
-use Rattle.bidi_base.specs.Analysed.{AreLevelsOfLine}
+use Rattle.bidi_base.proofs.Common.{◌≡◌, ◌-◌, ℕ, [], List, refl, ap, sym, subst, ◌∙◌, arith, length, take, has_rtl, IsLine, visual_runs, levels_of_line, AreLevelsOfLine}
 use Rattle.bidi_lines.specs.ShownLevels.{levels as kept_levels}
 use Rattle.bidi_text_lines.specs.Analysed.{with_lists}
 use Rattle.bidi_text_lines.specs.Written.{AreRunsOfChars}

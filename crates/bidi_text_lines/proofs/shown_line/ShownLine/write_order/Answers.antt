@@ -1,5 +1,4 @@
-use Rattle.bidi_base.proofs.Common.{◌-◌, ◌∙◌, ap, sym, visual_order}
-use Rattle.std.proofs.Common.{length-take-le}
+use Rattle.bidi_base.proofs.Common.{◌-◌, ◌∙◌, ap, sym, visual_order, length-take-le}
 use Rattle.bidi_base.proofs.PlaceLemmas.{text_len-subrange}
 use Rattle.bidi_lines.specs.ShownLevels.{levels as kept_levels}
 use Rattle.bidi_text_lines.specs.ShownLine.{text_of}

@@ -1,5 +1,4 @@
-use Rattle.bidi_base.proofs.Common.{◌≡◌, ℕ, ◌+◌, ◌<◌, ◌≤◌, ◌-◌, length, get_or, Some, ascii_at}
-use Rattle.std.specs.Prelude.{IfSome}
+use Rattle.bidi_base.proofs.Common.{◌≡◌, ℕ, ◌+◌, ◌<◌, ◌≤◌, ◌-◌, length, get_or, Some, ascii_at, IfSome}
 use Rattle.bidi_walk.specs.ClassSet.{has}
 use Rattle.bidi_walk.specs.FirstWalk.{ahead, IsSkimmed}
 use Rattle.bidi_walk.proofs.FlagsLemmas.{AreSought}

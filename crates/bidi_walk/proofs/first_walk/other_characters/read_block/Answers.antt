@@ -28,14 +28,20 @@ overflow_add-place g c =
     let long = block-long _ g.met.T.TextSource.has_units (g.T.TextSource.characters c.args.text) c.args.progress.now.at c.block_end-end.result c.requires.place.begins c.block_end-end.ensures.order c.block_end-end.ensures.boundary _ c.subrange-block.ensures in
     omega (arith, IsStop-within _ _ _ _ 0 c.in-Some.stop _ _ _ _ (c.in-Some.ensures c.args.progress.now.flags c.requires.sought), long, c.block_end-end.type_inv)
 
-pub returns-in-Some-clause-stop : goal.returns-in-Some-clause-stop
-returns-in-Some-clause-stop g c =
+pub returns-in-Some : goal.returns-in-Some
+returns-in-Some g c =
     let room = block-room _ g.met.T.TextSource.has_units (g.T.TextSource.characters c.args.text) c.args.progress.now.at c.block_end-end.result c.requires.place.begins c.block_end-end.ensures.order c.block_end-end.ensures.boundary _ c.subrange-block.ensures c.args.classes.now c.requires.place.sized in
-    IsStop-block _ g.met.T.TextSource.has_units (g.T.TextSource.characters c.args.text) c.args.progress.now.at c.block_end-end.result c.requires.place.begins c.block_end-end.ensures.order c.block_end-end.ensures.boundary
-    _ c.subrange-block.ensures c.args.classes.now c.requires.place.sized _ _ _ c.read_to_sought.new.classes _ _ _ (omega (arith, room, c.read_to_sought.auto.classes)) c.in-Some.stop (c.in-Some.ensures c.args.progress.now.flags c.requires.sought)
+    record {
+      stop = IsStop-block _ g.met.T.TextSource.has_units (g.T.TextSource.characters c.args.text) c.args.progress.now.at c.block_end-end.result c.requires.place.begins c.block_end-end.ensures.order c.block_end-end.ensures.boundary
+          _ c.subrange-block.ensures c.args.classes.now c.requires.place.sized _ _ _ c.read_to_sought.new.classes _ _ _ (omega (arith, room, c.read_to_sought.auto.classes)) c.in-Some.stop (c.in-Some.ensures c.args.progress.now.flags c.requires.sought);
+      passed = grind arith;
+    }
 
-pub returns-clause-stop : goal.returns-clause-stop
-returns-clause-stop g c =
+pub returns : goal.returns
+returns g c =
     let room = block-room _ g.met.T.TextSource.has_units (g.T.TextSource.characters c.args.text) c.args.progress.now.at c.block_end-end.result c.requires.place.begins c.block_end-end.ensures.order c.block_end-end.ensures.boundary _ c.subrange-block.ensures c.args.classes.now c.requires.place.sized in
-    IsSkimmed-block _ g.met.T.TextSource.has_units (g.T.TextSource.characters c.args.text) c.args.progress.now.at c.block_end-end.result c.requires.place.begins c.block_end-end.ensures.order c.block_end-end.ensures.boundary
-    _ c.subrange-block.ensures c.args.classes.now c.requires.place.sized _ _ _ c.read_to_sought.new.classes _ _ _ (omega (arith, room, c.read_to_sought.auto.classes)) (c.in_default.ensures c.args.progress.now.flags c.requires.sought)
+    record {
+      stop = IsSkimmed-block _ g.met.T.TextSource.has_units (g.T.TextSource.characters c.args.text) c.args.progress.now.at c.block_end-end.result c.requires.place.begins c.block_end-end.ensures.order c.block_end-end.ensures.boundary
+          _ c.subrange-block.ensures c.args.classes.now c.requires.place.sized _ _ _ c.read_to_sought.new.classes _ _ _ (omega (arith, room, c.read_to_sought.auto.classes)) (c.in_default.ensures c.args.progress.now.flags c.requires.sought);
+      passed = grind arith;
+    }

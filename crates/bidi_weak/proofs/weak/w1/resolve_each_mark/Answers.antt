@@ -1,5 +1,4 @@
-use Rattle.bidi_base.proofs.Common.{◌≡◌, ◌+◌, ◌<◌, ℕ, true, false, length, ap, subst, ◌∙◌, arith, and_from, and_right, is_kept_in_place, is_nsm, class_at, in_runs, carried}
-use Rattle.std.proofs.lemmas.List.{set-get_or}
+use Rattle.bidi_base.proofs.Common.{◌≡◌, ◌+◌, ◌<◌, ℕ, true, false, length, ap, subst, ◌∙◌, arith, and_from, and_right, is_kept_in_place, is_nsm, class_at, in_runs, carried, set-get_or}
 use Rattle.bidi_base.specs.declared.char_data.BidiClass.{BidiClass}
 use Rattle.bidi_base.specs.declared.char_data.BidiClass.TheVariants.{L}
 use Rattle.bidi_weak.specs.WeakPass.{marked}

@@ -21,5 +21,8 @@ loop-unit-preserved g c =
       past = λ u high. let other : u ≢ i = omega arith in get_or-set_other now i u new L other ∙ s.past u high;
     }
 
-pub returns-clause-steps : goal.returns-clause-steps
-returns-clause-steps g c = grind arith
+pub returns : goal.returns
+returns g c = record {
+  changed = record { changed = λ u from to. grind arith; below = λ u low. grind arith; above = λ u high. grind arith };
+  steps = grind arith;
+}

@@ -1,5 +1,4 @@
-use Rattle.bidi_base.proofs.Common.{arith}
-use Rattle.std.proofs.lemmas.List.{with_items_is}
+use Rattle.bidi_base.proofs.Common.{arith, with_items_is}
 use Rattle.bidi_text.proofs.PerCharTests.{class_test}
 use Rattle.bidi_base.proofs.UnitsLemmas.{is_per_char-per_unit}
 use Rattle.bidi_laws.proofs.ParagraphsLemmas.{length-paragraph_classes, paragraphs-AreParagraphRanges}

@@ -1,5 +1,4 @@
-use Rattle.bidi_base.proofs.Common.{refl, sym, subst, ◌∙◌, arith, length, IsVisualOrder}
-use Rattle.bidi_base.specs.Layout.{AreInverse}
+use Rattle.bidi_base.proofs.Common.{refl, sym, subst, ◌∙◌, arith, length, IsVisualOrder, AreInverse}
 use Rattle.bidi_lines.proofs.Ordered.{visual_order-is, visual_order-still, none_odd}
 use Rattle.bidi_laws.proofs.LayoutLemmas.{own_indexes, visual_places-inverse}
 use Rattle.unicode_bidi.proofs.KeptOrder.{entries-whole, order-long, still-indexes, places-in_order}

@@ -1,5 +1,4 @@
-use Rattle.bidi_base.proofs.Common.{◌∙◌, subst, IsUtf8}
-use Rattle.std.proofs.lemmas.Iterator.{YieldsList-from_chars}
+use Rattle.bidi_base.proofs.Common.{◌∙◌, subst, IsUtf8, YieldsList-from_chars}
 use Rattle.bidi_text.proofs.text.str_text.StrTextTextSource.chars.Goals as goal
 
 pub returns : goal.returns

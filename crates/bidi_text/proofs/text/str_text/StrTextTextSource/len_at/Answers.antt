@@ -1,6 +1,4 @@
-use Rattle.bidi_base.proofs.Common.{◌≡◌, ℕ, Option, Some, option_map, sym, ap, subst, ◌∙◌, arith, inl, inr, get_or, cases_lt, char_at}
-use Rattle.std.specs.Char.{len_utf8}
-use Rattle.std.specs.Str.{chars}
+use Rattle.bidi_base.proofs.Common.{◌≡◌, ℕ, Option, Some, option_map, sym, ap, subst, ◌∙◌, arith, inl, inr, get_or, cases_lt, char_at, len_utf8, chars}
 use Rattle.bidi_text.proofs.StrLemmas.{text_len-chars, char_at-short, char_at-three, char_at-four}
 use Rattle.bidi_text.proofs.text.str_text.StrTextTextSource.len_at.Goals as goal
 

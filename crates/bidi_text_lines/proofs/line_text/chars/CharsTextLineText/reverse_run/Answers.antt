@@ -1,6 +1,4 @@
-use Rattle.bidi_base.proofs.Common.{◌≡◌, ℕ, List, [], ◌∷◌, reverse, flat_map, sym, ap, ◌∙◌, arith}
-use Rattle.std.proofs.Common.{slice_range, map-id}
-use Rattle.bidi_base.specs.Text.{one_unit, subrange}
+use Rattle.bidi_base.proofs.Common.{◌≡◌, ℕ, List, [], ◌∷◌, reverse, flat_map, sym, ap, ◌∙◌, arith, slice_range, map-id, one_unit, subrange}
 use Rattle.std.proofs.lemmas.List.Concat.{flat_map_single}
 use Rattle.bidi_text.proofs.CharsLemmas.{is_boundary-within, subrange-one_unit}
 use Rattle.bidi_text_lines.proofs.line_text.chars.CharsTextLineText.reverse_run.Goals as goal

@@ -1,5 +1,4 @@
-use Rattle.bidi_base.proofs.Common.{◌≡◌, sym, ap, subst, ◌∙◌, arith, IsUtf8, chars, encode_utf8}
-use Rattle.std.specs.Char.{len_utf8}
+use Rattle.bidi_base.proofs.Common.{◌≡◌, sym, ap, subst, ◌∙◌, arith, IsUtf8, chars, encode_utf8, len_utf8}
 use Rattle.bidi_text.proofs.StrLemmas.{has_units, text_len-chars, IsCharBoundary-from_is_boundary}
 use Rattle.bidi_text_lines.specs.Analysed.{analysed}
 use Rattle.bidi_text_lines.specs.Written.{line_units}

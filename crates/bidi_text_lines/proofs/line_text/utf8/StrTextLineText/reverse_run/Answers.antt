@@ -1,5 +1,5 @@
-use Rattle.bidi_base.proofs.Common.{◌≡◌, ℕ, ◌+◌, List, length, reverse, flat_map, ap, ◌∙◌, arith, chars, subrange, IsLine, IsUtf8}
-use Rattle.std.specs.Char.{len_utf8, encode_utf8}
+use Rattle.bidi_base.proofs.Common.{◌≡◌, ℕ, ◌+◌, List, length, reverse, flat_map, ap, ◌∙◌, arith, chars, subrange, IsLine, IsUtf8, len_utf8}
+use Rattle.std.specs.Char.{encode_utf8}
 use Rattle.bidi_base.proofs.PlaceLemmas.{text_len-subrange}
 use Rattle.bidi_text.proofs.StrLemmas.{has_units, text_len-chars}
 use Rattle.bidi_text_lines.proofs.TurnedText.{turned-chars}

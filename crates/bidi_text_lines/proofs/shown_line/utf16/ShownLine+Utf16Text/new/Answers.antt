@@ -1,5 +1,4 @@
-use Rattle.bidi_base.proofs.Common.{sym, ap, ◌∙◌}
-use Rattle.bidi_base.specs.Utf16.{utf16_text}
+use Rattle.bidi_base.proofs.Common.{sym, ap, ◌∙◌, utf16_text}
 use Rattle.bidi_text_lines.proofs.shown_line.utf16.ShownLine+Utf16Text.new.Goals as goal
 
 pub returns-clause-shows : goal.returns-clause-shows

@@ -1,5 +1,4 @@
-use Rattle.bidi_base.proofs.Common.{sym}
-use Rattle.std.specs.Char.Escape.{encode_utf16}
+use Rattle.bidi_base.proofs.Common.{sym, encode_utf16}
 use Rattle.bidi_text.proofs.Utf16Lemmas.{has_units, text_len-utf16}
 use Rattle.bidi_text_lines.proofs.ShownLines.{on_ok, appends_shown}
 use Rattle.bidi_text_lines.proofs.shown_line.utf16.ShownLine+Utf16Text.push_text.Goals as goal

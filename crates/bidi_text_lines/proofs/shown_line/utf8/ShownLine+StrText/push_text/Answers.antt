@@ -1,6 +1,4 @@
-use Rattle.bidi_base.proofs.Common.{◌++◌, sym, ap, subst, ◌∙◌, arith, IsUtf8, encode_utf8}
-use Rattle.std.proofs.Common.{slice_range, string_bytes}
-use Rattle.std.proofs.lemmas.Str.{IsUtf8-append, IsUtf8-string_bytes}
+use Rattle.bidi_base.proofs.Common.{◌++◌, sym, ap, subst, ◌∙◌, arith, IsUtf8, encode_utf8, slice_range, string_bytes, IsUtf8-append, IsUtf8-string_bytes}
 use Rattle.bidi_text.proofs.StrLemmas.{has_units, text_len-chars, IsCharBoundary-from_is_boundary}
 use Rattle.bidi_text_lines.proofs.ShownLines.{on_ok, pushed_ok, pushed_either, still_shown, appends_shown}
 use Rattle.bidi_text_lines.proofs.LineUtf8.{shown_utf8}

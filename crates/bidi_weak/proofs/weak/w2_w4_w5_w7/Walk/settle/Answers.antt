@@ -1,5 +1,4 @@
-use Rattle.bidi_base.proofs.Common.{◌≡◌, ℕ, ◌+◌, ◌*◌, ◌<◌, ◌≤◌, true, List, map, get_or, drop, refl, sym, ◌∙◌, arith, bounds, are_ordered}
-use Rattle.std.proofs.lemmas.List.{get_or-drop}
+use Rattle.bidi_base.proofs.Common.{◌≡◌, ℕ, ◌+◌, ◌*◌, ◌<◌, ◌≤◌, true, List, map, get_or, drop, refl, sym, ◌∙◌, arith, bounds, are_ordered, get_or-drop}
 use Rattle.bidi_weak.specs.declared.weak.w2_w4_w5_w7.Walk.{Walk}
 use Rattle.bidi_weak.specs.WeakPass.{waits}
 use Rattle.bidi_weak.specs.WeakWalk.{settled_to, WaitsBelow}
