@@ -1,5 +1,5 @@
 -- A line whose classes and levels are kept.
-use Rattle.bidi_base.proofs.Common.{◌≡◌, ℕ, ◌+◌, ◌-◌, List, length, map, arith, take_all, length-map, length-range_with_len, levels_of_line, visual_order}
+use Rattle.bidi_base.proofs.Common.{◌≡◌, ℕ, ◌+◌, ◌-◌, List, length, map, arith, take_all, length-map, levels_of_line}
 use Rattle.bidi_base.specs.declared.char_data.BidiClass.{BidiClass}
 use Rattle.bidi_lines.proofs.LineInText.{length-part}
 use Rattle.bidi_lines.proofs.LineLevels.{length-line_levels}
@@ -22,7 +22,3 @@ shown_levels-own l h level n classes levels same of_classes of_levels e = grind 
 pub length-shown_levels : (l : KeptLine) → IsSound l → length (shown_levels l) + l.start ≡ l.end
 unfolding shown_levels
 length-shown_levels l h = grind (arith, length-map, length-own_classes, length-line_levels, length-own_levels)
-
-pub length-visual_order : (levels : List ℕ) → length (visual_order levels) ≡ length levels
-unfolding visual_order
-length-visual_order levels = grind (arith, length-map, length-range_with_len)

@@ -1,10 +1,9 @@
 -- The visual runs of a line, counted from its first unit and from that of the text.
 use Rattle.bidi_base.proofs.Common.{◌≡◌, ℕ, ◌+◌, ◌-◌, ◌<◌, ◌≤◌, ◌==◌, List, [], ◌∷◌, length, get_or, map, refl, sym, ap, ◌∙◌, arith, Range, get_or-map, length-map, map-map, cases_Bool, inl, inr}
-use Rattle.bidi_base.proofs.Common.{Run, run_of, level_runs_from, level_runs, run_level, visual_runs, visual_order, at_places, AreVisualRuns, All}
+use Rattle.bidi_base.proofs.Common.{Run, run_of, level_runs_from, level_runs, run_level, visual_runs, visual_order, AreVisualRuns, All}
 use Rattle.bidi_lines.proofs.Ordered.{visual_order-is}
-use Rattle.bidi_lines.proofs.Pieces.{at_places-map}
 use Rattle.bidi_lines.proofs.VisualRuns.{order_below}
-use Rattle.bidi_text_lines.proofs.CharRuns.{map-same_on}
+use Rattle.bidi_text_lines.proofs.CharRuns.{map-same_on, at_places-moved}
 use Rattle.bidi_numbers.specs.Rows.{run_row}
 
 -- a run that begins so many units later
@@ -21,9 +20,6 @@ level_runs_from-moved by start from level (next ∷ levels) = elim (cases_Bool (
 level_runs-moved : (by : ℕ) (levels : List ℕ) → level_runs by levels ≡ map (moved by) (level_runs 0 levels)
 level_runs-moved by [] = refl
 level_runs-moved by (level ∷ levels) = let e : by ≡ by + 0 = omega arith in ap (λ n. level_runs_from n (by + 1) level levels) e ∙ level_runs_from-moved by 0 1 level levels
-
-at_places-moved : (f : Run → Run) (runs : List Run) (order : List ℕ) → All (λ k. k < length runs) order → at_places (0, 0) (map f runs) order ≡ map f (at_places (0, 0) runs order)
-at_places-moved f runs order h = grind (arith, at_places-map, map-same_on, get_or-map, map-map)
 
 run_level-moved : (by : ℕ) (levels : List ℕ) (run : Run) → run_level by levels (moved by run) ≡ run_level 0 levels run
 run_level-moved by levels run = let e : by + run.0 - by ≡ run.0 - 0 = omega arith in ap (λ k. get_or levels k 0) e

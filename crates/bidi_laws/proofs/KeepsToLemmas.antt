@@ -120,7 +120,7 @@ quiet_w7 true before c after h k = k
 quiet_w7 false before c after h k = k
 
 -- a test that each answer of a rule passes, where it passes for all that the rule reads
-list_all-around : (rule : List BidiClass → BidiClass → List BidiClass → BidiClass) (p q : BidiClass → Bool)
+pub list_all-around : (rule : List BidiClass → BidiClass → List BidiClass → BidiClass) (p q : BidiClass → Bool)
     → ((before : List BidiClass) (c : BidiClass) (after : List BidiClass) → list_all p before ≡ true → p c ≡ true → list_all p after ≡ true → q (rule before c after) ≡ true)
     → (before xs : List BidiClass) → list_all p before ≡ true → list_all p xs ≡ true → list_all q (in_context rule before xs) ≡ true
 list_all-around rule p q answers before [] h k = refl

@@ -37,7 +37,7 @@ goes_with-cases R R s h = inl (refl, refl, refl)
 goes_with-cases R c s h = inr (neutral_only c h)
 goes_with-cases _ c s h = absurd (cc s)
 
-either_way : {X : Type 0} (b : Bool) (x : X) → (if b then x else x) ≡ x
+pub either_way : {X : Type 0} (b : Bool) (x : X) → (if b then x else x) ≡ x
 either_way true x = refl
 either_way false x = refl
 

@@ -33,7 +33,7 @@ module _ (e : BidiClass) (side : is_l_or_r e ≡ true) where
   all_same (c ∷ cs) h = grind (arith, taken e c, itself e side, all_same cs)
 
 -- what holds of each character that is read
-read_each : (test within : ℕ → Bool) (P : ℕ → Type 0) → ((k : ℕ) → within k ≡ true → test k ≡ true → P k) → (ks : List ℕ) → All (λ k. within k ≡ true) ks → All P (filter test ks)
+pub read_each : (test within : ℕ → Bool) (P : ℕ → Type 0) → ((k : ℕ) → within k ≡ true → test k ≡ true → P k) → (ks : List ℕ) → All (λ k. within k ≡ true) ks → All P (filter test ks)
 read_each test within P holds [] a = All-nil P
 read_each test within P holds (k ∷ ks) a =
     grind (arith, cases_Bool (test k), All-cons P k (filter test ks), holds k, All-head (λ j. within j ≡ true) k ks a, read_each test within P holds ks (All-tail (λ j. within j ≡ true) k ks a))

@@ -10,21 +10,11 @@ use Rattle.bidi_base.proofs.Lists.{list_all-take, list_all-drop}
 use Rattle.bidi_base.proofs.PlacesLemmas.{length-in_context}
 use Rattle.bidi_laws.proofs.ContextLemmas.{list_all-in_context, list_all-mapped}
 use Rattle.bidi_laws.proofs.NeutralLemmas.{n0-keeps}
-use Rattle.bidi_laws.proofs.OneDirection.{goes_with, itself}
+use Rattle.bidi_laws.proofs.OneDirection.{goes_with, itself, either_way}
 use Rattle.bidi_laws.proofs.ResolvedLemmas.{length-n0, length-weak_classes}
 use Rattle.bidi_laws.proofs.WeakLemmas.{weak_classes-resolved}
 use Rattle.bidi_paragraphs.specs.Settled.{raises}
-
--- a rule that reads what stands on both sides
-all-in_context : (rule : List BidiClass → BidiClass → List BidiClass → BidiClass) (p q : BidiClass → Bool)
-    → ((before : List BidiClass) (c : BidiClass) (after : List BidiClass) → list_all p before ≡ true → p c ≡ true → list_all p after ≡ true → q (rule before c after) ≡ true)
-    → (before xs : List BidiClass) → list_all p before ≡ true → list_all p xs ≡ true → list_all q (in_context rule before xs) ≡ true
-all-in_context rule p q answers before [] h k = refl
-all-in_context rule p q answers before (x ∷ xs) h k = grind (arith, and_parts, and_from, all-in_context rule p q answers (x ∷ before) xs)
-
-either_way : {X : Type 0} (b : Bool) (x : X) → (if b then x else x) ≡ x
-either_way true x = refl
-either_way false x = refl
+use Rattle.bidi_laws.proofs.KeepsToLemmas.{list_all-around}
 
 same-is : (a b : BidiClass) → is_l_or_r b ≡ true → same_class a b ≡ true → a ≡ b
 same-is a L s h = grind arith
@@ -125,7 +115,7 @@ module _ (e : BidiClass) (side : is_l_or_r e ≡ true) where
       let after_w2 = list_all-in_context (w2_rule sos) stays stays (stays-w2 sos) [] (w1 sos classes) refl after_w1 in
       let after_w3 = list_all-mapped w3_rule stays stays stays-w3 (w2 sos (w1 sos classes)) after_w2 in
       let after_w4 = list_all-in_context w4_rule stays stays stays-w4 [] (w3 (w2 sos (w1 sos classes))) refl after_w3 in
-      let after_w5 = all-in_context w5_rule stays stays stays-w5 [] (w4 (w3 (w2 sos (w1 sos classes)))) refl after_w4 in
+      let after_w5 = list_all-around w5_rule stays stays stays-w5 [] (w4 (w3 (w2 sos (w1 sos classes)))) refl after_w4 in
       let after_w6 = list_all-mapped w6_rule stays stays stays-w6 (w5 (w4 (w3 (w2 sos (w1 sos classes))))) after_w5 in
       list_all-in_context (w7_rule sos) stays stays (stays-w7 sos) [] (w6 (w5 (w4 (w3 (w2 sos (w1 sos classes)))))) refl after_w6
 
@@ -208,7 +198,7 @@ module _ (e : BidiClass) (side : is_l_or_r e ≡ true) where
         → e ≡ direction_of level → list_all (goes_with e) classes ≡ true → list_all (same_class e) (neutral_classes level sos eos source brackets classes) ≡ true
     unfolding neutral_classes
     neutral_classes-is level source brackets classes is h =
-        rw (← is) (all-in_context (n1_rule e sos eos) (goes_with e) (same_class e) n1_rule-is [] (n0 e sos source (bracket_pairs classes brackets) classes) refl
+        rw (← is) (list_all-around (n1_rule e sos eos) (goes_with e) (same_class e) n1_rule-is [] (n0 e sos source (bracket_pairs classes brackets) classes) refl
         (n0-keeps (goes_with e) e sos source (λ cs pair d all is. ap (goes_with e) (pair_direction-is sos cs pair d all is) ∙ grind arith) (bracket_pairs classes brackets) classes h))
 
 -- ---- I1 and I2

@@ -1,6 +1,6 @@
 -- The levels of a settled sequence can be read off its classes.
-use Rattle.bidi_base.proofs.Common.{◌≡◌, ℕ, zero, suc, ◌+◌, ◌-◌, ◌<◌, ◌≤◌, Bool, true, false, not, ◌&&◌, List, [], ◌∷◌, length, get_or, map, find, Some, refl, sym, ap, arith, nat_lt, filter, All}
-use Rattle.bidi_base.proofs.Common.{list_all, cases_Bool, and_parts, and_from, All-head, All-tail, All-nil, All-cons, All-map, bounds, are_ordered, is_l_or_r, is_en, is_kept, is_nsm}
+use Rattle.bidi_base.proofs.Common.{◌≡◌, ℕ, zero, suc, ◌+◌, ◌-◌, ◌<◌, ◌≤◌, Bool, true, false, not, ◌&&◌, List, [], ◌∷◌, length, get_or, map, find, Some, refl, sym, ap, arith, nat_lt, All}
+use Rattle.bidi_base.proofs.Common.{list_all, cases_Bool, and_parts, and_from, All-head, All-tail, All-map, bounds, are_ordered, is_l_or_r, is_en, is_kept, is_nsm}
 use Rattle.bidi_base.proofs.Common.{is_kept_in_place, is_weak_resolved, in_context, w1_rule, w2_rule, w3_rule, w4_rule, w5_rule, w6_rule, w7_rule, weak_classes, class_at, at_places, text_len}
 use Rattle.bidi_base.proofs.Common.{place, in_runs, units_in_runs, chars_in_runs, kept_in_place, AreLines, is_per_char, IsPerChar, ◌⊎◌, inl, inr, get_or_past, first_or, indexes, n0, n1_rule}
 use Rattle.bidi_base.proofs.Common.{neutral_classes, ◌∙◌, level_at, direction_of, ◌==◌, filter_map, fold, Option, None, counted_brackets, bracket_at, with_closing, closed_pairs, bracket_limit}
@@ -19,6 +19,7 @@ use Rattle.bidi_runs.specs.declared.prepare.lent.LentSequence.{LentSequence}
 use Rattle.bidi_paragraphs.proofs.OneLevel.{begins_unmarked, GiveLevels, KeepLevels, KeepLevels-one}
 use Rattle.bidi_paragraphs.proofs.NumbersAfterL.{GiveLevels-numbers}
 use Rattle.bidi_paragraphs.specs.Settled.{raises, is_directed, is_r_al_or_an, number_as_l, first_unit, own_direction, AreNumbersWritten, HasEuropeanNumbers, HasOneDirection, HasNoNeutral}
+use Rattle.bidi_neutral.proofs.OneDirection.{read_each}
 
 -- ---- W1 to W7 change numbers, terminators, separators, Arabic letters and nonspacing marks alone
 
@@ -158,11 +159,6 @@ unmarked-places : (units : List BidiClass) (ps : List ℕ) → is_nsm (class_at 
 unmarked-places units [] h = refl
 unmarked-places units (p ∷ ps) h = grind arith
 
-filter_each : (test within : ℕ → Bool) (P : ℕ → Type 0) → ((k : ℕ) → within k ≡ true → test k ≡ true → P k) → (ks : List ℕ) → All (λ k. within k ≡ true) ks → All P (filter test ks)
-filter_each test within P holds [] a = All-nil P
-filter_each test within P holds (k ∷ ks) a =
-    grind (arith, cases_Bool (test k), All-cons P k (filter test ks), holds k, All-head (λ j. within j ≡ true) k ks a, filter_each test within P holds ks (All-tail (λ j. within j ≡ true) k ks a))
-
 -- the first of them
 found_first : (test : ℕ → Bool) (rs : List (ℕ × ℕ)) → nat_lt 0 (length rs) ≡ true → are_ordered rs ≡ true
     → test (get_or rs 0 (0, 0)).0 ≡ true → Some (get_or rs 0 (0, 0)).0 ≡ find test (units_in_runs rs)
@@ -191,7 +187,7 @@ module _ (len_of : ℕ → ℕ) (h : HasUnits len_of) (chars : List ℕ) (s : Le
   unfolding kept_in_place
   at_kept P holds =
       All-map P (place len_of chars) (kept_in_place len_of chars units rs)
-      (filter_each (λ k. is_kept_in_place (class_at units (place len_of chars k))) (λ k. in_runs rs (place len_of chars k)) (λ k. P (place len_of chars k))
+      (read_each (λ k. is_kept_in_place (class_at units (place len_of chars k))) (λ k. in_runs rs (place len_of chars k)) (λ k. P (place len_of chars k))
       (λ k inside kept. holds (place len_of chars k) inside kept) (chars_in_runs len_of chars rs) (places_in_runs len_of h chars rs lines))
 
   -- all classes that are kept pass a test

@@ -75,7 +75,7 @@ pub run_level-units : (from : ℕ) (len_of : ℕ → ℕ) → HasUnits len_of �
     → (run : Run) → IsLevelRun 0 levels run → run_level from (per_unit len_of chars levels) (units_of (place_from from len_of chars) run) ≡ run_level 0 levels run
 run_level-units from len_of some chars levels e run h = grind (arith, get_or-per_unit-place)
 
-at_places-moved : (f : Run → Run) (runs : List Run) (order : List ℕ) → All (λ k. k < length runs) order → at_places (0, 0) (map f runs) order ≡ map f (at_places (0, 0) runs order)
+pub at_places-moved : (f : Run → Run) (runs : List Run) (order : List ℕ) → All (λ k. k < length runs) order → at_places (0, 0) (map f runs) order ≡ map f (at_places (0, 0) runs order)
 at_places-moved f runs order h = grind (arith, at_places-map, map-same_on, get_or-map, map-map)
 
 -- the visual runs of the units

@@ -8,13 +8,13 @@ use Rattle.bidi_text_lines.proofs.RunText.{flat_map-same_on}
 use Rattle.bidi_text_lines.specs.Written.{run_units, shown_units}
 
 -- two parts of a list that follow one another
-slice_range-joined : {X : Type 0} (units : List X) (a b c : ℕ) → a ≤ b → b ≤ c → slice_range units a b ++ slice_range units b c ≡ slice_range units a c
+pub slice_range-joined : {X : Type 0} (units : List X) (a b c : ℕ) → a ≤ b → b ≤ c → slice_range units a b ++ slice_range units b c ≡ slice_range units a c
 slice_range-joined units a b c low high =
     let e : c - a ≡ (b - a) + (c - b) = omega arith in
     let rest : drop b units ≡ drop (b - a) (drop a units) = ap (λ n. drop n units) (let s : b ≡ a + (b - a) = omega arith in s) ∙ sym (drop-drop (b - a) a units) in
     simp (e, take-add, rest)
 
-follow-up : (a b : ℕ) (runs : List Run) → Follow a b runs → a ≤ b
+pub follow-up : (a b : ℕ) (runs : List Run) → Follow a b runs → a ≤ b
 follow-up a b [] e = omega (arith, e)
 follow-up a b (run ∷ runs) h = let up = follow-up run.1 b runs h.2 in omega (arith, h.0, h.1)
 

@@ -1,23 +1,13 @@
 -- A line without an odd level shows its characters in order.
-use Rattle.bidi_base.proofs.Common.{◌≡◌, ℕ, ◌+◌, ◌-◌, ◌≤◌, ◌<◌, ◌++◌, Bool, false, List, [], ◌∷◌, drop, length, get_or, flat_map, encode_utf8, ap, sym, ◌∙◌, arith, list_any_none, map, length-map}
-use Rattle.bidi_base.proofs.Common.{get_or-map, drop-drop, flat_map-append, has_rtl, is_odd, Run, run_level, level_runs, slice_range, Source, take_all, list_any, ◌==◌, take-add}
+use Rattle.bidi_base.proofs.Common.{◌≡◌, ℕ, ◌+◌, ◌-◌, ◌<◌, Bool, false, List, [], ◌∷◌, length, get_or, flat_map, encode_utf8, ap, arith, list_any_none, map, length-map}
+use Rattle.bidi_base.proofs.Common.{get_or-map, flat_map-append, has_rtl, is_odd, Run, run_level, level_runs, slice_range, Source, take_all, list_any, ◌==◌}
 use Rattle.bidi_lines.proofs.Ordered.{none_odd}
 use Rattle.bidi_lines.proofs.RunsLemmas.{Follow, level_runs-follow, level_runs-each}
 use Rattle.bidi_lines.proofs.FoundRuns.{visual_runs-still}
 use Rattle.bidi_text_lines.proofs.RunText.{flat_map-same_on}
 use Rattle.bidi_visual.specs.Shown.{run_at, shown_line, tabbed_line}
 use Rattle.bidi_visual.proofs.TabLemmas.{spread-none, spread_values-none}
-
--- two parts of a list that follow one another
-slice_range-joined : {X : Type 0} (units : List X) (a b c : ℕ) → a ≤ b → b ≤ c → slice_range units a b ++ slice_range units b c ≡ slice_range units a c
-slice_range-joined units a b c low high =
-    let e : c - a ≡ (b - a) + (c - b) = omega arith in
-    let rest : drop b units ≡ drop (b - a) (drop a units) = ap (λ n. drop n units) (let s : b ≡ a + (b - a) = omega arith in s) ∙ sym (drop-drop (b - a) a units) in
-    simp (e, take-add, rest)
-
-follow-up : (a b : ℕ) (runs : List Run) → Follow a b runs → a ≤ b
-follow-up a b [] e = omega (arith, e)
-follow-up a b (run ∷ runs) h = let up = follow-up run.1 b runs h.2 in omega (arith, h.0, h.1)
+use Rattle.bidi_text_lines.proofs.StillLine.{follow-up, slice_range-joined}
 
 -- parts that follow one another from a up to b
 parts-joined : (chars : List ℕ) (a b : ℕ) (runs : List Run) → Follow a b runs
