@@ -2,7 +2,7 @@
 use Rattle.bidi_base.proofs.Common.{◌≡◌, ℕ, ◌+◌, ◌-◌, ◌<◌, ◌≤◌, Bool, true, false, cond, eqb, max, List, [], ◌∷◌, ◌++◌, length, map, get_or, take, Option, refl, sym, ap, subst, ◌∙◌, arith}
 use Rattle.bidi_base.proofs.Common.{length-append, rules, common_steps, IfSome, All, list_any, Range, both_ways, length-map, get_or-map, get_or_default, get_or_past, nil_from_length, take_more}
 use Rattle.bidi_base.proofs.Common.{All-nil, All-cons, list_any_at, IsPermutation-refl, is_initiator, direction_of, class_at, is_initiator_at, is_kept_at, level_at, is_l_or_r, Some, None, IsTrue}
-use Rattle.bidi_base.proofs.Common.{lt-ltb, le-leb, suc, zero, sequences, run_starts, waiting_for, place, text_len, per_unit, per_char, is_per_char, is_boundary, IsLine, bounds, kept_in_runs}
+use Rattle.bidi_base.proofs.Common.{lt-ltb, le-leb, suc, zero, sequences, waiting_for, place, text_len, per_unit, per_char, is_per_char, is_boundary, IsLine, bounds, kept_in_runs}
 use Rattle.bidi_base.proofs.Common.{level_run_ranges, AreLines, flat_map, is_run_sequence}
 use Rattle.std.specs.Prelude.{IsPermutation}
 use Rattle.bidi_base.specs.declared.char_data.BidiClass.{BidiClass}
