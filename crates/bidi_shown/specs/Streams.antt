@@ -1,6 +1,7 @@
 -- A text that comes in pieces: what is shown with each, and what is kept.
-use Rattle.std.specs.Prelude.{◌≡◌, ℕ, ◌+◌, ◌==◌, nat_lt, if◌then◌else◌, List, [], ◌∷◌, ◌++◌, take, drop}
+use Rattle.std.specs.Prelude.{◌≡◌, ℕ, ◌+◌, ◌==◌, nat_lt, if◌then◌else◌, List, [], ◌∷◌, ◌++◌, string_bytes, take, drop}
 use Rattle.std.specs.Str.{chars, IsUtf8}
+use Rattle.std.specs.declared.string.String.{String}
 use Rattle.bidi_unicode.specs.Unicode.{unicode_source}
 use Rattle.bidi_visual.specs.Shown.{shown_text}
 use Rattle.bidi_visual.specs.declared.view.View.{View}
@@ -18,6 +19,10 @@ pending s = s.pending.items
 -- what is shown of a text as these bytes
 abbrev pub shown_bytes : View → List ℕ → List ℕ
 shown_bytes view bytes = shown_text unicode_source view (chars bytes)
+
+-- a string grew by what is shown of the bytes that a stream keeps
+abbrev pub ShowsPending : View → Stream → String → String → Type 0
+ShowsPending view stream old new = string_bytes new ≡ string_bytes old ++ shown_bytes view (pending stream)
 
 -- what is shown when a piece comes after bytes that are kept: the lines up to its last line feed, if it has one
 abbrev pub shown_now : View → List ℕ → List ℕ → List ℕ

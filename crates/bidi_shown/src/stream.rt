@@ -97,7 +97,7 @@ fn show_bytes(
 }
 
 impl Stream {
-    ghost use Rattle.bidi_shown.specs.Streams.{pending as pending_of, shown_now, pending_after, IsShownTo};
+    ghost use Rattle.bidi_shown.specs.Streams.{pending as pending_of, shown_now, pending_after, IsShownTo, ShowsPending};
 
     /// Returns a text of which nothing has come. Does not allocate.
     pub fn new(alloc: Global) -> Stream
@@ -143,8 +143,7 @@ impl Stream {
     /// Ends the text: appends the last line to `out`, if it has no line feed.
     pub fn finish(&mut self, alloc: Global, view: View, out: &mut String) -> Result<(), StreamFault>
         ensures utf8 { OnOk result (IsUtf8 (pending_of self.old)) }
-        ensures shown { OnOk result (string_bytes out.new
-            ≡ string_bytes out.old ++ shown_text unicode_source view (chars (pending_of self.old))) }
+        ensures shown { OnOk result (ShowsPending view self.old out.old out.new) }
         ensures whole { (came taken : List ℕ)
             → IsShownTo view (pending_of self.old) came (taken ++ string_bytes out.old)
             → OnOk result (IsUtf8 came × (taken ++ string_bytes out.new ≡ shown_text unicode_source view (chars came))) }
@@ -161,8 +160,7 @@ impl Stream {
         out: &mut String,
     ) -> Result<(), StreamFault>
         ensures utf8 { OnOk result (IsUtf8 (pending_of self.old)) }
-        ensures shown { OnOk result (string_bytes out.new
-            ≡ string_bytes out.old ++ shown_text unicode_source view (chars (pending_of self.old))) }
+        ensures shown { OnOk result (ShowsPending view self.old out.old out.new) }
         ensures pending { OnOk result (pending_of self.new ≡ []) }
     {
         let bytes = self.pending.as_slice();
