@@ -21,7 +21,7 @@ abbrev pub shown_bytes : View → List ℕ → List ℕ
 shown_bytes view bytes = shown_text unicode_source view (chars bytes)
 
 -- a string grew by what is shown of the bytes that a stream keeps
-abbrev pub ShowsPending : View → Stream → String → String → Type 0
+abbrev pub ShowsPending : {A : Type 0} → View → Stream → String A → String A → Type 0
 ShowsPending view stream old new = string_bytes new ≡ string_bytes old ++ shown_bytes view (pending stream)
 
 -- what is shown when a piece comes after bytes that are kept: the lines up to its last line feed, if it has one
