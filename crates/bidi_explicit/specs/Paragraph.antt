@@ -54,15 +54,15 @@ module _ {T C I L : Type 0} {t : _} {c : _} {i : _} {l : _} (paragraph : Paragra
   abbrev pub char_count : ℕ
   char_count = length (t.characters paragraph.text)
 
-  -- how many characters, or how many code units, the paragraph has: its stride says which
+  -- how many characters, or how many code units, the paragraph has: the paragraph's stride says which
   abbrev pub whole_count : ℕ
   whole_count = count_of paragraph.stride (length paragraph.original_classes.now) char_count
 
-  -- how many characters are in front of a code unit
+  -- how many characters are before a code unit
   abbrev pub chars_to : ℕ → ℕ
   chars_to u = char_index t.units (t.characters paragraph.text) u
 
-  -- how many characters, or how many code units, are in front of a code unit: its stride says which
+  -- how many characters, or how many code units, are before a code unit: the paragraph's stride says which
   abbrev pub counted_to : ℕ → ℕ
   counted_to u = count_to paragraph.stride t.units (t.characters paragraph.text) u
 
@@ -70,6 +70,6 @@ module _ {T C I L : Type 0} {t : _} {c : _} {i : _} {l : _} (paragraph : Paragra
   abbrev pub AreCharsCounted : ℕ → ℕ → ℕ → ℕ → Type 0
   AreCharsCounted from to old new = new + chars_to from ≡ old + chars_to to
 
-  -- a count went up by one for each character, or for each code unit, from one place to another: its stride says which
+  -- a count went up by one for each character, or for each code unit, from one place to another: the paragraph's stride says which
   abbrev pub AreCounted : ℕ → ℕ → ℕ → ℕ → Type 0
   AreCounted from to old new = new + counted_to from ≡ old + counted_to to

@@ -26,13 +26,13 @@ IsSteadyAt classes levels k = IsSteady (class_at classes k) (slice_index levels 
 abbrev pub AreSteady : List BidiClass → List ℕ → ℕ → ℕ → Type 0
 AreSteady classes levels from to = (k : ℕ) → from ≤ k → k < to → IsSteadyAt classes levels k
 
--- what a search for the next stop requires: a class for each level, and an index behind the first one
-pub record CanSeekStop (classes : List BidiClass) (levels : List ℕ) (from : ℕ) : Type 0 where
+-- what a search for the end of the steady units requires: a class for each level, and an index from 1 up to their number
+pub record CanFindSteadyEnd (classes : List BidiClass) (levels : List ℕ) (from : ℕ) : Type 0 where
   pub same_len : length levels ≡ length classes
   pub begins : 0 < from
   pub ends : from ≤ length levels
 
--- what it finds: an index up to which there is no stop
+-- what it finds: an index, at most the number of levels, up to which all units are steady
 pub record IsSteadyUpTo (classes : List BidiClass) (levels : List ℕ) (from to : ℕ) : Type 0 where
   pub begins : from ≤ to
   pub ends : to ≤ length levels

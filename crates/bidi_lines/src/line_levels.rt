@@ -1,14 +1,13 @@
 //! The levels of a line (L1).
 
-ghost use Rattle.std.specs.Prelude.{◌≡◌, ℕ, ◌+◌, ◌<◌, ◌≤◌, ◌&&◌, ◌||◌, not, nat_lt, true, false, if◌then◌else◌, length, slice_index, take, IfOk, map};
+ghost use Rattle.std.specs.Prelude.{◌≡◌, ℕ, ◌+◌, ◌<◌, ◌≤◌, ◌&&◌, ◌||◌, not, nat_lt, true, false, if◌then◌else◌, length, slice_index, take, IfOk};
 ghost use Rattle.bidi_base.specs.Classes.{is_removed, is_separator};
 ghost use Rattle.bidi_base.specs.Levels.{is_odd, has_rtl};
 ghost use Rattle.bidi_base.specs.Line.{is_blank, line_levels, levels_of_line, levels_with_line};
 ghost use Rattle.bidi_base.specs.Places.{class_at};
-ghost use Rattle.bidi_base.specs.Search.{IsFirst};
 ghost use Rattle.bidi_base.specs.Text.{text_len, per_char};
 ghost use Rattle.bidi_lines.specs.Arranged.{SameBelow, SameFrom};
-ghost use Rattle.bidi_lines.specs.Stops.{is_stop, AreBlanks, AreSteady, CanSeekStop, IsSteady, IsSteadyAt, IsSteadyUpTo};
+ghost use Rattle.bidi_lines.specs.Stops.{AreBlanks, AreSteady, CanFindSteadyEnd, IsSteady, IsSteadyAt, IsSteadyUpTo};
 
 use crate::stored::ClassList;
 use crate::visual_order::first_other;
@@ -130,7 +129,7 @@ fn first_break<C: ClassList>(classes: C, levels: &[Level], from: usize) -> usize
 
 // Returns what `steady_end` returns, and tests 16 units at once from the start.
 fn steady_end_by_blocks<C: ClassList>(classes: C, levels: &[Level], from: usize) -> usize
-    requires { CanSeekStop (C.classes classes) levels.now from }
+    requires { CanFindSteadyEnd (C.classes classes) levels.now from }
     ensures { IsSteadyUpTo (C.classes classes) levels.now from result }
 {
     let mut at = from;
@@ -150,7 +149,7 @@ fn steady_end_by_blocks<C: ClassList>(classes: C, levels: &[Level], from: usize)
 // Returns the first index from `from` on at which the pass of L1 stops, or the number of units if there is none. The
 // first unit is tested by itself: in a stretch of removed units that get another level, the pass stops at each.
 fn steady_end<C: ClassList>(classes: C, levels: &[Level], from: usize) -> usize
-    requires { CanSeekStop (C.classes classes) levels.now from }
+    requires { CanFindSteadyEnd (C.classes classes) levels.now from }
     ensures { IsSteadyUpTo (C.classes classes) levels.now from result }
 {
     if from == levels.len() || is_break(classes.class_at(from), levels[from - 1], levels[from]) {

@@ -14,12 +14,12 @@ is_hidden c =
     || is_between 0x2066 0x2069 c
 
 -- four hexadecimal digits
-unfoldable pub four_digits : ℕ → List ℕ
-four_digits c = hex_digit (c / 0x1000 % 16) ++ (hex_digit (c / 0x100 % 16) ++ (hex_digit (c / 0x10 % 16) ++ hex_digit (c % 16)))
+unfoldable pub four_hex_digits : ℕ → List ℕ
+four_hex_digits c = hex_digit (c / 0x1000 % 16) ++ (hex_digit (c / 0x100 % 16) ++ (hex_digit (c / 0x10 % 16) ++ hex_digit (c % 16)))
 
 -- a character by its code point
 abbrev pub code_escape : ℕ → List ℕ
-code_escape c = codes "\\u{" ++ (four_digits c ++ codes "}")
+code_escape c = codes "\\u{" ++ (four_hex_digits c ++ codes "}")
 
 -- a byte by its number
 abbrev pub byte_escape : ℕ → List ℕ
@@ -51,7 +51,7 @@ shown_bytes bytes = flat_map shown_byte bytes
 abbrev pub quoted_char : ℕ → List ℕ
 quoted_char c =
     if c == 9 then codes " "
-    else if is_hidden c then codes "<U+" ++ (four_digits c ++ codes ">")
+    else if is_hidden c then codes "<U+" ++ (four_hex_digits c ++ codes ">")
     else encode_utf8 c
 
 -- a line, from its characters

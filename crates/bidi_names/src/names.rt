@@ -1,7 +1,7 @@
 //! How names, other arguments and lines are written in a report.
 ghost use Rattle.std.specs.Prelude.{◌≡◌, ◌++◌, IfOk, OnOk, string_bytes};
 ghost use Rattle.std.specs.Str.{chars};
-ghost use Rattle.bidi_names.specs.Names.{is_hidden, four_digits, code_escape, byte_escape, shown_char, shown_name as shown_name_of, shown_byte, shown_bytes as shown_bytes_of, quoted_char, quoted_line};
+ghost use Rattle.bidi_names.specs.Names.{is_hidden, four_hex_digits, code_escape, byte_escape, shown_char, shown_name as shown_name_of, shown_byte, shown_bytes as shown_bytes_of, quoted_char, quoted_line};
 
 use bidi_terminal::push_hex_digit;
 use std::alloc::{AllocError, Global};
@@ -22,9 +22,9 @@ pub fn is_hidden(c: char) -> bool
 }
 
 /// Appends the last four hexadecimal digits of a code point.
-#[tactic(auto, unfolding(crate::specs::Names::four_digits))]
+#[tactic(auto, unfolding(crate::specs::Names::four_hex_digits))]
 pub fn push_hex(out: &mut String, c: char) -> Result<(), AllocError>
-    ensures { OnOk result (string_bytes out.new ≡ string_bytes out.old ++ four_digits c) }
+    ensures { OnOk result (string_bytes out.new ≡ string_bytes out.old ++ four_hex_digits c) }
 {
     let code = u32::from(c);
     push_hex_digit(out, code / 0x1000 % 16)?;

@@ -3,10 +3,9 @@
 //! A sequence with a single direction needs only N2. For other sequences the pass finds the brackets first,
 //! and then resolves all classes in place. So it makes all allocations before it writes the first class.
 
-ghost use Rattle.std.specs.Prelude.{◌≡◌, List, ◌∷◌, ◌++◌, [], length, map, OnOk, OnErr};
+ghost use Rattle.std.specs.Prelude.{◌≡◌, List, ◌∷◌, ◌++◌, [], length, map, OnOk};
 ghost use Rattle.bidi_base.specs.FoundBrackets.{brackets_from};
-ghost use Rattle.bidi_base.specs.InPlace.{AreNeutralsResolved, AreNeutralsResolvedUpToN1, CanResolveNeutrals};
-ghost use Rattle.bidi_base.specs.InPlace.{IsDoneOrUnchanged};
+ghost use Rattle.bidi_base.specs.InPlace.{AreNeutralsResolved, AreNeutralsResolvedUpToN1, CanResolveNeutrals, IsDoneOrUnchanged};
 ghost use Rattle.bidi_base.specs.PairSearch.{HasRead};
 ghost use Rattle.bidi_base.specs.Text.{text_len, IsLine};
 ghost use Rattle.bidi_base.specs.Units.{bounds, kept_in_place, AreLines};
@@ -157,10 +156,14 @@ impl NeutralResolver {
     }
 }
 
-/// Like [`NeutralResolver::resolve`], but without N2, and for a sequence that borrows its runs.
+/// Resolves the neutrals of a sequence in place by N0 and N1, without N2.
 ///
-/// Neutrals to which N2 would give the embedding direction stay neutral. The levels are the same, since
-/// I1 and I2 add nothing to either.
+/// `leveled` has the text, its stored classes and its explicit levels. `sequence` borrows its runs. Otherwise the
+/// arguments are those of [`resolve_neutral`]. Reuses the memory of `resolver`. Returns an error only if an allocation
+/// fails, and all classes are then unchanged.
+///
+/// Neutrals to which N2 would give the embedding direction stay neutral. The levels that I1 and I2 give are the same,
+/// since they add nothing to either.
 pub fn resolve_up_to_n1<D: BidiDataSource, T: TextSource>(
     resolver: &mut NeutralResolver,
     leveled: &LeveledText<'_, T>,

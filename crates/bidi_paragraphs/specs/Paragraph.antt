@@ -14,8 +14,8 @@ module _ {D T C I L : Type 0} {d : _} {t : _} {c : _} {i : _} {l : _} (paragraph
   IsOneAUnit levels = length levels ≡ text_len t.units (t.characters paragraph.text)
 
   -- each of its characters has one level
-  abbrev pub HaveOneLevel : List ℕ → Type 0
-  HaveOneLevel levels = HaveLevel t.units (t.characters paragraph.text) levels
+  abbrev pub HaveCharLevels : List ℕ → Type 0
+  HaveCharLevels levels = HaveLevel t.units (t.characters paragraph.text) levels
 
   -- the levels of the characters that X9 keeps are those of the rules
   abbrev pub AreOfRules : List ℕ → Type 0

@@ -1,6 +1,6 @@
 //! The levels of one paragraph after another (X1 to I2), by passes in place over its code units. Characters
 //! that X9 removes get levels too.
-ghost use Rattle.std.specs.Prelude.{◌≡◌, ℕ, ◌+◌, ◌<◌, ◌≤◌, true, false, length, map, slice_index, All, IsTrue, OnOk};
+ghost use Rattle.std.specs.Prelude.{◌≡◌, ℕ, ◌+◌, ◌<◌, ◌≤◌, true, false, length, map, slice_index, All, OnOk};
 ghost use Rattle.bidi_base.specs.declared.char_data.BidiClass.TheVariants.{L};
 ghost use Rattle.bidi_base.specs.Explicit.{explicit_levels, processing_classes};
 ghost use Rattle.bidi_base.specs.Flat.{is_flat, hidden};
@@ -9,7 +9,7 @@ ghost use Rattle.bidi_base.specs.Isolates.{stored_classes};
 ghost use Rattle.bidi_base.specs.Search.{IsFirst};
 ghost use Rattle.bidi_base.specs.Sequences.{is_kept_at, sequences};
 ghost use Rattle.bidi_base.specs.Stored.{levels_in};
-ghost use Rattle.bidi_base.specs.Text.{text_len, is_per_char, per_unit, per_char};
+ghost use Rattle.bidi_base.specs.Text.{text_len, per_unit, per_char};
 ghost use Rattle.bidi_base.specs.Units.{AreLines};
 ghost use Rattle.bidi_runs.specs.Links.{linked_runs, linked_sequences, sequences_of, AreLinked};
 ghost use Rattle.bidi_paragraphs.specs.Written.{IsWritten};
@@ -69,7 +69,7 @@ pub struct LevelResolver {
 }
 
 impl LevelResolver {
-    ghost use Rattle.bidi_paragraphs.specs.Paragraph.{IsOneAUnit, HaveOneLevel, AreOfRules};
+    ghost use Rattle.bidi_paragraphs.specs.Paragraph.{IsOneAUnit, HaveCharLevels, AreOfRules};
 
     /// Creates a resolver. Does not allocate.
     pub fn new(alloc: Global) -> LevelResolver {
@@ -159,7 +159,7 @@ impl LevelResolver {
         requires long { IsOneAUnit paragraph.now levels.old }
         requires some { 0 < length levels.old }
         requires flat { is_flat (map (D.source paragraph.now.data_source.now).class_of (T.characters paragraph.now.text)) ≡ true }
-        ensures per_char { OnOk result (HaveOneLevel paragraph.now levels.new) }
+        ensures per_char { OnOk result (HaveCharLevels paragraph.now levels.new) }
         ensures resolved { OnOk result (AreOfRules paragraph.now levels.new) }
     {
         levels.fill(paragraph.level);
@@ -192,7 +192,7 @@ impl LevelResolver {
         levels: &mut [Level],
     ) -> Result<(), AllocError>
         requires { IsOneAUnit paragraph.now levels.old }
-        ensures per_char { OnOk result (HaveOneLevel paragraph.now levels.new) }
+        ensures per_char { OnOk result (HaveCharLevels paragraph.now levels.new) }
         ensures resolved { OnOk result (AreOfRules paragraph.now levels.new) }
     {
         self.prepare(paragraph, levels)?;
@@ -234,7 +234,7 @@ impl LevelResolver {
     ) -> Result<(), AllocError>
         requires long { IsOneAUnit paragraph.now levels.old }
         requires some { 0 < length levels.old }
-        ensures per_char { OnOk result (HaveOneLevel paragraph.now levels.new) }
+        ensures per_char { OnOk result (HaveCharLevels paragraph.now levels.new) }
         ensures resolved { OnOk result (AreOfRules paragraph.now levels.new) }
     {
         if paragraph.flags.is_flat() {

@@ -37,11 +37,11 @@ abbrev pub still_found : FileSearch → List ℕ → List FoundAt
 still_found search bytes =
     found_from unicode_source search.wanted (search.lines + 1) (file_lines_of (utf8_decoded bytes))
 
--- a search appends to the lines in which it found something those that it finds in these bytes
+-- the search appends what it finds in these bytes to a list of lines
 abbrev pub Finds : FileSearch → List ℕ → List FoundLine → List FoundLine → Type 0
 Finds search bytes old new = map line_of new ≡ map line_of old ++ still_found search bytes
 
--- a search over these bytes adds the number of their lines
+-- the search adds the number of lines of these bytes to its count
 abbrev pub CountsLines : FileSearch → List ℕ → FileSearch → Type 0
 CountsLines old bytes new = new.lines ≡ old.lines + length (file_lines_of (utf8_decoded bytes))
 

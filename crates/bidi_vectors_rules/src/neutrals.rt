@@ -176,7 +176,7 @@ impl Call {
         match self {
             Call::Alone => "implicit::resolve_neutral",
             Call::ByOneResolver => "NeutralResolver::resolve",
-            Call::UpToN1 => "resolve_up_to_n1",
+            Call::UpToN1 => "implicit::resolve_up_to_n1",
         }
     }
 

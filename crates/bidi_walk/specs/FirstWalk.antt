@@ -157,12 +157,12 @@ pub record CanRead (len_of : ℕ → ℕ) (chars : List ℕ) (from : ℕ) (class
 abbrev pub HasEachChange : ClassSet → ParagraphFlags → Type 0
 HasEachChange sought flags = (c : BidiClass) → has sought c ≡ false → with_class flags c ≡ flags
 
--- what a reader requires that stops at each change of the flags, or at other classes too
-pub record CanSeek (len_of : ℕ → ℕ) (chars : List ℕ) (seeks : ClassSet) (from : Progress) (classes : List BidiClass) : Type 0 where
+-- what a reader that stops at the classes of a set requires: also, the set has each class that would change the flags
+pub record CanSeek (len_of : ℕ → ℕ) (chars : List ℕ) (stop_set : ClassSet) (from : Progress) (classes : List BidiClass) : Type 0 where
   pub place : CanRead len_of chars from.at classes
-  pub sought : HasEachChange seeks from.flags
+  pub sought : HasEachChange stop_set from.flags
 
--- what it leaves: it has read up to a stop, which it returns, or else up to an index
+-- what a reader leaves: it has read up to a stop, which it returns, or else up to an index
 abbrev pub IsReadOn : Source → (ℕ → ℕ) → List ℕ → (BidiClass → Bool) → Progress → Option Stop → Progress → List BidiClass → List BidiClass → Type 0
 IsReadOn source len_of chars stop_classes from result to old new =
     MatchOption result (IsSkimmed source len_of stop_classes (ahead len_of chars from.at) from.at to.at old new from.flags to.flags)
@@ -172,8 +172,9 @@ IsReadOn source len_of chars stop_classes from result to old new =
 abbrev pub GoesOn : ℕ → Option Stop → Progress → Progress → Type 0
 GoesOn len result from to = result ≡ None → from.at < len → from.at < to.at
 
--- what a reader of some characters leaves: it has read on, and at least one unit where any was left
-pub record IsSomeRead (source : Source) (len_of : ℕ → ℕ) (chars : List ℕ) (stop_classes : BidiClass → Bool)
+-- what a reader of some characters leaves: it has read on, and if it returns no stop and a unit was left, it has read at
+-- least one
+pub record HasReadSome (source : Source) (len_of : ℕ → ℕ) (chars : List ℕ) (stop_classes : BidiClass → Bool)
     (from : Progress) (result : Option Stop) (to : Progress) (old new : List BidiClass) : Type 0 where
   pub stop : IsReadOn source len_of chars stop_classes from result to old new
   pub passed : GoesOn (length new) result from to

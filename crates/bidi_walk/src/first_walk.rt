@@ -6,7 +6,7 @@ ghost use Rattle.bidi_base.specs.Paragraphs.{begins_with_line_feed, ranges_from}
 ghost use Rattle.bidi_base.specs.Stored.{text_classes, paragraph_levels};
 ghost use Rattle.bidi_base.specs.Text.{place as place_of, text_len, per_unit};
 ghost use Rattle.bidi_walk.specs.ClassSet.{has};
-ghost use Rattle.bidi_walk.specs.FirstWalk.{classes_after, stops_at, waiting, with_flags, AreWithin, CanRead, IsClosed, IsFresh, IsReadBy, IsReadOn, IsSomeRead, StopsCounting};
+ghost use Rattle.bidi_walk.specs.FirstWalk.{classes_after, stops_at, waiting, with_flags, AreWithin, CanRead, IsClosed, IsFresh, IsReadBy, IsReadOn, HasReadSome, StopsCounting};
 ghost use Rattle.bidi_walk.specs.declared.first_walk.paragraph_state.ParagraphState.{ParagraphState};
 ghost use Rattle.bidi_walk.specs.ParagraphInfo.{ranges_of, levels_of};
 ghost use Rattle.bidi_walk.specs.ParagraphFlags.{paragraph_flags};
@@ -156,7 +156,7 @@ fn read_some<D: BidiDataSource, T: TextSource>(
     stop_classes: ClassSet,
 ) -> Option<Stop>
     requires { CanRead T.units (T.characters text) progress.old.at classes.old }
-    ensures { IsSomeRead (D.source data_source.now) T.units (T.characters text) (has stop_classes) progress.old result
+    ensures { HasReadSome (D.source data_source.now) T.units (T.characters text) (has stop_classes) progress.old result
         progress.new classes.old classes.new }
 {
     if let Some(stop) = skim(data_source, text, classes, progress, stop_classes) {
@@ -284,7 +284,8 @@ fn ends_paragraph<D: BidiDataSource, T: TextSource>(
 /// `base` or the characters (P2, P3) give their levels.
 ///
 /// If `split` is `None`, the whole text is one paragraph, even if it is empty. Any base level is accepted.
-/// The paragraphs take over the lists of `memory`, and grow them with its allocator.
+/// The result reuses the lists of `memory`, which are emptied first. Everything is allocated with the allocator of
+/// `memory.paragraphs`.
 ///
 /// It allocates for more than one paragraph, and for undecided FSI that are open at the same time. If an
 /// allocation fails, `classes` may hold anything.

@@ -187,7 +187,7 @@ pub record AreChanged (start end : ℕ) (old new : List BidiClass) : Type 0 wher
   pub below : (u : ℕ) → u < start → class_at new u ≡ class_at old u
   pub above : (u : ℕ) → end ≤ u → class_at new u ≡ class_at old u
 
--- and one step is counted for each of them
+-- W3 and W6 have changed these units, with one step for each; the count was `before` and is `after`
 pub record AreChangedAndCounted (start end : ℕ) (old new : List BidiClass) (before after : ℕ) : Type 0 where
   pub changed : AreChanged start end old new
   pub steps : after ≡ before + (end - start)

@@ -1,5 +1,5 @@
 //! Characters that X9 removes, level runs, and isolating run sequences (BD7, BD13, X9, X10); and `Steps`, a
-//! count, such as that of a pass's loop iterations.
+//! count that only contracts see.
 
 pub use bidi_rules::prepare::{
     BackwardsFrom, ForwardsFrom, IsolatingRunSequence, IsolatingRunSequenceVec, LevelRun,

@@ -6,7 +6,7 @@ ghost use Rattle.bidi_base.specs.declared.char_data.BidiClass.TheVariants.{L};
 ghost use Rattle.bidi_base.specs.Explicit.{explicit_levels};
 ghost use Rattle.bidi_base.specs.Levels.{direction_of};
 ghost use Rattle.bidi_base.specs.Search.{IsFirst};
-ghost use Rattle.bidi_base.specs.Sequences.{is_kept_at, sequences, HasExplicitLevels, IsFlagged};
+ghost use Rattle.bidi_base.specs.Sequences.{is_kept_at, sequences, HasExplicitLevels, FlagsInitiators};
 ghost use Rattle.bidi_base.specs.Text.{IsLine, is_boundary, per_char};
 ghost use Rattle.bidi_base.specs.Units.{bounds, level_run_ranges, AreLines};
 ghost use Rattle.bidi_runs.specs.Joining.{level_after_run, is_isolate_control, is_kept_in, IsKeptEnd, read_units};
@@ -224,7 +224,7 @@ pub fn isolating_run_sequences<T: TextSource>(
     requires runs { let stored = per_char L T.units (T.characters text) original_classes.now in
         map bounds runs.items
         ≡ level_run_ranges T.units (T.characters text) stored (per_char 0 T.units (T.characters text) levels.now) }
-    requires isolates { IsFlagged original_classes.now has_isolate_controls }
+    requires isolates { FlagsInitiators original_classes.now has_isolate_controls }
     requires out { out.old.items ≡ [] }
     ensures sequences { let stored = per_char L T.units (T.characters text) original_classes.now in
         OnOk result (sequences_in T.units (T.characters text) stored out.new.items

@@ -6,7 +6,7 @@ ghost use Rattle.bidi_base.specs.PerChar.{HaveClass, HaveLevel};
 ghost use Rattle.bidi_base.specs.declared.char_data.BidiClass.TheVariants.{L};
 ghost use Rattle.bidi_base.specs.Explicit.{explicit_levels};
 ghost use Rattle.bidi_base.specs.Places.{last_or};
-ghost use Rattle.bidi_base.specs.Sequences.{sequences, HasExplicitLevels, IsFlagged};
+ghost use Rattle.bidi_base.specs.Sequences.{sequences, HasExplicitLevels, FlagsInitiators};
 ghost use Rattle.bidi_base.specs.Text.{IsLine, is_boundary, per_char};
 ghost use Rattle.bidi_base.specs.Units.{bounds, level_run_ranges, AreLines};
 ghost use Rattle.bidi_runs.specs.Joining.{read_units};
@@ -137,7 +137,7 @@ impl RunLinks {
             map bounds runs.now
             ≡ level_run_ranges T.units (T.characters leveled.now.text) stored
             (per_char 0 T.units (T.characters leveled.now.text) leveled.now.levels.now) }
-        requires isolates { IsFlagged leveled.now.original_classes.now has_isolate_controls }
+        requires isolates { FlagsInitiators leveled.now.original_classes.now has_isolate_controls }
         ensures sequences { let stored = per_char L T.units (T.characters leveled.now.text) leveled.now.original_classes.now in
             OnOk result (sequences_of T.units (T.characters leveled.now.text) stored
             (linked_sequences self.new (map bounds runs.now))

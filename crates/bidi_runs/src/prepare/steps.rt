@@ -1,4 +1,5 @@
-//! A count that only contracts see: of loop iterations, of code units that searches look at, or of failed calls.
+//! A count that only contracts see: of loop iterations, of code units that searches look at, or of reads and writes that
+//! fail.
 
 ghost use Rattle.std.specs.Prelude.{◌≡◌, ◌+◌};
 
@@ -6,7 +7,7 @@ use std::marker::{Brand, Model};
 use std::mem::size_of;
 use std::sync::ledger::{Blank, Book, Ledger, Share};
 
-/// A count so far: of loop iterations, or of what else its owner counts. The passes of the rules keep a second one, of
+/// A count so far: of loop iterations, or of whatever its owner counts. The explicit and weak passes keep a second one, of
 /// the code units that searches have looked at.
 ///
 /// Contracts see it as a number. It takes no bytes at run time, and only [`Steps::tick`] and

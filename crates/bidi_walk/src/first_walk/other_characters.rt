@@ -5,7 +5,7 @@ ghost use Rattle.bidi_base.specs.declared.char_data.BidiClass.{BidiClass};
 ghost use Rattle.bidi_base.specs.Places.{class_at};
 ghost use Rattle.bidi_base.specs.Text.{text_len, is_boundary as is_boundary_of};
 ghost use Rattle.bidi_walk.specs.ClassSet.{has};
-ghost use Rattle.bidi_walk.specs.FirstWalk.{ahead, CanRead, CanSeek, HasEachChange, IsReadOn, IsSkimmed, IsSomeRead, IsStop};
+ghost use Rattle.bidi_walk.specs.FirstWalk.{ahead, CanRead, CanSeek, HasEachChange, IsReadOn, IsSkimmed, HasReadSome, IsStop};
 ghost use Rattle.bidi_walk.specs.declared.first_walk.unit_classes.TheConstants.{AT_ONCE};
 ghost use Rattle.bidi_walk.specs.declared.paragraph_flags.ParagraphFlags.{ParagraphFlags};
 ghost use Rattle.bidi_walk.specs.declared.first_walk.other_characters.TheConstants.{LOW_BLOCK, LOW_LIMIT};
@@ -127,7 +127,7 @@ fn read_block<D: BidiDataSource, T: TextSource>(
     sought: ClassSet,
 ) -> Option<Stop>
     requires { CanSeek T.units (T.characters text) sought progress.old classes.old }
-    ensures { IsSomeRead (D.source data_source.now) T.units (T.characters text) (has sought) progress.old result
+    ensures { HasReadSome (D.source data_source.now) T.units (T.characters text) (has sought) progress.old result
         progress.new classes.old classes.new }
 {
     let start = progress.at;
@@ -260,7 +260,7 @@ pub(super) fn read_on<D: BidiDataSource, T: TextSource>(
     stop_classes: ClassSet,
 ) -> Option<Stop>
     requires { CanRead T.units (T.characters text) progress.old.at classes.old }
-    ensures { IsSomeRead (D.source data_source.now) T.units (T.characters text) (has stop_classes) progress.old result
+    ensures { HasReadSome (D.source data_source.now) T.units (T.characters text) (has stop_classes) progress.old result
         progress.new classes.old classes.new }
 {
     let end = progress.at.saturating_add(BLOCK);
