@@ -5,7 +5,6 @@ ghost use Rattle.std.specs.Char.{len_utf8};
 ghost use Rattle.std.specs.Str.{chars};
 ghost use Rattle.bidi_base.specs.InPlace.{CanResolveWeakTypes};
 ghost use Rattle.bidi_base.specs.Units.{bounds};
-ghost use Rattle.bidi_runs.specs.RunSequence.{runs_of};
 
 use bidi_base::char_data::BidiClass;
 use bidi_rules::implicit::resolve_weak_counted;
@@ -22,7 +21,7 @@ fn resolve_by<S: Ledger>(
     classes: &mut [BidiClass],
     blank: Blank,
 )
-    requires sequence { CanResolveWeakTypes len_utf8 (chars text.text.now) (map bounds (runs_of sequence.now)) classes.old }
+    requires sequence { CanResolveWeakTypes len_utf8 (chars text.text.now) (map bounds sequence.now.runs.items) classes.old }
     requires name { blank.name ≡ S.name }
     requires parts { blank.parts ≡ S.parts }
     requires one { blank.parts ≡ 1 }
