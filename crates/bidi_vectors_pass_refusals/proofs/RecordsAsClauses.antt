@@ -1,10 +1,13 @@
 -- The records of the passes over code units, and the clauses that they stand for, in the words of the definitions.
 use Rattle.bidi_base.proofs.Common.{◌≡◌, ◌↔◌, ℕ, false, List, map, IsTrue, refl, Result, Ok, Err, OnOk, OnErr, explicit_levels, processing_classes, AreExplicitLevels, AreWeakTypesResolved}
 use Rattle.bidi_base.proofs.Common.{AreNeutralsResolved, neutral_classes, at_places, class_at, first_or, level_at, Source, is_per_char, per_char, per_unit, place, in_runs, kept_in_place}
-use Rattle.bidi_base.proofs.Common.{level_run_ranges, weak_classes}
+use Rattle.bidi_base.proofs.Common.{level_run_ranges, weak_classes, Option}
+use Rattle.std.specs.Prelude.{IfOk}
 use Rattle.bidi_base.specs.declared.char_data.BidiClass.{BidiClass}
 use Rattle.bidi_base.specs.declared.char_data.BidiClass.TheVariants.{L, BN}
 use Rattle.bidi_text.proofs.PerCharTests.{class_eq}
+use Rattle.bidi_base.specs.InPlace.{IsDoneOrUnchanged}
+use Rattle.unicode_bidi.specs.Analysed.{Constructs, ObeysLaws}
 
 module _ (len_of : ℕ → ℕ) (chars : List ℕ) where
   -- the explicit pass
@@ -46,3 +49,15 @@ module _ (len_of : ℕ → ℕ) (chars : List ℕ) where
       λ u out. rw refused refl,
       rw refused per,
     )
+
+-- a pass that may fail
+pub done-clauses : {A E : Type 0} (result : Result A E) (done : Type 0) (old new : List BidiClass)
+    → IsDoneOrUnchanged result done old new ↔ OnOk result done × OnErr result (new ≡ old)
+done-clauses result done old new = (λ all. (all.resolved, all.refused), λ all. record { resolved = all.0; refused = all.1 })
+
+-- a constructor
+pub constructor-clauses : {I E : Type 0} (source : Source) (base : Option ℕ) (text_of : I → List ℕ) (units : List ℕ) (is_analysis : I → Type 0) (result : Result I E)
+    → Constructs source base text_of units is_analysis result
+    ↔ IfOk result (λ i. text_of i ≡ units) × IfOk result is_analysis × ObeysLaws source base
+constructor-clauses source base text_of units is_analysis result =
+    (λ all. (all.text, all.analysed, all.laws), λ all. record { text = all.0; analysed = all.1; laws = all.2 })
