@@ -1,10 +1,9 @@
 //! Makes each call that allocates three times, and tests that a failed allocation changes no other result.
 //!
-//! The calls are those over UTF-16, over any text, and over lines with kept classes and levels.
+//! The calls are those over UTF-16, and over any text.
 #![tactic(auto)]
 
 mod any_text;
-mod kept;
 mod utf16;
 
 use bidi_vectors_trials::program::{end, request_before, request_behind, sample};
@@ -17,7 +16,6 @@ fn run(rt: &(impl Env + Print + AllocGlobal)) -> Result<(), Fault> {
     let source = sample()?;
     utf16::run(rt, &source)?;
     any_text::run(rt, &source)?;
-    kept::run(rt, &source)?;
     request_behind(rt)
 }
 

@@ -1,6 +1,9 @@
-//! Makes each call over UTF-8 that allocates three times, and tests that a failed allocation changes no other result.
+//! Makes each call that allocates three times, and tests that a failed allocation changes no other result.
+//!
+//! The calls are those over UTF-8, and over lines with kept classes and levels.
 #![tactic(auto)]
 
+mod kept;
 mod utf8;
 
 use bidi_vectors_trials::program::{end, request_before, request_behind, sample};
@@ -12,6 +15,7 @@ fn run(rt: &(impl Env + Print + AllocGlobal)) -> Result<(), Fault> {
     request_before(rt)?;
     let source = sample()?;
     utf8::run(rt, &source)?;
+    kept::run(rt, &source)?;
     request_behind(rt)
 }
 
