@@ -1,4 +1,1 @@
-pub mod Entries
-pub mod Statuses
-pub mod Told
 pub mod Widths

@@ -2,9 +2,9 @@
 use crate::files::{
     STANDARD_INPUT, end_without_memory, read_standard_input, refuse, refuse_rest, write_out,
 };
-use crate::input::{explain_input, explain_text};
-use crate::status::Status;
 use bidi_arguments::operands::{Operands, STANDARD_INPUT_NAME};
+use bidi_inputs::input::{explain_input, explain_text};
+use bidi_inputs::status::Status;
 use bidi_stages::frame;
 use bidi_stages::view::{Form, StageView};
 use std::fs;

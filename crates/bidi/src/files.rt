@@ -1,8 +1,8 @@
 //! What is read and written: the files of `show`, help and versions.
 use crate::help::help;
-use crate::status::Status;
 use bidi_arguments::operands::STANDARD_INPUT_NAME;
 use bidi_arguments::refusal::Subcommand;
+use bidi_inputs::status::Status;
 use bidi_names::names::shown_name;
 use bidi_shown::stream::{Stream, StreamFault};
 use bidi_unicode::UNICODE_VERSION;

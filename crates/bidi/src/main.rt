@@ -4,23 +4,19 @@
 //! `bidi explain` shows what each stage of the rules makes of the characters of a text.
 #![tactic(auto)]
 
-mod entries;
 mod explain;
 mod files;
 mod help;
-mod input;
-mod status;
 mod terminal;
-mod told;
 mod walk;
 
 use bidi_arguments::command::Command;
 use bidi_arguments::refusal::Refusal;
+use bidi_inputs::status::Status;
 use bidi_names::names::{shown_bytes, shown_name};
 use bidi_stages::view::StageView;
 use explain::explain_operands;
 use files::{end_without_memory, show_files, write_help, write_versions};
-use status::Status;
 use std::alloc::AllocError;
 use std::env::{self, FillError, VarError};
 use std::io::{self, ErrorKind, IsTerminal};

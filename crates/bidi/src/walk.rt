@@ -1,15 +1,15 @@
 //! The files that `check` searches: its arguments and its list name them, or they are below a directory. They
 //! are searched one after the other. A fault of one does not keep the next from being searched.
-use crate::entries::{listed_names, names_in_order, path_below};
 use crate::files::{STANDARD_INPUT, end_without_memory, read_standard_input, refuse, write_out};
-use crate::input::check_input;
-use crate::status::Status;
-use crate::told::push_lines_told;
 use bidi_allowed::allowed::{AllowList, ListFault};
 use bidi_arguments::check_options::CheckOptions;
 use bidi_arguments::operands::STANDARD_INPUT_NAME;
 use bidi_bytes::decode::{BINARY_PREFIX, is_binary, is_utf16};
 use bidi_bytes::pieces::read_piece;
+use bidi_inputs::entries::{listed_names, names_in_order, path_below};
+use bidi_inputs::input::check_input;
+use bidi_inputs::status::Status;
+use bidi_inputs::told::push_lines_told;
 use bidi_names::names::{shown_bytes, shown_name};
 use bidi_reports::form::Form;
 use bidi_reports::report::Report;
@@ -30,7 +30,7 @@ struct Run<'s, 'w, 'l> {
 
 impl Run<'_, '_, '_> {
     ghost use Rattle.std.specs.Prelude.{◌≡◌, max};
-    ghost use Rattle.bidi.specs.Statuses.{status_number};
+    ghost use Rattle.bidi_inputs.specs.Statuses.{status_number};
 
     // Keeps what became of an input.
     fn note(&mut self, next: Status)

@@ -1,24 +1,13 @@
-//! Tests that are not rows: equality, iterators from both ends, accessors, and a custom trait implementation.
+//! Tests that are not rows, of calls of `unicode_bidi` and of a line as it is displayed: equality, accessors, shown lines, and
+//! a custom trait implementation.
 #![tactic(auto)]
 
-#[cfg(test)]
-mod check;
 #[cfg(test)]
 mod displayed;
 #[cfg(test)]
 mod equality;
 #[cfg(test)]
-mod explicit_levels;
-#[cfg(test)]
-mod iterators;
-#[cfg(test)]
 mod layout;
-#[cfg(test)]
-mod levels;
-#[cfg(test)]
-mod pairs;
-#[cfg(test)]
-mod shown_chars;
 #[cfg(test)]
 mod shown_line;
 #[cfg(test)]

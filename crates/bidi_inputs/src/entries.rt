@@ -3,7 +3,7 @@ ghost use Rattle.std.specs.Prelude.{◌≡◌, map, IfOk};
 ghost use Rattle.std.specs.List.Sorted.{IsPermutation, IsSorted};
 ghost use Rattle.std.specs.Ordering.{nat_cmp};
 ghost use Rattle.std.specs.Cmp.Lexicographic.{slice_cmp};
-ghost use Rattle.bidi.specs.Entries.{is_searched, separator_of, listed_names, searched_names, path_below};
+ghost use Rattle.bidi_inputs.specs.Entries.{is_searched, separator_of, listed_names, searched_names, path_below};
 
 use std::alloc::{AllocError, Global};
 

@@ -17,7 +17,7 @@ pub enum Status {
 }
 
 impl Status {
-    ghost use Rattle.bidi.specs.Statuses.{status_number};
+    ghost use Rattle.bidi_inputs.specs.Statuses.{status_number};
 
     /// The exit status of the program.
     pub fn number(self) -> u8

@@ -3,7 +3,7 @@ ghost use Rattle.std.specs.Prelude.{◌≡◌, ◌++◌, ◌||◌, map, IfOk, On
 ghost use Rattle.bidi_unicode.specs.Unicode.{unicode_source};
 ghost use Rattle.bidi_reports.specs.Reports.{line_report};
 ghost use Rattle.bidi_scan.specs.FileSearch.{line_of};
-ghost use Rattle.bidi.specs.Told.{is_any_told, is_told, told_findings, told_report};
+ghost use Rattle.bidi_inputs.specs.Told.{is_any_told, is_told, told_findings, told_report};
 
 use bidi_allowed::allowed::AllowList;
 use bidi_controls::finding::Finding;

@@ -1,8 +1,8 @@
 use Rattle.bidi_base.proofs.Common.{◌≡◌, ◌++◌, ◌||◌, drop, map, string_bytes}
 use Rattle.bidi_unicode.specs.Unicode.{unicode_source}
 use Rattle.bidi_scan.specs.FileSearch.{line_of}
-use Rattle.bidi.specs.Told.{is_any_told, told_report}
-use Rattle.bidi.proofs.told.push_lines_told.Given as goal
+use Rattle.bidi_inputs.specs.Told.{is_any_told, told_report}
+use Rattle.bidi_inputs.proofs.told.push_lines_told.Given as goal
 
 abbrev pub invariant-loop-line : goal.invariant-loop-line
 invariant-loop-line l = record {

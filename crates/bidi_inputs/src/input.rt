@@ -8,7 +8,7 @@ ghost use Rattle.bidi_bytes.specs.FileLines.{file_lines_of};
 ghost use Rattle.bidi_scan.specs.FileSearch.{found_from};
 ghost use Rattle.bidi_shown.specs.Faults.{TellsBytes};
 ghost use Rattle.bidi_shown.specs.declared.stream.StreamFault.TheVariants.{Memory};
-ghost use Rattle.bidi.specs.Told.{is_any_told, told_report};
+ghost use Rattle.bidi_inputs.specs.Told.{is_any_told, told_report};
 
 use crate::status::Status;
 use crate::told::push_lines_told;
@@ -36,7 +36,7 @@ pub struct Checked {
 
 impl Checked {
     ghost use Rattle.std.specs.Prelude.{if◌then◌else◌, is_some};
-    ghost use Rattle.bidi.specs.declared.status.Status.TheVariants.{Clean, Found, Refused};
+    ghost use Rattle.bidi_inputs.specs.declared.status.Status.TheVariants.{Clean, Found, Refused};
 
     /// What that means for the run.
     pub fn status(&self) -> Status

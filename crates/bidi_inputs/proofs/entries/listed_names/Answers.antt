@@ -1,7 +1,7 @@
 use Rattle.bidi_base.proofs.Common.{rules, ◌==◌, not, length, map_from_collect, YieldsList-at, YieldsList-from_filter, YieldsList-from_slice_split}
 use borrow.Author.Tests.{tests}
-use Rattle.bidi.specs.Entries.{separator_of}
-use Rattle.bidi.proofs.entries.listed_names.Goals as goal
+use Rattle.bidi_inputs.specs.Entries.{separator_of}
+use Rattle.bidi_inputs.proofs.entries.listed_names.Goals as goal
 
 pub returns : goal.returns
 returns c =

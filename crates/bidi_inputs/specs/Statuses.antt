@@ -1,7 +1,7 @@
 -- How a run ended.
 use Rattle.std.specs.Prelude.{ℕ}
-use Rattle.bidi.specs.declared.status.Status.{Status}
-use Rattle.bidi.specs.declared.status.Status.TheVariants.{Clean, Found, Refused, Memory, Device}
+use Rattle.bidi_inputs.specs.declared.status.Status.{Status}
+use Rattle.bidi_inputs.specs.declared.status.Status.TheVariants.{Clean, Found, Refused, Memory, Device}
 
 -- the program's exit status
 abbrev pub status_number : Status → ℕ

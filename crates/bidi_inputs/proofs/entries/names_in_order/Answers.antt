@@ -1,6 +1,6 @@
 use Rattle.bidi_base.proofs.Common.{subst, map, List, ℕ, IsPermutation, IsPermutation-map}
 use Rattle.std.proofs.Common.{Bor}
-use Rattle.bidi.proofs.entries.names_in_order.Goals as goal
+use Rattle.bidi_inputs.proofs.entries.names_in_order.Goals as goal
 
 pub returns-clause-names : goal.returns-clause-names
 returns-clause-names c =

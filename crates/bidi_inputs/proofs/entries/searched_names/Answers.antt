@@ -1,7 +1,7 @@
 use Rattle.bidi_base.proofs.Common.{rules, ◌==◌, map_from_collect, YieldsList-at, YieldsList-from_filter, YieldsList-from_slice_split}
 use borrow.Author.Tests.{tests}
-use Rattle.bidi.specs.Entries.{is_searched}
-use Rattle.bidi.proofs.entries.searched_names.Goals as goal
+use Rattle.bidi_inputs.specs.Entries.{is_searched}
+use Rattle.bidi_inputs.proofs.entries.searched_names.Goals as goal
 
 pub returns : goal.returns
 returns c =

@@ -1,0 +1,15 @@
+//! Tests that are not rows, of what `unicode_bidi` is built on: levels, bracket pairs, iterators from both ends, the explicit
+//! pass, and shown lines of characters.
+#![tactic(auto)]
+
+pub mod check;
+#[cfg(test)]
+mod explicit_levels;
+#[cfg(test)]
+mod iterators;
+#[cfg(test)]
+mod levels;
+#[cfg(test)]
+mod pairs;
+#[cfg(test)]
+mod shown_chars;
