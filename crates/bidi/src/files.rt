@@ -79,6 +79,57 @@ pub fn refuse_rest(
 // How many bytes of an input are read at once.
 const PIECE: usize = 0x1_0000;
 
+// The memory of an input that is shown: the piece at hand, the text that comes in pieces, and what is shown of it.
+#[derive(Drop)]
+struct Shown {
+    piece: Vec<u8>,
+    stream: Stream,
+    out: String,
+}
+
+// Shows the next piece of an input. Returns how the run goes on if no more can follow.
+fn show_next(
+    rt: &(impl Print + Eprint + AllocGlobal),
+    view: View,
+    name: &str,
+    reader: &mut impl Read,
+    shown: &mut Shown,
+) -> Result<Option<Status>, Status> {
+    let Shown { piece, stream, out } = shown;
+    let count = match reader.read(piece.as_mut_slice()) {
+        Ok(count) => count,
+        Err(error) => return refuse(rt, name, &error).map(Some),
+    };
+    out.clear();
+    let pushed = if count == 0 {
+        stream.finish(rt.alloc(), view, out)
+    } else {
+        stream.push(rt.alloc(), view, &piece.as_slice()[..count], out)
+    };
+    write_out(rt, out.as_str())?;
+    match pushed {
+        Ok(()) if count == 0 => Ok(Some(Status::Clean)),
+        Ok(()) => Ok(None),
+        Err(fault) => refuse_rest(rt, name, fault).map(Some),
+    }
+}
+
+// Shows an input to its end.
+fn show_pieces(
+    rt: &(impl Print + Eprint + AllocGlobal),
+    view: View,
+    name: &str,
+    reader: &mut impl Read,
+    shown: &mut Shown,
+) -> Result<Status, Status> {
+    for _ in 0..u64::MAX {
+        if let Some(status) = show_next(rt, view, name, reader, shown)? {
+            return Ok(status);
+        }
+    }
+    Ok(Status::Clean)
+}
+
 // Shows an input piece by piece, so that it takes the memory of its longest line.
 fn show_reader(
     rt: &(impl Print + Eprint + AllocGlobal),
@@ -86,31 +137,15 @@ fn show_reader(
     name: &str,
     reader: &mut impl Read,
 ) -> Result<Status, Status> {
-    let Ok(mut piece) = vec![in rt.alloc(); 0; PIECE] else {
+    let Ok(piece) = vec![in rt.alloc(); 0; PIECE] else {
         return out_of_memory(rt);
     };
-    let mut stream = Stream::new(rt.alloc());
-    let mut out = String::new(rt.alloc());
-    for _ in 0..u64::MAX {
-        let count = match reader.read(piece.as_mut_slice()) {
-            Ok(count) => count,
-            Err(error) => return refuse(rt, name, &error),
-        };
-        let shown = if count == 0 {
-            stream.finish(rt.alloc(), view, &mut out)
-        } else {
-            stream.push(rt.alloc(), view, &piece.as_slice()[..count], &mut out)
-        };
-        write_out(rt, out.as_str())?;
-        out.clear();
-        if let Err(fault) = shown {
-            return refuse_rest(rt, name, fault);
-        }
-        if count == 0 {
-            break;
-        }
-    }
-    Ok(Status::Clean)
+    let mut shown = Shown {
+        piece,
+        stream: Stream::new(rt.alloc()),
+        out: String::new(rt.alloc()),
+    };
+    show_pieces(rt, view, name, reader, &mut shown)
 }
 
 /// The bytes of standard input.

@@ -19,17 +19,18 @@ use std::fs;
 use std::io::{self, ErrorKind, Read};
 use std::rt::Files;
 
-// What `check` looks for and where, and how the run has gone so far.
+// What `check` looks for and where, and how the run has gone so far. It owns nothing: at each exit, whatever a function
+// owns is one more thing to prove.
 #[derive(Drop)]
 struct Run<'s, 'w, 'l> {
     options: &'s CheckOptions<'w>,
-    allowed: AllowList<'l>,
-    report: Report,
+    allowed: &'s AllowList<'l>,
+    report: &'s mut Report,
     status: Status,
 }
 
 impl Run<'_, '_, '_> {
-    ghost use Rattle.std.specs.Prelude.{◌≡◌, max};
+    ghost use Rattle.std.specs.Prelude.{◌≡◌, max, IfErr, OnOk};
     ghost use Rattle.bidi_inputs.specs.Statuses.{status_number};
 
     // Keeps what became of an input.
@@ -37,6 +38,17 @@ impl Run<'_, '_, '_> {
         ensures { status_number self.new.status ≡ max (status_number self.old.status) (status_number next) }
     {
         self.status = self.status.worse(next);
+    }
+
+    // Returns how the run ended.
+    fn ended(&self, ended: Result<(), Status>) -> Status
+        ensures to_the_end { OnOk ended (result ≡ self.now.status) }
+        ensures early { IfErr ended (λ status. status_number result ≡ max (status_number self.now.status) (status_number status)) }
+    {
+        match ended {
+            Ok(()) => self.status,
+            Err(status) => self.status.worse(status),
+        }
     }
 }
 
@@ -91,8 +103,8 @@ fn check_bytes(
     let wanted = run.options.wanted;
     let checked = check_input(
         rt.alloc(),
-        &mut run.report,
-        &run.allowed,
+        &mut *run.report,
+        run.allowed,
         wanted,
         name,
         bytes,
@@ -118,8 +130,8 @@ fn report_found(
     let lines = found.as_slice();
     let told = push_lines_told(
         rt.alloc(),
-        &mut run.report,
-        &run.allowed,
+        &mut *run.report,
+        run.allowed,
         &mut out,
         name,
         lines,
@@ -133,6 +145,69 @@ fn report_found(
     Ok(())
 }
 
+// The search of an input that is read piece by piece, and the lines in which it has found something.
+#[derive(Drop)]
+struct Pieces {
+    search: FileSearch,
+    found: Vec<FoundLine>,
+}
+
+// Searches the bytes that are read, and reports what is found.
+fn check_read(
+    rt: &(impl Print + Eprint + AllocGlobal),
+    run: &mut Run<'_, '_, '_>,
+    name: &str,
+    at_end: bool,
+    bytes: &mut Vec<u8>,
+    pieces: &mut Pieces,
+) -> Result<(), Status> {
+    let Pieces { search, found } = pieces;
+    or_end(rt, search.push_read(rt.alloc(), at_end, bytes, found))?;
+    report_found(rt, run, name, found)
+}
+
+// Reads the next piece of an input, and searches it. Returns whether more can follow.
+fn check_next(
+    rt: &(impl Print + Eprint + AllocGlobal),
+    run: &mut Run<'_, '_, '_>,
+    name: &str,
+    reader: &mut impl Read,
+    bytes: &mut Vec<u8>,
+    pieces: &mut Pieces,
+) -> Result<bool, Status> {
+    let mut read = read_piece(reader, bytes);
+    if pieces.search.has_room(bytes.len()) {
+        let at_end = matches!(read, Ok(true));
+        check_read(rt, run, name, at_end, bytes, pieces)?;
+    } else {
+        read = Err(ErrorKind::FileTooLarge.into());
+    }
+    match read {
+        Ok(at_end) => Ok(!at_end),
+        Err(error) => {
+            run.note(refuse(rt, name, &error)?);
+            Ok(false)
+        }
+    }
+}
+
+// Searches an input to its end.
+fn check_each(
+    rt: &(impl Print + Eprint + AllocGlobal),
+    run: &mut Run<'_, '_, '_>,
+    name: &str,
+    reader: &mut impl Read,
+    bytes: &mut Vec<u8>,
+    pieces: &mut Pieces,
+) -> Result<(), Status> {
+    for _ in 0..u64::MAX {
+        if !check_next(rt, run, name, reader, bytes, pieces)? {
+            break;
+        }
+    }
+    tell_invalid(rt, run, name, pieces.search.invalid)
+}
+
 // Searches an input in UTF-8 of which these bytes are read, piece by piece. If reading fails, reports what was found
 // before.
 fn check_pieces(
@@ -142,27 +217,11 @@ fn check_pieces(
     reader: &mut impl Read,
     bytes: &mut Vec<u8>,
 ) -> Result<(), Status> {
-    let mut search = FileSearch::new(rt.alloc(), run.options.wanted);
-    let mut found = Vec::new(rt.alloc());
-    for _ in 0..u64::MAX {
-        let mut read = read_piece(reader, bytes);
-        if search.has_room(bytes.len()) {
-            let at_end = matches!(read, Ok(true));
-            or_end(rt, search.push_read(rt.alloc(), at_end, bytes, &mut found))?;
-            report_found(rt, run, name, &mut found)?;
-        } else {
-            read = Err(ErrorKind::FileTooLarge.into());
-        }
-        match read {
-            Ok(true) => break,
-            Ok(false) => {}
-            Err(error) => {
-                run.note(refuse(rt, name, &error)?);
-                break;
-            }
-        }
-    }
-    tell_invalid(rt, run, name, search.invalid)
+    let mut pieces = Pieces {
+        search: FileSearch::new(rt.alloc(), run.options.wanted),
+        found: Vec::new(rt.alloc()),
+    };
+    check_each(rt, run, name, reader, bytes, &mut pieces)
 }
 
 // Searches an input. Of a binary one only the first bytes are read, unless binary ones are searched too.
@@ -432,19 +491,18 @@ fn check_with_list(
     rt: &(impl Files + Input + Print + Eprint + AllocGlobal),
     form: Form,
     options: &CheckOptions<'_>,
-    allowed: AllowList<'_>,
+    allowed: &AllowList<'_>,
     names: &[String],
 ) -> Status {
+    let mut report = Report::new(rt.alloc(), form);
     let mut run = Run {
         options,
         allowed,
-        report: Report::new(rt.alloc(), form),
+        report: &mut report,
         status: Status::Clean,
     };
-    match report_all(rt, &mut run, names) {
-        Ok(()) => run.status,
-        Err(ended) => run.status.worse(ended),
-    }
+    let ended = report_all(rt, &mut run, names);
+    run.ended(ended)
 }
 
 /// Searches the files and directories of these names, and then those of the list. Searches standard input if
@@ -457,14 +515,14 @@ pub fn check_files(
     names: &[String],
 ) -> Status {
     let Some(list) = &options.report.allow else {
-        return check_with_list(rt, form, options, AllowList::new(rt.alloc()), names);
+        return check_with_list(rt, form, options, &AllowList::new(rt.alloc()), names);
     };
     let bytes = match read_allowed(rt, list.text()) {
         Ok(bytes) => bytes,
         Err(ended) => return ended,
     };
     match allow_list(rt, list.text(), bytes.as_slice()) {
-        Ok(allowed) => check_with_list(rt, form, options, allowed, names),
+        Ok(allowed) => check_with_list(rt, form, options, &allowed, names),
         Err(ended) => ended,
     }
 }

@@ -1,4 +1,4 @@
-//! The names of files in a list and in a directory.
+//! The names that `bidi check` searches: those in a list of files, and those in a directory.
 ghost use Rattle.std.specs.Prelude.{◌≡◌, map, IfOk};
 ghost use Rattle.std.specs.List.Sorted.{IsPermutation, IsSorted};
 ghost use Rattle.std.specs.Ordering.{nat_cmp};
@@ -7,15 +7,17 @@ ghost use Rattle.bidi_inputs.specs.Entries.{is_searched, separator_of, listed_na
 
 use std::alloc::{AllocError, Global};
 
-/// The byte that separates the names of a list.
+/// Returns the byte that separates the names of a list.
 fn separator_of(bytes: &[u8]) -> u8
     ensures { result ≡ separator_of bytes.now }
 {
     if bytes.contains(&0) { 0 } else { b'\n' }
 }
 
-/// The names of a list, in order. NUL separates them if there is one in the list, and else the line feed
-/// does. Empty names are left out.
+/// Returns the names in a list of files, in order.
+///
+/// If the list has a NUL, NUL separates the names, and otherwise the line feed. Leaves out empty names. A carriage return
+/// is part of a name. Names need not be UTF-8. Returns an error if an allocation fails.
 pub fn listed_names<'b>(alloc: Global, bytes: &'b [u8]) -> Result<Vec<&'b [u8]>, AllocError>
     ensures { IfOk result (λ names. map (λ name. name.now) names.items ≡ listed_names bytes.now) }
 {
@@ -26,8 +28,8 @@ pub fn listed_names<'b>(alloc: Global, bytes: &'b [u8]) -> Result<Vec<&'b [u8]>,
         .collect(alloc)
 }
 
-/// Whether a name of a directory is searched: neither its name for itself nor for the one above it, and
-/// a name that begins with a dot only if hidden ones are.
+/// Returns whether a name of a directory is searched. Empty names, `.` and `..` never are. Other names that begin with a
+/// dot are searched only if `hidden` is true.
 fn is_searched(hidden: bool, name: &[u8]) -> bool
     ensures { result ≡ is_searched hidden name.now }
 {
@@ -39,7 +41,7 @@ fn is_searched(hidden: bool, name: &[u8]) -> bool
     }
 }
 
-/// The names of a directory that are searched, where a NUL ends each name.
+/// Returns the names of a directory that are searched. A NUL ends each name of `listing`.
 fn searched_names<'b>(
     alloc: Global,
     hidden: bool,
@@ -53,7 +55,10 @@ fn searched_names<'b>(
         .collect(alloc)
 }
 
-/// The same names in the order of their bytes.
+/// Returns the names of a directory that `bidi check` searches, in the order of their bytes.
+///
+/// A NUL ends each name of `listing`. Leaves out empty names, `.` and `..`. Leaves out other names that begin with a dot,
+/// unless `hidden` is true. Names need not be UTF-8. Returns an error if an allocation fails.
 pub fn names_in_order<'b>(
     alloc: Global,
     hidden: bool,
@@ -67,7 +72,10 @@ pub fn names_in_order<'b>(
     Ok(names)
 }
 
-/// The path of a name below a directory.
+/// Returns the path of a name in a directory: `dir`, a slash unless `dir` ends with one, and `name`.
+///
+/// Neither need be UTF-8, and `name` may be empty. If `dir` is empty, the path begins with the slash. Returns an error if
+/// an allocation fails.
 pub fn path_below(alloc: Global, dir: &[u8], name: &[u8]) -> Result<Vec<u8>, AllocError>
     ensures { IfOk result (λ path. path.items ≡ path_below dir.now name.now) }
 {

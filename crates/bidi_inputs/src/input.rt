@@ -1,5 +1,5 @@
-//! What becomes of an input.
-ghost use Rattle.std.specs.Prelude.{◌≡◌, IfErr, IfOk, IsErrOf, string_bytes};
+//! What `bidi check` and `bidi explain` write for one input.
+ghost use Rattle.std.specs.Prelude.{◌≡◌, ◌||◌, IfErr, IfOk, IsErrOf, OnOk, string_bytes};
 ghost use Rattle.std.specs.Str.{chars, IsUtf8};
 ghost use Rattle.bidi_unicode.specs.Unicode.{unicode_source};
 ghost use Rattle.bidi_stages.specs.Explained.{AreTold};
@@ -23,14 +23,14 @@ use bidi_stages::view::StageView;
 use bidi_unicode::UnicodeData;
 use std::alloc::{AllocError, Global};
 
-/// What `check` says of an input.
+/// The result of `bidi check` for one input.
 #[derive(Drop)]
 pub struct Checked {
-    /// A line for each finding.
+    /// The report of the findings that are not allowed, in the form of the run's `Report`.
     pub report: String,
-    /// Whether there is one.
+    /// Whether there is a finding that is not allowed. With the form `Quiet`, `report` is empty even then.
     pub found: bool,
-    /// Where the input stops being UTF-8, if it does.
+    /// The index of the first byte that is not UTF-8, counted from 0. `None` if there is none, and for UTF-16.
     pub invalid: Option<usize>,
 }
 
@@ -38,7 +38,8 @@ impl Checked {
     ghost use Rattle.std.specs.Prelude.{if◌then◌else◌, is_some};
     ghost use Rattle.bidi_inputs.specs.declared.status.Status.TheVariants.{Clean, Found, Refused};
 
-    /// What that means for the run.
+    /// Returns the status of this input: `Refused` if it has a byte that is not UTF-8, otherwise `Found` if it has a
+    /// finding, otherwise `Clean`.
     pub fn status(&self) -> Status
         ensures { result ≡ (if is_some self.now.invalid then Refused else if self.now.found then Found else Clean) }
     {
@@ -52,8 +53,12 @@ impl Checked {
     }
 }
 
-/// What `check` finds in an input of this name, if these findings are wanted, without those that are allowed. An input
-/// that is not UTF-8 is read as `decoded` says. Returns an error if an allocation fails.
+/// Searches an input, and returns the report of its findings without those that `allowed` allows.
+///
+/// `bytes` are all bytes of the input: UTF-8, or UTF-16 after a byte order mark. Invalid bytes are read as U+FFFD.
+/// `wanted` says which findings count. `name` is the input's name in the report and in `allowed`. `report` has the form,
+/// and notes whether findings were written. Returns an error if an allocation fails. Then the report of this input is
+/// lost, but `report` may have noted its findings.
 pub fn check_input(
     alloc: Global,
     report: &mut Report,
@@ -68,6 +73,9 @@ pub fn check_input(
     ensures found { let found = found_from unicode_source wanted 1 (file_lines_of (decoded_chars bytes.now)) in
         IfOk result (λ checked. checked.found ≡ is_any_told allowed.now name.now found) }
     ensures invalid { IfOk result (λ checked. checked.invalid ≡ first_invalid_of bytes.now) }
+    ensures form { report.new.form ≡ report.old.form }
+    ensures later { let found = found_from unicode_source wanted 1 (file_lines_of (decoded_chars bytes.now)) in
+        OnOk result (report.new.later ≡ (report.old.later || is_any_told allowed.now name.now found)) }
 {
     let searched = found_lines(alloc, wanted, bytes)?;
     let mut out = String::new(alloc);
@@ -86,7 +94,10 @@ pub fn check_input(
     })
 }
 
-/// What the rules make of the lines of a text, as tables or as sections of a page.
+/// Returns the result of each rule for each line of a text, as tables or as sections of a page of HTML.
+///
+/// A line ends after a paragraph separator, with CR LF as one. `view` has the base level, the form and the width of a
+/// table. The head and the foot of the page are in `bidi_stages::frame`. Returns an error if an allocation fails.
 pub fn explain_text(alloc: Global, view: StageView, text: &str) -> Result<String, AllocError>
     ensures { IfOk result (λ out. AreTold unicode_source view (chars text.now) (string_bytes out)) }
 {
@@ -107,7 +118,10 @@ fn text_of(bytes: &[u8]) -> Result<&str, StreamFault>
     }
 }
 
-/// What the rules make of the lines of an input. Returns an error if the input is not UTF-8 or an allocation fails.
+/// Like [`explain_text`], for bytes that must be UTF-8. UTF-16 is not decoded.
+///
+/// Returns `StreamFault::NotUtf8` with the index of the first byte that is not UTF-8, counted from 0. Returns
+/// `StreamFault::Memory` if an allocation fails.
 pub fn explain_input(alloc: Global, view: StageView, bytes: &[u8]) -> Result<String, StreamFault>
     ensures text { IfOk result (λ out. IsUtf8 bytes.now
         × AreTold unicode_source view (chars bytes.now) (string_bytes out)) }

@@ -1,4 +1,4 @@
-//! What `bidi` says of an input, in which order it searches the names of a directory, and with which status it ends.
+//! What `bidi check` and `bidi explain` write for an input, the names that `bidi check` searches, and the exit statuses.
 #![tactic(auto)]
 
 pub mod entries;

@@ -1,25 +1,25 @@
 //! How a run ended.
 ghost use Rattle.std.specs.Prelude.{◌≡◌, max};
 
-/// How a run ended, or what became of one input of it.
+/// How a run ended, or the result of one input. `number` gives the exit status.
 #[derive(Clone, Copy, Debug, PartialEq)]
 pub enum Status {
-    /// Nothing was found, and all was read.
+    /// Nothing was found, or all was written.
     Clean,
-    /// Something was found.
+    /// `check` found something.
     Found,
-    /// The words are none of the program's forms, or an input is not UTF-8.
+    /// An argument or an allow-list is wrong, or an argument, a name or an input is not UTF-8.
     Refused,
-    /// Memory was refused.
+    /// An allocation failed.
     Memory,
-    /// A read or a write failed.
+    /// A read or a write failed, or the arguments could not be read.
     Device,
 }
 
 impl Status {
     ghost use Rattle.bidi_inputs.specs.Statuses.{status_number};
 
-    /// The exit status of the program.
+    /// Returns the exit status of the program, from 0 to 4.
     pub fn number(self) -> u8
         ensures { result ≡ status_number self }
     {
@@ -32,7 +32,7 @@ impl Status {
         }
     }
 
-    /// The worse of two, whose number is the greater.
+    /// Returns the worse of two statuses: the one with the higher number.
     pub fn worse(self, other: Status) -> Status
         ensures { status_number result ≡ max (status_number self) (status_number other) }
     {

@@ -1,4 +1,4 @@
-//! What is told of the lines of a file.
+//! The report of lines of a file, without the findings that are allowed.
 ghost use Rattle.std.specs.Prelude.{◌≡◌, ◌++◌, ◌||◌, map, IfOk, OnOk, string_bytes};
 ghost use Rattle.bidi_unicode.specs.Unicode.{unicode_source};
 ghost use Rattle.bidi_reports.specs.Reports.{line_report};
@@ -56,8 +56,11 @@ fn push_told(
     Ok(!told.is_empty())
 }
 
-/// Appends what is told of lines of a file in which something is found, without those that are allowed. Returns whether
-/// something is told.
+/// Appends the report of lines of a file to `out`, without the lines that `allowed` allows. Returns whether a finding is
+/// left.
+///
+/// `name` is the file's name in the report and in `allowed`. `report` has the form, and notes whether findings were
+/// written. Returns an error if an allocation fails. Then `out` may have a part of the report.
 pub fn push_lines_told(
     alloc: Global,
     report: &mut Report,

@@ -1,5 +1,5 @@
 -- Why bytes are not shown.
-use Rattle.std.specs.Prelude.{◌≡◌, ℕ, List, ⊤}
+use Rattle.std.specs.Prelude.{◌≡◌, ℕ, ◌+◌, ◌-◌, ◌^◌, List, ⊤, min}
 use Rattle.std.specs.Str.{IsUtf8}
 use Rattle.std.specs.Str.Lossy.{utf8_valid_len}
 use Rattle.bidi_shown.specs.declared.stream.StreamFault.{StreamFault}
@@ -9,3 +9,12 @@ use Rattle.bidi_shown.specs.declared.stream.StreamFault.TheVariants.{NotUtf8, Me
 abbrev pub TellsBytes : List ℕ → StreamFault → Type 0
 TellsBytes bytes (NotUtf8 at) = (at ≡ utf8_valid_len bytes) × (IsUtf8 bytes → ⊥)
 TellsBytes bytes Memory = ⊤
+
+-- the index in a text of a byte with so many others before it, as a `usize` can tell it
+abbrev pub index_after : ℕ → ℕ → ℕ
+index_after before at = min (before + at) (2 ^ 64 - 1)
+
+-- the same for bytes with so many others before them
+abbrev pub TellsBytesAfter : ℕ → List ℕ → StreamFault → Type 0
+TellsBytesAfter before bytes (NotUtf8 at) = (at ≡ index_after before (utf8_valid_len bytes)) × (IsUtf8 bytes → ⊥)
+TellsBytesAfter before bytes Memory = ⊤

@@ -1,11 +1,13 @@
 -- A text that comes in pieces: what is shown with each, and what is kept.
-use Rattle.std.specs.Prelude.{◌≡◌, ℕ, ◌+◌, ◌==◌, nat_lt, if◌then◌else◌, List, [], ◌∷◌, ◌++◌, string_bytes, take, drop}
+use Rattle.std.specs.Prelude.{◌≡◌, ℕ, ◌+◌, ◌==◌, nat_lt, if◌then◌else◌, List, [], ◌∷◌, ◌++◌, length, string_bytes, take, drop}
 use Rattle.std.specs.Str.{chars, IsUtf8}
 use Rattle.std.specs.declared.string.String.{String}
 use Rattle.bidi_unicode.specs.Unicode.{unicode_source}
 use Rattle.bidi_visual.specs.Shown.{shown_text}
 use Rattle.bidi_visual.specs.declared.view.View.{View}
+use Rattle.bidi_shown.specs.Faults.{TellsBytesAfter, index_after}
 use Rattle.bidi_shown.specs.declared.stream.Stream.{Stream}
+use Rattle.bidi_shown.specs.declared.stream.StreamFault.{StreamFault}
 
 -- the number of bytes up to the last line feed, this included; 0 where there is none
 abbrev pub whole_lines : List ℕ → ℕ
@@ -16,6 +18,10 @@ whole_lines (b ∷ bs) = if nat_lt 0 (whole_lines bs) then whole_lines bs + 1 el
 abbrev pub pending : Stream → List ℕ
 pending s = s.pending.items
 
+-- how many bytes were shown
+abbrev pub shown_len : Stream → ℕ
+shown_len s = s.before
+
 -- what is shown of a text as these bytes
 abbrev pub shown_bytes : View → List ℕ → List ℕ
 shown_bytes view bytes = shown_text unicode_source view (chars bytes)
@@ -23,6 +29,24 @@ shown_bytes view bytes = shown_text unicode_source view (chars bytes)
 -- a string grew by what is shown of the bytes that a stream keeps
 abbrev pub ShowsPending : {A : Type 0} → View → Stream → String A → String A → Type 0
 ShowsPending view stream old new = string_bytes new ≡ string_bytes old ++ shown_bytes view (pending stream)
+
+-- a stream has shown the bytes that it kept, and keeps none
+pub record HasShownPending (old new : Stream) : Type 0 where
+  pub none_kept : pending new ≡ []
+  pub counted : shown_len new ≡ index_after (shown_len old) (length (pending old))
+
+-- a fault tells where the bytes that a stream keeps stop being UTF-8
+abbrev pub TellsPending : Stream → StreamFault → Type 0
+TellsPending stream = TellsBytesAfter (shown_len stream) (pending stream)
+
+-- the bytes that a stream shows when a piece with a line feed comes
+abbrev pub lines_with : Stream → List ℕ → List ℕ
+lines_with stream piece = pending stream ++ take (whole_lines piece) piece
+
+-- how many bytes were shown then
+abbrev pub shown_len_after : Stream → List ℕ → ℕ
+shown_len_after stream piece =
+    if whole_lines piece == 0 then shown_len stream else index_after (shown_len stream) (length (lines_with stream piece))
 
 -- what is shown when a piece comes after bytes that are kept: the lines up to its last line feed, if it has one
 abbrev pub shown_now : View → List ℕ → List ℕ → List ℕ

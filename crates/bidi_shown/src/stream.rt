@@ -33,8 +33,12 @@ impl From<AllocError> for StreamFault {
 }
 
 impl StreamFault {
+    ghost use Rattle.bidi_shown.specs.Faults.{TellsBytesAfter};
+
     // Returns the fault of a text that has so many bytes before those in which it was found.
-    fn after(self, before: usize) -> StreamFault {
+    fn after(self, before: usize) -> StreamFault
+        ensures { (bytes : List ℕ) → TellsBytes bytes self → TellsBytesAfter before bytes result }
+    {
         match self {
             StreamFault::NotUtf8(at) => StreamFault::NotUtf8(before.saturating_add(at)),
             StreamFault::Memory => StreamFault::Memory,
@@ -97,11 +101,13 @@ fn show_bytes(
 }
 
 impl Stream {
-    ghost use Rattle.bidi_shown.specs.Streams.{pending as pending_of, shown_now, pending_after, IsShownTo, ShowsPending};
+    ghost use Rattle.bidi_shown.specs.Faults.{TellsBytesAfter};
+    ghost use Rattle.bidi_shown.specs.Streams.{pending as pending_of, shown_len as shown_len_of, shown_now, pending_after, lines_with, shown_len_after, HasShownPending, IsShownTo, ShowsPending, TellsPending};
 
     /// Returns a text of which nothing has come. Does not allocate.
     pub fn new(alloc: Global) -> Stream
         ensures pending { pending_of result ≡ [] }
+        ensures shown_len { shown_len_of result ≡ 0 }
         ensures whole { (view : View) → IsShownTo view (pending_of result) [] [] }
     {
         Stream {
@@ -123,6 +129,8 @@ impl Stream {
     ) -> Result<(), StreamFault>
         ensures shown { OnOk result (string_bytes out.new ≡ string_bytes out.old ++ shown_now view (pending_of self.old) piece.now) }
         ensures pending { OnOk result (pending_of self.new ≡ pending_after (pending_of self.old) piece.now) }
+        ensures shown_len { OnOk result (shown_len_of self.new ≡ shown_len_after self.old piece.now) }
+        ensures fault { IfErr result (TellsBytesAfter (shown_len_of self.old) (lines_with self.old piece.now)) }
         // `taken` is what the caller took out of `out` before.
         ensures whole { (came taken : List ℕ)
             → IsShownTo view (pending_of self.old) came (taken ++ string_bytes out.old)
@@ -144,6 +152,8 @@ impl Stream {
     pub fn finish(&mut self, alloc: Global, view: View, out: &mut String) -> Result<(), StreamFault>
         ensures utf8 { OnOk result (IsUtf8 (pending_of self.old)) }
         ensures shown { OnOk result (ShowsPending view self.old out.old out.new) }
+        ensures ended { OnOk result (HasShownPending self.old self.new) }
+        ensures fault { IfErr result (TellsPending self.old) }
         ensures whole { (came taken : List ℕ)
             → IsShownTo view (pending_of self.old) came (taken ++ string_bytes out.old)
             → OnOk result (IsUtf8 came × (taken ++ string_bytes out.new ≡ shown_text unicode_source view (chars came))) }
@@ -161,7 +171,8 @@ impl Stream {
     ) -> Result<(), StreamFault>
         ensures utf8 { OnOk result (IsUtf8 (pending_of self.old)) }
         ensures shown { OnOk result (ShowsPending view self.old out.old out.new) }
-        ensures pending { OnOk result (pending_of self.new ≡ []) }
+        ensures ended { OnOk result (HasShownPending self.old self.new) }
+        ensures fault { IfErr result (TellsPending self.old) }
     {
         let bytes = self.pending.as_slice();
         let len = bytes.len();

@@ -1,5 +1,5 @@
-//! Tests that are not rows, of calls of `unicode_bidi` and of a line as it is displayed: equality, accessors, shown lines, and
-//! a custom trait implementation.
+//! Tests that are not test vectors, of `unicode_bidi` and of a line as it is displayed: equality, accessors, shown lines,
+//! and a custom `CharWidth`.
 #![tactic(auto)]
 
 #[cfg(test)]

@@ -1,5 +1,5 @@
-//! Tests that are not rows, of what `unicode_bidi` is built on: levels, bracket pairs, iterators from both ends, the explicit
-//! pass, and shown lines of characters.
+//! Tests that are not test vectors, of the crates below `unicode_bidi`: levels, bracket pairs, iterators from both ends,
+//! the explicit pass, and shown lines of lists of characters.
 #![tactic(auto)]
 
 pub mod check;

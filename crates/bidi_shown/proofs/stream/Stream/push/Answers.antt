@@ -25,5 +25,5 @@ returns-clause-whole c = λ came before was.
     let out_is : string_bytes c.show_pending.new.out ≡ out ++ shown_now c.args.view kept piece =
     simp some (c.in_ok-show_pending.ensures.shown ∙ ap (λ (l : List ℕ). out ++ shown_bytes c.args.view l) lines_is) in
     let kept_is : c.extend_from_slice-3.new.self.items ≡ pending_after kept piece =
-    simp some (c.in_ok-extend_from_slice-3.ensures.items ∙ ap (λ (l : List ℕ). l ++ c.split_at.result.1.now) c.in_ok-show_pending.ensures.pending ∙ c.split_at.ensures.back ∙ ap (λ (n : ℕ). drop n piece) count) in
+    simp some (c.in_ok-extend_from_slice-3.ensures.items ∙ ap (λ (l : List ℕ). l ++ c.split_at.result.1.now) c.in_ok-show_pending.ensures.ended.none_kept ∙ c.split_at.ensures.back ∙ ap (λ (n : ℕ). drop n piece) count) in
     IsShownTo-pushed c.args.view kept piece came before out (string_bytes c.show_pending.new.out) c.extend_from_slice-3.new.self.items (λ some. subst IsUtf8 lines_is c.in_ok-show_pending.ensures.utf8) out_is kept_is was
