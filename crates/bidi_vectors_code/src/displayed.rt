@@ -1,9 +1,9 @@
 //! Tests of a line as it is displayed, and of its comparison with how it reads.
 
+use crate::check::same;
 use crate::source::sample;
 use bidi_controls::displayed::{DisplayComparison, DisplayedLine};
 use bidi_terminal::Base;
-use bidi_vectors_parts::check::same;
 use std::process::Abort;
 use std::test::Fail;
 

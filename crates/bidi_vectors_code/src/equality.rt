@@ -1,8 +1,8 @@
 //! Tests that two results are equal exactly if their texts, classes, levels and paragraphs are equal.
 
+use crate::check::same;
 use crate::source::{bidi_info, paragraph_info, sample, utf16_info};
 use bidi_terminal::Base;
-use bidi_vectors_parts::check::same;
 use std::alloc::Global;
 use std::test::Fail;
 use unicode_bidi::InitialInfo;

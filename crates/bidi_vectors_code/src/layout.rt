@@ -1,8 +1,8 @@
 //! Tests of lines of a given width.
 
+use crate::check::same;
 use crate::source::bidi_info;
 use bidi_terminal::Base;
-use bidi_vectors_parts::check::same;
 use std::alloc::{AllocError, Global};
 use std::test::Fail;
 use unicode_bidi::BidiInfo;

@@ -1,9 +1,9 @@
 //! Tests of a value that shows one line after another.
 
+use crate::check::same;
 use crate::source::{bidi_info, paragraph_info, utf16_info};
 use bidi_terminal::Base;
 use bidi_text::text::{StrText, is_line};
-use bidi_vectors_parts::check::same;
 use std::alloc::Global;
 use std::process::Abort;
 use std::test::Fail;

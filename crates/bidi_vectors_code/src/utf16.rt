@@ -1,9 +1,9 @@
 //! Tests of the accessors over UTF-16.
 
+use crate::check::same;
 use crate::source::{sample, utf16_info};
 use bidi_base::char_data::BidiClass::{L, R};
 use bidi_base::char_data::Direction;
-use bidi_vectors_parts::check::same;
 use std::process::Abort;
 use std::test::Fail;
 use unicode_bidi::ParagraphInfo;

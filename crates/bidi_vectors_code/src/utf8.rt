@@ -1,11 +1,11 @@
 //! Tests of the accessors over UTF-8.
 
+use crate::check::same;
 use crate::source::{bidi_info as info_of, paragraph_info as info_of_one, sample};
 use bidi_base::char_data::BidiClass::{B, L, LRI, R};
 use bidi_base::char_data::Direction;
 use bidi_base::level::Level;
 use bidi_terminal::Base;
-use bidi_vectors_parts::check::same;
 use std::process::Abort;
 use std::test::Fail;
 use unicode_bidi::{BidiInfo, InitialInfo, Paragraph, ParagraphInfo};

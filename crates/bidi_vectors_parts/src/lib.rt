@@ -2,7 +2,8 @@
 //! the explicit pass, and shown lines of lists of characters.
 #![tactic(auto)]
 
-pub mod check;
+#[cfg(test)]
+mod check;
 #[cfg(test)]
 mod explicit_levels;
 #[cfg(test)]
