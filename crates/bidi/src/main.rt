@@ -7,6 +7,7 @@
 mod explain;
 mod files;
 mod help;
+mod search;
 mod terminal;
 mod walk;
 

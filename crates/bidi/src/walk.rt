@@ -1,64 +1,19 @@
 //! The files that `check` searches: its arguments and its list name them, or they are below a directory. They
 //! are searched one after the other. A fault of one does not keep the next from being searched.
 use crate::files::{STANDARD_INPUT, end_without_memory, read_standard_input, refuse, write_out};
+use crate::search::{Run, check_reader, or_end};
 use bidi_allowed::allowed::{AllowList, ListFault};
 use bidi_arguments::check_options::CheckOptions;
 use bidi_arguments::operands::STANDARD_INPUT_NAME;
-use bidi_bytes::decode::{BINARY_PREFIX, is_binary, is_utf16};
-use bidi_bytes::pieces::read_piece;
 use bidi_inputs::entries::{listed_names, names_in_order, path_below};
-use bidi_inputs::input::check_input;
 use bidi_inputs::status::Status;
-use bidi_inputs::told::push_lines_told;
 use bidi_names::names::{shown_bytes, shown_name};
 use bidi_reports::form::Form;
 use bidi_reports::report::Report;
-use bidi_scan::file_search::{FileSearch, FoundLine};
 use std::alloc::AllocError;
 use std::fs;
 use std::io::{self, ErrorKind, Read};
 use std::rt::Files;
-
-// What `check` looks for and where, and how the run has gone so far. It owns nothing: at each exit, whatever a function
-// owns is one more thing to prove.
-#[derive(Drop)]
-struct Run<'s, 'w, 'l> {
-    options: &'s CheckOptions<'w>,
-    allowed: &'s AllowList<'l>,
-    report: &'s mut Report,
-    status: Status,
-}
-
-impl Run<'_, '_, '_> {
-    ghost use Rattle.std.specs.Prelude.{◌≡◌, max, IfErr, OnOk};
-    ghost use Rattle.bidi_inputs.specs.Statuses.{status_number};
-
-    // Keeps what became of an input.
-    fn note(&mut self, next: Status)
-        ensures { status_number self.new.status ≡ max (status_number self.old.status) (status_number next) }
-    {
-        self.status = self.status.worse(next);
-    }
-
-    // Returns how the run ended.
-    fn ended(&self, ended: Result<(), Status>) -> Status
-        ensures to_the_end { OnOk ended (result ≡ self.now.status) }
-        ensures early { IfErr ended (λ status. status_number result ≡ max (status_number self.now.status) (status_number status)) }
-    {
-        match ended {
-            Ok(()) => self.status,
-            Err(status) => self.status.worse(status),
-        }
-    }
-}
-
-// Ends the run if an allocation failed.
-fn or_end<T: Drop>(rt: &impl Eprint, made: Result<T, AllocError>) -> Result<T, Status> {
-    match made {
-        Ok(value) => Ok(value),
-        Err(AllocError) => Err(end_without_memory(rt)),
-    }
-}
 
 // Reports a name that is not UTF-8.
 fn refuse_name(
@@ -73,183 +28,6 @@ fn refuse_name(
     );
     run.note(Status::Refused);
     Ok(())
-}
-
-// Tells where an input stops being UTF-8, if it does.
-fn tell_invalid(
-    rt: &(impl Eprint + AllocGlobal),
-    run: &mut Run<'_, '_, '_>,
-    name: &str,
-    invalid: Option<usize>,
-) -> Result<(), Status> {
-    let Some(at) = invalid else {
-        return Ok(());
-    };
-    let shown = or_end(rt, shown_name(rt.alloc(), name))?;
-    let _ = eprintln!(rt;
-        "bidi: {shown}: not UTF-8 from byte {at} on; invalid bytes are read as U+FFFD"
-    );
-    run.note(Status::Refused);
-    Ok(())
-}
-
-// Writes what is found in all bytes of an input.
-fn check_bytes(
-    rt: &(impl Print + Eprint + AllocGlobal),
-    run: &mut Run<'_, '_, '_>,
-    name: &str,
-    bytes: &[u8],
-) -> Result<(), Status> {
-    let wanted = run.options.wanted;
-    let checked = check_input(
-        rt.alloc(),
-        &mut *run.report,
-        run.allowed,
-        wanted,
-        name,
-        bytes,
-    );
-    let checked = or_end(rt, checked)?;
-    tell_invalid(rt, run, name, checked.invalid)?;
-    write_out(rt, checked.report.as_str())?;
-    run.note(checked.status());
-    Ok(())
-}
-
-// Writes what is found in some lines, and lets them go.
-fn report_found(
-    rt: &(impl Print + Eprint + AllocGlobal),
-    run: &mut Run<'_, '_, '_>,
-    name: &str,
-    found: &mut Vec<FoundLine>,
-) -> Result<(), Status> {
-    if found.is_empty() {
-        return Ok(());
-    }
-    let mut out = String::new(rt.alloc());
-    let lines = found.as_slice();
-    let told = push_lines_told(
-        rt.alloc(),
-        &mut *run.report,
-        run.allowed,
-        &mut out,
-        name,
-        lines,
-    );
-    let is_told = or_end(rt, told)?;
-    found.truncate(0);
-    write_out(rt, out.as_str())?;
-    if is_told {
-        run.note(Status::Found);
-    }
-    Ok(())
-}
-
-// The search of an input that is read piece by piece, and the lines in which it has found something.
-#[derive(Drop)]
-struct Pieces {
-    search: FileSearch,
-    found: Vec<FoundLine>,
-}
-
-// Searches the bytes that are read, and reports what is found.
-fn check_read(
-    rt: &(impl Print + Eprint + AllocGlobal),
-    run: &mut Run<'_, '_, '_>,
-    name: &str,
-    at_end: bool,
-    bytes: &mut Vec<u8>,
-    pieces: &mut Pieces,
-) -> Result<(), Status> {
-    let Pieces { search, found } = pieces;
-    or_end(rt, search.push_read(rt.alloc(), at_end, bytes, found))?;
-    report_found(rt, run, name, found)
-}
-
-// Reads the next piece of an input, and searches it. Returns whether more can follow.
-fn check_next(
-    rt: &(impl Print + Eprint + AllocGlobal),
-    run: &mut Run<'_, '_, '_>,
-    name: &str,
-    reader: &mut impl Read,
-    bytes: &mut Vec<u8>,
-    pieces: &mut Pieces,
-) -> Result<bool, Status> {
-    let mut read = read_piece(reader, bytes);
-    if pieces.search.has_room(bytes.len()) {
-        let at_end = matches!(read, Ok(true));
-        check_read(rt, run, name, at_end, bytes, pieces)?;
-    } else {
-        read = Err(ErrorKind::FileTooLarge.into());
-    }
-    match read {
-        Ok(at_end) => Ok(!at_end),
-        Err(error) => {
-            run.note(refuse(rt, name, &error)?);
-            Ok(false)
-        }
-    }
-}
-
-// Searches an input to its end.
-fn check_each(
-    rt: &(impl Print + Eprint + AllocGlobal),
-    run: &mut Run<'_, '_, '_>,
-    name: &str,
-    reader: &mut impl Read,
-    bytes: &mut Vec<u8>,
-    pieces: &mut Pieces,
-) -> Result<(), Status> {
-    for _ in 0..u64::MAX {
-        if !check_next(rt, run, name, reader, bytes, pieces)? {
-            break;
-        }
-    }
-    tell_invalid(rt, run, name, pieces.search.invalid)
-}
-
-// Searches an input in UTF-8 of which these bytes are read, piece by piece. If reading fails, reports what was found
-// before.
-fn check_pieces(
-    rt: &(impl Print + Eprint + AllocGlobal),
-    run: &mut Run<'_, '_, '_>,
-    name: &str,
-    reader: &mut impl Read,
-    bytes: &mut Vec<u8>,
-) -> Result<(), Status> {
-    let mut pieces = Pieces {
-        search: FileSearch::new(rt.alloc(), run.options.wanted),
-        found: Vec::new(rt.alloc()),
-    };
-    check_each(rt, run, name, reader, bytes, &mut pieces)
-}
-
-// Searches an input. Of a binary one only the first bytes are read, unless binary ones are searched too.
-fn check_reader(
-    rt: &(impl Print + Eprint + AllocGlobal),
-    run: &mut Run<'_, '_, '_>,
-    text: bool,
-    name: &str,
-    reader: &mut impl Read,
-) -> Result<(), Status> {
-    let mut bytes = Vec::new(rt.alloc());
-    if let Err(error) = reader.take(BINARY_PREFIX as u64).read_to_end(&mut bytes) {
-        run.note(refuse(rt, name, &error)?);
-        return Ok(());
-    }
-    if !text && is_binary(bytes.as_slice()) {
-        return Ok(());
-    }
-    if !is_utf16(bytes.as_slice()) {
-        return check_pieces(rt, run, name, reader, &mut bytes);
-    }
-    match reader.read_to_end(&mut bytes) {
-        Ok(_) => check_bytes(rt, run, name, bytes.as_slice()),
-        Err(error) => {
-            run.note(refuse(rt, name, &error)?);
-            Ok(())
-        }
-    }
 }
 
 fn check_standard_input(
