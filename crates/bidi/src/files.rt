@@ -87,7 +87,8 @@ struct Shown {
     out: String,
 }
 
-// Shows the next piece of an input. Returns how the run goes on if no more can follow.
+// Reads and shows the next piece of an input. Returns the status of the input if it has ended or failed, and `None` if
+// more can follow. An error ends the run.
 fn show_next(
     rt: &(impl Print + Eprint + AllocGlobal),
     view: View,

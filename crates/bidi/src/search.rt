@@ -13,8 +13,8 @@ use bidi_scan::file_search::{FileSearch, FoundLine};
 use std::alloc::AllocError;
 use std::io::{ErrorKind, Read};
 
-/// What `check` looks for and where, and how the run has gone so far. It owns nothing: at each exit, whatever a function
-/// owns is one more thing to prove.
+/// What `check` looks for and where, and how the run has gone so far. It borrows what needs memory, because a value that a
+/// function owns is dropped at each exit, and each drop takes time to prove.
 #[derive(Drop)]
 pub struct Run<'s, 'w, 'l> {
     pub options: &'s CheckOptions<'w>,
@@ -27,14 +27,14 @@ impl Run<'_, '_, '_> {
     ghost use Rattle.std.specs.Prelude.{◌≡◌, max, IfErr, OnOk};
     ghost use Rattle.bidi_inputs.specs.Statuses.{status_number};
 
-    /// Keeps what became of an input.
+    /// Keeps the status of an input, if it is worse than those before.
     pub fn note(&mut self, next: Status)
         ensures { status_number self.new.status ≡ max (status_number self.old.status) (status_number next) }
     {
         self.status = self.status.worse(next);
     }
 
-    /// Returns how the run ended.
+    /// Returns the status of the run: the worst that was noted or, if worse, the one that ended the run early.
     pub fn ended(&self, ended: Result<(), Status>) -> Status
         ensures to_the_end { OnOk ended (result ≡ self.now.status) }
         ensures early { IfErr ended (λ status. status_number result ≡ max (status_number self.now.status) (status_number status)) }
@@ -46,7 +46,8 @@ impl Run<'_, '_, '_> {
     }
 }
 
-/// Ends the run if an allocation failed.
+/// Returns the value. If the allocation failed, writes that to standard error, and returns the status with which the run
+/// ends.
 pub fn or_end<T: Drop>(rt: &impl Eprint, made: Result<T, AllocError>) -> Result<T, Status> {
     match made {
         Ok(value) => Ok(value),
@@ -124,14 +125,14 @@ fn report_found(
     Ok(())
 }
 
-// The search of an input that is read piece by piece, and the lines in which it has found something.
+// The search of an input that is read piece by piece, and the lines with findings that are not reported yet.
 #[derive(Drop)]
 struct Pieces {
     search: FileSearch,
     found: Vec<FoundLine>,
 }
 
-// Searches the bytes that are read, and reports what is found.
+// Searches the bytes that are read, and reports what is found. `at_end` says whether they are the last ones.
 fn check_read(
     rt: &(impl Print + Eprint + AllocGlobal),
     run: &mut Run<'_, '_, '_>,
@@ -145,7 +146,8 @@ fn check_read(
     report_found(rt, run, name, found)
 }
 
-// Reads the next piece of an input, and searches it. Returns whether more can follow.
+// Reads the next piece of an input, and searches it. Returns whether more can follow: not after the end, a failed read,
+// or too many bytes.
 fn check_next(
     rt: &(impl Print + Eprint + AllocGlobal),
     run: &mut Run<'_, '_, '_>,
@@ -170,7 +172,7 @@ fn check_next(
     }
 }
 
-// Searches an input to its end.
+// Searches an input to its end or to a failed read. Then tells where it stops being UTF-8.
 fn check_each(
     rt: &(impl Print + Eprint + AllocGlobal),
     run: &mut Run<'_, '_, '_>,
@@ -203,7 +205,9 @@ fn check_pieces(
     check_each(rt, run, name, reader, bytes, &mut pieces)
 }
 
-/// Searches an input. Of a binary one only the first bytes are read, unless binary ones are searched too.
+/// Searches an input, and writes what it finds. If `text` is false, reads only the first bytes of a binary input, and
+/// reports nothing of it. UTF-16 is read as a whole, and other inputs piece by piece. A failed read is told and noted.
+/// Returns an error only if the run must end: an allocation or a write to standard output failed.
 pub fn check_reader(
     rt: &(impl Print + Eprint + AllocGlobal),
     run: &mut Run<'_, '_, '_>,

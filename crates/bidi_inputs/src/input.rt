@@ -57,7 +57,7 @@ impl Checked {
 ///
 /// `bytes` are all bytes of the input: UTF-8, or UTF-16 after a byte order mark. Invalid bytes are read as U+FFFD.
 /// `wanted` says which findings count. `name` is the input's name in the report and in `allowed`. `report` has the form,
-/// and notes whether findings were written. Returns an error if an allocation fails. Then the report of this input is
+/// and notes whether there were findings that are not allowed. Returns an error if an allocation fails. Then the report of this input is
 /// lost, but `report` may have noted its findings.
 pub fn check_input(
     alloc: Global,

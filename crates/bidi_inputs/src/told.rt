@@ -59,8 +59,8 @@ fn push_told(
 /// Appends the report of lines of a file to `out`, without the lines that `allowed` allows. Returns whether a finding is
 /// left.
 ///
-/// `name` is the file's name in the report and in `allowed`. `report` has the form, and notes whether findings were
-/// written. Returns an error if an allocation fails. Then `out` may have a part of the report.
+/// `name` is the file's name in the report and in `allowed`. `report` has the form, and notes whether there were
+/// findings that are not allowed. Returns an error if an allocation fails. Then `out` may have a part of the report.
 pub fn push_lines_told(
     alloc: Global,
     report: &mut Report,

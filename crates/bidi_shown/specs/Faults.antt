@@ -10,11 +10,11 @@ abbrev pub TellsBytes : List ℕ → StreamFault → Type 0
 TellsBytes bytes (NotUtf8 at) = (at ≡ utf8_valid_len bytes) × (IsUtf8 bytes → ⊥)
 TellsBytes bytes Memory = ⊤
 
--- the index in a text of a byte with so many others before it, as a `usize` can tell it
+-- the index in a text of a byte that has so many others before it, or the greatest `usize` if that is less
 abbrev pub index_after : ℕ → ℕ → ℕ
 index_after before at = min (before + at) (2 ^ 64 - 1)
 
--- the same for bytes with so many others before them
+-- like `TellsBytes`, for bytes of a text that has `before` other bytes before them: the index counts those too
 abbrev pub TellsBytesAfter : ℕ → List ℕ → StreamFault → Type 0
 TellsBytesAfter before bytes (NotUtf8 at) = (at ≡ index_after before (utf8_valid_len bytes)) × (IsUtf8 bytes → ⊥)
 TellsBytesAfter before bytes Memory = ⊤

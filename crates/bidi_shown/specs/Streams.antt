@@ -18,7 +18,7 @@ whole_lines (b ∷ bs) = if nat_lt 0 (whole_lines bs) then whole_lines bs + 1 el
 abbrev pub pending : Stream → List ℕ
 pending s = s.pending.items
 
--- how many bytes were shown
+-- how many bytes were shown, or the greatest `usize` if that is less
 abbrev pub shown_len : Stream → ℕ
 shown_len s = s.before
 
@@ -30,20 +30,20 @@ shown_bytes view bytes = shown_text unicode_source view (chars bytes)
 abbrev pub ShowsPending : {A : Type 0} → View → Stream → String A → String A → Type 0
 ShowsPending view stream old new = string_bytes new ≡ string_bytes old ++ shown_bytes view (pending stream)
 
--- a stream has shown the bytes that it kept, and keeps none
+-- a stream keeps no bytes any more, and counts those that it kept as shown
 pub record HasShownPending (old new : Stream) : Type 0 where
   pub none_kept : pending new ≡ []
   pub counted : shown_len new ≡ index_after (shown_len old) (length (pending old))
 
--- a fault tells where the bytes that a stream keeps stop being UTF-8
+-- if the fault is `NotUtf8`, it has the index in the text at which the bytes that a stream keeps stop being UTF-8
 abbrev pub TellsPending : Stream → StreamFault → Type 0
 TellsPending stream = TellsBytesAfter (shown_len stream) (pending stream)
 
--- the bytes that a stream shows when a piece with a line feed comes
+-- the bytes that a stream shows when a piece comes: none, if the piece has no line feed
 abbrev pub lines_with : Stream → List ℕ → List ℕ
-lines_with stream piece = pending stream ++ take (whole_lines piece) piece
+lines_with stream piece = if whole_lines piece == 0 then [] else pending stream ++ take (whole_lines piece) piece
 
--- how many bytes were shown then
+-- how many bytes were shown after a piece has come
 abbrev pub shown_len_after : Stream → List ℕ → ℕ
 shown_len_after stream piece =
     if whole_lines piece == 0 then shown_len stream else index_after (shown_len stream) (length (lines_with stream piece))

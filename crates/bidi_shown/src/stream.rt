@@ -119,7 +119,9 @@ impl Stream {
 
     /// Takes the next piece of the text, and appends the whole lines that have come with it to `out`.
     ///
-    /// If the text is not UTF-8, appends the whole lines before the first byte that is not, and returns its offset.
+    /// A piece that has no line feed is only kept. If the lines are not UTF-8, appends the whole lines before the first
+    /// byte that is not, and returns `NotUtf8` with the index of that byte in the text. The bytes after the last line feed
+    /// are tested with the next one, or by `finish`. After an error, nothing is promised of the stream.
     pub fn push(
         &mut self,
         alloc: Global,
@@ -130,6 +132,7 @@ impl Stream {
         ensures shown { OnOk result (string_bytes out.new ≡ string_bytes out.old ++ shown_now view (pending_of self.old) piece.now) }
         ensures pending { OnOk result (pending_of self.new ≡ pending_after (pending_of self.old) piece.now) }
         ensures shown_len { OnOk result (shown_len_of self.new ≡ shown_len_after self.old piece.now) }
+        ensures utf8 { OnOk result (IsUtf8 (lines_with self.old piece.now)) }
         ensures fault { IfErr result (TellsBytesAfter (shown_len_of self.old) (lines_with self.old piece.now)) }
         // `taken` is what the caller took out of `out` before.
         ensures whole { (came taken : List ℕ)
