@@ -132,20 +132,6 @@ struct Pieces {
     found: Vec<FoundLine>,
 }
 
-// Searches the bytes that are read, and reports what is found. `at_end` says whether they are the last ones.
-fn check_read(
-    rt: &(impl Print + Eprint + AllocGlobal),
-    run: &mut Run<'_, '_, '_>,
-    name: &str,
-    at_end: bool,
-    bytes: &mut Vec<u8>,
-    pieces: &mut Pieces,
-) -> Result<(), Status> {
-    let Pieces { search, found } = pieces;
-    or_end(rt, search.push_read(rt.alloc(), at_end, bytes, found))?;
-    report_found(rt, run, name, found)
-}
-
 // Reads the next piece of an input, and searches it. Returns whether more can follow: not after the end, a failed read,
 // or too many bytes.
 fn check_next(
@@ -156,10 +142,12 @@ fn check_next(
     bytes: &mut Vec<u8>,
     pieces: &mut Pieces,
 ) -> Result<bool, Status> {
+    let Pieces { search, found } = pieces;
     let mut read = read_piece(reader, bytes);
-    if pieces.search.has_room(bytes.len()) {
+    if search.has_room(bytes.len()) {
         let at_end = matches!(read, Ok(true));
-        check_read(rt, run, name, at_end, bytes, pieces)?;
+        or_end(rt, search.push_read(rt.alloc(), at_end, bytes, found))?;
+        report_found(rt, run, name, found)?;
     } else {
         read = Err(ErrorKind::FileTooLarge.into());
     }
