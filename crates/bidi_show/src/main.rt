@@ -3,19 +3,9 @@
 #![tactic(auto)]
 
 ghost use Rattle.std.specs.Prelude.{◌≡◌, IfErr};
-ghost use Rattle.bidi_show.specs.declared.fault.ShowFault.TheVariants.{Device};
+ghost use Rattle.bidi_show_run.specs.declared.fault.ShowFault.TheVariants.{Device};
 
-mod command;
-mod ends;
-mod fault;
-mod input;
-mod number;
-mod run;
-mod shown;
-mod streams;
-
-use fault::ShowFault;
-use run::run_over_streams;
+use bidi_show_run::{ShowFault, run_over_streams};
 use std::process::ExitCode;
 use std::rt::Env;
 use std::{env, io};

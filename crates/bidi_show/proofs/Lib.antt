@@ -1,5 +1,0 @@
-mod ListsLemmas
-mod PieceLines
-mod ReadLemmas
-mod ShownLemmas
-mod TextsLemmas

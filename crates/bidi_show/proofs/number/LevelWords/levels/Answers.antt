@@ -1,6 +1,0 @@
-use Rattle.bidi_base.proofs.Common.{arith}
-use Rattle.bidi_show.proofs.ListsLemmas.{filter_map-map}
-use Rattle.bidi_show.proofs.number.LevelWords.levels.Goals as goal
-
-pub returns : goal.returns
-returns c = grind (arith, filter_map-map)

@@ -1,5 +1,0 @@
-use Rattle.bidi_base.proofs.Common.{arith, common_steps}
-use Rattle.bidi_show.proofs.shown.push_paragraphs.Goals as goal
-
-pub loop-paragraph-preserved : goal.loop-paragraph-preserved
-loop-paragraph-preserved g c = grind (arith, common_steps)

@@ -1,6 +1,0 @@
-use Rattle.bidi_base.proofs.Common.{arith}
-use Rattle.bidi_show.proofs.PieceLines.{printed_in-shown}
-use Rattle.bidi_show.proofs.shown.show.Goals as goal
-
-pub returns : goal.returns
-returns g c = grind (arith, printed_in-shown)

@@ -1,6 +1,0 @@
-use Rattle.bidi_base.proofs.Common.{arith}
-use Rattle.bidi_text.proofs.StrLemmas.{IsCharBoundary-from_is_boundary}
-use Rattle.bidi_show.proofs.shown.text_of_line.Goals as goal
-
-pub range-requires : goal.range-requires
-range-requires c = grind (arith, IsCharBoundary-from_is_boundary c.args.text.now)

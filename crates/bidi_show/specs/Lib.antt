@@ -1,7 +1,0 @@
-pub mod Commands
-pub mod Ends
-pub mod Faults
-pub mod Numbers
-pub mod Runs
-pub mod Shown
-pub mod Texts

@@ -1,0 +1,6 @@
+mod ListsLemmas
+mod PieceLines
+mod ReadLemmas
+mod ShownLemmas
+mod TextsLemmas
+mod WatchedLemmas

@@ -1,0 +1,8 @@
+pub mod Commands
+pub mod Ends
+pub mod Faults
+pub mod Numbers
+pub mod Runs
+pub mod Shown
+pub mod Streams
+pub mod Texts
