@@ -1,12 +1,12 @@
 -- What is found in the lines of a file.
-use Rattle.std.specs.Prelude.{◌≡◌, ℕ, ◌+◌, ◌<◌, ◌^◌, List, [], ◌∷◌, ◌++◌, length, map, Option}
+use Rattle.std.specs.Prelude.{◌≡◌, ℕ, ◌+◌, ◌-◌, ◌<◌, ◌^◌, false, List, [], ◌∷◌, ◌++◌, length, take, map, slice_index, Option}
 use Rattle.bidi_base.specs.Source.{Source}
 use Rattle.bidi_unicode.specs.Unicode.{unicode_source}
 use Rattle.bidi_controls.specs.Findings.{findings_in_line}
 use Rattle.bidi_controls.specs.declared.finding.Finding.{Finding}
 use Rattle.bidi_controls.specs.declared.finding.Wanted.{Wanted}
 use Rattle.bidi_bytes.specs.Decoded.{utf8_decoded, fault_from}
-use Rattle.bidi_bytes.specs.FileLines.{file_lines_of}
+use Rattle.bidi_bytes.specs.FileLines.{is_break, file_lines_of}
 use Rattle.bidi_scan.specs.declared.file_search.FoundLine.{FoundLine}
 use Rattle.bidi_scan.specs.declared.file_search.FileSearch.{FileSearch}
 
@@ -52,3 +52,11 @@ still_invalid search bytes = fault_from search.invalid search.offset bytes
 -- lines and bytes can be counted over this many bytes more
 abbrev pub HasRoom : FileSearch → ℕ → Type 0
 HasRoom search len = (search.lines + len < 2 ^ 64) × (search.offset + len < 2 ^ 64)
+
+-- none of these bytes but the last is a line break. A carriage return there may be the first byte of a CR LF.
+abbrev pub HasNoWholeLine : List ℕ → Type 0
+HasNoWholeLine bytes = (k : ℕ) → k + 1 < length bytes → is_break (slice_index bytes k) ≡ false
+
+-- the bytes that were deleted from the front of `old`, if `new` is left
+abbrev pub deleted : List ℕ → List ℕ → List ℕ
+deleted old new = take (length old - length new) old

@@ -1,9 +1,9 @@
 //! A search through the bytes of a file.
-ghost use Rattle.std.specs.Prelude.{◌≡◌, ◌+◌, ◌<◌, ◌≤◌, ◌^◌, ◌++◌, List, ℕ, drop, length, map, IfOk, OnOk, IsTrue, vec_len, false};
+ghost use Rattle.std.specs.Prelude.{◌≡◌, ◌+◌, ◌<◌, ◌≤◌, ◌^◌, ◌++◌, List, [], ℕ, take, drop, length, map, IfOk, OnOk, IsTrue, vec_len, false, ◌↔◌};
 ghost use Rattle.bidi_unicode.specs.Unicode.{unicode_source};
 ghost use Rattle.bidi_bytes.specs.Decoded.{utf8_decoded, decoded, utf8_fault, first_invalid};
 ghost use Rattle.bidi_bytes.specs.FileLines.{file_lines_of};
-ghost use Rattle.bidi_scan.specs.FileSearch.{found_in, found_from, line_of, still_found, still_invalid, CountsLines, Finds, HasRoom};
+ghost use Rattle.bidi_scan.specs.FileSearch.{found_in, found_from, line_of, still_found, still_invalid, deleted, CountsLines, Finds, HasNoWholeLine, HasRoom};
 
 use bidi_bytes::controls::holds_control;
 use bidi_bytes::decode::{utf8_decoded, utf8_fault, utf16_text};
@@ -60,7 +60,7 @@ impl FileSearch {
 
     /// Returns whether the numbers of lines and bytes can be counted over this many bytes more.
     pub fn has_room(&self, len: usize) -> bool
-        ensures { IsTrue result → HasRoom self.now len }
+        ensures { IsTrue result ↔ HasRoom self.now len }
     {
         self.lines.checked_add(len).is_some() && self.offset.checked_add(len).is_some()
     }
@@ -175,6 +175,11 @@ impl FileSearch {
     ) -> Result<usize, AllocError>
         requires { HasRoom self.old (length bytes.now) }
         ensures within { IfOk result (λ len. len ≤ length bytes.now) }
+        // No line that ends before the last byte is left.
+        ensures rest { IfOk result (λ len. HasNoWholeLine (drop len bytes.now)) }
+        ensures wanted { self.new.wanted ≡ self.old.wanted }
+        ensures lines { IfOk result (λ len. CountsLines self.old (take len bytes.now) self.new) }
+        ensures offset { IfOk result (λ len. self.new.offset ≡ self.old.offset + len) }
         // Whatever follows, the same is found in it and in these bytes.
         ensures found { IfOk result (λ len. (more : List ℕ)
             → map line_of found.new.items ++ still_found self.new (drop len bytes.now ++ more)
@@ -188,8 +193,8 @@ impl FileSearch {
         Ok(len)
     }
 
-    /// Searches the lines that end in the bytes that are read, and deletes these bytes. At the end of the file it
-    /// searches all bytes.
+    /// Searches the lines that end in the bytes that are read, and deletes the bytes of these lines. At the end of the
+    /// file it searches and deletes all bytes.
     pub fn push_read(
         &mut self,
         alloc: Global,
@@ -198,6 +203,13 @@ impl FileSearch {
         found: &mut Vec<FoundLine>,
     ) -> Result<(), AllocError>
         requires { HasRoom self.old (vec_len bytes.old) }
+        ensures deletes { OnOk result (bytes.old.items ≡ deleted bytes.old.items bytes.new.items ++ bytes.new.items) }
+        ensures emptied { OnOk result (IsTrue at_end → bytes.new.items ≡ []) }
+        // Before the end, no line that ends before the last byte is left.
+        ensures rest { OnOk result (at_end ≡ false → HasNoWholeLine bytes.new.items) }
+        ensures wanted { self.new.wanted ≡ self.old.wanted }
+        ensures lines { OnOk result (CountsLines self.old (deleted bytes.old.items bytes.new.items) self.new) }
+        ensures offset { OnOk result (self.new.offset + vec_len bytes.new ≡ self.old.offset + vec_len bytes.old) }
         ensures last { OnOk result (IsTrue at_end → (map line_of found.new.items
             ≡ map line_of found.old.items ++ still_found self.old bytes.old.items)
             × (self.new.invalid ≡ still_invalid self.old bytes.old.items)) }

@@ -1,3 +1,4 @@
 pub mod BoundsLemmas
 pub mod ParagraphLemmas
 pub mod PiecesLemmas
+mod RecordsAsClauses

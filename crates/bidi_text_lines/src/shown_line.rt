@@ -1,5 +1,5 @@
 //! A line of a text as it is displayed, in memory that is reused for the next line.
-ghost use Rattle.std.specs.Prelude.{◌≡◌, ℕ, ◌+◌, ◌-◌, ◌≤◌, List, [], ◌++◌, length, take, map, IsTrue, OnOk, OnErr, ◌↔◌};
+ghost use Rattle.std.specs.Prelude.{◌≡◌, ℕ, ◌+◌, ◌-◌, ◌≤◌, List, [], ◌++◌, length, take, map, not, IsTrue, OnOk, OnErr, ◌↔◌};
 ghost use Rattle.std.specs.declared.ops.Range.{Range as RangeOf};
 ghost use Rattle.bidi_base.specs.Analysed.{AnalysedText, IsLineOf, AreLevelsOfLine, AreRunsOfLine, StaysInOrder, line_levels_per_char};
 ghost use Rattle.bidi_base.specs.Display.{run_of, visual_runs};
@@ -185,7 +185,8 @@ impl<T: TextSource> ShownLine<T> {
     ///
     /// Such a line shows its characters in the order of the text.
     pub fn stays_in_order(&self) -> bool
-        ensures { (a : AnalysedText) → (level : ℕ) → (line : RangeOf ℕ) → Shows self.now a level line
+        ensures levels { result ≡ not (has_rtl_of (levels_of self.now)) }
+        ensures line { (a : AnalysedText) → (level : ℕ) → (line : RangeOf ℕ) → Shows self.now a level line
             → IsTrue result ↔ StaysInOrder a level line }
     {
         !self.has_rtl

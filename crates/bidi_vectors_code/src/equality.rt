@@ -1,11 +1,13 @@
 //! Tests that two results are equal exactly if their texts, classes, levels and paragraphs are equal.
+ghost use Rattle.std.specs.Prelude.{◌≡◌, IsTrue};
+ghost use Rattle.unicode_bidi.specs.BidiInfo.{text};
 
 use crate::check::same;
 use crate::source::{bidi_info, paragraph_info, sample, utf16_info};
 use bidi_terminal::Base;
 use std::alloc::Global;
 use std::test::Fail;
-use unicode_bidi::InitialInfo;
+use unicode_bidi::{BidiInfo, InitialInfo};
 
 // A text with its base direction, and whether its result is equal to that of "a b" without one.
 #[derive(Clone, Copy)]
@@ -18,12 +20,19 @@ const COMPARED: [Compared; 4] = [
     Compared("a c", Base::Auto, false),
 ];
 
+// Compares two results behind references. The kit has no proof for `one == other` here.
+fn are_equal<'t>(one: &BidiInfo<'t>, other: &BidiInfo<'t>) -> bool
+    ensures { IsTrue result → text one.now ≡ text other.now }
+{
+    *one == *other
+}
+
 #[test]
 fn infos(rt: HostRuntime) -> Result<(), Fail> {
     let one = bidi_info(rt.alloc(), "a b", Base::Auto)?;
     for Compared(text, base, is_equal) in COMPARED {
         let other = bidi_info(rt.alloc(), text, base)?;
-        same(&rt, text, one == other, is_equal);
+        same(&rt, text, are_equal(&one, &other), is_equal);
     }
     Ok(())
 }

@@ -1,7 +1,9 @@
-//! Tests that are not test vectors, of `unicode_bidi` and of a line as it is displayed: equality, accessors, shown lines,
-//! and a custom `CharWidth`.
+//! Tests that are not test vectors, of `unicode_bidi` and of a line as it is displayed: equality, what is printed,
+//! accessors, the flags of paragraphs, shown lines, and a custom `CharWidth`.
 #![tactic(auto)]
 
+#[cfg(test)]
+mod analyser;
 #[cfg(test)]
 mod check;
 #[cfg(test)]
@@ -10,6 +12,8 @@ mod displayed;
 mod equality;
 #[cfg(test)]
 mod layout;
+#[cfg(test)]
+mod printed;
 #[cfg(test)]
 mod shown_line;
 #[cfg(test)]

@@ -1,9 +1,8 @@
 //! Lines that are shown unchanged, which most texts have.
-ghost use Rattle.std.specs.Prelude.{◌≡◌, ◌++◌, take, drop, None, nat_le, ◌&&◌};
+ghost use Rattle.std.specs.Prelude.{◌≡◌, ◌≤◌, ◌++◌, ℕ, take, drop};
 ghost use Rattle.std.specs.Str.{chars, IsCharBoundary};
-ghost use Rattle.bidi_terminal.specs.Bases.{level_of_base};
 ghost use Rattle.bidi_unicode.specs.Unicode.{unicode_source};
-ghost use Rattle.bidi_visual.specs.Quiet.{is_quiet as is_quiet_byte, IsQuietView};
+ghost use Rattle.bidi_visual.specs.Quiet.{is_quiet as is_quiet_byte, AreQuietLines, IsQuietView};
 ghost use Rattle.bidi_visual.specs.Shown.{shown_text};
 ghost use Rattle.bidi_visual.specs.declared.view.View.{View};
 
@@ -21,6 +20,8 @@ fn is_quiet(byte: u8) -> bool
 // feed.
 fn quiet_lines(text: &str) -> usize
     ensures boundary { IsCharBoundary text.now result }
+    ensures lines { AreQuietLines text.now result }
+    ensures longest { (len : ℕ) → AreQuietLines text.now len → len ≤ result }
     ensures shown { (view : View) → IsQuietView view → shown_text unicode_source view (chars text.now)
         ≡ take result text.now ++ shown_text unicode_source view (chars (drop result text.now)) }
 {
@@ -38,10 +39,13 @@ fn quiet_lines(text: &str) -> usize
 
 /// Returns the number of bytes at the start of a text that are shown unchanged, by Unicode's data.
 ///
-/// They are whole lines of printable ASCII. There are none if the view has a width, or a base direction from right to
-/// left.
+/// They are whole lines of printable ASCII, as many as there are before the first other byte. There are none if the view
+/// has a width, or a base direction from right to left.
 pub fn quiet_len(view: View, text: &str) -> usize
     ensures boundary { IsCharBoundary text.now result }
+    ensures lines { AreQuietLines text.now result }
+    ensures longest { IsQuietView view → (len : ℕ) → AreQuietLines text.now len → len ≤ result }
+    ensures none { ¬ (IsQuietView view) → result ≡ 0 }
     ensures shown { shown_text unicode_source view (chars text.now)
         ≡ take result text.now ++ shown_text unicode_source view (chars (drop result text.now)) }
 {

@@ -1,15 +1,38 @@
 -- The search for a base direction, step by step, finds what the walk over a whole text finds.
-use Rattle.bidi_base.proofs.Common.{◌≡◌, ◌∙◌, ap, ℕ, zero, suc, ◌+◌, ◌≤◌, Bool, true, false, not, ◌&&◌, ◌||◌, ◌==◌, if◌then◌else◌, List, [], ◌∷◌, ◌++◌, length, drop, map, list_any, refl}
-use Rattle.bidi_base.proofs.Common.{and_parts, Some, direction_by, inl, inr, arith, cases_Bool, is_strong, is_initiator, is_pdi, is_paragraph_separator, ne_eqb, base_direction, paragraphs_of}
+use Rattle.bidi_base.proofs.Common.{◌≡◌, ◌∙◌, ap, sym, ℕ, zero, suc, ◌+◌, ◌-◌, ◌≤◌, replicate, indexes, class_at, None, Bool, true, false, not, ◌&&◌, ◌||◌, ◌==◌, if◌then◌else◌, List, [], ◌∷◌, ◌++◌, length, map, list_any, refl}
+use Rattle.bidi_base.proofs.Common.{◌<◌, get_or_default, same_lists, length-map, append-nil, Some, direction_by, arith, cases_Bool, is_strong, is_initiator, is_pdi, is_paragraph_separator, ne_eqb, base_direction, paragraphs_of}
 use Rattle.bidi_base.proofs.Common.{each_separator, Source, full_base_direction}
 use Rattle.bidi_base.specs.declared.char_data.BidiClass.{BidiClass}
+use Rattle.bidi_base.specs.declared.char_data.BidiClass.TheVariants.{R, L, LRI, PDI}
 use Rattle.bidi_base.specs.declared.char_data.Direction.{Direction}
 use Rattle.bidi_base.specs.declared.char_data.Direction.TheVariants.{Mixed}
+use Rattle.std.proofs.lemmas.List.FromFn.{get_or-map-range_with_len, length-range_with_len}
 use Rattle.bidi_laws.proofs.DirectionWalk.{direction_from, direction_from-is}
 use Rattle.bidi_laws.proofs.IsolateWalk.{is_zero, depth_by, kind_of, initiator-kind, pdi-kind}
-use Rattle.unicode_bidi.specs.DirectionSteps.{depth_after, search_step, search_on, search_in, direction_found}
+use Rattle.unicode_bidi.specs.DirectionSearch.{class_paragraphs, direction_after, direction_with, IsSearched, direction_found}
 use Rattle.unicode_bidi.specs.declared.direction_search.DirectionSearch.{DirectionSearch}
 use Rattle.unicode_bidi.specs.declared.direction_search.DirectionSearch.TheVariants.{Found, Open}
+
+-- how many isolates are open after a character
+abbrev pub depth_after : ℕ → BidiClass → ℕ
+depth_after depth c = if is_initiator c then depth + 1 else if is_pdi c then depth - 1 else depth
+
+-- a strong character outside isolates decides; a separator ends the search, or with `full` every open isolate
+abbrev pub search_step : Bool → ℕ → BidiClass → DirectionSearch
+search_step full depth c =
+    if is_strong c && depth == 0 then Found (direction_by (Some c))
+    else if is_paragraph_separator c then (if full then Open 0 else Found Mixed)
+    else Open (depth_after depth c)
+
+-- a search that is not over goes on
+abbrev pub search_on : (ℕ → DirectionSearch) → DirectionSearch → DirectionSearch
+search_on more (Found direction) = Found direction
+search_on more (Open depth) = more depth
+
+-- how far the search comes, step by step
+abbrev pub search_in : Bool → ℕ → List BidiClass → DirectionSearch
+search_in full depth [] = Open depth
+search_in full depth (c ∷ cs) = search_on (λ now. search_in full now cs) (search_step full depth c)
 
 -- the search is over
 abbrev pub is_over : DirectionSearch → Bool
@@ -27,28 +50,113 @@ zero_test (suc d) = ne_eqb (suc d) 0 (omega arith)
 counted : (d : ℕ) (c : BidiClass) → depth_after d c ≡ depth_by (kind_of c) d
 counted d c = grind (arith, initiator-kind c, pdi-kind c)
 
--- what is found in the whole is what the walk finds
-pub search_in-direction : (full : Bool) (d : ℕ) (cs : List BidiClass) → direction_found (search_in full d cs) ≡ direction_from full d cs
-search_in-direction full d [] = refl
-search_in-direction true d (c ∷ cs) = elim (cases_Bool (is_strong c && is_zero d)) [
-  | inl decides ↦ simp (zero_test d, decides)
-  | inr on ↦ elim (cases_Bool (is_paragraph_separator c)) [
-    | inl ends ↦ simp (zero_test d, on, ends) (search_in-direction true 0 cs)
-    | inr more ↦ simp (zero_test d, on, more, counted d c) (search_in-direction true (depth_by (kind_of c) d) cs)
-  ]
-]
-search_in-direction false d (c ∷ cs) = elim (cases_Bool (is_strong c && is_zero d)) [
-  | inl decides ↦ simp (zero_test d, decides)
-  | inr on ↦ elim (cases_Bool (is_paragraph_separator c)) [
-    | inl ends ↦ simp (zero_test d, on, ends)
-    | inr more ↦ simp (zero_test d, on, more, counted d c) (search_in-direction false (depth_by (kind_of c) d) cs)
-  ]
-]
+-- ---- the direction after open isolates
 
--- a search that is over stays where it is
-pub over-stays : (more : ℕ → DirectionSearch) (found : DirectionSearch) → ((depth : ℕ) → found ≡ Open depth → ⊥) → search_on more found ≡ found
-over-stays more (Found direction) over = refl
-over-stays more (Open depth) over = absurd (over depth refl)
+class_paragraphs-map : (source : Source) (chars : List ℕ) → map (map source.class_of) (paragraphs_of (each_separator source) chars) ≡ class_paragraphs (map source.class_of chars)
+class_paragraphs-map source [] = refl
+class_paragraphs-map source (c ∷ cs) = grind (arith, class_paragraphs-map source cs)
+
+map-class_at : (cs : List BidiClass) → map (class_at cs) (indexes cs) ≡ cs
+map-class_at cs =
+    let long = length-map (indexes cs) (class_at cs) ∙ length-range_with_len 0 (length cs) in
+    same_lists (map (class_at cs) (indexes cs)) cs long (λ k d below. get_or-map-range_with_len (class_at cs) 0 (length cs) k k d (omega (arith, below, long)) (omega arith) ∙ get_or_default cs k L d (omega (arith, below, long)))
+
+opened : (full : Bool) (d n : ℕ) (cs : List BidiClass) → direction_from full n (replicate d LRI ++ cs) ≡ direction_from full (d + n) cs
+unfolding kind_of
+opened full zero n cs = ap (λ m. direction_from full m cs) (omega arith)
+opened full (suc d) n cs = opened full d (suc n) cs ∙ ap (λ m. direction_from full m cs) (omega arith)
+
+-- it is what the walk finds
+pub direction_after-from : (full : Bool) (d : ℕ) (cs : List BidiClass) → direction_after full d cs ≡ direction_from full d cs
+direction_after-from full d cs =
+    let all = replicate d LRI ++ cs in
+    let source : Source = record { class_of = class_at all; bracket_of = λ c. None } in
+    let walked = direction_from-is source (indexes all) full in
+    sym (rw (map-class_at all) at (rw (class_paragraphs-map source (indexes all)) at walked)) ∙ opened full d 0 cs ∙ ap (λ m. direction_from full m cs) (omega arith)
+
+-- ---- the search step by step
+
+-- what it leaves of the walk
+from_with : Bool → DirectionSearch → List BidiClass → Direction
+from_with full (Found direction) more = direction
+from_with full (Open depth) more = direction_from full depth more
+
+direction_with-from : (full : Bool) (found : DirectionSearch) (more : List BidiClass) → direction_with full found more ≡ from_with full found more
+unfolding from_with
+direction_with-from full (Found direction) more = refl
+direction_with-from full (Open depth) more = direction_after-from full depth more
+
+step-from : (full : Bool) (d : ℕ) (c : BidiClass) (cs : List BidiClass) → direction_from full d (c ∷ cs) ≡ from_with full (search_step full d c) cs
+unfolding from_with
+step-from full d c cs = grind (arith, zero_test d, counted d c, cases_Bool full, cases_Bool (is_strong c), cases_Bool (is_zero d), cases_Bool (is_paragraph_separator c))
+
+on_from : (full : Bool) (cs more : List BidiClass) → ((e : ℕ) → direction_from full e (cs ++ more) ≡ from_with full (search_in full e cs) more)
+    → (step : DirectionSearch) → from_with full step (cs ++ more) ≡ from_with full (search_on (λ now. search_in full now cs) step) more
+unfolding from_with
+on_from full cs more rest (Found direction) = refl
+on_from full cs more rest (Open depth) = rest depth
+
+search_in-from : (full : Bool) (d : ℕ) (cs more : List BidiClass) → direction_from full d (cs ++ more) ≡ from_with full (search_in full d cs) more
+unfolding from_with
+search_in-from full d [] more = refl
+search_in-from full d (c ∷ cs) more = step-from full d c (cs ++ more) ∙ on_from full cs more (λ e. search_in-from full e cs more) (search_step full d c)
+
+pub search_in-searched : (full : Bool) (d : ℕ) (cs : List BidiClass) → IsSearched full d cs (search_in full d cs)
+search_in-searched full d cs = λ more. direction_after-from full d (cs ++ more) ∙ search_in-from full d cs more ∙ sym (direction_with-from full (search_in full d cs) more)
+
+-- so many PDIs close the isolates that are open, and then R or L decides
+closed : (full : Bool) (n d : ℕ) (c : BidiClass) → is_strong c ≡ true → d ≤ n → direction_from full d (replicate n PDI ++ c ∷ []) ≡ direction_by (Some c)
+unfolding kind_of
+closed full zero d c strong enough = grind arith
+closed full (suc n) zero c strong enough = closed full n 0 c strong (omega arith)
+closed full (suc n) (suc d) c strong enough = closed full n d c strong (omega arith)
+
+-- fewer do not
+unclosed : (full : Bool) (n d : ℕ) → n < d → direction_from full d (replicate n PDI ++ R ∷ []) ≡ Mixed
+unfolding kind_of
+unclosed full n zero fewer = absurd (omega arith)
+unclosed full zero (suc d) fewer = refl
+unclosed full (suc n) (suc d) fewer = unclosed full n d (omega arith)
+
+no_fewer : (full : Bool) (d e : ℕ) → ((more : List BidiClass) → direction_from full d more ≡ direction_from full e more) → d < e → ⊥
+no_fewer full d e same fewer =
+    let told = sym (closed full d d R refl (omega arith)) ∙ same (replicate d PDI ++ R ∷ []) ∙ unclosed full d e fewer in cc told
+
+not_open : (full : Bool) (direction : Direction) (d : ℕ) → ((more : List BidiClass) → direction ≡ direction_from full d more) → ⊥
+not_open full direction d same =
+    let left = same (replicate d PDI ++ L ∷ []) ∙ closed full d d L refl (omega arith) in
+    let right = same (replicate d PDI ++ R ∷ []) ∙ closed full d d R refl (omega arith) in
+    cc (left, right)
+
+same_search : (full : Bool) (r s : DirectionSearch) → ((more : List BidiClass) → from_with full r more ≡ from_with full s more) → r ≡ s
+unfolding from_with
+same_search full (Found x) (Found y) same = ap Found (same [])
+same_search full (Found x) (Open e) same = absurd (not_open full x e same)
+same_search full (Open d) (Found y) same = absurd (not_open full y d (λ more. sym (same more)))
+same_search full (Open d) (Open e) same = ap Open (omega (arith, no_fewer full d e same, no_fewer full e d (λ more. sym (same more))))
+
+-- no other state is right
+pub searched-in : (full : Bool) (d : ℕ) (cs : List BidiClass) (found : DirectionSearch) → IsSearched full d cs found → found ≡ search_in full d cs
+searched-in full d cs found is =
+    same_search full found (search_in full d cs) (λ more. sym (direction_with-from full found more) ∙ sym (is more) ∙ search_in-searched full d cs more ∙ direction_with-from full (search_in full d cs) more)
+
+-- one character
+pub step-searched : (full : Bool) (d : ℕ) (c : BidiClass) (found : DirectionSearch) → found ≡ search_step full d c → IsSearched full d (c ∷ []) found
+step-searched full d c found is = λ more. direction_after-from full d (c ∷ more) ∙ step-from full d c more ∙ ap (λ s. from_with full s more) (sym is) ∙ sym (direction_with-from full found more)
+
+pub searched-step : (full : Bool) (d : ℕ) (c : BidiClass) (found : DirectionSearch) → IsSearched full d (c ∷ []) found → found ≡ search_step full d c
+searched-step full d c found is = same_search full found (search_step full d c) (λ more. sym (direction_with-from full found more) ∙ sym (is more) ∙ direction_after-from full d (c ∷ more) ∙ step-from full d c more)
+
+-- what follows does not change a direction that was found
+pub over_with : (full : Bool) (found : DirectionSearch) → ((depth : ℕ) → found ≡ Open depth → ⊥) → (before after : List BidiClass) → direction_with full found before ≡ direction_with full found after
+over_with full (Found direction) over before after = refl
+over_with full (Open depth) over before after = absurd (over depth refl)
+
+-- at the front of a text
+direction_found-from : (full : Bool) (found : DirectionSearch) → direction_found found ≡ from_with full found []
+unfolding from_with
+direction_found-from full (Found direction) = refl
+direction_found-from full (Open depth) = refl
 
 -- a search in one piece after another
 search_on-later : (full : Bool) (xs ys : List BidiClass) → ((d : ℕ) → search_in full d (xs ++ ys) ≡ search_on (λ now. search_in full now ys) (search_in full d xs)) → (step : DirectionSearch)
@@ -67,20 +175,8 @@ decided c strong ended = grind arith
 pub search_in-over : (full : Bool) (d : ℕ) (cs : List BidiClass) → is_over (search_in full d cs) ≡ not (is_mixed (direction_from full d cs)) || (not full && list_any is_paragraph_separator cs)
 search_in-over true d [] = refl
 search_in-over false d [] = refl
-search_in-over true d (c ∷ cs) = elim (cases_Bool (is_strong c && is_zero d)) [
-  | inl decides ↦ simp (zero_test d, decides) (decided c (and_parts _ _ decides).0 _)
-  | inr on ↦ elim (cases_Bool (is_paragraph_separator c)) [
-    | inl ends ↦ simp (zero_test d, on, ends) (search_in-over true 0 cs)
-    | inr more ↦ simp (zero_test d, on, more, counted d c) (search_in-over true (depth_by (kind_of c) d) cs)
-  ]
-]
-search_in-over false d (c ∷ cs) = elim (cases_Bool (is_strong c && is_zero d)) [
-  | inl decides ↦ simp (zero_test d, decides) (decided c (and_parts _ _ decides).0 _)
-  | inr on ↦ elim (cases_Bool (is_paragraph_separator c)) [
-    | inl ends ↦ simp (zero_test d, on, ends)
-    | inr more ↦ simp (zero_test d, on, more, counted d c) (search_in-over false (depth_by (kind_of c) d) cs)
-  ]
-]
+search_in-over full d (c ∷ cs) =
+    grind (arith, zero_test d, counted d c, decided c, cases_Bool full, cases_Bool (is_strong c), cases_Bool (is_zero d), cases_Bool (is_paragraph_separator c), search_in-over full 0 cs, search_in-over full (depth_by (kind_of c) d) cs)
 
 -- no more isolates are open than characters were read
 pub depth_after-le : (d : ℕ) (c : BidiClass) → depth_after d c ≤ d + 1
@@ -88,11 +184,6 @@ depth_after-le d c = grind (arith, cases_Bool (is_initiator c), cases_Bool (is_p
 
 pub step-le : (full : Bool) (d : ℕ) (c : BidiClass) (e : ℕ) → search_step full d c ≡ Open e → e ≤ d + 1
 step-le full d c e is = grind (arith, depth_after-le d c)
-
--- the search takes the character that comes next
-pub search_turn : (f : ℕ → BidiClass) (chars : List ℕ) (n c : ℕ) → drop n chars ≡ c ∷ drop (n + 1) chars → (full : Bool) (d : ℕ)
-    → search_in full d (map f (drop n chars)) ≡ search_on (λ now. search_in full now (map f (drop (n + 1) chars))) (search_step full d (f c))
-search_turn f chars n c next full d = rw next refl
 
 list_any-map : (f : ℕ → BidiClass) (chars : List ℕ) → list_any is_paragraph_separator (map f chars) ≡ list_any (λ c. is_paragraph_separator (f c)) chars
 list_any-map f [] = refl
@@ -105,7 +196,14 @@ module _ (source : Source) (full : Bool) (chars : List ℕ) where
 
   -- a search from the front on finds it
   pub search_in-is : direction_found (search_in full 0 (map source.class_of chars)) ≡ direction_of
-  search_in-is = search_in-direction full 0 (map source.class_of chars) ∙ direction_from-is source chars full
+  search_in-is =
+      let classes = map source.class_of chars in
+      direction_found-from full (search_in full 0 classes) ∙ sym (search_in-from full 0 classes []) ∙ ap (direction_from full 0) (append-nil classes) ∙ direction_from-is source chars full
+
+  pub searched-front : (depth : ℕ) (found : DirectionSearch) → IsSearched full depth (map source.class_of chars) found → depth ≡ 0 → direction_found found ≡ direction_of
+  searched-front depth found is front =
+      let classes = map source.class_of chars in
+      ap direction_found (searched-in full depth classes found is ∙ ap (λ d. search_in full d classes) front) ∙ search_in-is
 
   -- and is over where it is not mixed, or the first paragraph has ended
   pub is_over-is : is_over (search_in full 0 (map source.class_of chars)) ≡ not (is_mixed direction_of) || (not full && list_any (λ c. is_paragraph_separator (source.class_of c)) chars)

@@ -31,6 +31,10 @@ flags a = a.flags.items
 abbrev pub found_paragraphs : Analyser → List ParagraphInfo
 found_paragraphs a = a.found.paragraphs.items
 
+-- `a.flags()` of an analyser
+abbrev pub found_flags : Analyser → List ParagraphFlags
+found_flags a = a.found.flags.items
+
 -- a text of these characters, with what was found
 abbrev pub with_analysis : (ℕ → ℕ) → List ℕ → Analysis → AnalysedText
 with_analysis len_of chars a = with_lists len_of chars (original_classes a) (levels a)

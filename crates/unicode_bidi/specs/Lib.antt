@@ -1,6 +1,6 @@
 pub mod Analysed
 pub mod BidiInfo
-pub mod DirectionSteps
+pub mod DirectionSearch
 pub mod Engine
 pub mod InitialInfo
 pub mod KeptOrder

@@ -1,9 +1,10 @@
 //! The search for a base direction (P2, P3), in a text or in its pieces one after another.
-ghost use Rattle.std.specs.Prelude.{◌≡◌, ◌+◌, ◌<◌, ◌^◌, if◌then◌else◌, map, Some};
+ghost use Rattle.std.specs.Prelude.{◌≡◌, ◌+◌, ◌-◌, ◌<◌, ◌^◌, if◌then◌else◌, [], ◌∷◌, map, Some};
+ghost use Rattle.bidi_base.specs.Classes.{is_initiator, is_pdi};
 ghost use Rattle.bidi_base.specs.Direction.{direction_by, base_direction, full_base_direction};
 ghost use Rattle.bidi_base.specs.Paragraphs.{paragraphs_of, each_separator};
 ghost use Rattle.bidi_base.specs.Text.{text_len};
-ghost use Rattle.unicode_bidi.specs.DirectionSteps.{depth_after, search_step, search_in, direction_found};
+ghost use Rattle.unicode_bidi.specs.DirectionSearch.{IsSearched, direction_found};
 
 use bidi_base::char_data::{BidiClass, Direction};
 use bidi_base::classes::{is_initiator, is_paragraph_separator, is_pdi, is_strong};
@@ -34,7 +35,7 @@ fn direction_of(class: BidiClass) -> Direction
 // Returns how many isolates are open after a character of this class.
 fn depth_after(depth: usize, class: BidiClass) -> usize
     requires { depth + 1 < 2 ^ 64 }
-    ensures { result ≡ depth_after depth class }
+    ensures { result ≡ (if is_initiator class then depth + 1 else if is_pdi class then depth - 1 else depth) }
 {
     if is_initiator(class) {
         depth + 1
@@ -52,7 +53,7 @@ fn depth_after(depth: usize, class: BidiClass) -> usize
 /// ends the search.
 pub fn search_class(class: BidiClass, depth: usize, full: bool) -> DirectionSearch
     requires { depth + 1 < 2 ^ 64 }
-    ensures { result ≡ search_step full depth class }
+    ensures { IsSearched full depth (class ∷ []) result }
 {
     if depth == 0 && is_strong(class) {
         return DirectionSearch::Found(direction_of(class));
@@ -79,7 +80,7 @@ pub fn search_direction<D: BidiDataSource, T: TextSource>(
     full: bool,
 ) -> DirectionSearch
     requires { depth + text_len T.units (T.characters text) < 2 ^ 64 }
-    ensures search { result ≡ search_in full depth (map (D.source data_source.now).class_of (T.characters text)) }
+    ensures search { IsSearched full depth (map (D.source data_source.now).class_of (T.characters text)) result }
 
     // At the front of a text, this is its base direction.
     ensures direction { let classes = map (map (D.source data_source.now).class_of)

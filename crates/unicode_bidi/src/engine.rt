@@ -9,7 +9,7 @@ ghost use Rattle.bidi_base.specs.declared.char_data.BidiClass.TheVariants.{L};
 ghost use Rattle.bidi_base.specs.Text.{text_len, is_per_char, per_char, char_index, IsLine};
 ghost use Rattle.bidi_text_lines.specs.Analysed.{with_lists};
 ghost use Rattle.unicode_bidi.specs.Analysed.{IsAnalysed, IsAnalysedBy};
-ghost use Rattle.unicode_bidi.specs.Engine.{with_analysis, found_paragraphs, original_classes as original_classes_of, levels as stored_levels_of, paragraphs as paragraphs_of_analysis, flags as flags_of_analysis, unit_levels, own_flags, CanWrite, Follow};
+ghost use Rattle.unicode_bidi.specs.Engine.{with_analysis, found_paragraphs, found_flags, original_classes as original_classes_of, levels as stored_levels_of, paragraphs as paragraphs_of_analysis, flags as flags_of_analysis, unit_levels, own_flags, CanWrite, Follow};
 ghost use Rattle.bidi_walk.specs.ParagraphFlags.{paragraph_flags};
 ghost use Rattle.bidi_walk.specs.ParagraphInfo.{level_of, range_of, ranges_of, levels_of};
 ghost use Rattle.bidi_walk.specs.SplitRule.{pieces_by, IsAnalysisBy};
@@ -19,7 +19,7 @@ use bidi_base::data_source::BidiDataSource;
 use bidi_base::level::{LTR_LEVEL, Level};
 use bidi_lines::line_levels::levels_with_line;
 use bidi_paragraphs::first_walk::{self, FoundParagraphs};
-use bidi_paragraphs::paragraph_flags::ParagraphFlags;
+pub use bidi_paragraphs::paragraph_flags::ParagraphFlags;
 use bidi_paragraphs::paragraph_info::ParagraphInfo;
 use bidi_paragraphs::paragraph_levels::{ClassifiedParagraph, LevelResolver};
 use bidi_paragraphs::split_rule::SplitRule;
@@ -145,7 +145,8 @@ pub struct Analyser {
 impl Analyser {
     /// Returns an analyser that has read no text. Allocates nothing.
     pub fn new(alloc: Global) -> Analyser
-        ensures { found_paragraphs result ≡ [] }
+        ensures paragraphs { found_paragraphs result ≡ [] }
+        ensures flags { found_flags result ≡ [] }
     {
         Analyser {
             found: FoundParagraphs::new(alloc),
@@ -160,14 +161,24 @@ impl Analyser {
         self.found.paragraphs.as_slice()
     }
 
+    /// Returns which classes are in each of these paragraphs, as the data source gives them.
+    ///
+    /// The flags of a paragraph tell, without another pass over it, whether it is left to right throughout, or has an
+    /// isolate, an embedding or a character that X9 removes.
+    pub fn flags(&self) -> &[ParagraphFlags]
+        ensures { result.now ≡ found_flags self.now }
+    {
+        self.found.flags.as_slice()
+    }
+
     /// Finds the paragraphs of a text, and the class and the level of each character (P1 to I2), in the caller's
     /// lists.
     ///
     /// `base` is the level of every paragraph, at most 125. If it is `None`, each paragraph gets its level from its
     /// characters (P2, P3). `rule` says where paragraphs end. Without a rule the whole text is one paragraph.
     /// Writes the class of each code unit to `classes` and its level to `levels`, which both have one entry a
-    /// code unit. [`Analyser::paragraphs`] then returns the paragraphs. If an allocation fails, the two lists
-    /// hold anything, and there are no paragraphs.
+    /// code unit. [`Analyser::paragraphs`] then returns the paragraphs, and [`Analyser::flags`] their classes. If an
+    /// allocation fails, the two lists hold anything, and there are no paragraphs.
     pub fn analyse<D: BidiDataSource, T: TextSource>(
         &mut self,
         alloc: Global,
@@ -188,8 +199,9 @@ impl Analyser {
         ensures bounded { OnOk result (All (λ p. AreLevelsFrom (level_of p)
             (slice_range levels.new (range_of p).start (range_of p).end)) (found_paragraphs self.new)) }
         ensures flags { let pieces = pieces_by rule (D.source data_source.now) (T.characters text) in
-            OnOk result (self.new.found.flags.items ≡ paragraph_flags (D.source data_source.now) pieces) }
+            OnOk result (found_flags self.new ≡ paragraph_flags (D.source data_source.now) pieces) }
         ensures none { OnErr result (found_paragraphs self.new ≡ []) }
+        ensures no_flags { OnErr result (found_flags self.new ≡ []) }
     {
         let memory = mem::replace(&mut self.found, FoundParagraphs::new(alloc));
         let found = first_walk::walk(data_source, text, base, rule, classes, memory)?;

@@ -21,18 +21,31 @@ use bidi_text_lines::analysed::Analysed;
 use bidi_text_lines::shown_line::ShownLine;
 use smallvec::SmallVec;
 use std::alloc::{AllocError, Global};
+use std::fmt;
 use std::ops::Range;
 
 /// The result of the algorithm for a text: its paragraphs, and the class and the level of each character.
 ///
 /// A line is a range of code units of the text that cuts no character (see `is_line`). Its levels after L1
 /// depend on the level of the paragraph that is passed with it.
-#[derive(PartialEq, Debug, Drop)]
+#[derive(PartialEq, Drop)]
 pub struct BidiInfo<T: TextSource> {
     pub(crate) analysed: Analysed<T>,
     paragraphs: SmallVec<ParagraphInfo, 1>,
     ghost paragraphs_are_lines: { All
         (λ p. IsLine T.units (T.characters analysed.text) (range_of p).start (range_of p).end) paragraphs.items },
+}
+
+// Prints the fields that this type has in the ported crate.
+impl<T: TextSource + fmt::Debug> fmt::Debug for BidiInfo<T> {
+    fn fmt<W: fmt::Write>(&self, f: &mut fmt::Formatter<W>) -> fmt::Result {
+        f.debug_struct("BidiInfo")
+            .field("text", &self.analysed.text())
+            .field("original_classes", &self.original_classes())
+            .field("levels", &self.levels())
+            .field("paragraphs", &self.paragraphs())
+            .finish()
+    }
 }
 
 impl<T: TextSource> BidiInfo<T> {

@@ -17,16 +17,30 @@ use bidi_text::text::TextSource;
 use bidi_text_lines::analysed::Analysed;
 use bidi_text_lines::shown_line::ShownLine;
 use std::alloc::{AllocError, Global};
+use std::fmt;
 use std::ops::Range;
 
 /// The result of the algorithm for a text that is one paragraph, whatever separators it has.
 ///
 /// A line is a range of code units of the text that cuts no character (see `is_line`).
-#[derive(PartialEq, Debug, Drop)]
+#[derive(PartialEq, Drop)]
 pub struct ParagraphBidiInfo<T: TextSource> {
     pub(crate) paragraph: Analysed<T>,
     paragraph_level: Level,
     is_pure_ltr: bool,
+}
+
+// Prints the fields that this type has in the ported crate.
+impl<T: TextSource + fmt::Debug> fmt::Debug for ParagraphBidiInfo<T> {
+    fn fmt<W: fmt::Write>(&self, f: &mut fmt::Formatter<W>) -> fmt::Result {
+        f.debug_struct("ParagraphBidiInfo")
+            .field("text", &self.paragraph.text())
+            .field("original_classes", &self.original_classes())
+            .field("levels", &self.levels())
+            .field("paragraph_level", &self.paragraph_level)
+            .field("is_pure_ltr", &self.is_pure_ltr)
+            .finish()
+    }
 }
 
 impl<T: TextSource> ParagraphBidiInfo<T> {

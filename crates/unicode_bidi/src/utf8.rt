@@ -21,6 +21,9 @@ use std::ops::Range;
 ///
 /// A line is a range of bytes that cuts no character (see `is_line`). Its levels after L1 depend on the level
 /// of the paragraph that is passed with it.
+///
+/// `{:?}` prints the text, the classes, the levels and the paragraphs. The kit cannot prove a function that passes an
+/// info to a format. The page `CALLING.md` shows what to write instead, and how to compare two infos behind references.
 pub type BidiInfo<'t> = info::BidiInfo<StrText<'t>>;
 
 /// The result of the algorithm for a text that is one paragraph, whatever separators it has.

@@ -5,14 +5,22 @@ ghost use Rattle.std.specs.Iterator.{YieldsFirst, item_count};
 ghost use Rattle.bidi_base.specs.Text.{char_indices_from, indices_lengths_from, one_unit};
 
 use super::TextSource;
+use std::fmt;
 use std::ops::Range;
 
 /// A list of characters as a text.
 ///
 /// Each character is one code unit, so its index in the text is its index in the list.
-#[derive(Clone, Copy, Debug, PartialEq)]
+#[derive(Clone, Copy, PartialEq)]
 pub struct CharsText<'t> {
     list: &'t [char],
+}
+
+// Prints the characters.
+impl fmt::Debug for CharsText<'_> {
+    fn fmt<W: fmt::Write>(&self, f: &mut fmt::Formatter<W>) -> fmt::Result {
+        fmt::Debug::fmt(self.list, f)
+    }
 }
 
 impl<'t> CharsText<'t> {

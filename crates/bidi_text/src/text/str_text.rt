@@ -9,6 +9,7 @@ ghost use Rattle.bidi_base.specs.Text.{indices_lengths_from};
 ghost use lib.Utf8.{scalar};
 
 use super::{TextSource, char_of_code};
+use std::fmt;
 use std::ops::Range;
 use std::simd::prelude::*;
 use std::str::{CharIndices, Chars};
@@ -16,9 +17,16 @@ use std::str::{CharIndices, Chars};
 /// A text in UTF-8.
 ///
 /// Code units are bytes, so a character is 1 to 4 code units long.
-#[derive(Clone, Copy, PartialEq, Debug)]
+#[derive(Clone, Copy, PartialEq)]
 pub struct StrText<'t> {
     text: &'t str,
+}
+
+// Prints the string.
+impl fmt::Debug for StrText<'_> {
+    fn fmt<W: fmt::Write>(&self, f: &mut fmt::Formatter<W>) -> fmt::Result {
+        fmt::Debug::fmt(self.text, f)
+    }
 }
 
 impl<'t> StrText<'t> {

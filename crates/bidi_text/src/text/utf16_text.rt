@@ -7,6 +7,7 @@ ghost use Rattle.bidi_base.specs.Text.{char_indices_from, indices_lengths_from};
 ghost use Rattle.bidi_base.specs.Utf16.{is_character, is_pair as is_pair_of, splits_pair as splits_pair_of, pair_char, lone_char, utf16_text, utf16_len, IsFirst, IsLast};
 
 use super::{TextSource, char_of_code};
+use std::fmt;
 use std::ops::Range;
 use std::simd::prelude::*;
 
@@ -14,9 +15,16 @@ use std::simd::prelude::*;
 ///
 /// A high surrogate directly followed by a low one is one character, two code units long. Any other code
 /// unit is a character of its own: a lone surrogate counts as U+FFFD.
-#[derive(Clone, Copy, Debug, PartialEq)]
+#[derive(Clone, Copy, PartialEq)]
 pub struct Utf16Text<'t> {
     units: &'t [u16],
+}
+
+// Prints the code units.
+impl fmt::Debug for Utf16Text<'_> {
+    fn fmt<W: fmt::Write>(&self, f: &mut fmt::Formatter<W>) -> fmt::Result {
+        fmt::Debug::fmt(self.units, f)
+    }
 }
 
 impl<'t> Utf16Text<'t> {

@@ -1,8 +1,25 @@
-use Rattle.bidi_base.proofs.Common.{◌≡◌, ℕ, ◌<◌, ◌≤◌, ◌+◌, ◌-◌, true, List, length, get_or, arith, IsCharBoundary-start, IsCharBoundary-after_ascii}
-use Rattle.bidi_visual.specs.Quiet.{is_quiet}
+use Rattle.bidi_base.proofs.Common.{◌≡◌, ℕ, ◌<◌, ◌≤◌, ◌+◌, ◌-◌, ◌==◌, true, cases_Bool, ap, ◌∙◌, List, length, get_or, slice_index, arith, nat_tests, IsCharBoundary-start, IsCharBoundary-after_ascii}
+use Rattle.bidi_visual.specs.Quiet.{is_quiet, is_quiet_or_feed, AreQuietLines}
 use Rattle.bidi_visual.proofs.QuietLemmas.{quiet-line, quiet-longer}
 use Rattle.bidi_visual.proofs.quiet.quiet_lines.Goals as goal
 use Rattle.bidi_visual.proofs.quiet.quiet_lines.Goals.{then-byte-eq10, else-byte-eq10+else-not-is_quiet}
+
+read_more : (text : List ℕ) (at : ℕ) → is_quiet_or_feed (slice_index text at) ≡ true → ((k : ℕ) → k < at → is_quiet_or_feed (slice_index text k) ≡ true) → (k : ℕ) → k < at + 1 → is_quiet_or_feed (slice_index text k) ≡ true
+read_more text at here before k below = grind (arith, cases_Bool (k == at), nat_tests, before k)
+
+-- no line feed is here, so no lines end here
+longest_more : (text : List ℕ) (at end : ℕ) → is_quiet (slice_index text at) ≡ true → ((len : ℕ) → len ≤ at → AreQuietLines text len → len ≤ end)
+    → (len : ℕ) → len ≤ at + 1 → AreQuietLines text len → len ≤ end
+longest_more text at end here before len few lines =
+    let last : len ≡ at + 1 → slice_index text (len - 1) ≡ slice_index text at = λ all. ap (λ n. slice_index text (n - 1)) all ∙ ap (slice_index text) (omega arith) in
+    grind (arith, nat_tests, here, last, before len, lines.ended)
+
+lines_more : (text : List ℕ) (at : ℕ) → at < length text → slice_index text at ≡ 0x0A → ((k : ℕ) → k < at + 1 → is_quiet_or_feed (slice_index text k) ≡ true) → AreQuietLines text (at + 1)
+lines_more text at within feed read = record {
+  within = omega (arith, within);
+  quiet = read;
+  ended = λ some. ap (slice_index text) (omega arith) ∙ feed;
+}
 
 pub loop-at-init : goal.loop-at-init
 loop-at-init c = grind (arith, IsCharBoundary-start c.args.text.now c.utf8.text)
@@ -17,18 +34,27 @@ loop-at-preserved c =
     elim c.if-byte-eq10.branch [
       | then-byte-eq10 w ↦
           let feed : get_or text at 0 ≡ 0x0A = grind arith in
+          let here : is_quiet_or_feed (slice_index text at) ≡ true = grind (arith, nat_tests) in
+          let read = read_more text at here c.loop-at.invariant.read in
           let none : (at + 1) - (at + 1) ≡ 0 = omega arith in
           simp w.end-is (record {
             ordered = omega arith;
             quiet = simp none;
+            read = read;
+            lines = lines_more text at within feed read;
+            longest = λ len few lines. few;
             boundary = IsCharBoundary-after_ascii text at c.utf8.text within (omega (arith, feed));
             shown = λ view requires. quiet-line text end at ordered within view requires c.utf8.text c.loop-at.invariant.boundary feed c.loop-at.invariant.quiet (c.loop-at.invariant.shown view requires);
           })
       | else-byte-eq10+else-not-is_quiet w ↦
           let quiet : is_quiet (get_or text at 0) ≡ true = grind arith in
+          let here : is_quiet_or_feed (slice_index text at) ≡ true = grind arith in
           simp w.end-is (record {
             ordered = omega arith;
             quiet = quiet-longer text end at ordered within c.loop-at.invariant.quiet quiet;
+            read = read_more text at here c.loop-at.invariant.read;
+            lines = c.loop-at.invariant.lines;
+            longest = longest_more text at end quiet c.loop-at.invariant.longest;
             boundary = c.loop-at.invariant.boundary;
             shown = c.loop-at.invariant.shown;
           })

@@ -1,6 +1,6 @@
-use Rattle.bidi_base.proofs.Common.{◌≡◌, ◌≤◌, ◌++◌, true, take, drop, slice_range, list_all, chars, IsCharBoundary}
+use Rattle.bidi_base.proofs.Common.{◌≡◌, ℕ, ◌<◌, ◌≤◌, ◌++◌, true, slice_index, take, drop, slice_range, list_all, chars, IsCharBoundary}
 use Rattle.bidi_unicode.specs.Unicode.{unicode_source}
-use Rattle.bidi_visual.specs.Quiet.{is_quiet, IsQuietView}
+use Rattle.bidi_visual.specs.Quiet.{is_quiet, is_quiet_or_feed, AreQuietLines, IsQuietView}
 use Rattle.bidi_visual.specs.Shown.{shown_text}
 use Rattle.bidi_visual.specs.declared.view.View.{View}
 use Rattle.bidi_visual.proofs.quiet.quiet_lines.Given as goal
@@ -9,6 +9,9 @@ abbrev pub invariant-loop-at : goal.invariant-loop-at
 invariant-loop-at l = record {
   ordered : l.end ≤ l.at;
   quiet : list_all is_quiet (slice_range l.text l.end l.at) ≡ true;
+  read : (k : ℕ) → k < l.at → is_quiet_or_feed (slice_index l.text k) ≡ true;
+  lines : AreQuietLines l.text l.end;
+  longest : (len : ℕ) → len ≤ l.at → AreQuietLines l.text len → len ≤ l.end;
   boundary : IsCharBoundary l.text l.end;
   shown : (view : View) → IsQuietView view → shown_text unicode_source view (chars l.text) ≡ take l.end l.text ++ shown_text unicode_source view (chars (drop l.end l.text));
 }

@@ -1,5 +1,5 @@
 use Rattle.bidi_base.proofs.Common.{◌∙◌, refl, sym, ap, arith}
-use Rattle.unicode_bidi.specs.DirectionSteps.{direction_found}
+use Rattle.unicode_bidi.specs.DirectionSearch.{direction_found}
 use Rattle.unicode_bidi.proofs.base_direction.find_direction.Goals as goal
 
 pub search_direction-requires : goal.search_direction-requires

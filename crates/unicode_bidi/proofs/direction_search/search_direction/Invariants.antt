@@ -1,5 +1,6 @@
-use Rattle.bidi_base.proofs.Common.{◌≡◌, ◌+◌, ◌≤◌, length, drop, map}
-use Rattle.unicode_bidi.specs.DirectionSteps.{search_in}
+use Rattle.bidi_base.proofs.Common.{◌≡◌, ◌+◌, ◌≤◌, ◌++◌, List, length, drop, map}
+use Rattle.bidi_base.specs.declared.char_data.BidiClass.{BidiClass}
+use Rattle.unicode_bidi.specs.DirectionSearch.{direction_after}
 use Rattle.unicode_bidi.proofs.direction_search.search_direction.Given as goal
 
 abbrev pub invariant-loop-c : goal.invariant-loop-c
@@ -8,4 +9,4 @@ invariant-loop-c g l =
     let cs = g.T.TextSource.characters l.fn.text in
     (goal.iterator-loop-c g).can_next l.c-iterator × (goal.iterator-loop-c g).is_finite l.c-iterator
     × (l.now ≤ l.depth + length l.yielded)
-    × (search_in l.full l.depth (map class_of cs) ≡ search_in l.full l.now (map class_of (drop (length l.yielded) cs)))
+    × ((more : List BidiClass) → direction_after l.full l.depth (map class_of cs ++ more) ≡ direction_after l.full l.now (map class_of (drop (length l.yielded) cs) ++ more))
