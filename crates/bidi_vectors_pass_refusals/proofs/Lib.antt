@@ -1,1 +1,2 @@
+mod AnalysesAsClauses
 mod RecordsAsClauses
