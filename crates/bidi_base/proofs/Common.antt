@@ -95,7 +95,7 @@ pub use Rattle.bidi_base.specs.PairSearch.{AreWithin, HasRead, IsAt, IsUnderWay,
 pub use Rattle.bidi_base.specs.Paragraphs.{IsPartition, SplitTest, begins_with_line_feed, cr_lf_together, cut_after, each_separator, ends_with_separator, paragraphs_of, pieces_of, ranges_from}
 pub use Rattle.bidi_base.specs.Places.{at_places, between, chain, class_at, count_between, find_last, first_or, holds_number, in_context, indexes, last_or, nearest, nearest_is}
 pub use Rattle.bidi_base.specs.Reading.{decided_by, filled, innermost, is_fsi, met_units, opened_by, outer}
-pub use Rattle.bidi_base.specs.Search.{IsFirst}
+pub use Rattle.bidi_base.specs.Search.{IsFirst, passing}
 pub use Rattle.bidi_base.specs.SequencePass.{index_of, read_class, waiting_for, with_entry}
 unfoldable pub use Rattle.bidi_base.specs.Sequences.{begins_run, end_class, is_first, kept_before, kept_places, next_kept, resumed_at, run_starts, sequence_from, sequences, start_class, successor}
 pub use Rattle.bidi_base.specs.Sequences.{RunSequence, has_places, have_one_level, is_kept_at, level_at, level_or, with_ends}

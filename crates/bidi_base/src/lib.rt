@@ -1,8 +1,8 @@
 //! The classes, levels and data sources that every layer of the bidirectional algorithm uses.
 //!
-//! The crate also has the steps that the rules over lists share with the passes in place. Its
-//! folder `specs` has the definitions that the contracts of public calls cite, one module per
-//! topic.
+//! The crate also has what the rules over lists share with the passes in place, the search of the
+//! passes, and the count of their iterations. Its folder `specs` has the definitions that the
+//! contracts of public calls cite, one module per topic.
 #![tactic(auto)]
 
 pub mod brackets;
@@ -15,3 +15,4 @@ pub mod level;
 pub mod neutrals;
 pub mod sample;
 pub mod search;
+pub mod steps;

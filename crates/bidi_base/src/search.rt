@@ -1,15 +1,36 @@
-//! Finds the next code unit with a class that passes a test.
-//!
-//! The search tests sixteen code units at a time, which suits rare classes.
+//! Finds the next item of a list that passes a test: one by one at first, and then sixteen items at a time.
 
-ghost use Rattle.std.specs.Prelude.{◌≡◌, ℕ, ◌+◌, ◌<◌, ◌≤◌, Bool, true, false, length, map, if◌then◌else◌, MatchOption};
-ghost use lib.Lanes.{chunk};
+ghost use Rattle.std.specs.Prelude.{◌≡◌, ℕ, ◌+◌, ◌<◌, ◌≤◌, ◌==◌, Bool, length, min, slice_index, if◌then◌else◌};
+ghost use Rattle.std.specs.Int.{bit_at};
 ghost use Rattle.bidi_base.specs.declared.char_data.BidiClass.{BidiClass};
-ghost use Rattle.bidi_base.specs.Places.{class_at};
-ghost use Rattle.bidi_base.specs.Search.{IsFirst};
+ghost use Rattle.bidi_base.specs.Search.{IsFirst, IsEndOfLast};
 
 use crate::char_data::BidiClass;
+use crate::steps::Steps;
+use std::array;
+use std::marker::Brand;
 use std::simd::prelude::*;
+use std::sync::ledger::{Blank, Ledger};
+
+/// Items, by index, with a test of them.
+pub trait Tested: Copy {
+    /// The number of items.
+    ghost count: { Self → ℕ };
+
+    /// Whether the item at an index passes.
+    ghost passes: { Self → ℕ → Bool };
+
+    /// Returns the number of items.
+    fn len(self) -> usize
+        ensures { result ≡ count self };
+
+    /// Returns whether the item at an index passes.
+    ///
+    /// It should have no branch. Then the compiler tests sixteen items at once.
+    fn passes(self, index: usize) -> bool
+        requires { index < count self }
+        ensures { result ≡ passes self index };
+}
 
 /// A test of classes.
 pub trait ClassTest: Copy {
@@ -21,65 +42,238 @@ pub trait ClassTest: Copy {
         ensures { result ≡ test self class };
 }
 
-// Writes 1 for each class that passes, and 0 for the others.
-fn mark<T: ClassTest>(test: T, classes: &[BidiClass], marks: &mut [u8])
-    requires { length marks.old ≡ length classes.now }
-    ensures { marks.new ≡ map (λ c. if T.test test c then 1 else 0) classes.now }
-{
-    for i in 0..marks.len() {
-        marks[i] = u8::from(test.passes(classes[i]));
+/// A test of the classes in a list.
+#[derive(Clone, Copy, Debug)]
+pub struct Among<'c, C: ClassTest> {
+    /// The test.
+    pub test: C,
+    /// The classes.
+    pub classes: &'c [BidiClass],
+}
+
+impl<'c, C: ClassTest> Tested for Among<'c, C> {
+    ghost use Rattle.bidi_base.specs.Search.{passing};
+
+    ghost count = { λ among. length among.classes.now };
+
+    ghost passes = { λ among. passing (C.test among.test) among.classes.now };
+
+    fn len(self) -> usize {
+        self.classes.len()
+    }
+
+    fn passes(self, index: usize) -> bool {
+        self.test.passes(self.classes[index])
     }
 }
 
-// Returns a mark for each of the sixteen classes from `at` on: 1 if it passes, else 0.
-fn sixteen_marks<T: ClassTest>(test: T, classes: &[BidiClass], at: usize) -> u8x16
-    requires { at + 16 ≤ length classes.now }
-    ensures { result ≡ map (λ c. if T.test test c then 1 else 0) (chunk at 16 classes.now) }
-{
-    let mut marks = [0u8; 16];
-    mark(test, &classes[at..at + 16], &mut marks);
-    u8x16::from_array(marks)
+// The items of a list from the last one to the first.
+#[derive(Clone, Copy, Debug)]
+struct Reversed<T: Tested> {
+    tested: T,
 }
 
-// Returns the first of the sixteen indexes from `at` on with a class that passes, if any.
-fn first_of_sixteen<T: ClassTest>(test: T, classes: &[BidiClass], at: usize) -> Option<usize>
-    requires { at + 16 ≤ length classes.now }
-    ensures { MatchOption result
-        ((k : ℕ) → at ≤ k → k < at + 16 → T.test test (class_at classes.now k) ≡ false)
-        (λ u. (u < at + 16) × IsFirst (T.test test) classes.now at (at + 16) u) }
-{
-    let found = sixteen_marks(test, classes, at)
-        .simd_ne(u8x16::splat(0))
-        .to_bitmask();
-    if found == 0 {
-        None
-    } else {
-        Some(at + found.trailing_zeros() as usize)
+impl<T: Tested> Tested for Reversed<T> {
+    ghost use Rattle.std.specs.Prelude.{◌-◌};
+
+    ghost count = { λ reversed. T.count reversed.tested };
+
+    ghost passes = { λ reversed index. T.passes reversed.tested (T.count reversed.tested - 1 - index) };
+
+    fn len(self) -> usize {
+        self.tested.len()
+    }
+
+    fn passes(self, index: usize) -> bool {
+        self.tested.passes(self.tested.len() - 1 - index)
     }
 }
 
-/// Returns the first index in `from..to` with a class that passes a test, or else `to`.
-///
-/// `from` must be at most `to`, and `to` at most the number of classes.
-pub fn first_passing<T: ClassTest>(test: T, classes: &[BidiClass], from: usize, to: usize) -> usize
+// Returns 1 for each of the sixteen items from `at` on that passes, and 0 for the others.
+fn marks<T: Tested>(tested: T, at: usize) -> [u8; 16]
+    requires within { at + 16 ≤ T.count tested }
+    requires fits { at + 16 ≤ usize.MAX }
+    ensures sixteen { length result ≡ 16 }
+    ensures marked { (j : ℕ) → j < 16 → slice_index result j ≡ (if T.passes tested (at + j) then 1 else 0) }
+{
+    array::from_fn(|lane| u8::from(tested.passes(at + lane)))
+}
+
+// Returns how many of `count` bits come before the first one that is set.
+fn bits_before(bits: u64, count: usize) -> usize
+    requires { count < 64 }
+    ensures { IsFirst (λ k. bit_at bits k == 1) 0 count result }
+{
+    // The bit after them is set, so that neither a test for 0 nor a minimum is needed.
+    (bits | 1 << count).trailing_zeros() as usize
+}
+
+// Returns how many of `count` items come before the first one that passes. They are among the sixteen items from `at` on,
+// after the first `skipped`. All sixteen are tested.
+fn before_first<T: Tested>(tested: T, at: usize, skipped: usize, count: usize) -> usize
+    requires inside { skipped + count ≤ 16 }
+    requires within { at + 16 ≤ T.count tested }
+    requires fits { at + 16 ≤ usize.MAX }
+    ensures { IsFirst (T.passes tested) (at + skipped) (at + skipped + count) (at + skipped + result) }
+{
+    let marks = u8x16::from_array(marks(tested, at));
+    let bits = marks.simd_ne(u8x16::splat(0)).to_bitmask();
+    bits_before(bits >> skipped, count)
+}
+
+// Returns the first index in `from..to` whose item passes, or else `to`. There are fewer than sixteen of them.
+fn first_of_few<T: Tested, S: Ledger>(
+    tested: T,
+    from: usize,
+    to: usize,
+    steps: &mut Steps<S>,
+) -> usize
     requires ordered { from ≤ to }
-    requires inside { to ≤ length classes.now }
-    ensures { IsFirst (T.test test) classes.now from to result }
+    requires few { to < from + 16 }
+    requires within { to ≤ T.count tested }
+    ensures first { IsFirst (T.passes tested) from to result }
+    ensures steps_at_least { steps.old ≤ steps.new }
+    ensures steps_at_most { steps.new + from ≤ steps.old + min (result + 1) to }
 {
-    // Most often the next one is near.
-    if from < to && test.passes(classes[from]) {
-        return from;
+    // Often the list is a line. If it has sixteen items, others are tested with the few: one block costs less than
+    // testing the few one by one.
+    if from < to && tested.len() >= 16 {
+        let at = from.min(tested.len() - 16);
+        return from + before_first(tested, at, from - at, to - from);
     }
-    // The last sixteen may reach past `to`. Indexes from `to` on are tested, but never returned.
-    let mut at = from;
-    while at < to && classes.len() - at >= 16 {
-        if let Some(found) = first_of_sixteen(test, classes, at) {
-            return found.min(to);
+    for at in from..to {
+        steps.tick();
+        if tested.passes(at) {
+            return at;
         }
+    }
+    to
+}
+
+// Returns the first index in `from..to` whose item passes, or else `to`, and tests sixteen items at a time.
+#[inline(always)]
+fn first_by_blocks<T: Tested, S: Ledger>(
+    tested: T,
+    from: usize,
+    to: usize,
+    steps: &mut Steps<S>,
+) -> usize
+    requires ordered { from ≤ to }
+    requires within { to ≤ T.count tested }
+    ensures first { IsFirst (T.passes tested) from to result }
+    ensures steps_at_least { steps.old ≤ steps.new }
+    ensures steps_at_most { steps.new + from ≤ steps.old + min (result + 1) to }
+{
+    if to - from < 16 {
+        return first_of_few(tested, from, to, steps);
+    }
+    let last = to - 16;
+    let mut at = from;
+    while at < last {
+        steps.tick();
+        let before = before_first(tested, at, 0, 16);
+        if before < 16 {
+            return at + before;
+        }
+        // The next block is tested without waiting for `before`.
         at += 16;
     }
-    while at < to && !test.passes(classes[at]) {
+    // The last block may overlap items before `at`, which do not pass.
+    last + before_first(tested, last, 0, 16)
+}
+
+/// Returns the first index in `from..to` whose item passes, or else `to`, and counts loop iterations in `steps`.
+///
+/// `from` must be at most `to`, and `to` at most the number of items. The first `singly` items are tested one by
+/// one, where the next one that passes is often near. After them sixteen items are tested at a time. Some of these may
+/// be outside the range, and are not returned.
+///
+/// There is at most one iteration for each item passed over, and one for the item that passes. A block of sixteen
+/// items is at most one iteration: the test of a block has no loop of ours.
+#[inline(always)]
+pub fn first_passing_counted<T: Tested, S: Ledger>(
+    tested: T,
+    singly: usize,
+    from: usize,
+    to: usize,
+    steps: &mut Steps<S>,
+) -> usize
+    requires ordered { from ≤ to }
+    requires within { to ≤ T.count tested }
+    ensures first { IsFirst (T.passes tested) from to result }
+    ensures steps_at_least { steps.old ≤ steps.new }
+    ensures steps_at_most { steps.new + from ≤ steps.old + min (result + 1) to }
+{
+    let mut at = from;
+    while at < to && at - from < singly {
+        steps.tick();
+        if tested.passes(at) {
+            return at;
+        }
         at += 1;
     }
-    at.min(to)
+    first_by_blocks(tested, at, to, steps)
+}
+
+/// Like [`first_passing_counted`], without a count.
+#[inline(always)]
+pub fn first_passing<T: Tested>(tested: T, singly: usize, from: usize, to: usize) -> usize
+    requires ordered { from ≤ to }
+    requires within { to ≤ T.count tested }
+    ensures { IsFirst (T.passes tested) from to result }
+{
+    first_passing_with_new_count::<T, Brand>(tested, singly, from, to, Blank::new(1))
+}
+
+// Calls [`first_passing_counted`] with a new count.
+#[inline(always)]
+fn first_passing_with_new_count<T: Tested, S: Ledger>(
+    tested: T,
+    singly: usize,
+    from: usize,
+    to: usize,
+    blank: Blank,
+) -> usize
+    requires ordered { from ≤ to }
+    requires within { to ≤ T.count tested }
+    requires name { blank.name ≡ S.name }
+    requires parts { blank.parts ≡ S.parts }
+    requires one { blank.parts ≡ 1 }
+    ensures { IsFirst (T.passes tested) from to result }
+{
+    first_passing_counted(tested, singly, from, to, &mut Steps::<S>::new(blank))
+}
+
+/// Returns the index after the last item in `from..to` that passes, or else `from`, and counts loop iterations.
+///
+/// Searches backwards from `to`, and otherwise like [`first_passing_counted`].
+#[inline(always)]
+pub fn end_of_last_passing_counted<T: Tested, S: Ledger>(
+    tested: T,
+    singly: usize,
+    from: usize,
+    to: usize,
+    steps: &mut Steps<S>,
+) -> usize
+    requires ordered { from ≤ to }
+    requires within { to ≤ T.count tested }
+    ensures last { IsEndOfLast (T.passes tested) from to result }
+    ensures steps_at_least { steps.old ≤ steps.new }
+    ensures steps_at_most { steps.new + from ≤ steps.old + to }
+{
+    let len = tested.len();
+    let reversed = Reversed { tested };
+    len - first_passing_counted(reversed, singly, len - to, len - from, steps)
+}
+
+/// Like [`end_of_last_passing_counted`], without a count.
+#[inline(always)]
+pub fn end_of_last_passing<T: Tested>(tested: T, singly: usize, from: usize, to: usize) -> usize
+    requires ordered { from ≤ to }
+    requires within { to ≤ T.count tested }
+    ensures { IsEndOfLast (T.passes tested) from to result }
+{
+    let len = tested.len();
+    let reversed = Reversed { tested };
+    len - first_passing(reversed, singly, len - to, len - from)
 }

@@ -1,8 +1,9 @@
 -- Classes and levels that are equal along each character of a text are those that are equal within each.
-use Rattle.bidi_base.proofs.Common.{◌≡◌, ◌==◌, ℕ, zero, suc, ◌-◌, ◌<◌, ◌≤◌, Bool, true, false, not, ◌&&◌, ◌↔◌, IsTrue, nat_tests, List, ◌++◌, length, get_or, take, drop, map, refl, sym, ap, ◌∙◌}
-use Rattle.bidi_base.proofs.Common.{subst, inl, inr, arith, cases_Bool, eqb-true, list_all, length-map, length-take-le, get_or-map, get_or-range_with_len, range_with_len, take-append-drop}
+use Rattle.bidi_base.proofs.Common.{◌≡◌, ◌==◌, ℕ, zero, suc, ◌+◌, ◌-◌, ◌<◌, ◌≤◌, Bool, true, false, not, ◌&&◌, ◌↔◌, IsTrue, nat_tests, List, ◌++◌, length, get_or, take, drop, map, refl, sym, ap, ◌∙◌}
+use Rattle.bidi_base.proofs.Common.{subst, inl, inr, arith, cases_Bool, cases_lt, eqb-true, list_all, length-map, length-take-le, get_or-map, get_or-range_with_len, range_with_len, take-append-drop}
 use Rattle.bidi_base.proofs.Common.{text_len, is_per_char, is_boundary, class_number, zero-add, len_utf8, chars, IsUtf8, IsCharBoundary, utf16_text, utf16_len, splits_pair, chars-append}
 use Rattle.bidi_base.proofs.Common.{IsUtf8-take, is_character}
+use Rattle.std.proofs.lemmas.List.Sums.{AllPass-from_list_all}
 use Rattle.bidi_base.specs.declared.char_data.BidiClass.{BidiClass}
 use Rattle.bidi_base.specs.declared.char_data.BidiClass.TheVariants.{L}
 use Rattle.bidi_base.proofs.TextLemmas.{HasUnits, is_boundary-append}
@@ -11,8 +12,8 @@ use Rattle.bidi_text.proofs.StrLemmas.{has_units as utf8_has_units, text_len-cha
 use Rattle.bidi_text.proofs.Utf16Lemmas.{has_units as utf16_has_units, text_len-utf16, utf16_text-cut, is_boundary-inside, pair_at, NoPairAt-from_splits_pair}
 use Rattle.bidi_numbers.specs.Numbers.{class_numbered, is_class}
 use Rattle.bidi_numbers.specs.Texts.{goes_on}
-use Rattle.bidi_calls.specs.Even.{IsEvenBetween}
-use Rattle.bidi_calls.proofs.EvenBlocks.{list_all_each}
+use Rattle.bidi_base.specs.Search.{IsFirst}
+use Rattle.bidi_calls.specs.Even.{is_uneven_at, IsEvenBetween}
 use Rattle.bidi_calls.proofs.EvenChars.{steady_from_test, test_from_steady, boundary_zero}
 
 -- ---- numbers of classes tell classes apart
@@ -21,13 +22,13 @@ numbered : (a : ℕ) → a < 23 → class_number (class_numbered a) ≡ a
 unfolding class_numbered
 numbered a below =
     let at : get_or (range_with_len 0 23) a 0 ≡ a = get_or-range_with_len 0 23 a 0 below ∙ zero-add a in
-    eqb-true _ _ (subst (λ n. (class_number (class_numbered n) == n) ≡ true) at (list_all_each (λ n. class_number (class_numbered n) == n) (range_with_len 0 23) 0 a below refl))
+    eqb-true _ _ (subst (λ n. (class_number (class_numbered n) == n) ≡ true) at (AllPass-from_list_all (λ n. class_number (class_numbered n) == n) (range_with_len 0 23) refl a 0 below))
 
 same_number : (a b : ℕ) → a < 23 → b < 23 → class_numbered a ≡ class_numbered b → a ≡ b
 same_number a b low high e = sym (numbered a low) ∙ ap class_number e ∙ numbered b high
 
 class_below : (ns : List ℕ) (k : ℕ) → k < length ns → list_all is_class ns ≡ true → get_or ns k 0 < 23
-class_below ns k within all = let e = list_all_each is_class ns 0 k within all in grind (arith, nat_tests)
+class_below ns k within all = let e = AllPass-from_list_all is_class ns all k 0 within in grind (arith, nat_tests)
 
 -- ---- any encoding
 
@@ -102,10 +103,24 @@ inner-utf8 bs u k within = elim (cases_Bool (is_boundary len_utf8 (chars bs) k))
   ]
 ]
 
-pub even-utf8 : (bs ns ls : List ℕ) (r : Bool) → IsUtf8 bs → length ns ≡ length bs → length ls ≡ length bs → IsTrue (list_all is_class ns) → (IsTrue r ↔ IsEvenBetween (goes_on bs) ns ls 1 (length bs))
-    → r ≡ (is_per_char class_eq len_utf8 (chars bs) (map class_numbered ns) && is_per_char level_eq len_utf8 (chars bs) ls)
-even-utf8 bs ns ls r u classes levels below e =
-    even_result len_utf8 utf8_has_units (chars bs) ns ls (goes_on bs) (length bs) (text_len-chars bs u) classes levels below (inner-utf8 bs u) r e
+-- the bytes are even where a search finds no uneven one
+even-found : (bs ns ls : List ℕ) (i n : ℕ) → n ≡ length bs - 1 → IsFirst (λ k. is_uneven_at (goes_on bs (k + 1)) ns ls (k + 1)) 0 n i → IsTrue (i == n) ↔ IsEvenBetween (goes_on bs) ns ls 1 (length bs)
+even-found bs ns ls i n size f = (
+  (λ none k from to on.
+      let back : k - 1 + 1 ≡ k = omega arith in
+      let even = rw back at (f.before (k - 1) (omega arith) (grind (arith, nat_tests))) in
+      grind (arith, nat_tests)),
+  (λ even. elim (cases_lt i n) [
+    | inl found ↦ let uneven = f.at found in let same = even (i + 1) (omega arith) (omega arith) in absurd (grind (arith, nat_tests))
+    | inr none ↦ let ends = f.ends in grind (arith, nat_tests)
+  ]),
+)
+
+pub even-utf8 : (text bs ns ls : List ℕ) (i n : ℕ) → IsUtf8 text → bs ≡ text → length ns ≡ length text → length ls ≡ length text → IsTrue (list_all is_class ns)
+    → n ≡ length bs - 1 → IsFirst (λ k. is_uneven_at (goes_on bs (k + 1)) ns ls (k + 1)) 0 n i
+    → (i == n) ≡ (is_per_char class_eq len_utf8 (chars text) (map class_numbered ns) && is_per_char level_eq len_utf8 (chars text) ls)
+even-utf8 text bs ns ls i n u same classes levels below size f =
+    even_result len_utf8 utf8_has_units (chars text) ns ls (goes_on text) (length text) (text_len-chars text u) classes levels below (inner-utf8 text u) _ (rw same at (even-found bs ns ls i n size f))
 
 -- ---- UTF-16
 
@@ -131,4 +146,4 @@ even-utf16 us ns ls r classes levels below e =
 
 -- a text without surrogates is even
 pub even_plain : (us ns ls : List ℕ) → list_all is_character us ≡ true → IsEvenBetween (splits_pair us) ns ls 1 (length us)
-even_plain us ns ls plain k from to pair = let here = list_all_each is_character us 0 k to plain in absurd (grind (arith, nat_tests))
+even_plain us ns ls plain k from to pair = let here = AllPass-from_list_all is_character us plain k 0 to in absurd (grind (arith, nat_tests))

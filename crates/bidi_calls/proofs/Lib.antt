@@ -1,5 +1,4 @@
 pub mod CountLemmas
-pub mod EvenBlocks
 pub mod EvenChars
 pub mod EvenSteps
 pub mod EvenText

@@ -1,7 +1,7 @@
 -- The explicit pass by stretches: where no control comes the status stands still, so the characters there have one level and are under one override.
 use Rattle.bidi_base.proofs.Common.{◌≡◌, ℕ, zero, suc, ◌+◌, ◌-◌, ◌<◌, ◌≤◌, ◌^◌, Bool, true, false, not, List, [], ◌∷◌, ◌++◌, length, get_or, set, Option, Some, None, refl, sym, ap, subst, ◌∙◌}
 use Rattle.bidi_base.proofs.Common.{arith, inl, inr, length-take, eq-eqb, common_steps, cases_Bool, cases_lt, cases_eq, ext_get_or, length-replicate, get_or-append_right, is_kept}
-use Rattle.bidi_base.proofs.Common.{is_kept_in_place, is_removed, then_some, class_at, IsFirst, is_kept_at, level_at, State, start, closed, step, state_at, char_index, is_boundary, place}
+use Rattle.bidi_base.proofs.Common.{is_kept_in_place, is_removed, then_some, class_at, IsFirst, passing, is_kept_at, level_at, State, start, closed, step, state_at, char_index, is_boundary, place}
 use Rattle.bidi_base.proofs.Common.{text_len, is_per_char, per_unit, IsPerChar, level_run_ranges, add-zero, if◌then◌else◌, get_or-drop, answer_class, answer_level}
 use Rattle.bidi_base.specs.declared.char_data.BidiClass.{BidiClass}
 use Rattle.bidi_base.specs.declared.char_data.BidiClass.TheVariants.{L, BN}
@@ -139,7 +139,7 @@ module _ (p : Paragraph) (has_units : HasUnits p.len_of) (whole : IsPerChar p.le
     there : u ≡ place_of index
 
   -- the first unit that passes a test is the first one of its character
-  first-begins : (test : BidiClass → Bool) (i from to u : ℕ) → from ≡ place_of i → to ≤ length p.original → IsFirst test p.original from to u → u < to → BeginsFrom i u
+  first-begins : (test : BidiClass → Bool) (i from to u : ℕ) → from ≡ place_of i → to ≤ length p.original → IsFirst (passing test p.original) from to u → u < to → BeginsFrom i u
   first-begins test i from to u from_is fits h inside =
       let w = unit_of p.len_of p.chars u (omega (arith, original_long)) in
       let order = unit-from i u (omega (arith, h.begins)) w in
@@ -155,7 +155,7 @@ module _ (p : Paragraph) (has_units : HasUnits p.len_of) (whole : IsPerChar p.le
       ]
 
   -- where a stretch without controls ends
-  stretch-ends : (i from to : ℕ) → from ≡ place_of i → i ≤ length p.chars → IsFirst is_control p.original from (length p.original) to → BeginsFrom i to
+  stretch-ends : (i from to : ℕ) → from ≡ place_of i → i ≤ length p.chars → IsFirst (passing is_control p.original) from (length p.original) to → BeginsFrom i to
   stretch-ends i from to from_is short h =
       grind (arith, cases_lt to (length p.original), first-begins is_control i from (length p.original) to, original_long, place-end p.len_of p.chars (length p.chars))
 
@@ -184,7 +184,7 @@ module _ (p : Paragraph) (has_units : HasUnits p.len_of) (whole : IsPerChar p.le
 
 -- a search that goes from boundary to boundary finds a boundary
 pub first-is_boundary : (p : Paragraph) → HasUnits p.len_of → is_per_char ghosts.eq p.len_of p.chars p.original ≡ true → (test : BidiClass → Bool) (from to u : ℕ)
-    → is_boundary p.len_of p.chars from ≡ true → is_boundary p.len_of p.chars to ≡ true → to ≤ length p.original → IsFirst test p.original from to u → is_boundary p.len_of p.chars u ≡ true
+    → is_boundary p.len_of p.chars from ≡ true → is_boundary p.len_of p.chars to ≡ true → to ≤ length p.original → IsFirst (passing test p.original) from to u → is_boundary p.len_of p.chars u ≡ true
 first-is_boundary p has_units whole test from to u begins ends fits first = elim (cases_lt u to) [
   | inl inside ↦
       let per_char = IsPerChar-from_is_per_char ghosts.eq class_test p.len_of has_units p.chars p.original whole in
@@ -192,6 +192,19 @@ first-is_boundary p has_units whole test from to u begins ends fits first = elim
       ap (is_boundary p.len_of p.chars) b.there ∙ is_boundary-place p.len_of p.chars b.index
   | inr past ↦ let same : u ≡ to = omega (arith, first.ends) in ap (is_boundary p.len_of p.chars) same ∙ ends
 ]
+
+-- a search may begin behind a unit that does not pass
+pub IsFirst-from_next : (test : ℕ → Bool) (from to u : ℕ) → test from ≡ false → IsFirst test (from + 1) to u → IsFirst test from to u
+IsFirst-from_next test from to u fails first = record {
+  begins = omega (arith, first.begins);
+  ends = first.ends;
+  before = λ k above below. grind (arith, cases_eq k from, first.before k);
+  at = first.at;
+}
+
+-- and it ends behind that unit
+pub IsFirst-advances : (test : ℕ → Bool) (from to u : ℕ) → test from ≡ false → from < to → IsFirst test from to u → from < u
+IsFirst-advances test from to u fails some first = grind (arith, cases_eq u from, first.at, first.begins)
 
 -- the end of a text is a boundary
 pub is_boundary-end : (len_of : ℕ → ℕ) (chars : List ℕ) (units : ℕ) → units ≡ text_len len_of chars → is_boundary len_of chars units ≡ true
@@ -250,7 +263,7 @@ module _ (p : Paragraph) (at : ℕ) (stack : State) (levels : List ℕ) (classes
 -- ---- a stretch is read
 
 module _ (p : Paragraph) (from to : ℕ) (stack : State) (levels : List ℕ) (classes : List BidiClass) (runs : List (ℕ × ℕ)) (run : OpenRun) (h : IsReadTo p from stack levels classes runs run)
-    (stretch : IsFirst is_control p.original from (length p.original) to) where
+    (stretch : IsFirst (passing is_control p.original) from (length p.original) to) where
   end : BeginsFrom p h.has_units h.per_char h.index to
   end = stretch-ends p h.has_units h.per_char h.index from to h.begins h.within stretch
 
@@ -278,7 +291,7 @@ module _ (p : Paragraph) (from to : ℕ) (stack : State) (levels : List ℕ) (cl
       kept_on (λ k. IsCut k runs run.start run.last_level) h.index (j - h.index) j (omega arith)
       (λ k a b. IsCutTo-removed p.len_of p.chars (stored p) (levels_of p) k runs run.start run.last_level (kept-as false j u there upto none k a b)) h.cut
 
-  cut-some : (v level : ℕ) → level ≡ stack.top.status.level → IsFirst is_kept_in_place p.original from to v → v < to
+  cut-some : (v level : ℕ) → level ≡ stack.top.status.level → IsFirst (passing is_kept_in_place p.original) from to v → v < to
       → IsCut end.index (runs_before run.last_level level run.start v runs) (run_start run.last_level level run.start v) (Some level)
   cut-some v level level_is first inside =
       let last = stretch.ends in
@@ -309,7 +322,7 @@ module _ (p : Paragraph) (from to : ℕ) (stack : State) (levels : List ℕ) (cl
 
   module _ (level : ℕ) (override : Option BidiClass) (now_levels : List ℕ) (now_classes : List BidiClass) (level_is : level ≡ stack.top.status.level)
       (override_is : override ≡ stack.top.status.override)
-      (filled_is : now_levels ≡ filled from (to - from) level levels) (over : IsOverridden override from to classes now_classes) (v : ℕ) (first : IsFirst is_kept_in_place p.original from to v) where
+      (filled_is : now_levels ≡ filled from (to - from) level levels) (over : IsOverridden override from to classes now_classes) (v : ℕ) (first : IsFirst (passing is_kept_in_place p.original) from to v) where
     -- its first kept character, if there is one, meets the run
     pub stretch-met : (some : Bool) → (some ≡ true → v < to) → (some ≡ false → to ≤ v) → (kept : Option ℕ) → kept ≡ then_some some v
         → IsReadTo p to stack now_levels now_classes (runs_met kept level run runs) (run_met kept level run)

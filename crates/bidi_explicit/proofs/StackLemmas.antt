@@ -1,11 +1,20 @@
 -- What the operations of the machine do to a stack of entries.
-use Rattle.bidi_base.proofs.Common.{◌≡◌, ℕ, ◌+◌, ◌-◌, ◌<◌, ◌≤◌, true, false, cond, List, [], ◌∷◌, ◌++◌, length, map, reverse, ◌∙◌, arith, common_steps, cond-true}
+use Rattle.bidi_base.proofs.Common.{◌≡◌, ℕ, ◌+◌, ◌-◌, ◌<◌, ◌≤◌, true, false, cond, List, [], ◌∷◌, ◌++◌, length, map, reverse, Option, Some, None, refl, sym, ap, ◌∙◌, arith, common_steps, cond-true}
 use Rattle.bidi_base.proofs.Common.{cond-false, reverse-append, length-reverse, length-map, is_initiator, is_opener, is_pdi, is_pdf, State, entry_of, taken, refused}
 use Rattle.bidi_base.proofs.Common.{entered, fits_in, drop_isolate, close_isolate, close_embedding, closed, opened, asked_level, override_of, IsWithinDepth}
+use Rattle.std.specs.Prelude.{IsSome}
+use Rattle.std.specs.Option.{option_to_list}
 use Rattle.bidi_base.specs.declared.char_data.BidiClass.{BidiClass}
 use Rattle.bidi_laws.proofs.StatusBounds.{IsTaken-room}
 use Rattle.bidi_explicit.specs.declared.explicit.status.StatusEntry.{StatusEntry}
-use Rattle.bidi_explicit.specs.Status.{entry_count, seen, state_by}
+use Rattle.bidi_explicit.specs.Status.{below_last, entry_count, seen, state_by, IsLast}
+
+-- the last entry, and those below it
+below_last-push : (xs : List StatusEntry) (x : StatusEntry) → below_last (xs ++ x ∷ []) ≡ reverse xs
+below_last-push xs x = simp reverse-append refl
+
+pub length-below_last : (x : StatusEntry) (xs : List StatusEntry) → IsLast x xs → length (below_last xs) + 1 ≡ length xs
+length-below_last x xs last = grind (arith, length-reverse, ap length last)
 
 -- a PDF
 pub close_embedding-inside : (x : StatusEntry) (xs : List StatusEntry) (i e v : ℕ) → 0 < i → state_by x xs i e v ≡ close_embedding (state_by x xs i e v)
@@ -20,19 +29,22 @@ pub close_embedding-isolate_top : (x : StatusEntry) (xs : List StatusEntry) (i e
 unfolding close_embedding
 close_embedding-isolate_top x xs i e v none zero_e top = grind arith
 
-pub close_embedding-alone : (x : StatusEntry) (below : List StatusEntry) (i e v : ℕ) → i ≡ 0 → e ≡ 0 → length below ≡ 0
-    → state_by x (reverse below) i e v ≡ close_embedding (state_by x (reverse below) i e v)
+pub close_embedding-alone : (x : StatusEntry) (xs : List StatusEntry) (i e v : ℕ) → i ≡ 0 → e ≡ 0 → length xs ≡ 0 → state_by x xs i e v ≡ close_embedding (state_by x xs i e v)
 unfolding close_embedding
 close_embedding-alone x [] i e v none zero_e few = grind (arith, common_steps)
-close_embedding-alone x (y ∷ below) i e v none zero_e few = absurd (omega arith)
+close_embedding-alone x (y ∷ xs) i e v none zero_e few = absurd (omega arith)
 
 close_embedding-pops : (x y : StatusEntry) (ys : List StatusEntry) (i e v : ℕ) → i ≡ 0 → e ≡ 0 → x.is_isolate ≡ false → state_by y ys i e v ≡ close_embedding (state_by x (y ∷ ys) i e v)
 unfolding close_embedding
 close_embedding-pops x y ys i e v none zero_e top = grind (arith, common_steps)
 
-pub close_embedding-popped : (x y : StatusEntry) (old new : List StatusEntry) (i e v : ℕ) → i ≡ 0 → e ≡ 0 → old ≡ new ++ y ∷ [] → x.is_isolate ≡ false
-    → state_by y (reverse new) i e v ≡ close_embedding (state_by x (reverse old) i e v)
-close_embedding-popped x y old new i e v none zero_e is top = simp (is, reverse-append) (close_embedding-pops x y (reverse new) i e v none zero_e top)
+pub close_embedding-popped : (x y : StatusEntry) (z : Option StatusEntry) (old new : List StatusEntry) (i e v : ℕ) → i ≡ 0 → e ≡ 0 → IsSome z → old ≡ new ++ option_to_list z → IsLast y new
+    → x.is_isolate ≡ false → state_by y (below_last new) i e v ≡ close_embedding (state_by x (below_last old) i e v)
+close_embedding-popped x y None old new i e v none zero_e some is last top = absurd (grind (arith, some))
+close_embedding-popped x y (Some z) old new i e v none zero_e some is last top =
+    rw (ap below_last is ∙ below_last-push new z ∙ last) (close_embedding-pops x y (below_last new) i e v none zero_e top)
+
+pub ruleset embedding_closings = (close_embedding-inside, close_embedding-overflowed, close_embedding-isolate_top, close_embedding-alone, close_embedding-popped, length-below_last)
 
 -- a PDI
 pub close_isolate-inside : (x : StatusEntry) (xs : List StatusEntry) (i e v : ℕ) → 0 < i → state_by x xs (i - 1) e v ≡ close_isolate (state_by x xs i e v)
@@ -43,17 +55,24 @@ pub close_isolate-unmatched : (x : StatusEntry) (xs : List StatusEntry) (i e v :
 unfolding close_isolate
 close_isolate-unmatched x xs i e v none zero_v = grind arith
 
-pub close_isolate-pops : (x z : StatusEntry) (xs zs : List StatusEntry) (i e v : ℕ) → i ≡ 0 → 0 < v → drop_isolate (seen x ∷ map seen xs) ≡ seen z ∷ map seen zs
+close_isolate-pops : (x z : StatusEntry) (xs zs : List StatusEntry) (i e v : ℕ) → i ≡ 0 → 0 < v → drop_isolate (seen x ∷ map seen xs) ≡ seen z ∷ map seen zs
     → state_by z zs i 0 (v - 1) ≡ close_isolate (state_by x xs i e v)
 unfolding close_isolate
 close_isolate-pops x z xs zs i e v none some drops = grind arith
 
+pub close_isolate-popped : (x z : StatusEntry) (old new : List StatusEntry) (i e v : ℕ) → i ≡ 0 → 0 < v → drop_isolate (map seen (reverse old)) ≡ map seen (reverse new) → IsLast x old → IsLast z new
+    → state_by z (below_last new) i 0 (v - 1) ≡ close_isolate (state_by x (below_last old) i e v)
+close_isolate-popped x z old new i e v none some drops last now =
+    close_isolate-pops x z (below_last old) (below_last new) i e v none some (ap (λ es. drop_isolate (map seen es)) (sym last) ∙ drops ∙ ap (map seen) now)
+
+pub ruleset isolate_closings = (close_isolate-inside, close_isolate-unmatched, close_isolate-popped)
+
 -- an opener
-pub entered_pushed : (c : BidiClass) (s : State) (x y : StatusEntry) (below new : List StatusEntry) (i e v w : ℕ) → state_by x (reverse below) i e v ≡ s → new ≡ below ++ x ∷ []
+pub entered_pushed : (c : BidiClass) (s : State) (x y : StatusEntry) (old new : List StatusEntry) (i e v w : ℕ) → state_by x (below_last old) i e v ≡ s → IsLast x old → new ≡ old ++ y ∷ []
     → fits_in c s ≡ true → seen y ≡ entry_of c s → w ≡ v + cond (is_initiator c) 1 0
-    → state_by y (reverse new) i e w ≡ entered c s
+    → state_by y (below_last new) i e w ≡ entered c s
 unfolding entered
-entered_pushed c s x y below new i e v w is pushed fits same more = simp (pushed, reverse-append, ← is) (grind (arith, common_steps))
+entered_pushed c s x y old new i e v w is last pushed fits same more = rw (ap below_last pushed ∙ below_last-push old y ∙ last) (simp (← is) (grind (arith, common_steps)))
 
 -- the entry that it pushes
 pub entry-is : (c : BidiClass) (s : State) (entry : StatusEntry) → entry.level ≡ asked_level c s.top.status.level → entry.override_class ≡ override_of c → entry.is_isolate ≡ is_initiator c
@@ -109,7 +128,7 @@ unfolding opened
 opened-other c s e = cond-false (is_opener c) _ _ e
 
 -- it finds room
-pub fits_in-room : (paragraph : ℕ) (c : BidiClass) (s : State) (x : StatusEntry) (below : List StatusEntry) (i e v : ℕ) → state_by x (reverse below) i e v ≡ s → IsWithinDepth paragraph s
-    → fits_in c s ≡ true → length below < 125
-fits_in-room paragraph c s x below i e v is depth fits =
-    grind (arith, length-map, length-reverse, IsTaken-room paragraph c s depth)
+pub fits_in-room : (paragraph : ℕ) (c : BidiClass) (s : State) (x : StatusEntry) (entries : List StatusEntry) (i e v : ℕ) → state_by x (below_last entries) i e v ≡ s → IsLast x entries
+    → IsWithinDepth paragraph s → fits_in c s ≡ true → length entries < 126
+fits_in-room paragraph c s x entries i e v is last depth fits =
+    grind (arith, length-map, length-below_last x entries last, IsTaken-room paragraph c s depth)

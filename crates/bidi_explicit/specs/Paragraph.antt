@@ -4,12 +4,12 @@ use Rattle.std.specs.declared.ops.Range.{Range}
 use Rattle.bidi_base.specs.declared.char_data.BidiClass.{BidiClass}
 use Rattle.bidi_base.specs.InPlace.{AreExplicitLevels}
 use Rattle.bidi_base.specs.Places.{class_at}
-use Rattle.bidi_base.specs.Search.{IsFirst}
+use Rattle.bidi_base.specs.Search.{passing, IsFirst}
 use Rattle.bidi_base.specs.Text.{char_index, is_boundary, IsNextPlace}
 use Rattle.bidi_base.specs.Units.{bounds}
 use Rattle.bidi_explicit.specs.Control.{is_control}
 use Rattle.bidi_explicit.specs.ExplicitStretches.{Paragraph as SeenParagraph, paragraph_of}
-use Rattle.bidi_explicit.specs.Stride.{count_of, count_to}
+use Rattle.bidi_explicit.specs.Stride.{count_of, count_to, least_of}
 use Rattle.bidi_explicit.specs.declared.explicit.stretches.Paragraph.{Paragraph}
 
 module _ {T C I L : Type 0} {t : _} {c : _} {i : _} {l : _} (paragraph : Paragraph T C I L t c i l) where
@@ -46,21 +46,25 @@ module _ {T C I L : Type 0} {t : _} {c : _} {i : _} {l : _} (paragraph : Paragra
 
   -- the first code unit of a range whose class passes a test, or else the end of the range
   abbrev pub IsFirstPassing : (BidiClass → Bool) → ℕ → ℕ → ℕ → Type 0
-  IsFirstPassing test from to u = IsFirst test paragraph.original_classes.now from to u
+  IsFirstPassing test from to u = IsFirst (passing test paragraph.original_classes.now) from to u
 
   -- ---- counts
 
-  -- how many characters it has
-  abbrev pub char_count : ℕ
-  char_count = length (t.characters paragraph.text)
+  -- how many steps the pass takes at least: one for each character, if it goes from character to character
+  abbrev pub least_count : ℕ
+  least_count = least_of paragraph.stride (length (t.characters paragraph.text))
 
   -- how many characters, or how many code units, the paragraph has: the paragraph's stride says which
   abbrev pub whole_count : ℕ
-  whole_count = count_of paragraph.stride (length paragraph.original_classes.now) char_count
+  whole_count = count_of paragraph.stride (length paragraph.original_classes.now) (length (t.characters paragraph.text))
 
   -- how many characters are before a code unit
   abbrev pub chars_to : ℕ → ℕ
   chars_to u = char_index t.units (t.characters paragraph.text) u
+
+  -- how many steps it takes at least for what is before a code unit
+  abbrev pub least_to : ℕ → ℕ
+  least_to u = least_of paragraph.stride (chars_to u)
 
   -- how many characters, or how many code units, are before a code unit: the paragraph's stride says which
   abbrev pub counted_to : ℕ → ℕ
@@ -69,7 +73,3 @@ module _ {T C I L : Type 0} {t : _} {c : _} {i : _} {l : _} (paragraph : Paragra
   -- a count went up by one for each character from one place to another
   abbrev pub AreCharsCounted : ℕ → ℕ → ℕ → ℕ → Type 0
   AreCharsCounted from to old new = new + chars_to from ≡ old + chars_to to
-
-  -- a count went up by one for each character, or for each code unit, from one place to another: the paragraph's stride says which
-  abbrev pub AreCounted : ℕ → ℕ → ℕ → ℕ → Type 0
-  AreCounted from to old new = new + counted_to from ≡ old + counted_to to

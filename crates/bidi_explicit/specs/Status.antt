@@ -1,5 +1,5 @@
 -- The status stack in code as the state of the machine.
-use Rattle.std.specs.Prelude.{ℕ, ◌+◌, List, ◌∷◌, length, map, reverse}
+use Rattle.std.specs.Prelude.{◌≡◌, ℕ, ◌+◌, List, ◌∷◌, drop, length, map, reverse}
 use Rattle.bidi_base.specs.StatusMachine.{Entry, State}
 use Rattle.bidi_explicit.specs.declared.explicit.status.StatusEntry.{StatusEntry}
 
@@ -7,9 +7,13 @@ use Rattle.bidi_explicit.specs.declared.explicit.status.StatusEntry.{StatusEntry
 abbrev pub seen : StatusEntry → Entry
 seen e = record { status = record { level = e.level; override = e.override_class }; is_isolate = e.is_isolate }
 
--- the entries of a stack, innermost first: the one on top, then those below it, which the code keeps outermost first
-abbrev pub entries : StatusEntry → List StatusEntry → List Entry
-entries top below = seen top ∷ map seen (reverse below)
+-- the entries below the last one, innermost first
+abbrev pub below_last : List StatusEntry → List StatusEntry
+below_last entries = drop 1 (reverse entries)
+
+-- the entry is the last one of a stack. The code keeps the entries outermost first
+abbrev pub IsLast : StatusEntry → List StatusEntry → Type 0
+IsLast top entries = reverse entries ≡ top ∷ below_last entries
 
 -- the entry on top, the entries below it, innermost first, and the counts
 abbrev pub state_by : StatusEntry → List StatusEntry → ℕ → ℕ → ℕ → State

@@ -13,3 +13,8 @@ count_to CodeUnit len_of chars u = u
 abbrev pub count_of : Stride → ℕ → ℕ → ℕ
 count_of Character units chars = chars
 count_of CodeUnit units chars = units
+
+-- at least so many of these characters take a step each: all of them, or none where a search takes many code units in one step
+abbrev pub least_of : Stride → ℕ → ℕ
+least_of Character chars = chars
+least_of CodeUnit chars = 0

@@ -4,12 +4,12 @@
 ghost use Rattle.std.specs.Prelude.{◌≡◌, ℕ, ◌+◌, ◌*◌, ◌-◌, ◌≤◌, length, map, OnOk, IfOk};
 ghost use Rattle.bidi_base.specs.InPlace.{AreExplicitLevels, CanFindExplicitLevels};
 ghost use Rattle.bidi_base.specs.Units.{bounds};
-ghost use Rattle.bidi_explicit.specs.Paragraph.{AreLevelsOf, CanFindLevels, char_count, whole_count};
+ghost use Rattle.bidi_explicit.specs.Paragraph.{AreLevelsOf, CanFindLevels, least_count, whole_count};
 ghost use Rattle.bidi_runs.specs.ExplicitPass.{filled, runs_before, run_start as run_start_after};
 
+mod overrides;
 mod status;
 mod stretches;
-mod units;
 
 use bidi_base::char_data::BidiClass;
 use bidi_base::level::Level;
@@ -151,7 +151,7 @@ fn cut_run(
 /// Returns an error only if `runs`, which has its own allocator, cannot grow. The slices and the runs may
 /// then hold anything. Nothing else allocates. The allocator that is passed is not used.
 pub fn compute<T: TextSource>(
-    _alloc: Global,
+    alloc: Global,
     text: T,
     para_level: Level,
     original_classes: &[BidiClass],
@@ -164,8 +164,48 @@ pub fn compute<T: TextSource>(
     ensures { OnOk result (AreExplicitLevels T.units (T.characters text) para_level original_classes.now levels.new
         processing_classes.new (map bounds runs.new.items)) }
 {
-    let paragraph = Paragraph::new(text, para_level, Stride::Character, original_classes);
-    find_levels(&paragraph, levels, processing_classes, runs)
+    compute_with_new_count::<T, Brand>(
+        alloc,
+        text,
+        para_level,
+        original_classes,
+        levels,
+        processing_classes,
+        runs,
+        Blank::new(1),
+    )
+}
+
+// Calls [`compute_counted`] with a new count.
+fn compute_with_new_count<T: TextSource, S: Ledger>(
+    alloc: Global,
+    text: T,
+    para_level: Level,
+    original_classes: &[BidiClass],
+    levels: &mut [Level],
+    processing_classes: &mut [BidiClass],
+    runs: &mut LevelRunVec,
+    blank: Blank,
+) -> Result<(), AllocError>
+    requires paragraph { CanFindExplicitLevels T.units (T.characters text) para_level original_classes.now levels.old
+        processing_classes.old (map bounds runs.old.items) }
+    requires name { blank.name ≡ S.name }
+    requires parts { blank.parts ≡ S.parts }
+    requires one { blank.parts ≡ 1 }
+    ensures { OnOk result (AreExplicitLevels T.units (T.characters text) para_level original_classes.now levels.new
+        processing_classes.new (map bounds runs.new.items)) }
+{
+    let mut steps = Steps::<S>::new(blank);
+    compute_counted(
+        alloc,
+        text,
+        para_level,
+        original_classes,
+        levels,
+        processing_classes,
+        runs,
+        &mut steps,
+    )
 }
 
 /// Like [`compute`], and counts each loop iteration in `steps`, including those of the functions it calls.
@@ -191,91 +231,32 @@ pub fn compute_counted<T: TextSource, S: Ledger>(
     ensures at_most { OnOk result (steps.new ≤ steps.old + 4 * length (T.characters text)) }
 {
     let paragraph = Paragraph::new(text, para_level, Stride::Character, original_classes);
-    let blank = Blank::new(1);
-    find_levels_searching::<T, S, Brand>(&paragraph, levels, processing_classes, runs, steps, blank)
+    find_levels_counted(&paragraph, levels, processing_classes, runs, steps)
 }
 
-/// Finds the explicit levels of a paragraph, its classes under overrides and its level runs, as [`compute`] does.
+/// Finds the explicit levels of a paragraph, its classes under overrides and its level runs, as [`compute`] does, and
+/// counts each loop iteration in `steps`, including those of the functions it calls.
 ///
 /// `levels` must be as long as the paragraph's stored classes, and gets the levels. `classes` must be a copy of the
 /// stored classes, and gets the classes under overrides. `runs` must be empty, and gets the level runs. If an
 /// allocation fails, returns an error, and all three may hold anything.
-pub fn find_levels<T: TextSource>(
-    paragraph: &Paragraph<'_, T>,
-    levels: &mut [Level],
-    classes: &mut [BidiClass],
-    runs: &mut LevelRunVec,
-) -> Result<(), AllocError>
-    requires { CanFindLevels paragraph.now levels.old classes.old runs.old.items }
-    ensures { OnOk result (AreLevelsOf paragraph.now levels.new classes.new runs.new.items) }
-{
-    find_levels_fresh::<T, Brand>(paragraph, levels, classes, runs, Blank::new(1))
-}
-
-// Calls [`find_levels_searching`] with a new count of steps.
-fn find_levels_fresh<T: TextSource, S: Ledger>(
-    paragraph: &Paragraph<'_, T>,
-    levels: &mut [Level],
-    classes: &mut [BidiClass],
-    runs: &mut LevelRunVec,
-    blank: Blank,
-) -> Result<(), AllocError>
-    requires paragraph { CanFindLevels paragraph.now levels.old classes.old runs.old.items }
-    requires name { blank.name ≡ S.name }
-    requires parts { blank.parts ≡ S.parts }
-    requires one { blank.parts ≡ 1 }
-    ensures { OnOk result (AreLevelsOf paragraph.now levels.new classes.new runs.new.items) }
-{
-    let mut steps = Steps::<S>::new(blank);
-    let blank = Blank::new(1);
-    find_levels_searching::<T, S, Brand>(paragraph, levels, classes, runs, &mut steps, blank)
-}
-
-// Calls [`find_levels_counted`] with a new count of code units that searches look at.
-fn find_levels_searching<T: TextSource, S: Ledger, L: Ledger>(
+///
+/// With [`Stride::Character`] there is at least one iteration for each character, and at most four. With
+/// [`Stride::CodeUnit`] there are at most four for each code unit. No lower bound holds there, because a search tests
+/// sixteen code units in one iteration. The iterations that pop the status stack at a PDI are charged to the
+/// initiators that filled it. Calls of the text and of the library count as no iterations. After an error nothing is
+/// promised about the count.
+pub fn find_levels_counted<T: TextSource, S: Ledger>(
     paragraph: &Paragraph<'_, T>,
     levels: &mut [Level],
     classes: &mut [BidiClass],
     runs: &mut LevelRunVec,
     steps: &mut Steps<S>,
-    blank: Blank,
-) -> Result<(), AllocError>
-    requires paragraph { CanFindLevels paragraph.now levels.old classes.old runs.old.items }
-    requires name { blank.name ≡ L.name }
-    requires parts { blank.parts ≡ L.parts }
-    requires one { blank.parts ≡ 1 }
-    ensures found { OnOk result (AreLevelsOf paragraph.now levels.new classes.new runs.new.items) }
-    ensures at_least { OnOk result (steps.old + char_count paragraph.now ≤ steps.new) }
-    ensures at_most { OnOk result (steps.new ≤ steps.old + 4 * whole_count paragraph.now) }
-{
-    let mut looked = Steps::<L>::new(blank);
-    find_levels_counted(paragraph, levels, classes, runs, steps, &mut looked)
-}
-
-/// Like [`find_levels`], and keeps two counts.
-///
-/// In `steps` each loop iteration counts one, including those of the functions it calls. A search for a
-/// class counts one for each code unit that it passes over, or for each character with [`Stride::Character`].
-/// There is at least one step for each character of the paragraph. There are at most four for each code unit,
-/// or for each character with [`Stride::Character`]. The iterations that pop the status stack at a PDI are
-/// charged to the initiators that filled it. Calls of the text and of the standard library count as no steps.
-///
-/// In `looked` a search by code units counts each one that it looks at. These are at most twelve for each
-/// code unit of the paragraph: six to find the end of its stretch, and six to find the first code unit that
-/// X9 keeps. After an error nothing is promised about the counts.
-pub fn find_levels_counted<T: TextSource, S: Ledger, L: Ledger>(
-    paragraph: &Paragraph<'_, T>,
-    levels: &mut [Level],
-    classes: &mut [BidiClass],
-    runs: &mut LevelRunVec,
-    steps: &mut Steps<S>,
-    looked: &mut Steps<L>,
 ) -> Result<(), AllocError>
     requires { CanFindLevels paragraph.now levels.old classes.old runs.old.items }
     ensures found { OnOk result (AreLevelsOf paragraph.now levels.new classes.new runs.new.items) }
-    ensures at_least { OnOk result (steps.old + char_count paragraph.now ≤ steps.new) }
+    ensures at_least { OnOk result (steps.old + least_count paragraph.now ≤ steps.new) }
     ensures at_most { OnOk result (steps.new ≤ steps.old + 4 * whole_count paragraph.now) }
-    ensures looked { OnOk result (looked.new ≤ looked.old + 12 * length paragraph.now.original_classes.now) }
 {
     let original_classes = paragraph.original_classes;
     let units = original_classes.len();
@@ -287,7 +268,7 @@ pub fn find_levels_counted<T: TextSource, S: Ledger, L: Ledger>(
         let progress = if is_control(original_classes[at]) {
             paragraph.read_control(at, &mut stack, levels, classes, steps)
         } else {
-            let stretch = paragraph.read_stretch(at, stack.top(), classes, steps, looked);
+            let stretch = paragraph.read_stretch(at, stack.top(), classes, steps);
             write_level(levels, at, stretch.end, stretch.level);
             stretch
         };

@@ -1,7 +1,6 @@
 pub mod Distinct
 pub mod FoundRuns
 pub mod Gathered
-pub mod Lanes
 pub mod Least
 pub mod LineInText
 pub mod LineLevels

@@ -1,10 +1,10 @@
 -- L1 along a line: the level that each place takes, and what a pass over the line keeps true.
 use Rattle.bidi_base.proofs.Common.{◌≡◌, ℕ, zero, suc, ◌+◌, ◌-◌, ◌<◌, ◌≤◌, ◌≢◌, if◌then◌else◌, ◌&&◌, ◌||◌, Bool, true, false, not, nat_lt, List, [], ◌∷◌, length, get_or, drop, set, refl, sym, ap}
-use Rattle.bidi_base.proofs.Common.{◌∙◌, arith, inl, inr, drop-cons, get_or-set_other, get_or-set_same, add-zero, common_steps, same_number_lists, cases_lt, cases_Bool, get_or_default}
+use Rattle.bidi_base.proofs.Common.{◌∙◌, arith, inl, inr, drop-cons, get_or-set_other, get_or-set_same, add-zero, common_steps, nat_tests, same_number_lists, cases_lt, cases_Bool, get_or_default}
 use Rattle.bidi_base.proofs.Common.{list_any_at, list_any_none, is_removed, is_odd, has_rtl, is_reset, line_levels_after, line_levels, class_at, length-set, is_separator, is_blank}
 use Rattle.bidi_base.specs.declared.char_data.BidiClass.{BidiClass}
 use Rattle.bidi_base.specs.declared.char_data.BidiClass.TheVariants.{L}
-use Rattle.bidi_lines.specs.Stops.{is_stop, IsSteadyAt}
+use Rattle.bidi_lines.specs.Stops.{is_stop, is_break_at}
 
 -- ---- classes
 
@@ -163,15 +163,15 @@ module _ (level : ℕ) (classes : List BidiClass) (old new : List ℕ) (start be
       → IsSweptTo level classes old new start before i → IsSweptTo level classes old new start (level_before level new to) to
   IsSweptTo-plain order plain h = swept order (λ k a b. grind (arith, plain k a b)) (λ k a b. grind (arith, plain k a b, h.rest k a)) h
 
-  steady_level : (k : ℕ) → 0 < k → IsSteadyAt classes new k → get_or new k 0 ≡ get_or old k 0 → get_or new k 0 ≡ kept_level level classes old new k
-  steady_level zero some s same = absurd (omega arith)
-  steady_level (suc k) some s same = grind (arith, s.follows)
+  steady_level : (k : ℕ) → 0 < k → is_break_at classes new k ≡ false → get_or new k 0 ≡ get_or old k 0 → get_or new k 0 ≡ kept_level level classes old new k
+  steady_level zero some steady same = absurd (omega arith)
+  steady_level (suc k) some steady same = grind (arith, nat_tests)
 
   -- one of units that keep the level that they have, or that of the unit before
-  pub IsSweptTo-steady : 0 < i → i ≤ to → ((k : ℕ) → i ≤ k → k < to → IsSteadyAt classes new k)
+  pub IsSweptTo-steady : 0 < i → i ≤ to → ((k : ℕ) → i ≤ k → k < to → is_break_at classes new k ≡ false)
       → IsSweptTo level classes old new start before i → IsSweptTo level classes old new start (level_before level new to) to
   IsSweptTo-steady some order steady h =
-      swept order (λ k a b. (steady k a b).apart) (λ k a b. steady_level k (omega arith) (steady k a b) (h.rest k a)) h
+      swept order (λ k a b. let here = steady k a b in grind arith) (λ k a b. steady_level k (omega arith) (steady k a b) (h.rest k a)) h
 
 module _ (level : ℕ) (classes : List BidiClass) (old new : List ℕ) (start before i : ℕ) where
   -- a removed unit takes the level before it

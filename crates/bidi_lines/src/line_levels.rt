@@ -1,25 +1,23 @@
 //! The levels of a line (L1).
 
-ghost use Rattle.std.specs.Prelude.{◌≡◌, ℕ, ◌+◌, ◌<◌, ◌≤◌, ◌&&◌, ◌||◌, not, nat_lt, true, false, if◌then◌else◌, length, slice_index, take, IfOk};
+ghost use Rattle.std.specs.Prelude.{◌≡◌, ℕ, ◌+◌, ◌-◌, ◌<◌, ◌≤◌, ◌&&◌, ◌||◌, not, nat_lt, true, false, if◌then◌else◌, length, min, slice_index, take, IfOk};
 ghost use Rattle.bidi_base.specs.Classes.{is_removed, is_separator};
 ghost use Rattle.bidi_base.specs.Levels.{is_odd, has_rtl};
 ghost use Rattle.bidi_base.specs.Line.{is_blank, line_levels, levels_of_line, levels_with_line};
 ghost use Rattle.bidi_base.specs.Places.{class_at};
+ghost use Rattle.bidi_base.specs.Search.{IsFirst};
 ghost use Rattle.bidi_base.specs.Text.{text_len, per_char};
 ghost use Rattle.bidi_lines.specs.Arranged.{SameBelow, SameFrom};
-ghost use Rattle.bidi_lines.specs.Stops.{AreBlanks, AreSteady, CanFindSteadyEnd, IsSteady, IsSteadyAt, IsSteadyUpTo};
+ghost use Rattle.bidi_lines.specs.Stops.{is_break, is_break_at};
 
 use crate::stored::ClassList;
-use crate::visual_order::first_other;
 use bidi_base::char_data::BidiClass;
 use bidi_base::classes::{is_blank, is_removed, is_separator};
 use bidi_base::level::{Level, has_rtl};
+use bidi_base::search::{Tested, end_of_last_passing, first_passing};
 use bidi_text::text::TextSource;
 use std::alloc::{AllocError, Global};
 use std::ops::Range;
-
-// Most lines end with fewer blanks than this. Further blanks are tested 16 at a time.
-const FEW_BLANKS: usize = 8;
 
 // Sets the levels with indexes from `from` up to `to`.
 fn write_level(levels: &mut [Level], from: usize, to: usize, level: Level)
@@ -32,7 +30,7 @@ fn write_level(levels: &mut [Level], from: usize, to: usize, level: Level)
     levels[from..to].fill(level);
 }
 
-// Returns whether a class is a blank. It has no branch, so a loop tests many units at once.
+// Returns whether a class is a blank. It has no branch, so that many units are tested at once.
 fn is_blank_unit(class: BidiClass) -> bool
     ensures { result ≡ is_blank class }
 {
@@ -44,35 +42,28 @@ fn is_blank_unit(class: BidiClass) -> bool
         | is_removed(class)
 }
 
-// Returns whether the 16 units from `from` on are blanks.
-fn are_blanks<C: ClassList>(classes: C, from: usize) -> bool
-    requires within { from + 16 ≤ length (C.classes classes) }
-    requires fits { from + 16 ≤ usize.MAX }
-    ensures { result ≡ true → AreBlanks (C.classes classes) from (from + 16) }
-{
-    let mut all = true;
-    for j in 0..16 {
-        all = all & is_blank_unit(classes.class_at(from + j));
-    }
-    all
+/// The units of a line, with a test for those that are not blanks.
+#[derive(Clone, Copy, Debug)]
+struct NoBlanks<C: ClassList> {
+    classes: C,
 }
 
-// Returns the start of the blocks of 16 blanks that end the range from `from` to `to`, or `to` if there are none. Not
-// inlined: few lines get here, and its code would slow the callers.
-#[inline(never)]
-fn blank_blocks_start<C: ClassList>(classes: C, from: usize, to: usize) -> usize
-    requires begins { from ≤ to }
-    requires ends { to ≤ length (C.classes classes) }
-    ensures begins { from ≤ result }
-    ensures ends { result ≤ to }
-    ensures blank { AreBlanks (C.classes classes) result to }
-{
-    let mut start = to;
-    while start - from >= 16 && are_blanks(classes, start - 16) {
-        start -= 16;
+impl<C: ClassList> Tested for NoBlanks<C> {
+    ghost count = { λ units. length (C.classes units.classes) };
+
+    ghost passes = { λ units index. not (is_blank (class_at (C.classes units.classes) index)) };
+
+    fn len(self) -> usize {
+        self.classes.len()
     }
-    start
+
+    fn passes(self, index: usize) -> bool {
+        !is_blank_unit(self.classes.class_at(index))
+    }
 }
+
+// Most lines end with fewer blanks than this. Further blanks are tested sixteen at a time.
+const FEW_BLANKS: usize = 2;
 
 // Returns the start of the blanks that end the range from `from` to `to`, or `to` if there are none.
 fn blanks_start<C: ClassList>(classes: C, from: usize, to: usize) -> usize
@@ -80,82 +71,57 @@ fn blanks_start<C: ClassList>(classes: C, from: usize, to: usize) -> usize
     requires ends { to ≤ length (C.classes classes) }
     ensures begins { from ≤ result }
     ensures ends { result ≤ to }
-    ensures blank { AreBlanks (C.classes classes) result to }
+    ensures blank { (k : ℕ) → result ≤ k → k < to → is_blank (class_at (C.classes classes) k) ≡ true }
     ensures stops { (k : ℕ) → from < result → k + 1 ≡ result → is_blank (class_at (C.classes classes) k) ≡ false }
 {
-    let mut start = to;
-    while start > from && is_blank(classes.class_at(start - 1)) {
-        start -= 1;
-        if to - start == FEW_BLANKS {
-            start = blank_blocks_start(classes, from, start);
-        }
+    // Most lines end without blanks.
+    if from == to || !is_blank(classes.class_at(to - 1)) {
+        return to;
     }
-    start
+    end_of_last_passing(NoBlanks { classes }, FEW_BLANKS, from, to)
 }
 
 // Returns whether the pass of L1 stops at a unit that comes after another one: at a separator, and at a unit that X9
-// removes, unless it has the level of the unit before it. It has no branch, so a loop tests many units at once.
+// removes, unless it has the level of the unit before it. It has no branch, so that many units are tested at once.
 fn is_break(class: BidiClass, before: Level, own: Level) -> bool
-    ensures { result ≡ false → IsSteady class before own }
+    ensures { result ≡ is_break class before own }
 {
     is_separator(class) | (is_removed(class) & (before.number() != own.number()))
 }
 
-// Writes 1 for each unit from `from` on at which the pass of L1 stops, and 0 for the others.
-fn mark_breaks<C: ClassList>(classes: C, levels: &[Level], from: usize, marks: &mut [u8])
+/// The units of a line after the first one, with a test for those at which the pass of L1 stops.
+#[derive(Clone, Copy, Debug)]
+struct Breaks<'l, C: ClassList> {
+    classes: C,
+    levels: &'l [Level],
+}
+
+impl<'l, C: ClassList> Tested for Breaks<'l, C> {
+    ghost count = { λ units. min (length (C.classes units.classes)) (length units.levels.now) - 1 };
+
+    ghost passes = { λ units index. is_break_at (C.classes units.classes) units.levels.now (index + 1) };
+
+    fn len(self) -> usize {
+        self.classes.len().min(self.levels.len()).saturating_sub(1)
+    }
+
+    fn passes(self, index: usize) -> bool {
+        is_break(
+            self.classes.class_at(index + 1),
+            self.levels[index],
+            self.levels[index + 1],
+        )
+    }
+}
+
+// Returns the first index after `at` at which the pass of L1 stops, or the number of units if there is none. The first
+// unit is tested by itself: in a stretch of removed units that get another level, the pass stops at each.
+fn next_break<C: ClassList>(classes: C, levels: &[Level], at: usize) -> usize
     requires same_len { length levels.now ≡ length (C.classes classes) }
-    requires begins { 0 < from }
-    requires ends { from + length marks.old ≤ length levels.now }
-    ensures { (j : ℕ) → j < length marks.old → slice_index marks.new j ≡ 0 → IsSteadyAt (C.classes classes) levels.now (from + j) }
+    requires within { at < length levels.now }
+    ensures { IsFirst (is_break_at (C.classes classes) levels.now) (at + 1) (length levels.now) result }
 {
-    for j in 0..marks.len() {
-        let at = from + j;
-        marks[j] = u8::from(is_break(classes.class_at(at), levels[at - 1], levels[at]));
-    }
-}
-
-// Returns how many of the 16 units from `from` on come before the first one at which the pass of L1 stops.
-fn first_break<C: ClassList>(classes: C, levels: &[Level], from: usize) -> usize
-    requires same_len { length levels.now ≡ length (C.classes classes) }
-    requires begins { 0 < from }
-    requires ends { from + 16 ≤ length levels.now }
-    ensures within { result ≤ 16 }
-    ensures steady { AreSteady (C.classes classes) levels.now from (from + result) }
-{
-    let mut marks = [0u8; 16];
-    mark_breaks(classes, levels, from, &mut marks);
-    first_other(marks.as_slice(), 0, 0)
-}
-
-// Returns what `steady_end` returns, and tests 16 units at once from the start.
-fn steady_end_by_blocks<C: ClassList>(classes: C, levels: &[Level], from: usize) -> usize
-    requires { CanFindSteadyEnd (C.classes classes) levels.now from }
-    ensures { IsSteadyUpTo (C.classes classes) levels.now from result }
-{
-    let mut at = from;
-    while levels.len() - at >= 16 {
-        let count = first_break(classes, levels, at);
-        at += count;
-        if count < 16 {
-            return at;
-        }
-    }
-    while at < levels.len() && !is_break(classes.class_at(at), levels[at - 1], levels[at]) {
-        at += 1;
-    }
-    at
-}
-
-// Returns the first index from `from` on at which the pass of L1 stops, or the number of units if there is none. The
-// first unit is tested by itself: in a stretch of removed units that get another level, the pass stops at each.
-fn steady_end<C: ClassList>(classes: C, levels: &[Level], from: usize) -> usize
-    requires { CanFindSteadyEnd (C.classes classes) levels.now from }
-    ensures { IsSteadyUpTo (C.classes classes) levels.now from result }
-{
-    if from == levels.len() || is_break(classes.class_at(from), levels[from - 1], levels[from]) {
-        return from;
-    }
-    steady_end_by_blocks(classes, levels, from)
+    first_passing(Breaks { classes, levels }, 1, at, levels.len() - 1) + 1
 }
 
 /// Applies L1 to the levels of a line.
@@ -183,7 +149,7 @@ pub fn reset_levels<C: ClassList>(level: Level, classes: C, levels: &mut [Level]
             start = at;
         } else if is_removed(class) {
             levels[at] = before;
-            at = steady_end(classes, levels, at + 1);
+            at = next_break(classes, levels, at);
             before = levels[at - 1];
         } else {
             at = classes.next_stop(at);

@@ -1,20 +1,19 @@
 //! Lists of stored classes and levels, as `BidiClass` and `Level` or as numbers.
 
-ghost use Rattle.std.specs.Prelude.{◌≡◌, ℕ, ◌+◌, ◌<◌, ◌≤◌, Bool, IsTrue, ⊤, false, nat_lt, List, length, slice_index};
+ghost use Rattle.std.specs.Prelude.{◌≡◌, ℕ, ◌+◌, ◌<◌, IsTrue, ⊤, false, nat_lt, List, length, slice_index};
 ghost use Rattle.std.specs.List.{list_all};
-ghost use lib.Lanes.{chunk};
 ghost use Rattle.bidi_base.specs.declared.char_data.BidiClass.{BidiClass};
 ghost use Rattle.bidi_base.specs.Levels.{has_rtl};
 ghost use Rattle.bidi_base.specs.Places.{class_at};
-ghost use Rattle.bidi_base.specs.Search.{IsFirst};
+ghost use Rattle.bidi_base.specs.Search.{IsFirst, passing};
 ghost use Rattle.bidi_lines.specs.Stops.{is_stop};
 
 use bidi_base::char_data::BidiClass;
 use bidi_base::classes::{is_removed, is_separator};
 use bidi_base::level::{Level, MAX_IMPLICIT_DEPTH, has_rtl};
-use bidi_base::search::{ClassTest, first_passing};
+use bidi_base::search::{Among, ClassTest, first_passing};
 
-/// Tests for separators and characters that X9 removes. It has no branch, so a loop tests many units at once.
+/// Tests for separators and characters that X9 removes. It has no branch, so that many units are tested at once.
 #[derive(Clone, Copy, Debug)]
 struct SeparatorOrRemoved;
 
@@ -48,7 +47,7 @@ pub trait ClassList: Copy {
     fn next_stop(self, index: usize) -> usize
         requires within { index < length (classes self) }
         requires other { is_stop (class_at (classes self) index) ≡ false }
-        ensures { IsFirst is_stop (classes self) (index + 1) (length (classes self)) result };
+        ensures { IsFirst (passing is_stop (classes self)) (index + 1) (length (classes self)) result };
 }
 
 impl<'t> ClassList for &'t [BidiClass] {
@@ -62,23 +61,16 @@ impl<'t> ClassList for &'t [BidiClass] {
         self[index]
     }
 
-    // The last block may overlap the one before it: lines are short, and testing the rest one by one would cost more
-    // than the blocks.
     fn next_stop(self, index: usize) -> usize {
-        let end = self.len();
-        if end - index <= 16 {
-            return first_passing(SeparatorOrRemoved, self, index, end);
-        }
-        let last = end - 16;
-        let found = first_passing(SeparatorOrRemoved, self, index, last);
-        if found < last {
-            return found;
-        }
-        first_passing(SeparatorOrRemoved, self, last, end)
+        let stops = Among {
+            test: SeparatorOrRemoved,
+            classes: self,
+        };
+        first_passing(stops, 0, index + 1, self.len())
     }
 }
 
-/// A list of levels that can be read one by one, or sixteen at once.
+/// A list of levels that can be read by index.
 pub trait LevelList: Copy {
     /// The numbers of the levels.
     ghost numbers: { Self → List ℕ };
@@ -91,11 +83,6 @@ pub trait LevelList: Copy {
     fn number_at(self, index: usize) -> u8
         requires { index < length (numbers self) }
         ensures { result ≡ slice_index (numbers self) index };
-
-    /// Returns the numbers of the sixteen levels from an index on.
-    fn sixteen_at(self, index: usize) -> [u8; 16]
-        requires { index + 16 ≤ length (numbers self) }
-        ensures { result ≡ chunk index 16 (numbers self) };
 
     /// Returns whether some level is odd.
     fn has_rtl(self) -> bool
@@ -111,16 +98,6 @@ pub trait LevelList: Copy {
         ensures { out.new ≡ numbers self };
 }
 
-// Writes the numbers of levels.
-fn copy_numbers(levels: &[Level], block: &mut [u8])
-    requires { length block.old ≡ length levels.now }
-    ensures { block.new ≡ levels.now }
-{
-    for i in 0..block.len() {
-        block[i] = levels[i].number();
-    }
-}
-
 impl<'t> LevelList for &'t [Level] {
     ghost numbers = { λ list. list.now };
 
@@ -130,12 +107,6 @@ impl<'t> LevelList for &'t [Level] {
 
     fn number_at(self, index: usize) -> u8 {
         self[index].number()
-    }
-
-    fn sixteen_at(self, index: usize) -> [u8; 16] {
-        let mut block = [0; 16];
-        copy_numbers(&self[index..index + 16], &mut block);
-        block
     }
 
     fn has_rtl(self) -> bool {
@@ -182,12 +153,6 @@ impl<'t> LevelList for &'t [u8] {
 
     fn number_at(self, index: usize) -> u8 {
         self[index]
-    }
-
-    fn sixteen_at(self, index: usize) -> [u8; 16] {
-        let mut block = [0; 16];
-        block.copy_from_slice(&self[index..index + 16]);
-        block
     }
 
     fn has_rtl(self) -> bool {

@@ -1,9 +1,7 @@
 //! The visual order of a line (L2).
 
-ghost use Rattle.std.specs.Prelude.{◌≡◌, ◌≢◌, ℕ, ◌+◌, ◌<◌, ◌≤◌, length, slice_index, ◌==◌, if◌then◌else◌, IfOk, IsPermutation};
+ghost use Rattle.std.specs.Prelude.{◌≡◌, ◌≢◌, ℕ, ◌+◌, ◌<◌, ◌≤◌, ◌==◌, not, nat_le, length, slice_index, IfOk, IsPermutation};
 ghost use Rattle.std.specs.List.{range_with_len};
-ghost use lib.Lanes.{chunk};
-ghost use lib.Count.{count_trailing_zeros};
 ghost use Rattle.bidi_lines.specs.Arranged.{IsArranged, AtLeast, SameBelow, SameFrom};
 ghost use Rattle.bidi_lines.specs.LineOrder.{IsLineOrder};
 ghost use Rattle.bidi_base.specs.Layout.{AreInverse};
@@ -11,8 +9,8 @@ ghost use Rattle.bidi_base.specs.Places.{indexes};
 
 use crate::stored::LevelList;
 use bidi_base::level::Level;
+use bidi_base::search::{Tested, first_passing};
 use std::alloc::{AllocError, Global};
-use std::simd::prelude::*;
 
 // Reverses the range from `from` to `to`.
 fn flip(order: &mut [usize], from: usize, to: usize)
@@ -26,28 +24,25 @@ fn flip(order: &mut [usize], from: usize, to: usize)
     order[from..to].reverse();
 }
 
-// Returns how many of 16 lanes come before the first lane that has a bit set.
-fn lanes_before(bits: u64) -> usize
-    ensures { result ≡ (if bits == 0 then 16 else count_trailing_zeros 64 bits) }
-{
-    if bits == 0 {
-        16
-    } else {
-        bits.trailing_zeros() as usize
-    }
+/// The levels of a list, with a test for those that are not `level`.
+#[derive(Clone, Copy, Debug)]
+struct OtherLevels<L: LevelList> {
+    levels: L,
+    level: u8,
 }
 
-// Returns how many of the 16 items from `at` on come before the first one at another level than `level`.
-pub(crate) fn first_other<L: LevelList>(levels: L, at: usize, level: u8) -> usize
-    requires { at + 16 ≤ length (L.numbers levels) }
-    ensures within { result ≤ 16 }
-    ensures same { (p : ℕ) → at ≤ p → p < at + result → slice_index (L.numbers levels) p ≡ level }
-    ensures stops { result < 16 → slice_index (L.numbers levels) (at + result) ≢ level }
-{
-    let others = u8x16::from_array(levels.sixteen_at(at))
-        .simd_ne(u8x16::splat(level))
-        .to_bitmask();
-    lanes_before(others)
+impl<L: LevelList> Tested for OtherLevels<L> {
+    ghost count = { λ others. length (L.numbers others.levels) };
+
+    ghost passes = { λ others index. not (slice_index (L.numbers others.levels) index == others.level) };
+
+    fn len(self) -> usize {
+        self.levels.len()
+    }
+
+    fn passes(self, index: usize) -> bool {
+        self.levels.number_at(index) != self.level
+    }
 }
 
 // Returns the end of the run of items from `from` on that have the same level.
@@ -61,39 +56,28 @@ pub(crate) fn run_end<L: LevelList>(levels: L, from: usize) -> usize
 {
     let len = levels.len();
     let level = levels.number_at(from);
-    let mut at = from + 1;
-    if at < len && levels.number_at(at) != level {
-        return at;
-    }
-    while len - at >= 16 {
-        let count = first_other(levels, at, level);
-        if count < 16 {
-            return at + count;
-        }
-        at += 16;
-    }
-    // Of the last 16 items, those before `at` have this level too, so the block may overlap what was read.
-    if len - from >= 16 {
-        let last = len - 16;
-        return last + first_other(levels, last, level);
-    }
-    while at < len && levels.number_at(at) == level {
-        at += 1;
-    }
-    at
+    first_passing(OtherLevels { levels, level }, 1, from + 1, len)
 }
 
-// Returns how many of the 16 items from `at` on come before the first one at level `base` or below.
-fn first_at_most<L: LevelList>(levels: L, at: usize, base: u8) -> usize
-    requires { at + 16 ≤ length (L.numbers levels) }
-    ensures within { result ≤ 16 }
-    ensures above { (p : ℕ) → at ≤ p → p < at + result → base < slice_index (L.numbers levels) p }
-    ensures stops { result < 16 → slice_index (L.numbers levels) (at + result) ≤ base }
-{
-    let low = u8x16::from_array(levels.sixteen_at(at))
-        .simd_le(u8x16::splat(base))
-        .to_bitmask();
-    lanes_before(low)
+/// The levels of a list, with a test for those that are at most `base`.
+#[derive(Clone, Copy, Debug)]
+struct LowLevels<L: LevelList> {
+    levels: L,
+    base: u8,
+}
+
+impl<L: LevelList> Tested for LowLevels<L> {
+    ghost count = { λ low. length (L.numbers low.levels) };
+
+    ghost passes = { λ low index. nat_le (slice_index (L.numbers low.levels) index) low.base };
+
+    fn len(self) -> usize {
+        self.levels.len()
+    }
+
+    fn passes(self, index: usize) -> bool {
+        self.levels.number_at(index) <= self.base
+    }
 }
 
 // Returns the end of the stretch of items from `from` on that have levels above `base`.
@@ -104,19 +88,7 @@ fn stretch_end<L: LevelList>(levels: L, from: usize, base: u8) -> usize
     ensures above { (p : ℕ) → from ≤ p → p < result → base < slice_index (L.numbers levels) p }
     ensures stops { result < length (L.numbers levels) → slice_index (L.numbers levels) result ≤ base }
 {
-    let len = levels.len();
-    let mut at = from;
-    while len - at >= 16 {
-        let count = first_at_most(levels, at, base);
-        if count < 16 {
-            return at + count;
-        }
-        at += 16;
-    }
-    while at < len && levels.number_at(at) > base {
-        at += 1;
-    }
-    at
+    first_passing(LowLevels { levels, base }, 0, from, levels.len())
 }
 
 // Returns the minimum level of the items from `from` up to `to`.

@@ -16,7 +16,6 @@ ghost use Rattle.bidi_runs.specs.RunSequence.{lent_runs, lent_sos, lent_eos, run
 mod class_tests;
 mod directions;
 mod marks;
-mod near;
 mod nearest;
 mod one_direction;
 mod pairs;
@@ -25,7 +24,7 @@ use bidi_base::brackets::{Bracket, PairSearch};
 use bidi_base::char_data::BidiClass;
 use bidi_base::data_source::BidiDataSource;
 use bidi_base::level::Level;
-use bidi_base::search::first_passing;
+use bidi_base::search::{Among, first_passing};
 use bidi_runs::leveled_text::LeveledText;
 use bidi_runs::prepare::{IsolatingRunSequence, LentSequence, LevelRun};
 use bidi_text::text::TextSource;
@@ -124,12 +123,16 @@ impl NeutralResolver {
             (kept_in_place T.units (T.characters text) classes.now (bounds run.now ∷ [])))) }
     {
         let end = run.end;
-        let mut at = first_passing(OtherNeutral, classes, run.start, end);
+        let neutrals = Among {
+            test: OtherNeutral,
+            classes,
+        };
+        let mut at = first_passing(neutrals, 1, run.start, end);
         while at < end {
             if let Some((c, _)) = text.char_at(at) {
                 self.push(data_source, at, c)?;
             }
-            at = first_passing(OtherNeutral, classes, at + 1, end);
+            at = first_passing(neutrals, 1, at + 1, end);
         }
         Ok(())
     }

@@ -1,8 +1,7 @@
 //! The numbers of classes, levels and split rules.
-ghost use Rattle.std.specs.Prelude.{◌≡◌, ◌+◌, ◌≤◌, ◌<◌, IfOk, length, map, nat_lt, nat_le};
+ghost use Rattle.std.specs.Prelude.{◌≡◌, IfOk, not, length, slice_index, nat_lt};
 ghost use Rattle.std.specs.List.{list_all};
 ghost use Rattle.std.specs.Result.{result_err};
-ghost use lib.Lanes.{chunk};
 ghost use Rattle.bidi_numbers.specs.Faults.{fault_unless};
 ghost use Rattle.bidi_base.specs.Classes.{class_number};
 ghost use Rattle.bidi_numbers.specs.Numbers.{class_numbered, is_class, base_of, is_base, split_of, is_split};
@@ -10,8 +9,8 @@ ghost use Rattle.bidi_numbers.specs.Numbers.{class_numbered, is_class, base_of, 
 use crate::fault::{Fault, check};
 use bidi_base::char_data::BidiClass;
 use bidi_base::level::Level;
+use bidi_base::search::{Tested, first_passing};
 use bidi_walk::split_rule::SplitRule;
-use std::simd::prelude::*;
 
 /// The number for no base level.
 const AUTO: u8 = 255;
@@ -82,41 +81,33 @@ pub fn class_of(number: u8) -> BidiClass
     }
 }
 
-// Returns whether the sixteen numbers from `at` on are below a limit.
-fn sixteen_below(numbers: &[u8], at: usize, limit: u8) -> bool
-    requires { at + 16 ≤ length numbers.now }
-    ensures { result ≡ list_all (λ n. nat_lt n limit) (chunk at 16 numbers.now) }
-{
-    let block = u8x16::from_slice(&numbers[at..]);
-    block.simd_ge(u8x16::splat(limit)).to_bitmask() == 0
+/// Numbers, with a test for those that are not below a limit.
+#[derive(Clone, Copy, Debug)]
+struct NotBelow<'n> {
+    numbers: &'n [u8],
+    limit: u8,
 }
 
-// Returns whether each number is below a limit. There are at least sixteen. The last block may overlap the one
-// before it: lines are short, and reading the rest one by one would cost more than the blocks.
-fn all_below_by_blocks(numbers: &[u8], limit: u8) -> bool
-    requires { 16 ≤ length numbers.now }
-    ensures { result ≡ list_all (λ n. nat_lt n limit) numbers.now }
-{
-    let last = numbers.len() - 16;
-    let mut at = 0;
-    while at < last {
-        if !sixteen_below(numbers, at, limit) {
-            return false;
-        }
-        at += 16;
+impl<'n> Tested for NotBelow<'n> {
+    ghost count = { λ list. length list.numbers.now };
+
+    ghost passes = { λ list index. not (nat_lt (slice_index list.numbers.now index) list.limit) };
+
+    fn len(self) -> usize {
+        self.numbers.len()
     }
-    sixteen_below(numbers, last, limit)
+
+    fn passes(self, index: usize) -> bool {
+        self.numbers[index] >= self.limit
+    }
 }
 
 /// Returns whether each number is below a limit. Reads sixteen numbers at a time.
 pub fn all_below(numbers: &[u8], limit: u8) -> bool
     ensures { result ≡ list_all (λ n. nat_lt n limit) numbers.now }
 {
-    if numbers.len() >= 16 {
-        all_below_by_blocks(numbers, limit)
-    } else {
-        numbers.iter().all(|number| *number < limit)
-    }
+    let len = numbers.len();
+    first_passing(NotBelow { numbers, limit }, 0, 0, len) == len
 }
 
 /// Returns `BadClass` unless each number is that of a class.

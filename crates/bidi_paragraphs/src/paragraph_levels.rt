@@ -6,7 +6,6 @@ ghost use Rattle.bidi_base.specs.Explicit.{explicit_levels, processing_classes};
 ghost use Rattle.bidi_base.specs.Flat.{is_flat, hidden};
 ghost use Rattle.bidi_base.specs.Classes.{is_removed};
 ghost use Rattle.bidi_base.specs.Isolates.{stored_classes};
-ghost use Rattle.bidi_base.specs.Search.{IsFirst};
 ghost use Rattle.bidi_base.specs.Sequences.{is_kept_at, sequences};
 ghost use Rattle.bidi_base.specs.Stored.{levels_in};
 ghost use Rattle.bidi_base.specs.Text.{text_len, per_unit, per_char};
@@ -20,15 +19,20 @@ use bidi_base::char_data::BidiClass;
 use bidi_base::classes::is_removed;
 use bidi_base::data_source::BidiDataSource;
 use bidi_base::level::Level;
-use bidi_base::search::{ClassTest, first_passing};
-use bidi_explicit::explicit::{Paragraph, Stride, find_levels};
-use bidi_rules::implicit::{NeutralResolver, resolve_levels, resolve_up_to_n1, resolve_weak_lent};
+use bidi_base::search::{Among, ClassTest, first_passing};
+use bidi_base::steps::Steps;
+use bidi_explicit::explicit::{Paragraph, Stride, find_levels_counted};
+use bidi_rules::implicit::{
+    NeutralResolver, resolve_levels, resolve_up_to_n1, resolve_weak_lent_counted,
+};
 use bidi_rules::leveled_text::LeveledText;
 use bidi_rules::prepare::{LentSequence, LevelRunVec, RunLinks};
 use bidi_text::text::TextSource;
 use bidi_walk::paragraph_flags::ParagraphFlags;
 use smallvec::SmallVec;
 use std::alloc::{AllocError, Global};
+use std::marker::Brand;
+use std::sync::ledger::{Blank, Ledger};
 
 /// The classes of a paragraph of up to this many code units need no allocation.
 pub const FEW_UNITS: usize = 256;
@@ -82,10 +86,11 @@ impl LevelResolver {
     }
 
     /// Finds the explicit levels, and the sequences (X1 to X10).
-    fn prepare<D: BidiDataSource, T: TextSource>(
+    fn prepare<D: BidiDataSource, T: TextSource, S: Ledger>(
         &mut self,
         paragraph: &ClassifiedParagraph<D, T>,
         levels: &mut [Level],
+        steps: &mut Steps<S>,
     ) -> Result<(), AllocError>
         requires { length levels.old ≡ length paragraph.now.original_classes.now }
         ensures levels { let stored = per_char L T.units (T.characters paragraph.now.text)
@@ -117,7 +122,8 @@ impl LevelResolver {
             Stride::CodeUnit,
             original_classes,
         );
-        find_levels(&stored, levels, self.classes.as_mut_slice(), &mut self.runs)?;
+        let classes = self.classes.as_mut_slice();
+        find_levels_counted(&stored, levels, classes, &mut self.runs, steps)?;
         let leveled = LeveledText {
             text: paragraph.text,
             original_classes,
@@ -151,10 +157,11 @@ impl LevelResolver {
     /// Finds the levels of all characters that X9 keeps, in a non-empty paragraph in which nothing opens a
     /// level. The paragraph is one level run, and one sequence. N2 is left out, since the levels are the
     /// same with and without it.
-    fn resolve_flat<D: BidiDataSource, T: TextSource>(
+    fn resolve_flat<D: BidiDataSource, T: TextSource, S: Ledger>(
         &mut self,
         paragraph: &ClassifiedParagraph<D, T>,
         levels: &mut [Level],
+        steps: &mut Steps<S>,
     ) -> Result<(), AllocError>
         requires long { IsOneAUnit paragraph.now levels.old }
         requires some { 0 < length levels.old }
@@ -168,7 +175,7 @@ impl LevelResolver {
         let runs = [0..classes.len()];
         let side = paragraph.level.bidi_class();
         let sequence = LentSequence::new(&runs, side, side);
-        resolve_weak_lent(paragraph.text, sequence, classes);
+        resolve_weak_lent_counted(paragraph.text, sequence, classes, steps);
         let leveled = LeveledText {
             text: paragraph.text,
             original_classes: paragraph.original_classes,
@@ -186,16 +193,17 @@ impl LevelResolver {
     }
 
     /// Finds the levels of all characters that X9 keeps, in any paragraph, by X1 to I2 without N2.
-    fn resolve_nested<D: BidiDataSource, T: TextSource>(
+    fn resolve_nested<D: BidiDataSource, T: TextSource, S: Ledger>(
         &mut self,
         paragraph: &ClassifiedParagraph<D, T>,
         levels: &mut [Level],
+        steps: &mut Steps<S>,
     ) -> Result<(), AllocError>
         requires { IsOneAUnit paragraph.now levels.old }
         ensures per_char { OnOk result (HaveCharLevels paragraph.now levels.new) }
         ensures resolved { OnOk result (AreOfRules paragraph.now levels.new) }
     {
-        self.prepare(paragraph, levels)?;
+        self.prepare(paragraph, levels, steps)?;
         let links = &self.links;
         let runs = &mut self.runs;
         let classes = self.classes.as_mut_slice();
@@ -207,7 +215,7 @@ impl LevelResolver {
                 {
                     continue;
                 }
-                resolve_weak_lent(paragraph.text, sequence, classes);
+                resolve_weak_lent_counted(paragraph.text, sequence, classes, steps);
                 let leveled = LeveledText {
                     text: paragraph.text,
                     original_classes: paragraph.original_classes,
@@ -227,10 +235,11 @@ impl LevelResolver {
     }
 
     /// Finds the levels of all characters that X9 keeps, in a paragraph that is not empty.
-    fn resolve<D: BidiDataSource, T: TextSource>(
+    fn resolve<D: BidiDataSource, T: TextSource, S: Ledger>(
         &mut self,
         paragraph: &ClassifiedParagraph<D, T>,
         levels: &mut [Level],
+        steps: &mut Steps<S>,
     ) -> Result<(), AllocError>
         requires long { IsOneAUnit paragraph.now levels.old }
         requires some { 0 < length levels.old }
@@ -238,10 +247,29 @@ impl LevelResolver {
         ensures resolved { OnOk result (AreOfRules paragraph.now levels.new) }
     {
         if paragraph.flags.is_flat() {
-            self.resolve_flat(paragraph, levels)
+            self.resolve_flat(paragraph, levels, steps)
         } else {
-            self.resolve_nested(paragraph, levels)
+            self.resolve_nested(paragraph, levels, steps)
         }
+    }
+
+    // Calls [`LevelResolver::resolve`] with a new count of loop iterations.
+    fn resolve_with_new_count<D: BidiDataSource, T: TextSource, S: Ledger>(
+        &mut self,
+        paragraph: &ClassifiedParagraph<D, T>,
+        levels: &mut [Level],
+        blank: Blank,
+    ) -> Result<(), AllocError>
+        requires long { IsOneAUnit paragraph.now levels.old }
+        requires some { 0 < length levels.old }
+        requires name { blank.name ≡ S.name }
+        requires parts { blank.parts ≡ S.parts }
+        requires one { blank.parts ≡ 1 }
+        ensures per_char { OnOk result (HaveCharLevels paragraph.now levels.new) }
+        ensures resolved { OnOk result (AreOfRules paragraph.now levels.new) }
+    {
+        let mut steps = Steps::<S>::new(blank);
+        self.resolve(paragraph, levels, &mut steps)
     }
 
     /// Writes the stored levels of a paragraph, one for each of its code units.
@@ -262,7 +290,7 @@ impl LevelResolver {
             levels.fill(paragraph.level);
             return Ok(());
         }
-        self.resolve(paragraph, levels)?;
+        self.resolve_with_new_count::<D, T, Brand>(paragraph, levels, Blank::new(1))?;
         if paragraph.flags.has_removed() {
             fill_removed(paragraph.level, paragraph.original_classes, levels);
         }
@@ -335,26 +363,9 @@ fn write_removed(classes: &[BidiClass], levels: &mut [Level], from: usize, befor
     at
 }
 
-// Behind a removed character, the next one is often among this many code units: a letter of two code units is
-// between them.
-const NEAR: usize = 3;
-
-// The first index in `from..to` with a class that X9 removes, or else `to`. Tests the nearest code units one by
-// one before the search by blocks begins.
-#[inline(always)]
-fn next_removed(classes: &[BidiClass], from: usize, to: usize) -> usize
-    requires ordered { from ≤ to }
-    requires within { to ≤ length classes.now }
-    ensures { IsFirst is_removed classes.now from to result }
-{
-    for near in 0..NEAR {
-        let at = from + near;
-        if at == to || Removed.passes(classes[at]) {
-            return at;
-        }
-    }
-    first_passing(Removed, classes, from + NEAR, to)
-}
+// After a removed character, the next one is often among this many code units: a letter of two code units is between
+// them. They are tested one by one.
+const TESTED_SINGLY: usize = 3;
 
 // Gives each code unit of a character that X9 removes the level of the code unit before it. At the start it
 // gets the paragraph level.
@@ -367,10 +378,14 @@ fn fill_removed(para_level: Level, classes: &[BidiClass], levels: &mut [Level])
         → slice_index levels.new (u + 1) ≡ slice_index levels.new u }
 {
     let units = classes.len();
-    let mut at = first_passing(Removed, classes, 0, units);
+    let removed = Among {
+        test: Removed,
+        classes,
+    };
+    let mut at = first_passing(removed, 1, 0, units);
     while at < units {
         let before = level_before(para_level, levels, at);
         let end = write_removed(classes, levels, at, before);
-        at = next_removed(classes, end, units);
+        at = first_passing(removed, TESTED_SINGLY, end, units);
     }
 }

@@ -9,7 +9,7 @@ ghost use Rattle.bidi_runs.specs.Written.{KeepsAround};
 
 use bidi_base::char_data::BidiClass::{self, AL, AN, BN, EN, L, NSM, R};
 use bidi_base::level::Level;
-use bidi_base::search::{ClassTest, first_passing};
+use bidi_base::search::{Among, ClassTest, first_passing};
 use bidi_rules::prepare::{LentSequence, LevelRun};
 
 /// Returns whether I1 and I2 give the classes of a sequence the same levels as those after W1 to N2, as far as a
@@ -157,7 +157,7 @@ fn one_passes<C: ClassTest>(test: C, run: &LevelRun, classes: &[BidiClass]) -> b
 {
     let end = run.end;
     let start = run.start.min(end);
-    first_passing(test, classes, start, end) < end
+    first_passing(Among { test, classes }, 1, start, end) < end
 }
 
 /// The classes that can raise an even level: numbers, R and AL. The test has no branch, so that many code units

@@ -1,6 +1,6 @@
 -- The characters of a run that open or close an isolate, read one by one.
 use Rattle.bidi_base.proofs.Common.{◌≡◌, ℕ, zero, suc, ◌+◌, ◌-◌, ◌<◌, ◌≤◌, Bool, ◌||◌, true, false, cond, eqb, eq-eqb, List, [], ◌∷◌, ◌++◌, length, get_or, take, replicate, Option, Some, None}
-use Rattle.bidi_base.proofs.Common.{refl, sym, ap, ◌∙◌, arith, append-nil, append_assoc, is_initiator, is_pdi, ne_eqb, inl, inr, then_some, cases_eq, cases_lt, fold_push, class_at, IsFirst}
+use Rattle.bidi_base.proofs.Common.{refl, sym, ap, ◌∙◌, arith, append-nil, append_assoc, is_initiator, is_pdi, ne_eqb, inl, inr, then_some, cases_eq, cases_lt, fold_push, class_at, IsFirst, passing}
 use Rattle.bidi_base.proofs.Common.{read_class, place, text_len, per_char, is_per_char, is_boundary, char_index, IsLine, IsPerChar, replicate-append-replicate}
 use Rattle.bidi_base.specs.declared.char_data.BidiClass.{BidiClass}
 use Rattle.bidi_base.specs.declared.char_data.BidiClass.TheVariants.{L}
@@ -99,7 +99,7 @@ module _ (len_of : ℕ → ℕ) (h : HasUnits len_of) (chars : List ℕ) (units 
       )
 
   -- up to the next control
-  jump : (n m next : ℕ) (old waits : List (Option ℕ)) → m + n ≡ final → first ≤ m → waits ≡ read_to m old → IsFirst is_isolate_control units (place len_of chars m) end next → ReadTo old waits next
+  jump : (n m next : ℕ) (old waits : List (Option ℕ)) → m + n ≡ final → first ≤ m → waits ≡ read_to m old → IsFirst (passing is_isolate_control units) (place len_of chars m) end next → ReadTo old waits next
   jump zero m next old waits count low is f = grind (arith, line_places)
   jump (suc k) m next old waits count low is f =
       let w = line_places len_of h chars start end line in
@@ -118,7 +118,7 @@ module _ (len_of : ℕ → ℕ) (h : HasUnits len_of) (chars : List ℕ) (units 
         read_class-plain (class_at stored m),
       )
 
-  pub IsReadTo-jump : (at next : ℕ) (old waits : List (Option ℕ)) → ReadTo old waits at → IsFirst is_isolate_control units at end next → ReadTo old waits next
+  pub IsReadTo-jump : (at next : ℕ) (old waits : List (Option ℕ)) → ReadTo old waits at → IsFirst (passing is_isolate_control units) at end next → ReadTo old waits next
   IsReadTo-jump at next old waits r f = grind (arith, jump (final - r.index) r.index next old waits)
 
   -- what the code asks of the character at hand
@@ -176,7 +176,7 @@ module _ (len_of : ℕ → ℕ) (h : HasUnits len_of) (chars : List ℕ) (units 
   IsCountedTo-start old = record { read = rw append-nil (IsReadTo-start old); few = omega arith }
 
   -- one control more, the next from the unit at hand on
-  module _ (old waits : List (Option ℕ)) (n at control behind : ℕ) (f : IsFirst is_isolate_control units at end control) (other : control ≡ end → ⊥)
+  module _ (old waits : List (Option ℕ)) (n at control behind : ℕ) (f : IsFirst (passing is_isolate_control units) at end control) (other : control ≡ end → ⊥)
       (ends : (k : ℕ) → k < length chars → control ≡ place len_of chars k → behind ≡ place len_of chars (k + 1)) (r : CountedTo old waits n at) where
     abbrev waits_there : List (Option ℕ)
     waits_there = waits ++ replicate n None
@@ -227,7 +227,7 @@ module _ (len_of : ℕ → ℕ) (h : HasUnits len_of) (chars : List ℕ) (units 
         }
 
   -- no control is left
-  pub counted-end : (old waits : List (Option ℕ)) (n at control : ℕ) → IsFirst is_isolate_control units at end control → control ≡ end → CountedTo old waits n at
+  pub counted-end : (old waits : List (Option ℕ)) (n at control : ℕ) → IsFirst (passing is_isolate_control units) at end control → control ≡ end → CountedTo old waits n at
       → waits ++ replicate n None ≡ read_units len_of chars units last s start end old
   counted-end old waits n at control f same r =
       IsReadTo-end old (waits ++ replicate n None) (simp same at (IsReadTo-jump at control old (waits ++ replicate n None) r.read f))

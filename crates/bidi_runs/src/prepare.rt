@@ -1,5 +1,4 @@
-//! Characters that X9 removes, level runs, and isolating run sequences (BD7, BD13, X9, X10). Also the count
-//! of loop iterations of the passes.
+//! Characters that X9 removes, level runs, and isolating run sequences (BD7, BD13, X9, X10).
 
 ghost use Rattle.std.specs.Prelude.{◌≡◌};
 ghost use Rattle.bidi_base.specs.Classes.{is_removed, is_kept};
@@ -9,18 +8,17 @@ mod joining;
 mod lent;
 mod links;
 mod sequence;
-mod steps;
 mod waiting;
 
 use bidi_base::char_data::BidiClass;
 use bidi_base::classes::is_removed;
+pub use bidi_base::steps::Steps;
 pub use gathered::GatheredSequence;
 pub use joining::isolating_run_sequences;
 pub use lent::LentSequence;
 pub use links::RunLinks;
 pub use sequence::{BackwardsFrom, ForwardsFrom, IsolatingRunSequence};
 use std::ops::Range;
-pub use steps::Steps;
 
 /// A level run (BD7), as the range of its code units.
 pub type LevelRun = Range<usize>;

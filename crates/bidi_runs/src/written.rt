@@ -61,11 +61,11 @@ pub fn write_over_runs(
     requires inside { to ≤ length classes.old }
     ensures { WritesInRuns runs.now class from to classes.old classes.new }
 {
-    write_over_runs_fresh::<Brand>(runs, classes, from, to, class, Blank::new(1));
+    write_over_runs_with_new_count::<Brand>(runs, classes, from, to, class, Blank::new(1));
 }
 
 /// Calls [`write_over_runs_counted`] with a new count of steps.
-fn write_over_runs_fresh<S: Ledger>(
+fn write_over_runs_with_new_count<S: Ledger>(
     runs: &[LevelRun],
     classes: &mut [BidiClass],
     from: usize,

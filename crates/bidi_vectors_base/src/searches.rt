@@ -1,7 +1,7 @@
 //! Rows of searches among classes.
 
 use bidi_base::char_data::BidiClass;
-use bidi_base::search::{ClassTest, first_passing};
+use bidi_base::search::{Among, ClassTest, first_passing};
 use bidi_vectors_format::answer::number_words;
 use bidi_vectors_format::class::classes_of;
 use bidi_vectors_format::fault::{RowFault, Why};
@@ -30,7 +30,11 @@ fn first_neutral(classes: &[BidiClass], from: usize, to: usize) -> Result<usize,
     if from > to || to > classes.len() {
         return Err(RowFault::Line(0, Why::Line));
     }
-    Ok(first_passing(OtherNeutral, classes, from, to))
+    let neutrals = Among {
+        test: OtherNeutral,
+        classes,
+    };
+    Ok(first_passing(neutrals, 1, from, to))
 }
 
 /// Runs a row of classes, a range of them, and the first index of class ON there, or the range's end.

@@ -107,15 +107,17 @@ fn low_block_agrees<T: TextSource>(text: T, unit: usize) -> bool {
     true
 }
 
-// Tests each range of a text: it is a line exactly if it cuts no character.
+// Tests each range of a text, and ranges past its end: a range is a line exactly if it is in the text and cuts no
+// character.
 fn lines_agree<T: TextSource>(
     alloc: Global,
     text: T,
     chars: &[char],
     places: &[usize],
 ) -> Result<bool, RowFault> {
-    for start in 0..=text.len() {
-        for end in 0..=text.len() {
+    let past_end = text.len().saturating_add(2);
+    for start in 0..past_end {
+        for end in 0..past_end {
             if !line_agrees(alloc, text, chars, places, start..end)? {
                 return Ok(false);
             }

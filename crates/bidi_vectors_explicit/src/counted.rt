@@ -1,9 +1,9 @@
-//! The explicit pass that counts its steps. It must find what the pass without a count finds.
+//! The forms of the explicit pass that count their steps. They must find what the pass without a count finds.
 
 ghost use Rattle.std.specs.Prelude.{◌≡◌, ◌≤◌};
 
 use crate::units::{ExplicitUnits, ParagraphUnits};
-use bidi_rules::explicit::compute_counted;
+use bidi_rules::explicit::{Paragraph, Stride, compute_counted, find_levels_counted};
 use bidi_rules::prepare::Steps;
 use bidi_text::text::is_per_char;
 use bidi_vectors_format::fault::{RowFault, Why};
@@ -11,9 +11,10 @@ use std::alloc::Global;
 use std::marker::Brand;
 use std::sync::ledger::{Blank, Ledger};
 
-// Computes the explicit levels of a paragraph. Counts steps in the ledger that this blank opens.
-fn compute_by<S: Ledger>(
+// Finds the explicit levels of a paragraph. Counts steps in the ledger that this blank opens.
+fn find_with_new_count<S: Ledger>(
     alloc: Global,
+    stride: Stride,
     paragraph: &ParagraphUnits<'_>,
     blank: Blank,
 ) -> Result<ExplicitUnits, RowFault>
@@ -32,22 +33,36 @@ fn compute_by<S: Ledger>(
         return Err(RowFault::Line(0, Why::OtherText));
     }
     let mut units = ExplicitUnits::new(alloc, classes)?;
-    compute_counted(
-        alloc,
-        text,
-        level,
-        classes,
-        units.levels.as_mut_slice(),
-        units.classes.as_mut_slice(),
-        &mut units.runs,
-        &mut steps,
-    )?;
+    let levels = units.levels.as_mut_slice();
+    let processing_classes = units.classes.as_mut_slice();
+    let runs = &mut units.runs;
+    match stride {
+        Stride::Character => compute_counted(
+            alloc,
+            text,
+            level,
+            classes,
+            levels,
+            processing_classes,
+            runs,
+            &mut steps,
+        )?,
+        Stride::CodeUnit => {
+            let stored = Paragraph::new(text, level, stride, classes);
+            find_levels_counted(&stored, levels, processing_classes, runs, &mut steps)?;
+        }
+    }
     Ok(units)
 }
 
-/// Computes the explicit levels of a paragraph by the counted pass.
-pub fn compute(alloc: Global, paragraph: &ParagraphUnits<'_>) -> Result<ExplicitUnits, RowFault>
+/// Finds the explicit levels of a paragraph by a counted pass: from character to character by `compute_counted`, and
+/// from code unit to code unit by `find_levels_counted`.
+pub fn find(
+    alloc: Global,
+    stride: Stride,
+    paragraph: &ParagraphUnits<'_>,
+) -> Result<ExplicitUnits, RowFault>
     requires { paragraph.now.level ≤ 125 }
 {
-    compute_by::<Brand>(alloc, paragraph, Blank::new(1))
+    find_with_new_count::<Brand>(alloc, stride, paragraph, Blank::new(1))
 }

@@ -6,7 +6,7 @@ use crate::counted;
 use crate::units::{ExplicitUnits, ParagraphUnits, copied};
 use bidi_base::char_data::BidiClass;
 use bidi_base::level::Level;
-use bidi_rules::explicit::{self, Stride, compute, find_levels};
+use bidi_rules::explicit::{Stride, compute};
 use bidi_rules::prepare::{IsolatingRunSequence, isolating_run_sequences};
 use bidi_text::text::{StrText, is_per_char};
 use bidi_vectors_format::fault::{RowFault, Why};
@@ -28,7 +28,7 @@ pub struct Paragraph<'a> {
 pub enum Pass {
     /// `explicit::compute_counted`.
     Counted,
-    /// `explicit::find_levels`, from code unit to code unit.
+    /// `explicit::find_levels_counted`, from code unit to code unit.
     ByUnits,
 }
 
@@ -37,7 +37,7 @@ impl Pass {
     pub fn name(self) -> &'static str {
         match self {
             Pass::Counted => "explicit::compute_counted",
-            Pass::ByUnits => "explicit::find_levels",
+            Pass::ByUnits => "explicit::find_levels_counted",
         }
     }
 
@@ -56,34 +56,12 @@ impl Pass {
             text,
             classes: classes.as_slice(),
         };
-        match self {
-            Pass::Counted => counted::compute(alloc, &stored),
-            Pass::ByUnits => find_by_units(alloc, &stored),
-        }
+        let stride = match self {
+            Pass::Counted => Stride::Character,
+            Pass::ByUnits => Stride::CodeUnit,
+        };
+        counted::find(alloc, stride, &stored)
     }
-}
-
-// Computes the explicit levels of a paragraph by the pass from code unit to code unit.
-fn find_by_units(alloc: Global, paragraph: &ParagraphUnits<'_>) -> Result<ExplicitUnits, RowFault>
-    requires { paragraph.now.level ≤ 125 }
-{
-    let ParagraphUnits {
-        level,
-        text,
-        classes,
-    } = *paragraph;
-    if !is_per_char(text, classes) {
-        return Err(RowFault::Line(0, Why::OtherText));
-    }
-    let mut units = ExplicitUnits::new(alloc, classes)?;
-    let stored = explicit::Paragraph::new(text, level, Stride::CodeUnit, classes);
-    find_levels(
-        &stored,
-        units.levels.as_mut_slice(),
-        units.classes.as_mut_slice(),
-        &mut units.runs,
-    )?;
-    Ok(units)
 }
 
 /// What the passes in place find in a paragraph: what `explicit::compute` writes, and the sequences.

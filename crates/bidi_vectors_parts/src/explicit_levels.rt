@@ -5,7 +5,7 @@ ghost use Rattle.std.specs.Prelude.{◌≡◌, ◌+◌, ◌*◌, ◌≤◌, [], 
 use crate::check::same;
 use bidi_base::char_data::BidiClass;
 use bidi_base::level::{LTR_LEVEL, Level, RTL_LEVEL};
-use bidi_explicit::explicit::{self, Stride, find_levels, find_levels_counted};
+use bidi_explicit::explicit::{self, Stride, find_levels_counted};
 use bidi_runs::prepare::{LevelRunVec, Steps};
 use bidi_text::text::{StrText, is_per_char};
 use std::alloc::{AllocError, Global};
@@ -119,37 +119,17 @@ fn compare(rt: &impl Abort, found: &Found, paragraph: &Paragraph) {
     same(rt, "runs", found.runs.as_slice(), RUNS.as_slice());
 }
 
-#[test]
-fn worked_paragraph(rt: HostRuntime) -> Result<(), Fail> {
-    let paragraph = Paragraph::new(rt.alloc())?;
-    let text = StrText::new(paragraph.text.as_str());
-    let classes = paragraph.classes.as_slice();
-    let mut found = Found::new(rt.alloc(), classes)?;
-    assert!(rt; is_per_char(text, classes));
-    let stored = explicit::Paragraph::new(text, LTR_LEVEL, Stride::CodeUnit, classes);
-    find_levels(
-        &stored,
-        found.levels.as_mut_slice(),
-        found.classes.as_mut_slice(),
-        &mut found.runs,
-    )?;
-    compare(&rt, &found, &paragraph);
-    Ok(())
-}
-
 // Runs the counted pass, which takes at most four steps for each code unit.
-fn find_counted<S: Ledger, L: Ledger>(
+fn find_counted<S: Ledger>(
     text: StrText,
     classes: &[BidiClass],
     found: &mut Found,
     steps: &mut Steps<S>,
-    looked: &mut Steps<L>,
 ) -> Result<(), Fail>
     requires levels { length found.old.levels.items ≡ length classes.now }
     requires classes { found.old.classes.items ≡ classes.now }
     requires runs { found.old.runs.items ≡ [] }
-    ensures steps { OnOk result (steps.new ≤ steps.old + 4 * length classes.now) }
-    ensures looked { OnOk result (looked.new ≤ looked.old + 12 * length classes.now) }
+    ensures { OnOk result (steps.new ≤ steps.old + 4 * length classes.now) }
 {
     if !is_per_char(text, classes) {
         return Err(Fail::from("classes differ within a character"));
@@ -161,18 +141,16 @@ fn find_counted<S: Ledger, L: Ledger>(
         found.classes.as_mut_slice(),
         &mut found.runs,
         steps,
-        looked,
     )?;
     Ok(())
 }
 
-// Runs the counted pass, with the counts that these blanks open.
-fn find_from_blanks<S: Ledger, L: Ledger>(
+// Runs the counted pass, with the count that this blank opens.
+fn find_with_new_count<S: Ledger>(
     text: StrText,
     classes: &[BidiClass],
     found: &mut Found,
     blank: Blank,
-    other: Blank,
 ) -> Result<(), Fail>
     requires levels { length found.old.levels.items ≡ length classes.now }
     requires classes { found.old.classes.items ≡ classes.now }
@@ -180,22 +158,17 @@ fn find_from_blanks<S: Ledger, L: Ledger>(
     requires name { blank.name ≡ S.name }
     requires parts { blank.parts ≡ S.parts }
     requires one { blank.parts ≡ 1 }
-    requires other_name { other.name ≡ L.name }
-    requires other_parts { other.parts ≡ L.parts }
-    requires other_one { other.parts ≡ 1 }
 {
-    let mut steps = Steps::<S>::new(blank);
-    let mut looked = Steps::<L>::new(other);
-    find_counted(text, classes, found, &mut steps, &mut looked)
+    find_counted(text, classes, found, &mut Steps::<S>::new(blank))
 }
 
 #[test]
-fn worked_paragraph_counted(rt: HostRuntime) -> Result<(), Fail> {
+fn worked_paragraph(rt: HostRuntime) -> Result<(), Fail> {
     let paragraph = Paragraph::new(rt.alloc())?;
     let text = StrText::new(paragraph.text.as_str());
     let classes = paragraph.classes.as_slice();
     let mut found = Found::new(rt.alloc(), classes)?;
-    find_from_blanks::<Brand, Brand>(text, classes, &mut found, Blank::new(1), Blank::new(1))?;
+    find_with_new_count::<Brand>(text, classes, &mut found, Blank::new(1))?;
     compare(&rt, &found, &paragraph);
     Ok(())
 }

@@ -1,6 +1,5 @@
 pub mod CountedUnits
 pub mod FoldAny
-pub mod UnitCount
 pub mod WeakMarks
 pub mod WeakPassLemmas
 pub mod WeakText

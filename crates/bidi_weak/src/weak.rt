@@ -1,6 +1,6 @@
 //! The weak types in place (W1 to W7).
 
-ghost use Rattle.std.specs.Prelude.{◌≡◌, ℕ, ◌+◌, ◌-◌, ◌*◌, ◌<◌, ◌≤◌, false, List, length, map, min, IsTrue};
+ghost use Rattle.std.specs.Prelude.{◌≡◌, ◌+◌, ◌*◌, ◌≤◌, List, length, map, IsTrue};
 ghost use Rattle.std.specs.List.{list_any};
 ghost use Rattle.bidi_base.specs.Classes.{is_l_or_r};
 ghost use Rattle.bidi_base.specs.InPlace.{AreWeakTypesResolved, CanResolveWeakTypes};
@@ -10,10 +10,9 @@ ghost use Rattle.bidi_base.specs.Weak.{carried};
 ghost use Rattle.bidi_base.specs.declared.char_data.BidiClass.{BidiClass};
 ghost use Rattle.bidi_runs.specs.RunSequence.{runs as runs_of, sos as sos_of};
 ghost use Rattle.bidi_weak.specs.WeakPass.{is_mark_or_number};
-ghost use Rattle.bidi_weak.specs.WeakWalk.{char_count_of, is_any_of, is_any_wide, len_at, part_of, two_a_unit, unit_count_of, wide_part_of, CanResolveWeak, IsMarked, IsWalked, IsWeakResolved};
+ghost use Rattle.bidi_weak.specs.WeakWalk.{char_count_of, is_any_of, is_any_wide, len_at, part_of, unit_count_of, wide_part_of, CanResolveWeak, IsMarked, IsWalked, IsWeakResolved};
 
 mod before;
-mod next;
 mod w1;
 mod w2_w4_w5_w7;
 mod w3_w6;
@@ -52,7 +51,25 @@ pub fn resolve_weak<T: TextSource>(
     ensures { AreWeakTypesResolved T.units (T.characters text) (map bounds (runs_of sequence.now))
         (sos_of sequence.now) processing_classes.old processing_classes.new }
 {
-    resolve_weak_lent(text, sequence.lend(), processing_classes)
+    resolve_weak_with_new_count::<T, Brand>(text, sequence, processing_classes, Blank::new(1))
+}
+
+// Calls [`resolve_weak_counted`] with a new count.
+fn resolve_weak_with_new_count<T: TextSource, S: Ledger>(
+    text: T,
+    sequence: &IsolatingRunSequence,
+    processing_classes: &mut [BidiClass],
+    blank: Blank,
+)
+    requires sequence { CanResolveWeakTypes T.units (T.characters text) (map bounds (runs_of sequence.now)) processing_classes.old }
+    requires name { blank.name ≡ S.name }
+    requires parts { blank.parts ≡ S.parts }
+    requires one { blank.parts ≡ 1 }
+    ensures { AreWeakTypesResolved T.units (T.characters text) (map bounds (runs_of sequence.now))
+        (sos_of sequence.now) processing_classes.old processing_classes.new }
+{
+    let mut steps = Steps::<S>::new(blank);
+    resolve_weak_counted(text, sequence, processing_classes, &mut steps)
 }
 
 /// Like [`resolve_weak`], and counts each loop iteration in `steps`, including those of the functions it
@@ -61,8 +78,7 @@ pub fn resolve_weak<T: TextSource>(
 /// There is at least one iteration for each character in the runs, and at most eight for each code unit. A
 /// character that depends on a later one waits until that is read. The passes do not search ahead for what it
 /// depends on, so they do not pass over a stretch of BN for each code unit before it. Calls of the text and
-/// of the library count as no iterations. A second count, which the call opens itself, has the code units
-/// that searches look at.
+/// of the library count as no iterations.
 pub fn resolve_weak_counted<T: TextSource, S: Ledger>(
     text: T,
     sequence: &IsolatingRunSequence,
@@ -77,91 +93,34 @@ pub fn resolve_weak_counted<T: TextSource, S: Ledger>(
         ≤ steps.new }
     ensures at_most { steps.new ≤ steps.old + 8 * length (units_in_runs (map bounds (runs_of sequence.now))) }
 {
-    let lent = sequence.lend();
-    resolve_weak_searching::<T, S, Brand>(text, lent, processing_classes, steps, Blank::new(1))
+    resolve_weak_lent_counted(text, sequence.lend(), processing_classes, steps)
 }
 
-/// Like [`resolve_weak`], for a sequence that borrows its runs.
-pub fn resolve_weak_lent<T: TextSource>(
+/// Like [`resolve_weak_counted`], for a sequence that borrows its runs.
+pub fn resolve_weak_lent_counted<T: TextSource, S: Ledger>(
     text: T,
     sequence: LentSequence<'_>,
     processing_classes: &mut [BidiClass],
+    steps: &mut Steps<S>,
 )
     requires { CanResolveWeak T.units (T.characters text) sequence processing_classes.old }
-    ensures { IsWeakResolved T.units (T.characters text) sequence.entry processing_classes.old processing_classes.new }
-{
-    resolve_weak_fresh::<T, Brand>(text, sequence, processing_classes, Blank::new(1))
-}
-
-// Calls [`resolve_weak_lent_counted`] with a new count of steps.
-fn resolve_weak_fresh<T: TextSource, S: Ledger>(
-    text: T,
-    sequence: LentSequence<'_>,
-    classes: &mut [BidiClass],
-    blank: Blank,
-)
-    requires sequence { CanResolveWeak T.units (T.characters text) sequence classes.old }
-    requires name { blank.name ≡ S.name }
-    requires parts { blank.parts ≡ S.parts }
-    requires one { blank.parts ≡ 1 }
-    ensures { IsWeakResolved T.units (T.characters text) sequence.entry classes.old classes.new }
-{
-    let mut steps = Steps::<S>::new(blank);
-    resolve_weak_searching::<T, S, Brand>(text, sequence, classes, &mut steps, Blank::new(1))
-}
-
-// Calls [`resolve_weak_lent_counted`] with a new count of code units that searches look at.
-fn resolve_weak_searching<T: TextSource, S: Ledger, L: Ledger>(
-    text: T,
-    sequence: LentSequence<'_>,
-    classes: &mut [BidiClass],
-    steps: &mut Steps<S>,
-    blank: Blank,
-)
-    requires sequence { CanResolveWeak T.units (T.characters text) sequence classes.old }
-    requires name { blank.name ≡ L.name }
-    requires parts { blank.parts ≡ L.parts }
-    requires one { blank.parts ≡ 1 }
-    ensures resolved { IsWeakResolved T.units (T.characters text) sequence.entry classes.old classes.new }
+    ensures resolved { IsWeakResolved T.units (T.characters text) sequence.entry processing_classes.old processing_classes.new }
     ensures at_least { steps.old + char_count_of T.units (T.characters text) sequence.entry ≤ steps.new }
     ensures at_most { steps.new ≤ steps.old + 8 * unit_count_of sequence.entry }
-{
-    let mut looked = Steps::<L>::new(blank);
-    resolve_weak_lent_counted(text, sequence, classes, steps, &mut looked)
-}
-
-// Like [`resolve_weak_lent`], and keeps both counts: `steps` of loop iterations, and `looked` of the code
-// units that searches look at.
-//
-// Searches look at no more than 11 code units for each code unit of the runs. Two tests for marks and numbers
-// take three of these, W1 two, and the walk over numbers six.
-fn resolve_weak_lent_counted<T: TextSource, S: Ledger, L: Ledger>(
-    text: T,
-    sequence: LentSequence<'_>,
-    classes: &mut [BidiClass],
-    steps: &mut Steps<S>,
-    looked: &mut Steps<L>,
-)
-    requires { CanResolveWeak T.units (T.characters text) sequence classes.old }
-    ensures resolved { IsWeakResolved T.units (T.characters text) sequence.entry classes.old classes.new }
-    ensures at_least { steps.old + char_count_of T.units (T.characters text) sequence.entry ≤ steps.new }
-    ensures at_most { steps.new ≤ steps.old + 8 * unit_count_of sequence.entry }
-    ensures looked { looked.new ≤ looked.old + 11 * unit_count_of sequence.entry }
 {
     let runs = sequence.runs();
     let sos = sequence.sos();
-    resolve_marks_and_numbers(text, runs, sos, classes, steps, looked);
-    resolve_w3_w6(runs, classes, steps);
+    resolve_marks_and_numbers(text, runs, sos, processing_classes, steps);
+    resolve_w3_w6(runs, processing_classes, steps);
 }
 
 /// Applies W1, and then W2, W4, W5 and W7. They matter only if there are nonspacing marks or numbers.
-fn resolve_marks_and_numbers<T: TextSource, S: Ledger, L: Ledger>(
+fn resolve_marks_and_numbers<T: TextSource, S: Ledger>(
     text: T,
     runs: &[LevelRun],
     sos: BidiClass,
     classes: &mut [BidiClass],
     steps: &mut Steps<S>,
-    looked: &mut Steps<L>,
 )
     requires ordered { IsTrue (are_ordered (map bounds runs.now)) }
     requires lines { AreLines T.units (T.characters text) (map bounds runs.now) }
@@ -171,36 +130,17 @@ fn resolve_marks_and_numbers<T: TextSource, S: Ledger, L: Ledger>(
         × IsWalked (len_at T.units (T.characters text)) (map bounds runs.now) sos marked classes.new }
     ensures at_least { steps.old ≤ steps.new }
     ensures at_most { steps.new ≤ steps.old + 6 * length (units_in_runs (map bounds runs.now)) }
-    ensures looked { looked.new ≤ looked.old + 11 * length (units_in_runs (map bounds runs.now)) }
 {
-    if has_marks_or_numbers(runs, classes, looked) {
-        resolve_marks(runs, sos, classes, steps, looked);
-        resolve_numbers(text, runs, sos, classes, steps, looked);
+    if has_marks_or_numbers(runs, classes) {
+        resolve_marks(runs, sos, classes, steps);
+        resolve_numbers(text, runs, sos, classes, steps);
     }
 }
 
-/// The number of code units in some runs, or `usize::MAX` if that is less. Only counts read it, so the compiler
-/// leaves it out.
-fn unit_count(runs: &[LevelRun]) -> usize
-    ensures { result ≡ min usize.MAX (length (units_in_runs (map bounds runs.now))) }
+/// Whether the runs have a nonspacing mark or a number. May also find one shortly after a long run.
+fn has_marks_or_numbers(runs: &[LevelRun], classes: &[BidiClass]) -> bool
+    ensures { result ≡ is_any_wide is_mark_or_number runs.now classes.now }
 {
-    runs.iter().fold(0, |units: usize, run| {
-        units.saturating_add(run.end.saturating_sub(run.start))
-    })
-}
-
-/// Whether the runs have a nonspacing mark or a number. May also find one shortly after a long run. Looks at no
-/// more than twice the code units of the runs, and counts that many.
-fn has_marks_or_numbers<L: Ledger>(
-    runs: &[LevelRun],
-    classes: &[BidiClass],
-    looked: &mut Steps<L>,
-) -> bool
-    ensures answer { result ≡ is_any_wide is_mark_or_number runs.now classes.now }
-    ensures looked { looked.new ≤ looked.old + two_a_unit runs.now }
-{
-    looked.tick_by(unit_count(runs));
-    looked.tick_by(unit_count(runs));
     runs.iter()
         .any(|run| is_mark_or_number_among(wide_part_of(classes, run)))
 }

@@ -1,13 +1,13 @@
 //! The directional status stack with its three counts (X1 to X8).
 
-ghost use Rattle.std.specs.Prelude.{◌≡◌, ℕ, ◌<◌, ◌≤◌, ◌+◌, ◌^◌, ◌∷◌, true, false, length, reverse, Option, Some, None, unwrap_or, if◌then◌else◌};
+ghost use Rattle.std.specs.Prelude.{◌≡◌, ℕ, ◌<◌, ◌≤◌, ◌+◌, ◌^◌, [], ◌∷◌, true, false, length, map, reverse, Some, None, unwrap_or, if◌then◌else◌};
 ghost use Rattle.std.specs.Result.{OkIff};
 ghost use Rattle.bidi_base.specs.declared.char_data.BidiClass.TheVariants.{BN};
 ghost use Rattle.bidi_base.specs.Classes.{is_initiator, is_kept, is_removed};
 ghost use Rattle.bidi_base.specs.Explicit.{asked_level, override_of};
 ghost use Rattle.bidi_base.specs.StatusMachine.{State, start, answer_class, answer_level, entered, closed, step, fits_in, close_isolate, close_embedding, drop_isolate, counted, IsWithinDepth, IsPoppable};
 ghost use Rattle.bidi_explicit.specs.Control.{is_control};
-ghost use Rattle.bidi_explicit.specs.Status.{entries, entry_count, seen, state_by};
+ghost use Rattle.bidi_explicit.specs.Status.{below_last, entry_count, seen, state_by, IsLast};
 
 use arrayvec::ArrayVec;
 use bidi_base::char_data::{BidiClass, is_rtl};
@@ -16,7 +16,7 @@ use bidi_runs::prepare::Steps;
 use std::marker::Model;
 use std::sync::ledger::Ledger;
 
-/// An entry of the directional status stack: the status inside an initiator that did not overflow.
+/// An entry of the directional status stack: the status of the paragraph, or inside an initiator that did not overflow.
 #[derive(Clone, Copy)]
 pub struct StatusEntry {
     pub level: Level,
@@ -71,13 +71,13 @@ impl StatusEntry {
 }
 
 /// The directional status stack, with the overflow isolate, overflow embedding and valid isolate counts.
-/// The levels on the stack ascend up to 125, so at most 125 entries are below the one on top.
+/// The levels on the stack ascend up to 125, so it has at most 126 entries.
 #[derive(Drop)]
 pub struct StatusStack {
-    /// The entry on top. Each control and each stretch reads it, so it is not in the list.
+    /// The entries, outermost first. The first one is the paragraph's.
+    entries: ArrayVec<StatusEntry, 126>,
+    /// A copy of the last entry, since each control and each stretch reads it.
     top: StatusEntry,
-    /// The entries below it, outermost first.
-    below: ArrayVec<StatusEntry, 125>,
     overflow_isolates: usize,
     overflow_embeddings: usize,
     valid_isolates: usize,
@@ -86,7 +86,9 @@ pub struct StatusStack {
 impl Model for StatusStack {
     ghost Value = { State };
 
-    ghost view = { λ s. state_by s.top (reverse s.below.items) s.overflow_isolates s.overflow_embeddings s.valid_isolates };
+    ghost view = { λ s. state_by s.top (below_last s.entries.items) s.overflow_isolates s.overflow_embeddings s.valid_isolates };
+
+    ghost invariant = { λ s. IsLast s.top s.entries.items };
 }
 
 // The class that an initiator gives to the characters inside it, if it is an override.
@@ -112,24 +114,34 @@ fn asked(class: BidiClass, level: Level) -> Result<Level, Error>
 }
 
 // Pops the entries above the innermost isolate, and the isolate itself. Counts one step for each entry.
-fn pop_isolate<S: Ledger>(
-    top: &mut StatusEntry,
-    below: &mut ArrayVec<StatusEntry, 125>,
-    steps: &mut Steps<S>,
-)
-    requires poppable { (t : State) × (drop_isolate (entries top.old below.old.items) ≡ t.top ∷ t.below) }
-    ensures stack { drop_isolate (entries top.old below.old.items) ≡ entries top.new below.new.items }
+fn pop_isolate<S: Ledger>(entries: &mut ArrayVec<StatusEntry, 126>, steps: &mut Steps<S>)
+    ensures stack { drop_isolate (map seen (reverse entries.old.items)) ≡ map seen (reverse entries.new.items) }
     ensures at_least { steps.old ≤ steps.new }
-    ensures popped { steps.new + length below.new.items ≡ steps.old + length below.old.items }
+    ensures popped { steps.new + length entries.new.items ≡ steps.old + length entries.old.items }
 {
-    while let Some(entry) = below.pop() {
+    while let Some(entry) = entries.pop() {
         steps.tick();
-        let popped = *top;
-        *top = entry;
-        if popped.is_isolate {
+        if entry.is_isolate {
             break;
         }
     }
+}
+
+// The entries of a stack that has only this one.
+fn only(entry: StatusEntry) -> ArrayVec<StatusEntry, 126>
+    ensures { result.items ≡ entry ∷ [] }
+{
+    let mut entries = ArrayVec::new();
+    entries.push(entry);
+    entries
+}
+
+// The last entry.
+fn last(entries: &ArrayVec<StatusEntry, 126>) -> StatusEntry
+    requires { 0 < length entries.now.items }
+    ensures { IsLast result entries.now.items }
+{
+    entries[entries.len() - 1]
 }
 
 impl StatusStack {
@@ -137,13 +149,14 @@ impl StatusStack {
     pub fn new(paragraph: Level) -> Self
         ensures { result ≡ start paragraph }
     {
+        let entries = only(StatusEntry {
+            level: paragraph,
+            override_class: None,
+            is_isolate: false,
+        });
         StatusStack {
-            top: StatusEntry {
-                level: paragraph,
-                override_class: None,
-                is_isolate: false,
-            },
-            below: ArrayVec::new(),
+            top: last(&entries),
+            entries,
             overflow_isolates: 0,
             overflow_embeddings: 0,
             valid_isolates: 0,
@@ -209,6 +222,7 @@ impl StatusStack {
     }
 
     // Closes the innermost isolate at a PDI (X6a).
+    #[tactic(auto, using(crate::proofs::StackLemmas::isolate_closings))]
     fn close_isolate<S: Ledger>(&mut self, steps: &mut Steps<S>)
         requires { IsPoppable self.old }
         ensures state { self.new ≡ close_isolate self.old }
@@ -220,11 +234,13 @@ impl StatusStack {
         } else if self.valid_isolates > 0 {
             self.overflow_embeddings = 0;
             self.valid_isolates -= 1;
-            pop_isolate(&mut self.top, &mut self.below, steps);
+            pop_isolate(&mut self.entries, steps);
+            self.top = last(&self.entries);
         }
     }
 
     // Closes the innermost embedding at a PDF (X7).
+    #[tactic(auto, using(crate::proofs::StackLemmas::embedding_closings))]
     fn close_embedding(&mut self)
         ensures { self.new ≡ close_embedding self.old }
     {
@@ -235,10 +251,13 @@ impl StatusStack {
             self.overflow_embeddings -= 1;
             return;
         }
-        if !self.top.is_isolate {
-            if let Some(entry) = self.below.pop() {
-                self.top = entry;
-            }
+        if self.top.is_isolate {
+            return;
+        }
+        // The paragraph's own entry stays.
+        if self.entries.len() > 1 {
+            self.entries.pop();
+            self.top = last(&self.entries);
         }
     }
 
@@ -262,12 +281,12 @@ impl StatusStack {
         ensures { self.new ≡ entered class self.old }
     {
         if let Some(level) = self.taken_level(class) {
-            self.below.push(self.top);
             self.top = StatusEntry {
                 level,
                 override_class: override_class(class),
                 is_isolate,
             };
+            self.entries.push(self.top);
             if is_isolate {
                 self.valid_isolates += 1;
             }

@@ -15,15 +15,18 @@ ghost use Rattle.bidi_explicit.specs.ExplicitStretches.{run_met, runs_met, IsOve
 ghost use Rattle.bidi_explicit.specs.Status.{entry_count, seen};
 
 use super::status::{StatusEntry, StatusStack};
-use super::{Stride, cut_run, units, write_class, write_control};
+use super::{Stride, cut_run, write_control};
 use bidi_base::char_data::BidiClass::{self, B, BN, FSI, LRE, LRI, LRO, PDF, PDI, RLE, RLI, RLO};
 use bidi_base::level::Level;
-use bidi_base::search::ClassTest;
+use bidi_base::search::{Among, ClassTest, first_passing_counted};
 use bidi_runs::characters::end_within;
 use bidi_runs::prepare::{LevelRunVec, Steps};
 use bidi_text::text::TextSource;
 use std::alloc::AllocError;
 use std::sync::ledger::Ledger;
+
+// In a text with many controls, the next one is mostly among this many code units. They are tested one by one.
+const TESTED_SINGLY: usize = 4;
 
 /// Returns whether characters of this class change the status, or have another level than the status.
 pub fn is_control(class: BidiClass) -> bool
@@ -51,7 +54,7 @@ impl ClassTest for Control {
 
 /// Classes that X9 keeps, in a stretch without controls: all but BN.
 #[derive(Clone, Copy, Debug)]
-struct Kept;
+pub struct Kept;
 
 impl ClassTest for Kept {
     ghost use Rattle.bidi_base.specs.Classes.{is_kept_in_place};
@@ -124,7 +127,8 @@ pub struct Paragraph<'p, T: TextSource> {
 }
 
 impl<'p, T: TextSource> Paragraph<'p, T> {
-    ghost use Rattle.bidi_explicit.specs.Paragraph.{as_seen, chars_to, counted_to, AreCharsCounted, AreCounted, IsFirstPassing, IsNextStart, IsPlain, IsStart};
+    ghost use Rattle.bidi_base.specs.Classes.{is_kept_in_place};
+    ghost use Rattle.bidi_explicit.specs.Paragraph.{as_seen, chars_to, counted_to, least_to, AreCharsCounted, IsFirstPassing, IsNextStart, IsPlain, IsStart};
 
     /// Creates a paragraph.
     pub fn new(
@@ -148,24 +152,13 @@ impl<'p, T: TextSource> Paragraph<'p, T> {
         }
     }
 
-    // The index after the character that begins at `start`.
-    fn end_of(&self, start: usize) -> usize
+    /// Returns the index after the character that begins at `start`.
+    pub(super) fn end_of(&self, start: usize) -> usize
         requires begins { IsStart self.now start }
         requires inside { start < length self.now.original_classes.now }
         ensures { IsNextStart self.now start result }
     {
         end_within(self.text, start, self.original_classes.len())
-    }
-
-    // Like `end_of`, and counts one step.
-    fn step_over<S: Ledger>(&self, start: usize, steps: &mut Steps<S>) -> usize
-        requires begins { IsStart self.now start }
-        requires inside { start < length self.now.original_classes.now }
-        ensures end { IsNextStart self.now start result }
-        ensures steps { steps.new ≡ steps.old + 1 }
-    {
-        steps.tick();
-        self.end_of(start)
     }
 
     // The first character from `from` on and before `to` whose class passes a test, or else `to`. Counts
@@ -187,128 +180,65 @@ impl<'p, T: TextSource> Paragraph<'p, T> {
     {
         let mut at = from;
         while at < to && !test.passes(self.original_classes[at]) {
-            at = self.step_over(at, steps);
+            steps.tick();
+            at = self.end_of(at);
         }
         at
     }
 
-    // Writes the class of an override to the characters of a stretch without controls, except to those with
-    // BN (X6). Counts one step for each character.
-    fn put_on_characters<S: Ledger>(
-        &self,
-        classes: &mut [BidiClass],
-        from: usize,
-        to: usize,
-        put: BidiClass,
-        steps: &mut Steps<S>,
-    )
-        requires classes { length classes.old ≡ length self.now.original_classes.now }
-        requires begins { IsStart self.now from }
-        requires ends { IsStart self.now to }
-        requires ordered { from ≤ to }
-        requires within { to ≤ length self.now.original_classes.now }
-        requires unread { IsUnread self.now.original_classes.now classes.old from }
-        ensures put { IsOverridden (Some put) from to classes.old classes.new }
-        ensures steps { AreCharsCounted self.now from to steps.old steps.new }
-    {
-        let mut at = from;
-        while at < to {
-            let next = self.step_over(at, steps);
-            if Kept.passes(self.original_classes[at]) {
-                write_class(classes, at, next, put);
-            }
-            at = next;
-        }
-    }
-
-    // The end of the stretch without controls that begins at `from`. Counts one step for each of its
-    // characters or code units.
-    fn stretch_end<S: Ledger, L: Ledger>(
-        &self,
-        from: usize,
-        steps: &mut Steps<S>,
-        looked: &mut Steps<L>,
-    ) -> usize
+    // The end of the stretch without controls that begins at `from`.
+    fn stretch_end<S: Ledger>(&self, from: usize, steps: &mut Steps<S>) -> usize
         requires begins { IsStart self.now from }
         requires inside { from < length self.now.original_classes.now }
         requires plain { IsPlain self.now from }
         ensures first { IsFirstPassing self.now is_control from (length self.now.original_classes.now) result }
         ensures begins { IsStart self.now result }
-        ensures steps { AreCounted self.now from result steps.old steps.new }
-        ensures looked { looked.new ≤ looked.old + 6 * (result - from) }
+        ensures at_least { steps.old + least_to self.now result ≤ steps.new + least_to self.now from }
+        ensures at_most { steps.new + counted_to self.now from ≤ steps.old + counted_to self.now result }
     {
         let classes = self.original_classes;
         match self.stride {
             Stride::CodeUnit => {
-                units::next_after(Control, classes, from, classes.len(), steps, looked)
+                let controls = Among {
+                    test: Control,
+                    classes,
+                };
+                first_passing_counted(controls, TESTED_SINGLY, from + 1, classes.len(), steps)
             }
             Stride::Character => self.next_character(Control, from, classes.len(), steps),
         }
     }
 
-    // The first character from `from` on and before `to` whose class passes a test, or else `to`. Counts
-    // one step for each character or code unit passed over.
-    fn next_passing<C: ClassTest, S: Ledger, L: Ledger>(
-        &self,
-        test: C,
-        from: usize,
-        to: usize,
-        steps: &mut Steps<S>,
-        looked: &mut Steps<L>,
-    ) -> usize
+    // The first character that X9 keeps, from `from` on and before `to`, or else `to`. No control is there.
+    fn first_kept<S: Ledger>(&self, from: usize, to: usize, steps: &mut Steps<S>) -> usize
         requires begins { IsStart self.now from }
         requires ends { IsStart self.now to }
         requires ordered { from ≤ to }
         requires within { to ≤ length self.now.original_classes.now }
-        ensures first { IsFirstPassing self.now (C.test test) from to result }
-        ensures begins { IsStart self.now result }
-        ensures steps { AreCounted self.now from result steps.old steps.new }
-        ensures looked { looked.new ≤ looked.old + 6 * (to - from) }
-    {
-        let classes = self.original_classes;
-        match self.stride {
-            Stride::CodeUnit => units::next_passing(test, classes, from, to, steps, looked),
-            Stride::Character => self.next_character(test, from, to, steps),
-        }
-    }
-
-    // If a stretch without controls is inside an override, writes the class of the override to its
-    // characters, except to those with BN (X6), and counts one step for each character or code unit.
-    fn write_override<S: Ledger>(
-        &self,
-        classes: &mut [BidiClass],
-        from: usize,
-        to: usize,
-        override_class: Option<BidiClass>,
-        steps: &mut Steps<S>,
-    )
-        requires classes { length classes.old ≡ length self.now.original_classes.now }
-        requires begins { IsStart self.now from }
-        requires ends { IsStart self.now to }
-        requires ordered { from ≤ to }
-        requires within { to ≤ length self.now.original_classes.now }
-        requires unread { IsUnread self.now.original_classes.now classes.old from }
-        ensures put { IsOverridden override_class from to classes.old classes.new }
+        ensures first { IsFirstPassing self.now is_kept_in_place from to result }
         ensures at_least { steps.old ≤ steps.new }
-        ensures at_most { steps.new ≤ steps.old + (counted_to self.now to - counted_to self.now from) }
+        ensures at_most { steps.new + counted_to self.now from ≤ steps.old + counted_to self.now to }
     {
-        if let Some(put) = override_class {
-            match self.stride {
-                Stride::CodeUnit => units::put_override(classes, from, to, put, steps),
-                Stride::Character => self.put_on_characters(classes, from, to, put, steps),
+        match self.stride {
+            Stride::CodeUnit => {
+                let kept = Among {
+                    test: Kept,
+                    classes: self.original_classes,
+                };
+                first_passing_counted(kept, TESTED_SINGLY, from, to, steps)
             }
+            Stride::Character => self.next_character(Kept, from, to, steps),
         }
     }
 
     /// Reads the characters from an index up to the next control. The caller writes their level, which is the
     /// same for all of them.
-    pub(super) fn read_stretch<S: Ledger, L: Ledger>(
+    pub(super) fn read_stretch<S: Ledger>(
         &self,
         from: usize,
         status: StatusEntry,
         classes: &mut [BidiClass],
         steps: &mut Steps<S>,
-        looked: &mut Steps<L>,
     ) -> Progress
         requires inside { from < length self.now.original_classes.now }
         requires plain { IsPlain self.now from }
@@ -321,13 +251,12 @@ impl<'p, T: TextSource> Paragraph<'p, T> {
         ensures some { from < result.end }
         ensures within { result.end ≤ length self.now.original_classes.now }
         ensures more { counted_to self.now from < counted_to self.now result.end }
-        ensures at_least { steps.old + chars_to self.now result.end ≤ steps.new + chars_to self.now from }
+        ensures at_least { steps.old + least_to self.now result.end ≤ steps.new + least_to self.now from }
         ensures at_most { steps.new + 3 * counted_to self.now from ≤ steps.old + 3 * counted_to self.now result.end }
-        ensures looked { looked.new ≤ looked.old + 12 * (result.end - from) }
     {
-        let end = self.stretch_end(from, steps, looked);
+        let end = self.stretch_end(from, steps);
         self.write_override(classes, from, end, status.override_class, steps);
-        let first_kept = self.next_passing(Kept, from, end, steps, looked);
+        let first_kept = self.first_kept(from, end, steps);
         Progress {
             end,
             level: status.level,

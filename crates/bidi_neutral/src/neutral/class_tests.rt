@@ -3,11 +3,11 @@
 
 ghost use Rattle.std.specs.Prelude.{◌≡◌, ◌≤◌, ◌&&◌, not, length};
 ghost use Rattle.bidi_base.specs.Classes.{has_direction, is_kept_in_place, same_class, stands_for};
-ghost use Rattle.bidi_base.specs.Search.{IsFirst};
+ghost use Rattle.bidi_base.specs.Search.{IsFirst, passing};
 ghost use Rattle.bidi_base.specs.declared.char_data.BidiClass.TheVariants.{ON};
 
 use bidi_base::char_data::BidiClass::{self, AN, EN, L, R};
-use bidi_base::search::{ClassTest, first_passing};
+use bidi_base::search::{Among, ClassTest, first_passing};
 use bidi_runs::written::is_kept_in_place;
 
 /// The class that brackets have, among others: ON.
@@ -83,22 +83,42 @@ impl ClassTest for ForR {
     }
 }
 
-/// Returns the first index in `from..to` with a class that stands for a direction, or else `to`. A search for known
-/// classes is shorter, so there is a test for each direction.
+/// Returns the first index in `from..to` with a class that stands for a direction, or else `to`. Tests the first
+/// `singly` classes one by one. A search for known classes is shorter, so there is a test for each direction.
 pub fn first_standing_for(
     direction: BidiClass,
+    singly: usize,
     classes: &[BidiClass],
     from: usize,
     to: usize,
 ) -> usize
     requires ordered { from ≤ to }
     requires inside { to ≤ length classes.now }
-    ensures { IsFirst (stands_for direction) classes.now from to result }
+    ensures { IsFirst (passing (stands_for direction) classes.now) from to result }
 {
     match direction {
-        L => first_passing(ForL, classes, from, to),
-        R => first_passing(ForR, classes, from, to),
-        _ => first_passing(For(direction), classes, from, to),
+        L => first_passing(
+            Among {
+                test: ForL,
+                classes,
+            },
+            singly,
+            from,
+            to,
+        ),
+        R => first_passing(
+            Among {
+                test: ForR,
+                classes,
+            },
+            singly,
+            from,
+            to,
+        ),
+        _ => {
+            let test = For(direction);
+            first_passing(Among { test, classes }, singly, from, to)
+        }
     }
 }
 

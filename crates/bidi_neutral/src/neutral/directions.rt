@@ -4,7 +4,7 @@ ghost use Rattle.std.specs.Prelude.{◌≡◌, ◌⊎◌, ℕ, ◌<◌, ◌≤�
 ghost use Rattle.bidi_base.specs.Classes.{is_l_or_r, is_weak_resolved, stands_for};
 ghost use Rattle.bidi_base.specs.Neutral.{n1_n2, n2_rule};
 ghost use Rattle.bidi_base.specs.Places.{at_places, class_at};
-ghost use Rattle.bidi_base.specs.Search.{IsFirst};
+ghost use Rattle.bidi_base.specs.Search.{IsFirst, passing};
 ghost use Rattle.bidi_base.specs.declared.char_data.BidiClass.TheVariants.{L};
 ghost use Rattle.bidi_base.specs.Units.{bounds, are_ordered, in_runs};
 ghost use Rattle.bidi_neutral.specs.JoinPass.{IsAtOpposite, IsJoined, IsUnderWay, Unjoined};
@@ -12,10 +12,9 @@ ghost use Rattle.bidi_neutral.specs.PairWalk.{opposite_of};
 ghost use Rattle.bidi_runs.specs.Written.{is_seen, seen_units, IsWrittenOver, KeepsAround, KeepsOutside};
 
 use super::class_tests::{AnyDirection, For, KeptNotFor, first_standing_for};
-use super::near::find_near;
 use bidi_base::char_data::BidiClass::{self, L, R};
 use bidi_base::classes::{is_neutral, stands_for};
-use bidi_base::search::first_passing;
+use bidi_base::search::{Among, first_passing};
 use bidi_runs::prepare::LevelRun;
 use bidi_runs::written::write_over_runs;
 
@@ -91,6 +90,10 @@ struct Join {
     first_run: usize,
 }
 
+// If the next code unit of the opposite direction is likely near, this many code units are tested one by one: a letter
+// and a control have at most seven in UTF-8.
+const IF_CLOSE: usize = 8;
+
 impl Join {
     /// Reads the code units of the run at the index `run`.
     fn read_run(&mut self, runs: &[LevelRun], run: usize, classes: &mut [BidiClass])
@@ -139,7 +142,11 @@ impl Join {
         let mut from = at;
         let mut is_close = false;
         if self.waits {
-            let next = first_passing(AnyDirection, classes, at, end);
+            let directions = Among {
+                test: AnyDirection,
+                classes,
+            };
+            let next = first_passing(directions, 1, at, end);
             if next == end {
                 return end;
             }
@@ -155,7 +162,7 @@ impl Join {
     }
 
     /// Returns the first index in `from..end` with a class of the opposite direction, or else `end`.
-    /// `is_close` tells whether it is likely near. A test of one code unit is shorter for a known direction.
+    /// `is_close` tells whether it is likely near.
     fn first_opposite(
         &self,
         is_close: bool,
@@ -165,24 +172,10 @@ impl Join {
     ) -> usize
         requires ordered { from ≤ end }
         requires inside { end ≤ length classes.now }
-        ensures { IsFirst (stands_for self.now.opposite) classes.now from end result }
+        ensures { IsFirst (passing (stands_for self.now.opposite) classes.now) from end result }
     {
-        if is_close {
-            match self.opposite {
-                L => {
-                    if let Some(found) = find_near(For(L), classes, from, end) {
-                        return found;
-                    }
-                }
-                R => {
-                    if let Some(found) = find_near(For(R), classes, from, end) {
-                        return found;
-                    }
-                }
-                _ => {}
-            }
-        }
-        first_standing_for(self.opposite, classes, from, end)
+        let singly = if is_close { IF_CLOSE } else { 1 };
+        first_standing_for(self.opposite, singly, classes, from, end)
     }
 
     /// Passes over a stretch of the opposite direction, in the run at the index `run`. Returns where it
@@ -200,7 +193,11 @@ impl Join {
             → (get_or s.runs run (0, 0)).0 ≤ at → end ≤ (get_or s.runs run (0, 0)).1
             → IsJoined s classes.now self.old.waits at at → IsUnderWay s classes.now self.new result }
     {
-        let next = first_passing(KeptNotFor(self.opposite), classes, at + 1, end);
+        let others = Among {
+            test: KeptNotFor(self.opposite),
+            classes,
+        };
+        let next = first_passing(others, 1, at + 1, end);
         self.waits = true;
         self.first = next;
         self.first_run = run;

@@ -73,7 +73,7 @@ pub fn first_for(
     for run in runs {
         let end = run.end.min(to);
         let start = run.start.max(from).min(end);
-        let unit = first_standing_for(direction, classes, start, end);
+        let unit = first_standing_for(direction, 1, classes, start, end);
         if unit < end {
             return unit;
         }

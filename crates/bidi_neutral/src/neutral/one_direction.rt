@@ -7,7 +7,7 @@ ghost use Rattle.bidi_neutral.specs.NeutralPass.{turns_from};
 
 use super::directions::Directions;
 use bidi_base::char_data::BidiClass::{self, AN, EN, L, R};
-use bidi_base::search::{ClassTest, first_passing};
+use bidi_base::search::{Among, ClassTest, first_passing};
 use bidi_runs::prepare::LevelRun;
 
 /// Returns whether sos and eos are the embedding direction, and no class in the runs is a number or the
@@ -49,7 +49,11 @@ fn has_turn(direction: BidiClass, run: &LevelRun, classes: &[BidiClass]) -> bool
 {
     let end = run.end;
     let start = run.start.min(end);
-    first_passing(TurningFrom(direction), classes, start, end) < end
+    let turning = Among {
+        test: TurningFrom(direction),
+        classes,
+    };
+    first_passing(turning, 1, start, end) < end
 }
 
 /// Numbers, and the direction other than this one. The test has no branch, so that many code units are

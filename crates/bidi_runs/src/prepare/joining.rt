@@ -5,7 +5,7 @@ ghost use Rattle.bidi_base.specs.PerChar.{HaveClass, HaveLevel};
 ghost use Rattle.bidi_base.specs.declared.char_data.BidiClass.TheVariants.{L};
 ghost use Rattle.bidi_base.specs.Explicit.{explicit_levels};
 ghost use Rattle.bidi_base.specs.Levels.{direction_of};
-ghost use Rattle.bidi_base.specs.Search.{IsFirst};
+ghost use Rattle.bidi_base.specs.Search.{IsFirst, passing};
 ghost use Rattle.bidi_base.specs.Sequences.{is_kept_at, sequences, HasExplicitLevels, FlagsInitiators};
 ghost use Rattle.bidi_base.specs.Text.{IsLine, is_boundary, per_char};
 ghost use Rattle.bidi_base.specs.Units.{bounds, level_run_ranges, AreLines};
@@ -22,7 +22,7 @@ use crate::leveled_text::LeveledText;
 use bidi_base::char_data::BidiClass;
 use bidi_base::classes::{is_initiator, is_pdi};
 use bidi_base::level::Level;
-use bidi_base::search::{ClassTest, first_passing};
+use bidi_base::search::{Among, ClassTest, first_passing};
 use bidi_text::text::TextSource;
 use std::alloc::{AllocError, Global};
 
@@ -36,7 +36,7 @@ pub(super) fn kept_end(classes: &[BidiClass], run: &LevelRun) -> usize
         if not_removed_by_x9(&classes[unit]) {
             return unit + 1;
         }
-        if run.end - unit == NEAR {
+        if run.end - unit == TESTED_SINGLY {
             return kept_end_by_blocks(classes, run.start, unit);
         }
     }
@@ -178,24 +178,21 @@ impl ClassTest for IsolateControl {
     }
 }
 
-// What a search looks for is mostly among this many code units. They are tested one by one before the search by
-// blocks begins.
-const NEAR: usize = 4;
+// What a search looks for is mostly among this many code units. They are tested one by one.
+const TESTED_SINGLY: usize = 4;
 
 // The first index in `from..to` with a class that opens or closes an isolate, or else `to`.
 #[inline(always)]
 fn next_control(classes: &[BidiClass], from: usize, to: usize) -> usize
     requires ordered { from ≤ to }
     requires within { to ≤ length classes.now }
-    ensures { IsFirst is_isolate_control classes.now from to result }
+    ensures { IsFirst (passing is_isolate_control classes.now) from to result }
 {
-    for near in 0..NEAR {
-        let at = from + near;
-        if at == to || IsolateControl.passes(classes[at]) {
-            return at;
-        }
-    }
-    first_passing(IsolateControl, classes, from + NEAR, to)
+    let controls = Among {
+        test: IsolateControl,
+        classes,
+    };
+    first_passing(controls, TESTED_SINGLY, from, to)
 }
 
 /// Writes the isolating run sequences of a paragraph to `out`, in the order of their first characters

@@ -13,12 +13,11 @@ use bidi_runs::written::is_kept_in_place;
 use std::sync::ledger::Ledger;
 
 /// Applies W1 to the code units of some runs that are not BN.
-pub fn resolve_marks<S: Ledger, L: Ledger>(
+pub fn resolve_marks<S: Ledger>(
     runs: &[LevelRun],
     sos: BidiClass,
     classes: &mut [BidiClass],
     steps: &mut Steps<S>,
-    looked: &mut Steps<L>,
 )
     requires ordered { IsTrue (are_ordered (map bounds runs.now)) }
     requires within { All (λ r. r.1 ≤ length classes.old) (map bounds runs.now) }
@@ -26,12 +25,11 @@ pub fn resolve_marks<S: Ledger, L: Ledger>(
     ensures marked { IsMarked (map bounds runs.now) (carried sos) classes.old classes.new }
     ensures at_least { steps.old ≤ steps.new }
     ensures at_most { steps.new ≤ steps.old + two_a_unit runs.now }
-    ensures looked { looked.new ≤ looked.old + two_a_unit runs.now }
 {
     let mut last = sos;
     for run in runs {
         steps.tick();
-        last = resolve_marks_in(run, last, classes, steps, looked);
+        last = resolve_marks_in(run, last, classes, steps);
     }
 }
 
@@ -40,43 +38,38 @@ const BLOCK: usize = 16;
 
 /// Applies W1 to one run after a character of the class `before`. Returns the class of the last character
 /// that is neither BN nor a mark, or `before` if there is none.
-fn resolve_marks_in<S: Ledger, L: Ledger>(
+fn resolve_marks_in<S: Ledger>(
     run: &LevelRun,
     before: BidiClass,
     classes: &mut [BidiClass],
     steps: &mut Steps<S>,
-    looked: &mut Steps<L>,
 ) -> BidiClass
     requires ordered { run.now.start ≤ run.now.end }
     requires within { run.now.end ≤ length classes.old }
     ensures marked { Marks run.now.start run.now.end before result classes.old classes.new }
-    ensures at_least { steps.old + (run.now.end - run.now.start) ≤ steps.new }
+    ensures at_least { steps.old ≤ steps.new }
     ensures at_most { 16 * steps.new ≤ 16 * steps.old + 17 * (run.now.end - run.now.start) }
-    ensures looked { looked.new ≤ looked.old + 2 * (run.now.end - run.now.start) }
 {
     let end = run.end;
     let mut last = before;
     let mut at = run.start;
     while end - at >= BLOCK {
+        steps.tick();
         let next = at + BLOCK;
-        last = if is_mark_in(&classes[at..next], looked) {
-            steps.tick();
+        last = if is_mark_in(&classes[at..next]) {
             resolve_each_mark(at, next, last, classes, steps)
         } else {
-            steps.tick_by(BLOCK);
-            last_kept(&classes[at..next], looked).unwrap_or(last)
+            last_kept(&classes[at..next]).unwrap_or(last)
         };
         at = next;
     }
     resolve_each_mark(at, end, last, classes, steps)
 }
 
-/// Whether one of the classes is NSM. Tests all of them at once, and counts all.
-fn is_mark_in<L: Ledger>(classes: &[BidiClass], looked: &mut Steps<L>) -> bool
-    ensures answer { result ≡ is_any_of is_nsm classes.now }
-    ensures looked { looked.new ≡ looked.old + length classes.now }
+/// Whether one of the classes is NSM. Tests all of them at once.
+fn is_mark_in(classes: &[BidiClass]) -> bool
+    ensures { result ≡ is_any_of is_nsm classes.now }
 {
-    looked.tick_by(classes.len());
     classes
         .iter()
         .fold(false, |found, class| found | is_nsm(*class))
@@ -110,12 +103,10 @@ fn resolve_each_mark<S: Ledger>(
     last
 }
 
-/// The last class in the slice that is not BN. Stops there, and counts all classes.
-fn last_kept<L: Ledger>(classes: &[BidiClass], looked: &mut Steps<L>) -> Option<BidiClass>
-    ensures answer { result ≡ find is_kept_in_place (reverse classes.now) }
-    ensures looked { looked.new ≡ looked.old + length classes.now }
+/// The last class in the slice that is not BN.
+fn last_kept(classes: &[BidiClass]) -> Option<BidiClass>
+    ensures { result ≡ find is_kept_in_place (reverse classes.now) }
 {
-    looked.tick_by(classes.len());
     classes
         .iter()
         .rev()

@@ -2,7 +2,7 @@
 //! these rules treat several code units of one class like a single one. Only a separator between numbers
 //! must be one character.
 
-ghost use Rattle.std.specs.Prelude.{◌≡◌, ℕ, ◌+◌, ◌-◌, ◌*◌, ◌<◌, ◌≤◌, true, false, not, ◌&&◌, length, map, min, drop, find, get_or, reverse, IsTrue};
+ghost use Rattle.std.specs.Prelude.{◌≡◌, ℕ, ◌+◌, ◌-◌, ◌*◌, ◌<◌, ◌≤◌, true, false, not, ◌&&◌, length, map, min, drop, find, get_or, reverse, slice_range, IsTrue};
 ghost use Rattle.bidi_base.specs.Classes.{is_strong};
 ghost use Rattle.bidi_base.specs.Places.{class_at};
 ghost use Rattle.bidi_base.specs.Text.{text_len, IsPerChar};
@@ -14,17 +14,18 @@ ghost use Rattle.bidi_weak.specs.WeakWalk.{Passes, Reads, ReadsTo, WaitsBelow};
 ghost use Rattle.bidi_runs.specs.Written.{count_below, is_seen, IsWrittenOver};
 
 use super::before::{Before, numbered, strengthened, strong_up_to};
-use super::next::next_passing;
+use super::part_of;
 use super::w3_w6::left_over;
-use super::{part_of, unit_count};
-use bidi_base::char_data::BidiClass::{self, AN, EN, ET, ON};
-use bidi_base::classes::is_strong;
-use bidi_base::search::ClassTest;
+use bidi_base::char_data::BidiClass::{self, AL, AN, EN, ET, L, ON, R};
+use bidi_base::search::{Among, ClassTest, end_of_last_passing_counted, first_passing_counted};
 use bidi_runs::prepare::{LevelRun, Steps};
 use bidi_runs::written::{is_kept_in_place, write_over_runs_counted};
 use bidi_text::text::TextSource;
 use std::ops::Range;
 use std::sync::ledger::Ledger;
+
+/// What a search looks for is mostly among this many code units. They are tested one by one.
+const TESTED_SINGLY: usize = 4;
 
 /// The level runs of a sequence, and the text that they are of.
 #[derive(Drop)]
@@ -48,13 +49,12 @@ struct Walk {
 
 /// Applies W2, W4, W5 and W7 to the code units of some runs that are not BN. None of them has NSM.
 /// Separators and terminators that do not become numbers keep their class or get ON. AL stays.
-pub fn resolve_numbers<T: TextSource, S: Ledger, L: Ledger>(
+pub fn resolve_numbers<T: TextSource, S: Ledger>(
     text: T,
     runs: &[LevelRun],
     sos: BidiClass,
     classes: &mut [BidiClass],
     steps: &mut Steps<S>,
-    looked: &mut Steps<L>,
 )
     requires ordered { IsTrue (are_ordered (map bounds runs.now)) }
     requires lines { AreLines T.units (T.characters text) (map bounds runs.now) }
@@ -62,9 +62,8 @@ pub fn resolve_numbers<T: TextSource, S: Ledger, L: Ledger>(
     ensures walked { IsWalked (len_at T.units (T.characters text)) (map bounds runs.now) sos classes.old classes.new }
     ensures at_least { steps.old ≤ steps.new }
     ensures at_most { steps.new ≤ steps.old + 4 * length (units_in_runs (map bounds runs.now)) }
-    ensures looked { looked.new ≤ looked.old + 7 * length (units_in_runs (map bounds runs.now)) }
 {
-    if !has_numbers(runs, classes, looked) {
+    if !has_numbers(runs, classes) {
         return;
     }
     let mut walk = Walk {
@@ -76,18 +75,16 @@ pub fn resolve_numbers<T: TextSource, S: Ledger, L: Ledger>(
     let sequence = TextRuns { text, runs };
     for run in 0..runs.len() {
         steps.tick();
-        walk.read_run(&sequence, run, classes, steps, looked);
+        walk.read_run(&sequence, run, classes, steps);
     }
     let end = classes.len();
     walk.settle(runs, classes, end, ON, steps);
 }
 
-/// Whether the runs have a number. Looks at no more than all code units of the runs, and counts all.
-fn has_numbers<L: Ledger>(runs: &[LevelRun], classes: &[BidiClass], looked: &mut Steps<L>) -> bool
-    ensures answer { result ≡ is_any is_number runs.now classes.now }
-    ensures looked { looked.new ≤ looked.old + length (units_in_runs (map bounds runs.now)) }
+/// Whether the runs have a number.
+fn has_numbers(runs: &[LevelRun], classes: &[BidiClass]) -> bool
+    ensures { result ≡ is_any is_number runs.now classes.now }
 {
-    looked.tick_by(unit_count(runs));
     runs.iter().any(|run| is_number_in(part_of(classes, run)))
 }
 
@@ -111,13 +108,12 @@ pub fn is_number(class: BidiClass) -> bool
 
 impl Walk {
     /// Reads the code units of the run at the index `run`.
-    fn read_run<T: TextSource, S: Ledger, L: Ledger>(
+    fn read_run<T: TextSource, S: Ledger>(
         &mut self,
         sequence: &TextRuns<'_, T>,
         run: usize,
         classes: &mut [BidiClass],
         steps: &mut Steps<S>,
-        looked: &mut Steps<L>,
     )
         requires ordered { IsTrue (are_ordered (map bounds sequence.now.runs.now)) }
         requires waiting { WaitsBelow (map bounds sequence.now.runs.now) self.old (get_or (map bounds sequence.now.runs.now) run (0, 0)).0 }
@@ -133,8 +129,6 @@ impl Walk {
         ensures at_most { let r = get_or (map bounds sequence.now.runs.now) run (0, 0) in
             steps.new + 1 + 2 * count_below (map bounds sequence.now.runs.now) (settled_to self.old r.0)
             ≤ steps.old + 2 * (r.1 - r.0) + 2 * count_below (map bounds sequence.now.runs.now) (settled_to self.new r.1) }
-        ensures looked { let r = get_or (map bounds sequence.now.runs.now) run (0, 0) in
-            looked.new ≤ looked.old + 6 * (r.1 - r.0) }
     {
         let TextRuns { text, runs } = *sequence;
         let end = runs[run].end;
@@ -142,7 +136,7 @@ impl Walk {
         while at < end {
             steps.tick();
             if self.passes_over(classes[at]) {
-                at = self.pass_over(classes, at, end, steps, looked);
+                at = self.pass_over(classes, at, end, steps);
                 continue;
             }
             let next = self.stretch_end(text, classes, at, end, steps);
@@ -163,13 +157,12 @@ impl Walk {
 
     /// Passes over the code unit at `at` and those after it whose class does not matter (see `is_asked`),
     /// before `end`. Returns where they end.
-    fn pass_over<S: Ledger, L: Ledger>(
+    fn pass_over<S: Ledger>(
         &mut self,
         classes: &[BidiClass],
         at: usize,
         end: usize,
         steps: &mut Steps<S>,
-        looked: &mut Steps<L>,
     ) -> usize
         requires other { is_other self.old.before ≡ true }
         requires first { is_asked (class_at classes.now at) ≡ false }
@@ -182,12 +175,14 @@ impl Walk {
         ensures passes { Passes at result end self.old self.new classes.now }
         ensures asked { result < end → is_asked (class_at classes.now result) ≡ true }
         ensures at_least { steps.old ≤ steps.new }
-        ensures at_most { steps.new + (at + 1) ≤ steps.old + min (result + 1) end }
-        ensures looked { looked.new ≤ looked.old + 6 * (result - at) }
-        ensures looked_past { looked.new ≤ looked.old + 2 * (result - at) + 16 }
+        ensures at_most { steps.new + (at + 1) + at ≤ steps.old + min (result + 1) end + result }
     {
-        let next = next_passing(Asked, classes, at + 1, end, steps, looked);
-        self.strong = last_strong(&classes[at..next], looked).unwrap_or(self.strong);
+        let asked = Among {
+            test: Asked,
+            classes,
+        };
+        let next = first_passing_counted(asked, TESTED_SINGLY, at + 1, end, steps);
+        self.strong = last_strong(classes, at, next, steps).unwrap_or(self.strong);
         next
     }
 
@@ -331,17 +326,43 @@ impl ClassTest for Asked {
     }
 }
 
-/// The last strong class in the slice. Stops there, and counts all classes.
-fn last_strong<L: Ledger>(classes: &[BidiClass], looked: &mut Steps<L>) -> Option<BidiClass>
-    ensures answer { result ≡ find is_strong (reverse classes.now) }
-    ensures looked { looked.new ≡ looked.old + length classes.now }
+/// The strong classes: L, R and AL.
+#[derive(Clone, Copy, Debug)]
+struct Strong;
+
+impl ClassTest for Strong {
+    ghost use Rattle.bidi_base.specs.Classes.{is_strong};
+
+    ghost test = { λ _. is_strong };
+
+    fn passes(self, class: BidiClass) -> bool {
+        (class == L) | (class == R) | (class == AL)
+    }
+}
+
+/// The last strong class of the code units from `from` up to `to`.
+fn last_strong<S: Ledger>(
+    classes: &[BidiClass],
+    from: usize,
+    to: usize,
+    steps: &mut Steps<S>,
+) -> Option<BidiClass>
+    requires ordered { from ≤ to }
+    requires within { to ≤ length classes.now }
+    ensures last { result ≡ find is_strong (reverse (slice_range classes.now from to)) }
+    ensures steps_at_least { steps.old ≤ steps.new }
+    ensures steps_at_most { steps.new + from ≤ steps.old + to }
 {
-    looked.tick_by(classes.len());
-    classes
-        .iter()
-        .rev()
-        .copied()
-        .find(|class| is_strong(*class))
+    let strong = Among {
+        test: Strong,
+        classes,
+    };
+    let end = end_of_last_passing_counted(strong, TESTED_SINGLY, from, to, steps);
+    if from < end {
+        Some(classes[end - 1])
+    } else {
+        None
+    }
 }
 
 /// The end of the code units from `at` on that have the class of the first, at most `end`.

@@ -1,13 +1,13 @@
 -- One stretch or control after another.
 use Rattle.bidi_base.proofs.Common.{map, arith, rules, map-append, bounds}
 use Rattle.bidi_runs.proofs.CharEnds.{index-zero}
-use Rattle.bidi_explicit.proofs.CountLemmas.{count-one, count-zero}
+use Rattle.bidi_explicit.proofs.CountLemmas.{count-one, count-zero, least-one, least-zero}
 use Rattle.bidi_explicit.proofs.ExplicitStretches.{read-start, read-levels, read-classes, read-runs, read-no_runs, read-all, read-begins, read-count, read-units}
 use Rattle.bidi_explicit.proofs.explicit.find_levels_counted.Goals as goal
 use Rattle.bidi_explicit.proofs.explicit.find_levels_counted.Goals.{then-is_control, else-is_control}
 
 pub loop-at-init : goal.loop-at-init
-loop-at-init g c = grind (arith, read-start, index-zero, count-zero)
+loop-at-init g c = grind (arith, read-start, index-zero, count-zero, least-zero)
 
 pub read_control-progress-requires-clause-read : goal.read_control-progress-requires-clause-read
 read_control-progress-requires-clause-read g c = (map bounds c.loop-at.runs.items, c.loop-at.run, c.loop-at.invariant.0)
@@ -19,13 +19,11 @@ pub loop-at-preserved : goal.loop-at-preserved
 loop-at-preserved g c = elim c.if-is_control.branch [
   | then-is_control w ↦ (
     simp (w.levels-is, w.classes-is, w.stack-is, w.progress-is, c.in_ok-meet.ensures.runs, c.in_ok-meet.ensures.run) (w.read_control-progress.ensures.read _ _ c.loop-at.invariant.0),
-    grind arith,
+    grind (arith, least-one),
     grind (arith, count-one),
-    grind arith,
   )
   | else-is_control w ↦ (
     simp (w.levels-is, w.classes-is, w.stack-is, w.progress-is, c.in_ok-meet.ensures.runs, c.in_ok-meet.ensures.run) (w.read_stretch-stretch.ensures.read _ _ _ w.top.ensures w.write_level.ensures _ _ c.loop-at.invariant.0),
-    grind arith,
     grind arith,
     grind arith,
   )

@@ -2,7 +2,7 @@
 use Rattle.bidi_base.proofs.Common.{◌+◌, ◌*◌, ◌-◌, ◌≤◌, map, char_index, bounds}
 use Rattle.bidi_explicit.specs.ExplicitStretches.{paragraph_of, IsReadTo}
 use Rattle.bidi_explicit.specs.Status.{entry_count}
-use Rattle.bidi_explicit.specs.Stride.{count_to}
+use Rattle.bidi_explicit.specs.Stride.{count_to, least_of}
 use Rattle.bidi_explicit.proofs.explicit.find_levels_counted.Given as goal
 
 abbrev pub invariant-loop-at : goal.invariant-loop-at
@@ -10,9 +10,8 @@ invariant-loop-at g l =
     let len_of = g.T.TextSource.units in
     let chars = g.T.TextSource.characters l.paragraph.text in
     IsReadTo (paragraph_of len_of chars l.paragraph.level l.original_classes) l.at l.stack l.levels l.classes (map bounds l.runs.items) l.run
-    × (l.fn.steps + char_index len_of chars l.at ≤ l.steps)
+    × (l.fn.steps + least_of l.paragraph.stride (char_index len_of chars l.at) ≤ l.steps)
     × (l.steps + entry_count l.stack ≤ l.fn.steps + (4 * count_to l.paragraph.stride len_of chars l.at + 1))
-    × (l.looked ≤ l.fn.looked + 12 * l.at)
 
 abbrev pub decreases-loop-at : goal.decreases-loop-at
 decreases-loop-at g l = l.units - l.at

@@ -21,15 +21,15 @@ level_before-at level levels i d read some fits e = grind (arith, get_or_default
 
 pub loop-at-preserved-then-is_removed : goal.loop-at-preserved-then-is_removed
 loop-at-preserved-then-is_removed g c =
-    let f = c.steady_end-at.ensures in
+    let f = c.next_break-at.ensures in
     let at = c.loop-at.at in
     let long = length-set c.loop-at.levels at c.loop-at.before in
-    let read = level_before-at c.args.level (set c.loop-at.levels at c.loop-at.before) c.steady_end-at.result c.index-levels-at.result c.index-levels-at.result
+    let read = level_before-at c.args.level (set c.loop-at.levels at c.loop-at.before) c.next_break-at.result c.index-levels-at.result c.index-levels-at.result
     (omega (arith, f.begins)) (omega (arith, f.ends, long)) c.index-levels-at.is in
     let one = IsSweptTo-removed c.args.level (g.C.ClassList.classes c.args.classes) c.args.levels.now c.loop-at.levels c.loop-at.start c.loop-at.before at (grind arith)
     (grind arith) c.loop-at.invariant.swept in
     record {
-      swept = rw read (IsSweptTo-steady _ _ _ _ _ c.loop-at.before _ _ (omega arith) f.begins f.steady one);
+      swept = rw read (IsSweptTo-steady _ _ _ _ _ c.loop-at.before _ _ (omega arith) f.begins f.before one);
       ends = grind arith;
     }
 

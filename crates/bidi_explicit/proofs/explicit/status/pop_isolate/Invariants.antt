@@ -1,14 +1,14 @@
 -- What is left has the same entries below its innermost isolate.
-use Rattle.bidi_base.proofs.Common.{◌≡◌, ◌+◌, ◌≤◌, length, drop_isolate}
-use Rattle.bidi_explicit.specs.Status.{entries}
+use Rattle.bidi_base.proofs.Common.{◌≡◌, ◌+◌, ◌≤◌, length, map, reverse, drop_isolate}
+use Rattle.bidi_explicit.specs.Status.{seen}
 use Rattle.bidi_explicit.proofs.explicit.status.pop_isolate.Given as goal
 
 abbrev pub invariant-loop-entry : goal.invariant-loop-entry
 invariant-loop-entry g l = record {
-  stack : drop_isolate (entries l.top l.below.items) ≡ drop_isolate (entries l.fn.top l.fn.below.items);
+  stack : drop_isolate (map seen (reverse l.entries.items)) ≡ drop_isolate (map seen (reverse l.fn.entries.items));
   at_least : l.fn.steps ≤ l.steps;
-  popped : l.steps + length l.below.items ≡ l.fn.steps + length l.fn.below.items;
+  popped : l.steps + length l.entries.items ≡ l.fn.steps + length l.fn.entries.items;
 }
 
 abbrev pub decreases-loop-entry : goal.decreases-loop-entry
-decreases-loop-entry g l = length l.below.items
+decreases-loop-entry g l = length l.entries.items

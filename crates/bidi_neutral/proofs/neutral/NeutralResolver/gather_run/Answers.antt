@@ -10,11 +10,11 @@ use Rattle.bidi_neutral.proofs.UnitBrackets.{unit_brackets-none, unit_brackets-m
 use Rattle.bidi_neutral.proofs.neutral.NeutralResolver.gather_run.Goals as goal
 use Rattle.bidi_neutral.proofs.neutral.NeutralResolver.gather_run.Goals.{in-Some+in_ok-push, in_default}
 
-pub first_passing-at-requires-clause-inside : goal.first_passing-at-requires-clause-inside
-first_passing-at-requires-clause-inside g c = grind (arith, is_boundary-le)
+pub first_passing-at-requires-clause-within : goal.first_passing-at-requires-clause-within
+first_passing-at-requires-clause-within g c = grind (arith, is_boundary-le)
 
-pub first_passing-at-requires-in-loop-at-clause-inside : goal.first_passing-at-requires-in-loop-at-clause-inside
-first_passing-at-requires-in-loop-at-clause-inside g c = grind (arith, is_boundary-le)
+pub first_passing-at-requires-in-loop-at-clause-within : goal.first_passing-at-requires-in-loop-at-clause-within
+first_passing-at-requires-in-loop-at-clause-within g c = grind (arith, is_boundary-le)
 
 pub loop-at-init : goal.loop-at-init
 loop-at-init g c = grind (arith, unit_brackets-none, append-nil)

@@ -10,19 +10,19 @@ use Rattle.bidi_walk.proofs.FlagsLemmas.{has_isolates-flags}
 use Rattle.bidi_paragraphs.proofs.FilledUnits.{initiators-stored, stored-is_per_char}
 use Rattle.bidi_paragraphs.proofs.paragraph_levels.LevelResolver.prepare.Given.{Over}
 use Rattle.bidi_paragraphs.proofs.paragraph_levels.LevelResolver.prepare.Goals as goal
-use Rattle.bidi_paragraphs.proofs.paragraph_levels.LevelResolver.prepare.Goals.{In_ok-find_levels, In_ok-link}
+use Rattle.bidi_paragraphs.proofs.paragraph_levels.LevelResolver.prepare.Goals.{In_ok-find_levels_counted, In_ok-link}
 
 pub new-stored-requires-clause-per_char : goal.new-stored-requires-clause-per_char
 new-stored-requires-clause-per_char g c = grind (arith, stored-is_per_char)
 
 -- what was found in the paragraph that was made is found in this one
-found : (g : Over) (c : In_ok-find_levels g) → AreExplicitLevels g.T.TextSource.units (g.T.TextSource.characters c.args.paragraph.now.text) c.args.paragraph.now.level
-    c.args.paragraph.now.original_classes.now c.find_levels.new.levels c.find_levels.new.classes (map bounds c.find_levels.new.runs.items)
-found g c = rw (c.new-stored.ensures.text, c.new-stored.ensures.level, c.new-stored.ensures.classes) at c.in_ok-find_levels.ensures
+found : (g : Over) (c : In_ok-find_levels_counted g) → AreExplicitLevels g.T.TextSource.units (g.T.TextSource.characters c.args.paragraph.now.text) c.args.paragraph.now.level
+    c.args.paragraph.now.original_classes.now c.find_levels_counted.new.levels c.find_levels_counted.new.classes (map bounds c.find_levels_counted.new.runs.items)
+found g c = rw (c.new-stored.ensures.text, c.new-stored.ensures.level, c.new-stored.ensures.classes) at c.in_ok-find_levels_counted.ensures.found
 
 -- the levels, read one a character
-read : (g : Over) (c : In_ok-find_levels g) → let cs = g.T.TextSource.characters c.args.paragraph.now.text in
-    per_char 0 g.T.TextSource.units cs c.find_levels.new.levels ≡ explicit_levels c.args.paragraph.now.level (per_char L g.T.TextSource.units cs c.args.paragraph.now.original_classes.now)
+read : (g : Over) (c : In_ok-find_levels_counted g) → let cs = g.T.TextSource.characters c.args.paragraph.now.text in
+    per_char 0 g.T.TextSource.units cs c.find_levels_counted.new.levels ≡ explicit_levels c.args.paragraph.now.level (per_char L g.T.TextSource.units cs c.args.paragraph.now.original_classes.now)
 read g c =
     let len_of = g.T.TextSource.units in
     let cs : List ℕ = g.T.TextSource.characters c.args.paragraph.now.text in
@@ -38,18 +38,18 @@ link-requires g c =
     record {
       original = grind (arith, stored-is_per_char);
       levels = grind (arith, is_per_char-per_unit, length-explicit_levels, length-per_char);
-      runs = rw (read g (goal.at.link-requires g c).In_ok-find_levels) (ap (map bounds) c.as_slice.ensures.value ∙ (found g (goal.at.link-requires g c).In_ok-find_levels).runs);
+      runs = rw (read g (goal.at.link-requires g c).In_ok-find_levels_counted) (ap (map bounds) c.as_slice.ensures.value ∙ (found g (goal.at.link-requires g c).In_ok-find_levels_counted).runs);
       isolates = λ some.
           c.has_isolates.ensures ∙ has_isolates-flags c.args.paragraph.now.flags (map class_of cs) c.args.paragraph.now.own_flags ∙ initiators-stored g.T.TextSource.units cs (map class_of cs) c.args.paragraph.now.original_classes.now c.args.paragraph.now.stored some;
     }
 
 -- the runs that were linked are all
-all_linked : (g : Over) (c : In_ok-link g) → linked_runs c.link.new.self c.find_levels.new.runs.items ≡ map bounds c.find_levels.new.runs.items
-all_linked g c = linked_runs-all c.link.new.self c.find_levels.new.runs.items (rw c.as_slice.ensures.value at c.in_ok-link.ensures.linked)
+all_linked : (g : Over) (c : In_ok-link g) → linked_runs c.link.new.self c.find_levels_counted.new.runs.items ≡ map bounds c.find_levels_counted.new.runs.items
+all_linked g c = linked_runs-all c.link.new.self c.find_levels_counted.new.runs.items (rw c.as_slice.ensures.value at c.in_ok-link.ensures.linked)
 
 pub returns-clause-sequences : goal.returns-clause-sequences
 returns-clause-sequences g c =
-    rw (all_linked g (goal.at.returns-clause-sequences g c).In_ok-link) (rw (c.as_slice.ensures.value, read g (goal.at.returns-clause-sequences g c).In_ok-find_levels) at c.in_ok-link.ensures.sequences)
+    rw (all_linked g (goal.at.returns-clause-sequences g c).In_ok-link) (rw (c.as_slice.ensures.value, read g (goal.at.returns-clause-sequences g c).In_ok-find_levels_counted) at c.in_ok-link.ensures.sequences)
 
 pub returns-clause-fits : goal.returns-clause-fits
 returns-clause-fits g c = rw (all_linked g (goal.at.returns-clause-fits g c).In_ok-link) (rw c.as_slice.ensures.value at c.in_ok-link.ensures.fits)

@@ -55,9 +55,9 @@ module _ (g : Over) (c : After-new-sequence g) where
       (characters_of g.T.TextSource.units chars (stored_classes source) j)
   next = joined-IsNext _ g.met.T.TextSource.has_units _ _ given.bracket_of _ fits c.requires.flat j same
 
-pub resolve_weak_lent-requires : goal.resolve_weak_lent-requires
-resolve_weak_lent-requires g c =
-    let n = (goal.at.resolve_weak_lent-requires g c).After-new-sequence in
+pub resolve_weak_lent_counted-requires : goal.resolve_weak_lent_counted-requires
+resolve_weak_lent_counted-requires g c =
+    let n = (goal.at.resolve_weak_lent_counted-requires g c).After-new-sequence in
     record { per_char = AreResolvedTo-per_char _ _ _ _ _ _ [] _ (fits g n) (begun g n); fits = lines g n }
 
 pub resolve_up_to_n1-requires : goal.resolve_up_to_n1-requires
@@ -65,11 +65,11 @@ resolve_up_to_n1-requires g c =
     let n = (goal.at.resolve_up_to_n1-requires g c).After-new-sequence in
     let weak =
     AreWeakTo-from _ _ _ _ _ _ (fits g n) [] _ (lines g n) (next g n) _ _ (begun g n)
-    c.resolve_weak_lent.ensures.kept c.resolve_weak_lent.ensures.removed c.resolve_weak_lent.ensures.outside c.resolve_weak_lent.ensures.per_char in
+    c.resolve_weak_lent_counted.ensures.resolved.kept c.resolve_weak_lent_counted.ensures.resolved.removed c.resolve_weak_lent_counted.ensures.resolved.outside c.resolve_weak_lent_counted.ensures.resolved.per_char in
     record {
-      per_char = c.resolve_weak_lent.ensures.per_char;
+      per_char = c.resolve_weak_lent_counted.ensures.resolved.per_char;
       fits = lines g n;
-      levels = omega (arith, c.requires.long, c.fill.auto.self, c.resolve_weak_lent.auto.processing_classes, long g n);
+      levels = omega (arith, c.requires.long, c.fill.auto.self, c.resolve_weak_lent_counted.auto.processing_classes, long g n);
       original = grind (arith, length-map);
       resolved = AreWeakTo-resolved _ _ _ _ _ _ (fits g n) [] _ (lines g n) (next g n) _ weak;
     }
@@ -77,7 +77,7 @@ resolve_up_to_n1-requires g c =
 pub resolve_levels-requires-clause-lengths : goal.resolve_levels-requires-clause-lengths
 resolve_levels-requires-clause-lengths g c =
     let units_long = long g (goal.at.resolve_levels-requires-clause-lengths g c).After-new-sequence in
-    omega (arith, c.requires.long, c.fill.auto.self, c.resolve_weak_lent.auto.processing_classes, c.resolve_up_to_n1.auto.processing_classes, units_long)
+    omega (arith, c.requires.long, c.fill.auto.self, c.resolve_weak_lent_counted.auto.processing_classes, c.resolve_up_to_n1.auto.processing_classes, units_long)
 
 -- the levels are those of the rules
 answered : (g : Over) (c : _) → let n = (goal.at.returns g c).After-new-sequence in
@@ -86,7 +86,7 @@ answered g c =
     let n = (goal.at.returns g c).After-new-sequence in
     let weak =
     AreWeakTo-from _ _ _ _ _ _ (fits g n) [] _ (lines g n) (next g n) _ _ (begun g n)
-    c.resolve_weak_lent.ensures.kept c.resolve_weak_lent.ensures.removed c.resolve_weak_lent.ensures.outside c.resolve_weak_lent.ensures.per_char in
+    c.resolve_weak_lent_counted.ensures.resolved.kept c.resolve_weak_lent_counted.ensures.resolved.removed c.resolve_weak_lent_counted.ensures.resolved.outside c.resolve_weak_lent_counted.ensures.resolved.per_char in
     let levels_are =
     levels-whole _ g.met.T.TextSource.has_units _ (source g n) (given g n).bracket_of _ (fits g n) c.requires.flat c.args.levels.now c.fill.new.self c.requires.long (c.fill.ensures.after (λ y e. e)) in
     AreLevels-all _ _ _ _ _ _ _ c.resolve_up_to_n1.new.processing_classes c.fill.new.self c.resolve_levels.new.levels (fits g n) levels_are

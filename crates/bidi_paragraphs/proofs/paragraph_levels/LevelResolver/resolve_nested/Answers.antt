@@ -121,9 +121,9 @@ loop-first-preserved-then-is_settled g c =
       ];
     }
 
-pub resolve_weak_lent-requires : goal.resolve_weak_lent-requires
-resolve_weak_lent-requires g c =
-    let at = goal.at.resolve_weak_lent-requires g c in
+pub resolve_weak_lent_counted-requires : goal.resolve_weak_lent_counted-requires
+resolve_weak_lent_counted-requires g c =
+    let at = goal.at.resolve_weak_lent_counted-requires g c in
     let hand = at_hand g at.After-lend-sequence in record {
       per_char = rw (c.settle_numbers.ensures.unchanged c.if-settle_numbers.false) (AreResolvedTo-per_char _ _ _ _ _ _ _ _ (length-map (g.T.TextSource.characters c.args.paragraph.now.text) _) c.loop-first.invariant.resolved);
       fits = prepared-lines _ _ _ _ _ _ _ _ _ _ (ready g at.In_ok-prepare) c.loop-first.first (lent_joined c.lend-sequence.result) hand.within hand.here hand.is;
@@ -138,12 +138,12 @@ resolve_up_to_n1-requires g c =
     let next = prepared-next _ _ _ _ _ _ _ _ _ _ is_ready c.loop-first.first s hand.within hand.here hand.is (side c.lend-sequence.result) in
     let line = prepared-lines _ _ _ _ _ _ _ _ _ _ is_ready c.loop-first.first s hand.within hand.here hand.is in
     let weak =
-    AreWeakTo-from _ _ _ _ _ _ is_ready.fits _ s line next c.settle_numbers.new.classes c.resolve_weak_lent.new.processing_classes (AreResolvedTo-same _ _ _ _ _ _ _ _ _ (c.settle_numbers.ensures.unchanged c.if-settle_numbers.false) c.loop-first.invariant.resolved)
-    c.resolve_weak_lent.ensures.kept c.resolve_weak_lent.ensures.removed c.resolve_weak_lent.ensures.outside c.resolve_weak_lent.ensures.per_char in
+    AreWeakTo-from _ _ _ _ _ _ is_ready.fits _ s line next c.settle_numbers.new.classes c.resolve_weak_lent_counted.new.processing_classes (AreResolvedTo-same _ _ _ _ _ _ _ _ _ (c.settle_numbers.ensures.unchanged c.if-settle_numbers.false) c.loop-first.invariant.resolved)
+    c.resolve_weak_lent_counted.ensures.resolved.kept c.resolve_weak_lent_counted.ensures.resolved.removed c.resolve_weak_lent_counted.ensures.resolved.outside c.resolve_weak_lent_counted.ensures.resolved.per_char in
     record {
       per_char = first_of (search rules, grind arith);
       fits = line;
-      levels = omega (arith, prepared-long _ _ _ _ _ _ _ _ _ _ is_ready, AreResolvedTo-long _ _ _ _ _ _ _ _ is_ready.fits c.loop-first.invariant.resolved, c.settle_numbers.auto.classes, c.resolve_weak_lent.auto.processing_classes);
+      levels = omega (arith, prepared-long _ _ _ _ _ _ _ _ _ _ is_ready, AreResolvedTo-long _ _ _ _ _ _ _ _ is_ready.fits c.loop-first.invariant.resolved, c.settle_numbers.auto.classes, c.resolve_weak_lent_counted.auto.processing_classes);
       original = grind (arith, length-map, length-per_unit, length-stored_classes);
       resolved = AreWeakTo-resolved _ _ _ _ _ _ is_ready.fits _ s line next _ weak;
     }
@@ -167,8 +167,8 @@ loop-first-preserved g c =
           let next = prepared-next _ _ _ _ _ _ _ _ _ _ is_ready c.loop-first.first s within here is (side w.lend-sequence.result) in
           let line = prepared-lines _ _ _ _ _ _ _ _ _ _ is_ready c.loop-first.first s within here is in
           let weak =
-          AreWeakTo-from _ _ _ _ _ _ is_ready.fits _ s line next w.settle_numbers.new.classes w.resolve_weak_lent.new.processing_classes (AreResolvedTo-same _ _ _ _ _ _ _ _ _ (w.settle_numbers.ensures.unchanged w.if-settle_numbers.false) h.resolved)
-          w.resolve_weak_lent.ensures.kept w.resolve_weak_lent.ensures.removed w.resolve_weak_lent.ensures.outside w.resolve_weak_lent.ensures.per_char in
+          AreWeakTo-from _ _ _ _ _ _ is_ready.fits _ s line next w.settle_numbers.new.classes w.resolve_weak_lent_counted.new.processing_classes (AreResolvedTo-same _ _ _ _ _ _ _ _ _ (w.settle_numbers.ensures.unchanged w.if-settle_numbers.false) h.resolved)
+          w.resolve_weak_lent_counted.ensures.resolved.kept w.resolve_weak_lent_counted.ensures.resolved.removed w.resolve_weak_lent_counted.ensures.resolved.outside w.resolve_weak_lent_counted.ensures.resolved.per_char in
           record {
             kept = kept;
             resolved = rw (w.classes-is, prepared-more _ _ _ _ _ _ _ _ _ _ is_ready c.loop-first.first s within here is)

@@ -17,8 +17,8 @@ returns-then-keeps_to g c =
 pub fill_removed-requires : goal.fill_removed-requires
 fill_removed-requires g c = grind (arith, length-per_unit, length-stored_classes, length-map)
 
-pub resolve-requires-clause-some : goal.resolve-requires-clause-some
-resolve-requires-clause-some g c =
+pub resolve_with_new_count-requires-clause-some : goal.resolve_with_new_count-requires-clause-some
+resolve_with_new_count-requires-clause-some g c =
     let cs : List ℕ = g.T.TextSource.characters c.args.paragraph.now.text in
     let class_of = (g.D.BidiDataSource.source c.args.paragraph.now.data_source.now).class_of in
     let leaves = sym (keeps_to-flags c.args.paragraph.now.flags (map class_of cs) c.args.paragraph.now.own_flags c.args.paragraph.now.level)

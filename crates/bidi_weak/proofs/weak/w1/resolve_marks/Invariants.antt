@@ -10,4 +10,3 @@ invariant-loop-run g l =
     AreMarked runs (carried l.fn.sos) l.fn.classes l.classes (carried l.last) (start_or runs l.run-index (length l.fn.classes))
     × (l.fn.steps ≤ l.steps)
     × (l.steps ≤ l.fn.steps + 2 * length (units_in_runs (take l.run-index runs)))
-    × (l.looked ≤ l.fn.looked + 2 * length (units_in_runs (take l.run-index runs)))

@@ -29,9 +29,9 @@ loop-at-preserved g c =
     let now = c.loop-at.classes in
     let last = c.loop-at.last in
     let size : at + 16 - at ≡ 16 = omega arith in
-    let none : is_any_of is_nsm (take 16 (drop at now)) ≡ false = simp size at (sym c.is_mark_in.ensures.answer ∙ c.if-is_mark_in.false) in
+    let none : is_any_of is_nsm (take 16 (drop at now)) ≡ false = simp size at (sym c.is_mark_in.ensures ∙ c.if-is_mark_in.false) in
     let is : c.unwrap_or-last.result ≡ nearest is_kept_in_place (reverse (take 16 (drop at now))) last =
-    simp size at (c.unwrap_or-last.ensures ∙ ap (λ o. unwrap_or o last) c.last_kept.ensures.answer) in
+    simp size at (c.unwrap_or-last.ensures ∙ ap (λ o. unwrap_or o last) c.last_kept.ensures) in
     let block = Marks-block now last c.unwrap_or-last.result at 16 none (omega (arith, c.loop-at-test.true, h.end, h.long, c.requires.within)) is in
     record {
       starts = omega (arith, h.starts);
@@ -39,7 +39,6 @@ loop-at-preserved g c =
       end = h.end;
       long = h.long;
       marked = Marks-more c.args.run.now.start at (at + 16) c.args.before last c.unwrap_or-last.result c.args.classes.now now now h.starts (omega arith) h.marked block;
-      at_least = omega (arith, h.at_least, h.starts, c.tick_by.ensures);
-      at_most = omega (arith, h.at_most, h.starts, c.tick_by.ensures);
-      looked = grind arith;
+      at_least = omega (arith, h.at_least);
+      at_most = omega (arith, h.at_most, h.starts);
     }

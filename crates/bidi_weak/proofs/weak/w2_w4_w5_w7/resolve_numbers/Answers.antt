@@ -74,7 +74,7 @@ returns-clause-walked g c =
 pub returns-then-not-has_numbers-clause-walked : goal.returns-then-not-has_numbers-clause-walked
 returns-then-not-has_numbers-clause-walked g c =
     IsWalked-none _ c.args.runs.now _ c.args.classes.now
-    (is_any-none is_number c.args.runs.now c.args.classes.now (lines-within _ g.met.T.TextSource.has_units _ _ c.requires.lines c.requires.ordered c.args.sos _ c.requires.per_char) (sym c.has_numbers.ensures.answer ∙ c.if-not-has_numbers.true))
+    (is_any-none is_number c.args.runs.now c.args.classes.now (lines-within _ g.met.T.TextSource.has_units _ _ c.requires.lines c.requires.ordered c.args.sos _ c.requires.per_char) (sym c.has_numbers.ensures ∙ c.if-not-has_numbers.true))
 
 -- all runs are read
 record AreRead (runs : List (ℕ × ℕ)) (w : Walk) (n steps first : ℕ) : Type 0 where
@@ -98,11 +98,3 @@ returns-clause-at_most g c =
     let long : length c.loop-run.classes ≡ length c.args.classes.now = omega (arith, c.loop-run.auto.classes) in
     let all = read runs c.loop-run.walk c.loop-run.run (length c.args.classes.now) c.loop-run.steps c.args.steps.now (omega (arith, c.loop-run-test.false, length-map c.args.runs.now bounds)) c.loop-run.invariant.waiting c.loop-run.invariant.at_most in
     omega (arith, all.at_most, simp long at c.settle.ensures.at_most, count_below-all 0 runs (length c.args.classes.now) c.requires.ordered (lines-within _ g.met.T.TextSource.has_units _ runs c.requires.lines c.requires.ordered c.args.sos _ c.requires.per_char))
-
-pub returns-clause-looked : goal.returns-clause-looked
-returns-clause-looked g c =
-    let runs = map bounds c.args.runs.now in
-    let old = c.args.classes.now in
-    let top : start_or runs c.loop-run.run (length old) ≡ length old = grind (arith, start_or-past, length-map) in
-    let looked = simp top at c.loop-run.invariant.looked in
-    omega (arith, looked, count_below-all 0 runs (length old) c.requires.ordered (lines-within _ g.met.T.TextSource.has_units _ runs c.requires.lines c.requires.ordered c.args.sos _ c.requires.per_char))

@@ -1,5 +1,5 @@
 -- The units before the run are read, with two turns at most for each, and two more for each that is settled.
-use Rattle.bidi_base.proofs.Common.{◌+◌, ◌*◌, ◌≤◌, length, map, bounds, units_in_runs}
+use Rattle.bidi_base.proofs.Common.{◌+◌, ◌*◌, ◌≤◌, length, map, bounds}
 use Rattle.bidi_weak.specs.WeakWalk.{len_at, settled_to, IsUnderWay, WaitsBelow}
 use Rattle.bidi_runs.specs.Written.{count_below}
 use Rattle.bidi_runs.proofs.InRuns.{start_or}
@@ -14,5 +14,4 @@ invariant-loop-run g l =
       under_way : IsUnderWay (record { runs = runs; sos = l.fn.sos; old = l.fn.classes; len = len_at g.T.TextSource.units (g.T.TextSource.characters l.fn.text) }) l.classes l.walk next;
       at_least : l.fn.steps ≤ l.steps;
       at_most : l.steps ≤ l.fn.steps + 2 * count_below runs next + 2 * count_below runs (settled_to l.walk next);
-      looked : l.looked ≤ l.fn.looked + length (units_in_runs runs) + 6 * count_below runs next;
     }

@@ -1,6 +1,6 @@
-use Rattle.bidi_base.proofs.Common.{ap, arith}
-use Rattle.bidi_explicit.proofs.CountLemmas.{count-le, count-lt, index-count}
-use Rattle.bidi_explicit.proofs.ExplicitStretches.{stretch-met}
+use Rattle.bidi_base.proofs.Common.{◌<◌, ap, arith}
+use Rattle.bidi_explicit.proofs.CountLemmas.{count-lt}
+use Rattle.bidi_explicit.proofs.ExplicitStretches.{stretch-met, IsFirst-advances}
 use Rattle.bidi_explicit.proofs.explicit.stretches.Paragraph.read_stretch.Goals as goal
 
 -- each of the three walks takes at most one step for each character or code unit
@@ -8,21 +8,15 @@ pub returns : goal.returns
 returns g c =
     let len_of = g.T.TextSource.units in
     let chars = g.T.TextSource.characters c.args.self.now.text in
+    let some : c.args.from < c.stretch_end-end.result = IsFirst-advances _ _ _ _ c.requires.plain c.requires.inside c.stretch_end-end.ensures.first in
+    let more = count-lt len_of g.met.T.TextSource.has_units chars c.args.self.now.stride c.args.from c.stretch_end-end.result c.requires.begins c.stretch_end-end.ensures.begins some in
     record {
       read =
           λ stack levels written same is runs run h. stretch-met _ _ _ _ _ _ runs run h c.stretch_end-end.ensures.first _ _ _ _ (ap (λ entry. entry.status.level) same) (ap (λ entry. entry.status.override) same)
-          is c.write_override.ensures.put _ c.next_passing-first_kept.ensures.first _ (λ e. grind arith) (λ e. grind arith) _ c.then_some.ensures;
-      some = grind arith;
+          is c.write_override.ensures.put _ c.first_kept-first_kept.ensures.first _ (λ e. grind arith) (λ e. grind arith) _ c.then_some.ensures;
+      some = some;
       within = grind arith;
-      more = grind (arith, count-lt);
-      at_least = omega (
-        arith,
-        index-count len_of g.met.T.TextSource.has_units chars c.args.self.now.stride c.args.from c.stretch_end-end.result c.requires.begins c.stretch_end-end.ensures.begins (omega arith),
-        count-le len_of g.met.T.TextSource.has_units chars c.args.self.now.stride c.args.from c.next_passing-first_kept.result c.requires.begins c.next_passing-first_kept.ensures.begins (omega arith),
-        c.stretch_end-end.ensures.steps,
-        c.write_override.ensures.at_least,
-        c.next_passing-first_kept.ensures.steps,
-      );
-      at_most = grind (arith, count-le);
-      looked = grind arith;
+      more = more;
+      at_least = omega (arith, c.stretch_end-end.ensures.at_least, c.write_override.ensures.at_least, c.first_kept-first_kept.ensures.at_least);
+      at_most = omega (arith, more, c.stretch_end-end.ensures.at_most, c.write_override.ensures.at_most, c.first_kept-first_kept.ensures.at_most);
     }

@@ -1,10 +1,9 @@
-use Rattle.bidi_base.proofs.Common.{◌≡◌, ◌<◌, ◌≤◌, ℕ, true, List, map, bounds, arith, and_right, get_or-map, length-map, are_ordered}
+use Rattle.bidi_base.proofs.Common.{◌≡◌, ◌+◌, ◌-◌, ◌<◌, ◌≤◌, ℕ, true, List, length, get_or, map, bounds, arith, and_right, get_or-map, length-map, are_ordered}
 use Rattle.bidi_weak.specs.declared.weak.w2_w4_w5_w7.Walk.{Walk}
 use Rattle.bidi_weak.specs.WeakPass.{is_other}
 use Rattle.bidi_weak.specs.WeakWalk.{settled_to}
 use Rattle.bidi_runs.specs.Written.{count_below}
-use Rattle.bidi_runs.proofs.CountBelow.{count_below-monotone}
-use Rattle.bidi_weak.proofs.CountedUnits.{count_settled-monotone, settled_to-idle, WaitsBelow-later}
+use Rattle.bidi_weak.proofs.CountedUnits.{count_below-within, count_settled-monotone, settled_to-idle, WaitsBelow-later}
 use Rattle.bidi_runs.proofs.InRuns.{run_some}
 use Rattle.bidi_weak.proofs.WeakWalkLemmas.{other-free, IsUnderWay-unseen}
 use Rattle.bidi_weak.proofs.weak.w2_w4_w5_w7.Walk.read_run.Goals as goal
@@ -29,21 +28,20 @@ loop-at-preserved g c =
       at_least = grind arith;
       at_most = omega (arith, settled);
       ended = λ done. omega (arith, settled);
-      looked = grind arith;
     }
 
--- the turns over units that are passed over
-passed : (runs : List (ℕ × ℕ)) (w after : Walk) (i j : ℕ) → are_ordered runs ≡ true → i < j → is_other w.before ≡ true
-    → is_other after.before ≡ true → count_below runs (settled_to w i) ≤ count_below runs (settled_to after j)
-passed runs w after i j ordered order before behind =
+-- the units of one run that are passed over count as settled
+passed : (runs : List (ℕ × ℕ)) (w after : Walk) (index i j : ℕ) → are_ordered runs ≡ true → index < length runs → (get_or runs index (0, 0)).0 ≤ i → i < j
+    → j ≤ (get_or runs index (0, 0)).1 → is_other w.before ≡ true → is_other after.before ≡ true
+    → count_below runs (settled_to w i) + (j - i) ≤ count_below runs (settled_to after j)
+passed runs w after index i j ordered fits from order to before behind =
     grind (
       arith,
-      count_below-monotone 0 runs i j ordered,
+      count_below-within 0 index runs i j ordered fits from,
       settled_to-idle w i (other-free w.before before),
-      other-free w.before before,
       settled_to-idle after j (other-free after.before behind),
-      other-free after.before behind,
     )
 
 pub loop-at-preserved-then-passes_over : goal.loop-at-preserved-then-passes_over
-loop-at-preserved-then-passes_over g c = grind (arith, passed, length-map)
+loop-at-preserved-then-passes_over g c =
+    grind (arith, passed (map bounds c.args.sequence.now.runs.now) c.loop-at.self c.pass_over-at.new.self c.args.run c.loop-at.at c.pass_over-at.result, length-map)

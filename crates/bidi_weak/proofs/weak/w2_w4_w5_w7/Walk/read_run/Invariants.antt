@@ -19,7 +19,6 @@ invariant-loop-at g l =
       at_least : l.fn.steps ≤ l.steps;
       at_most : l.steps + 2 * count_below runs (settled_to l.fn.self r.0) ≤ l.fn.steps + 2 * (l.at - r.0) + 2 * count_below runs (settled_to l.self l.at);
       ended : l.end ≤ l.at → l.steps + 1 + 2 * count_below runs (settled_to l.fn.self r.0) ≤ l.fn.steps + 2 * (r.1 - r.0) + 2 * count_below runs (settled_to l.self l.at);
-      looked : l.looked ≤ l.fn.looked + 6 * (l.at - r.0);
     }
 
 abbrev pub decreases-loop-at : goal.decreases-loop-at

@@ -1,0 +1,14 @@
+-- What came does not pass, and each item was a step.
+use Rattle.bidi_base.proofs.Common.{◌+◌, ◌-◌, ◌≡◌, ℕ, ◌<◌, ◌≤◌, false}
+use Rattle.bidi_base.proofs.search.first_passing_counted.Given as goal
+
+abbrev pub invariant-loop-at : goal.invariant-loop-at
+invariant-loop-at g l = record {
+  begins : l.from ≤ l.at;
+  ends : l.at ≤ l.to;
+  before : (k : ℕ) → l.from ≤ k → k < l.at → g.T.Tested.passes l.tested k ≡ false;
+  count : l.steps + l.from ≡ l.fn.steps + l.at;
+}
+
+abbrev pub decreases-loop-at : goal.decreases-loop-at
+decreases-loop-at g l = l.to - l.at
