@@ -7,8 +7,8 @@ use Rattle.bidi_base.specs.declared.char_data.Direction.{Direction}
 use Rattle.bidi_base.specs.declared.char_data.Direction.TheVariants.{Ltr, Rtl, Mixed}
 use Rattle.unicode_bidi.specs.declared.direction_search.DirectionSearch.{DirectionSearch}
 use Rattle.unicode_bidi.specs.declared.direction_search.DirectionSearch.TheVariants.{Found, Open}
-use Rattle.unicode_bidi.specs.DirectionSteps.{search_in, search_on, search_step, direction_found}
-use Rattle.unicode_bidi.proofs.SearchLemmas.{is_over, is_mixed, direction_of, search_in-is, is_over-is, search_in-append}
+use Rattle.unicode_bidi.specs.DirectionSearch.{direction_found}
+use Rattle.unicode_bidi.proofs.SearchLemmas.{search_in, search_on, search_step, is_over, is_mixed, direction_of, search_in-is, is_over-is, search_in-append}
 use Rattle.bidi_numbers.specs.declared.fault.Fault.{Fault}
 use Rattle.bidi_numbers.specs.declared.fault.Fault.TheVariants.{NotUtf8, NotScalar}
 use Rattle.bidi_numbers.specs.Numbers.{direction_number, direction_in}

@@ -1,5 +1,5 @@
 use Rattle.bidi_base.proofs.Common.{◌∙◌, get_or, sym, arith}
-use Rattle.unicode_bidi.proofs.SearchLemmas.{step-le}
+use Rattle.unicode_bidi.proofs.SearchLemmas.{step-le, searched-step}
 use Rattle.bidi_calls.proofs.FirstDirectionLemmas.{utf32_from-start, utf32_from-end, utf32-valid, utf32-decided, utf32-bad, utf32-found, utf32-open}
 use Rattle.bidi_calls.proofs.first_direction.first_direction_utf32.Goals as goal
 
@@ -12,7 +12,7 @@ returns-then-not-is_scalar-clause-direction g c =
 pub returns-in-Found-clause-direction : goal.returns-in-Found-clause-direction
 returns-in-Found-clause-direction g c =
     let source = g.D.BidiDataSource.source c.args.data_source.now in
-    let step = simp (c.bidi_class.ensures, c.char_of.ensures) at (sym c.search_class.ensures ∙ c.in-Found.is) in
+    let step = simp (c.bidi_class.ensures, c.char_of.ensures) at (sym (searched-step c.args.full c.loop-number.depth c.bidi_class.result c.search_class.result c.search_class.ensures) ∙ c.in-Found.is) in
     rw c.number_of_direction.ensures
     (utf32-found source c.args.full c.loop-number.depth c.loop-number.number-index c.args.text.now c.loop-number-test.true (sym c.is_scalar.ensures ∙ c.if-not-is_scalar.false) c.in-Found.direction step
     ∙ sym c.loop-number.invariant.1 ∙ sym (utf32_from-start source c.args.full c.args.text.now))
@@ -20,7 +20,7 @@ returns-in-Found-clause-direction g c =
 pub loop-number-preserved : goal.loop-number-preserved
 loop-number-preserved g c =
     let source = g.D.BidiDataSource.source c.args.data_source.now in
-    let step = simp (c.bidi_class.ensures, c.char_of.ensures) at (sym c.search_class.ensures ∙ c.in-Open.is) in
+    let step = simp (c.bidi_class.ensures, c.char_of.ensures) at (sym (searched-step c.args.full c.loop-number.depth c.bidi_class.result c.search_class.result c.search_class.ensures) ∙ c.in-Open.is) in
     let few = step-le c.args.full c.loop-number.depth (source.class_of (get_or c.args.text.now c.loop-number.number-index 0)) c.in-Open.now step in (
       omega (arith, few, c.loop-number.invariant.0),
       c.loop-number.invariant.1

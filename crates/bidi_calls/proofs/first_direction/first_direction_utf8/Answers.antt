@@ -1,6 +1,6 @@
 use Rattle.bidi_base.proofs.Common.{◌≡◌, ◌∙◌, ◌+◌, ◌≤◌, ◌<◌, ◌⊎◌, length, drop, map, chars, length-map, length-drop, take_rest, common_steps, sym, arith}
 use Rattle.bidi_text.proofs.StrLemmas.{text_len-chars}
-use Rattle.unicode_bidi.proofs.SearchLemmas.{search_in-le}
+use Rattle.unicode_bidi.proofs.SearchLemmas.{search_in-le, searched-in}
 use Rattle.bidi_calls.proofs.Utf8Fronts.{length-chars}
 use Rattle.bidi_calls.proofs.FirstDirectionLemmas.{utf8_from-start, utf8_from-end, utf8-valid, utf8-decided, piece-found, piece-open, piece-none, piece_within}
 use Rattle.bidi_calls.proofs.first_direction.first_direction_utf8.Goals as goal
@@ -29,7 +29,7 @@ returns-in-Found-clause-direction g c =
     let source = g.D.BidiDataSource.source c.args.data_source.now in
     let rest = c.loop-rest.rest.now in
     let front = c.text_front-front.result.now in
-    let searched = simp c.new.ensures at (sym c.search_direction.ensures.search ∙ c.in-Found.is) in
+    let searched = simp c.new.ensures at (sym (searched-in c.args.full c.loop-rest.depth _ c.search_direction.result c.search_direction.ensures.search) ∙ c.in-Found.is) in
     rw c.number_of_direction.ensures
     (piece-found source c.args.full c.loop-rest.depth rest c.min.result front c.text_front-front.ensures c.in-Found.direction searched
     ∙ sym c.loop-rest.invariant.1 ∙ sym (utf8_from-start source c.args.full c.args.text.now))
@@ -39,7 +39,7 @@ loop-rest-preserved g c =
     let source = g.D.BidiDataSource.source c.args.data_source.now in
     let rest = c.loop-rest.rest.now in
     let front = c.text_front-front.result.now in
-    let searched = simp c.new.ensures at (sym c.search_direction.ensures.search ∙ c.in-Open.is) in
+    let searched = simp c.new.ensures at (sym (searched-in c.args.full c.loop-rest.depth _ c.search_direction.result c.search_direction.ensures.search) ∙ c.in-Open.is) in
     let few = search_in-le c.args.full c.loop-rest.depth (map source.class_of (chars front)) c.in-Open.now searched in
     let within = piece_within source c.args.full c.loop-rest.depth rest c.min.result front c.text_front-front.ensures in
     let shorter : c.in-Open.now + length (drop (length front) rest) ≤ length c.args.text.now =
