@@ -72,7 +72,7 @@ impl Sources {
 
     /// Whether a test vector is a source of a program: its ranges ascend.
     pub fn has(row: &Row) -> bool {
-        row.kind == "source" && row.get("fault").map_or(true, |fault| fault == "none")
+        row.kind == "source" && row.get("fault").unwrap_or("none") == "none"
     }
 
     /// Returns the source that a test vector names.

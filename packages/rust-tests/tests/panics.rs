@@ -63,7 +63,7 @@ macro_rules! tests_of_lines {
                 let len = text.len();
                 expect_line_fault!("BAD_LINE", info, paragraph, 0..len + 1);
                 expect_line_fault!("BAD_LINE", info, paragraph, len + 1..len + 1);
-                expect_line_fault!("BAD_LINE", info, paragraph, 0..usize::max_value());
+                expect_line_fault!("BAD_LINE", info, paragraph, 0..usize::MAX);
                 #[allow(clippy::reversed_empty_ranges)]
                 {
                     expect_line_fault!("BAD_LINE", info, paragraph, 1..0);
@@ -85,6 +85,7 @@ macro_rules! tests_of_lines {
             }
 
             #[test]
+            #[allow(clippy::single_range_in_vec_init)]
             fn an_empty_line_has_one_empty_run_but_not_at_the_end() {
                 let text = $text;
                 let info = BidiInfo::new_with_data_source(&Letters, &text[..], None);
@@ -186,7 +187,11 @@ fn levels() {
 }
 
 #[test]
-#[allow(deprecated, clippy::reversed_empty_ranges)]
+#[allow(
+    deprecated,
+    clippy::reversed_empty_ranges,
+    clippy::single_range_in_vec_init
+)]
 fn deprecated_visual_runs() {
     use unicode_bidi::deprecated::visual_runs;
 

@@ -480,7 +480,8 @@ fn run_level_name(row: &Row) -> bool {
     let level = Level::from(row.parse_number(row.need("level")) as u8);
     let name = row.need("name");
     expect_yes(row, "matches", level == name);
-    expect_yes(row, "matches", level == name.to_string());
+    let owned = name.to_string();
+    expect_yes(row, "matches", level == owned);
     true
 }
 

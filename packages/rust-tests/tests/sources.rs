@@ -193,7 +193,7 @@ fn unicodes_own_data_as_a_source() {
     for file in rows::files() {
         for row in rows::read(&file) {
             let text = match Text::of(&row, "text") {
-                Some(text) if !row.get("base").map_or(false, |base| base == "126") => text,
+                Some(text) if row.get("base") != Some("126") => text,
                 _ => continue,
             };
             texts += 1;
