@@ -66,13 +66,16 @@ impl Sources {
     /// Reads the sources that are tables without a fault.
     pub fn read() -> Sources {
         let rows = rows::read("sources.rows");
-        let valid = rows.iter().filter(|row| Sources::has(row));
+        let valid = rows
+            .iter()
+            .filter(|row| row.kind == "source" && row.get("fault").unwrap_or("none") == "none");
         Sources(valid.map(RowSource::of).collect())
     }
 
-    /// Whether a test vector is a source of a program: its ranges ascend.
-    pub fn has(row: &Row) -> bool {
-        row.kind == "source" && row.get("fault").unwrap_or("none") == "none"
+    /// Returns the number of sources.
+    #[allow(clippy::len_without_is_empty)]
+    pub fn len(&self) -> usize {
+        self.0.len()
     }
 
     /// Returns the source that a test vector names.

@@ -5,6 +5,8 @@
 
 use std::collections::BTreeSet;
 use std::panic;
+use std::process::exit;
+use std::sync::atomic::{AtomicUsize, Ordering};
 
 use unicode_bidi::level::MAX_IMPLICIT_DEPTH;
 use unicode_bidi::{format_chars, BidiClass, Direction, Level, LevelRun, ParagraphInfo};
@@ -12,8 +14,15 @@ use unicode_bidi_tests::rows::{self, Row};
 use unicode_bidi_tests::sources::Sources;
 use unicode_bidi_tests::texts::{Encoded, Text};
 
+/// How many results differ from the expected ones.
+static DIFFERENT: AtomicUsize = AtomicUsize::new(0);
+
 fn main() {
     let sources = Sources::read();
+    println!(
+        "sources.rows: {} data sources, which other test vectors name",
+        sources.len()
+    );
     let mut total = 0;
     for file in rows::files() {
         let rows = rows::read(&file);
@@ -40,14 +49,19 @@ fn main() {
         );
         total += ran;
     }
-    println!("ok rows: {} test vectors", total);
     assert!(total > 0, "no test vector was found");
+    match DIFFERENT.load(Ordering::Relaxed) {
+        0 => println!("ok rows: {} test vectors", total),
+        different => {
+            println!("failed: {} results differ", different);
+            exit(1);
+        }
+    }
 }
 
 /// Runs a test vector. Returns false if the crate has no name for it.
 fn run(row: &Row, sources: &Sources) -> bool {
     match row.kind.as_str() {
-        "source" => Sources::has(row),
         "text" => run_text(row, sources),
         "initial" => in_each_encoding(row, sources, in_utf8::initial, in_utf16::initial),
         "base direction" => in_each_encoding(
@@ -72,13 +86,17 @@ fn run(row: &Row, sources: &Sources) -> bool {
     }
 }
 
-/// Compares a result with the expected one.
+/// Compares a result with the expected one, and prints both if they differ.
 fn expect<T: PartialEq + std::fmt::Debug>(row: &Row, what: &str, found: T, expected: T) {
     if found != expected {
-        row.reject(&format!(
-            "{}: found {:?}, expected {:?}",
-            what, found, expected
-        ));
+        println!(
+            "{}: {}: expected {:?}, found {:?}",
+            row.title(),
+            what,
+            expected,
+            found
+        );
+        DIFFERENT.fetch_add(1, Ordering::Relaxed);
     }
 }
 
