@@ -11,7 +11,8 @@ use unicode_bidi::level::{self, Level};
 use unicode_bidi::{bidi_class, BidiClass, BidiInfo, Direction, InitialInfo, Paragraph};
 
 /// Characters whose classes are the same in Unicode 14 and 18.
-const CHARACTERS: &str = "abz12 \t!\n\r\u{301}\u{5D0}\u{5D1}\u{5D2}\u{61C}\u{627}\u{628}\u{660}\u{661}\u{66B}\
+const CHARACTERS: &str =
+    "abz12 \t!\n\r\u{301}\u{5D0}\u{5D1}\u{5D2}\u{61C}\u{627}\u{628}\u{660}\u{661}\u{66B}\
     \u{200E}\u{200F}\u{2029}\u{3042}\u{10000}\u{10900}";
 
 /// Xorshift: the same numbers in each build.
