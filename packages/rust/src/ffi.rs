@@ -359,7 +359,7 @@ pub fn analyse<U: Unit>(
 fn usual_paragraphs(units: usize, split: Split) -> usize {
     match split {
         Split::OneParagraph => 1,
-        Split::EachSeparator => 8 + units / 32,
+        Split::EachSeparator => 8 + units / 8,
     }
 }
 
