@@ -65,6 +65,12 @@ def read_sources():
             if row.kind == "source" and row.get("fault", "none") == "none"}
 
 
+def bracket_of(row):
+    """Returns the bracket of a row, as ``bracket`` returns it."""
+    words = row.words("bracket")
+    return None if words == ["none"] else (character(words[1]), {"opens": True, "closes": False}[words[0]])
+
+
 class Rows(unittest.TestCase):
     """Each test runs the rows of some kinds."""
 
@@ -72,14 +78,14 @@ class Rows(unittest.TestCase):
     def setUpClass(cls):
         cls.sources = read_sources()
 
-    def each(self, file, *kinds):
-        """Yields each row of these kinds as a subtest, and counts it."""
+    def each(self, file, see, *kinds):
+        """Calls ``see`` with each row of these kinds, and counts it."""
         found = [row for row in rows(file) if row.kind in kinds]
         self.assertTrue(found, f"no row of {kinds} in {file}")
         for row in found:
             with self.subTest(row=row.place):
                 ran[file] += 1
-                yield row
+                see(row)
 
     def source(self, row):
         return self.sources[row.get("source", "sample")]
@@ -100,49 +106,55 @@ class Rows(unittest.TestCase):
             self.assertEqual(wanted, ["-" if want == "-" else have for want, have in zip(wanted, found)], key)
 
     def test_sources(self):
-        for row in self.each("sources.rows", "source"):
-            if row.get("fault", "none") == "none":
+        self.each("sources.rows", self.see_source, "source")
+
+    def see_source(self, row):
+        if row.get("fault", "none") == "none":
+            tables_of(row)
+        else:
+            with self.assertRaises(BadRangesError):
                 tables_of(row)
-            else:
-                with self.assertRaises(BadRangesError):
-                    tables_of(row)
 
     def test_texts(self):
         for file in ("texts.rows", "limits.rows"):
-            for row in self.each(file, "text"):
-                text = self.analysed(row, SPLITS[row.get("split", "each-separator")])
-                self.compare(row, "classes", text.classes)
-                self.compare(row, "levels", text.levels)
-                self.compare(row, "paragraphs", [f"{p.start}..{p.end}:{p.level}" for p in text.paragraphs])
+            self.each(file, self.see_text, "text")
 
-    def test_directions_of_texts(self):
+    def see_text(self, row):
+        text = self.analysed(row, SPLITS[row.get("split", "each-separator")])
+        self.compare(row, "classes", text.classes)
+        self.compare(row, "levels", text.levels)
+        self.compare(row, "paragraphs", [f"{p.start}..{p.end}:{p.level}" for p in text.paragraphs])
+        self.see_direction_of_classes(row)
+
+    def see_direction_of_classes(self, row):
         """A text's stored classes have the base direction that the level of its first paragraph shows."""
-        for row in self.each("texts.rows", "text"):
-            classes, paragraphs = row.words("classes"), row.words("paragraphs")
-            if row.get("base", "auto") == "auto" and classes and "-" not in classes and paragraphs:
-                level = paragraphs[0].rpartition(":")[2]
-                found = base_direction_of_classes([BidiClass[name] for name in classes])
-                self.assertEqual(found == Direction.RTL, level == "1")
+        classes, paragraphs = row.words("classes"), row.words("paragraphs")
+        if row.get("base", "auto") == "auto" and classes and "-" not in classes and paragraphs:
+            level = paragraphs[0].rpartition(":")[2]
+            found = base_direction_of_classes([BidiClass[name] for name in classes])
+            self.assertEqual(level == "1", found == Direction.RTL)
 
     def test_lines(self):
-        for row in self.each("lines.rows", "line"):
-            text = self.analysed(row, Split.EACH_SEPARATOR)
-            paragraph = text.paragraphs[0]
-            if row.get("paragraph"):
-                paragraph = paragraph._replace(level=int(row.get("paragraph")))
-            start, end = row.range("line") or (0, len(text.text))
-            line = text.line(start, end, paragraph=paragraph)
-            self.compare(row, "levels", text.levels)
-            self.compare(row, "after", text.levels[:start] + line.levels + text.levels[end:])
-            self.compare(row, "runs", [f"{run.start}..{run.end}" for run in line.runs])
-            for run in line.runs:
-                self.assertEqual({run.level}, set(line.levels[run.start - start : run.end - start]))
-            shown = row.text("shown")
-            if shown is not None:
-                found = line.display(mirror=False)
-                self.assertEqual(found, "".join(text.text[index] for index in line.order))
-                # UTF-16 alone displays a surrogate at an odd level as U+FFFD.
-                self.assertEqual(SURROGATE.sub("\ufffd", shown), SURROGATE.sub("\ufffd", found))
+        self.each("lines.rows", self.see_line, "line")
+
+    def see_line(self, row):
+        text = self.analysed(row, Split.EACH_SEPARATOR)
+        paragraph = text.paragraphs[0]
+        if row.get("paragraph"):
+            paragraph = paragraph._replace(level=int(row.get("paragraph")))
+        start, end = row.range("line") or (0, len(text.text))
+        line = text.line(start, end, paragraph=paragraph)
+        self.compare(row, "levels", text.levels)
+        self.compare(row, "after", text.levels[:start] + line.levels + text.levels[end:])
+        self.compare(row, "runs", [f"{run.start}..{run.end}" for run in line.runs])
+        for run in line.runs:
+            self.assertEqual({run.level}, set(line.levels[run.start - start : run.end - start]))
+        shown = row.text("shown")
+        if shown is not None:
+            found = line.display(mirror=False)
+            self.assertEqual(found, "".join(text.text[index] for index in line.order))
+            # In UTF-16 a lone surrogate at an odd level is displayed as U+FFFD. Here it is always itself.
+            self.assertEqual(SURROGATE.sub("\ufffd", shown), SURROGATE.sub("\ufffd", found))
 
     def test_get_display(self):
         """get_display of the lines that are a whole text, have Unicode's classes, and no character that X9 removes."""
@@ -162,45 +174,49 @@ class Rows(unittest.TestCase):
         self.assertGreater(tried, 5)
 
     def test_line_maps(self):
-        for row in self.each("layouts.rows", "line map"):
-            start, end = row.range("line")
-            line = self.analysed(row, Split.EACH_SEPARATOR).line(start, end)
-            self.compare(row, "order", [index - start for index in line.order])
-            order = row.words("order")
-            self.compare(row, "places", [order.index(str(index)) for index in range(end - start)])
+        self.each("layouts.rows", self.see_line_map, "line map")
+
+    def see_line_map(self, row):
+        start, end = row.range("line")
+        line = self.analysed(row, Split.EACH_SEPARATOR).line(start, end)
+        self.compare(row, "order", [index - start for index in line.order])
 
     def test_orders(self):
-        for row in self.each("orders.rows", "order"):
-            self.compare(row, "order", reorder_visual(map(int, row.words("levels"))))
+        self.each("orders.rows", self.see_order, "order")
+
+    def see_order(self, row):
+        self.compare(row, "order", reorder_visual(map(int, row.words("levels"))))
 
     def test_base_directions(self):
-        for row in self.each("directions.rows", "base direction"):
-            for tables in (None, self.source(row)):
-                for key, full in (("first", False), ("full", True)):
-                    self.assertEqual(DIRECTIONS[row.get(key)], base_direction(row.text(), full=full, tables=tables))
+        self.each("directions.rows", self.see_base_direction, "base direction")
+
+    def see_base_direction(self, row):
+        for tables in (None, self.source(row)):
+            for key, full in (("first", False), ("full", True)):
+                self.assertEqual(DIRECTIONS[row.get(key)], base_direction(row.text(), full=full, tables=tables))
 
     def test_characters_of_unicode(self):
-        for row in self.each("characters.rows", "character of Unicode", "format character"):
-            found = row.text("character")
-            if row.get("class"):
-                self.assertEqual(row.get("class"), bidi_class(found).name)
-                self.assertEqual((bidi_class(found),), bidi_classes(found))
-            if row.get("bracket"):
-                self.assertEqual(self.bracket_of(row), bracket(found))
-                self.assertEqual((bracket(found),), brackets(found))
-            if row.get("mirrored"):
-                self.assertEqual(found if row.get("mirrored") == "none" else row.text("mirrored"), mirrored(found))
+        self.each("characters.rows", self.see_character, "character of Unicode", "format character")
 
-    def bracket_of(self, row):
-        """Returns the bracket of a row, as ``bracket`` does."""
-        words = row.words("bracket")
-        return None if words == ["none"] else (character(words[1]), {"opens": True, "closes": False}[words[0]])
+    def see_character(self, row):
+        found = row.text("character")
+        if row.get("class"):
+            self.assertEqual(row.get("class"), bidi_class(found).name)
+            self.assertEqual((bidi_class(found),), bidi_classes(found))
+        if row.get("bracket"):
+            self.assertEqual(bracket_of(row), bracket(found))
+            self.assertEqual((bracket(found),), brackets(found))
+        if row.get("mirrored"):
+            self.assertEqual(found if row.get("mirrored") == "none" else row.text("mirrored"), mirrored(found))
 
     def test_characters_of_the_sample(self):
-        for row in self.each("characters.rows", "character"):
-            if row.get("class"):
-                found = BidiText(row.text("character"), tables=self.source(row)).classes
-                self.assertEqual([row.get("class")], [item.name for item in found])
+        self.each("characters.rows", self.see_character_of_sample, "character")
+
+    def see_character_of_sample(self, row):
+        """The class of a character in the tables. Its bracket there has no call."""
+        if row.get("class"):
+            found = BidiText(row.text("character"), tables=self.source(row)).classes
+            self.assertEqual([row.get("class")], [item.name for item in found])
 
 
 if __name__ == "__main__":

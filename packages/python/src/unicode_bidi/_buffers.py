@@ -9,7 +9,7 @@ from __future__ import annotations
 import struct
 import threading
 from ctypes import byref, c_size_t, c_uint8, c_uint32, sizeof
-from typing import List, Sequence, Tuple, cast
+from typing import Any, List, Sequence, Tuple
 
 from ._library import Range, size
 
@@ -38,9 +38,8 @@ class Ranges:
 
     def read(self, count: int) -> Sequence[RangeTuple]:
         """Returns the first ranges, each as its start, its end and its level."""
-        if count == 1:
-            return (cast(RangeTuple, _RANGE.unpack_from(self._bytes)),)
-        return cast(List[RangeTuple], list(_RANGE.iter_unpack(self._bytes[: count * _RANGE.size])))
+        ranges: Any = _RANGE.iter_unpack(self._bytes[: count * _RANGE.size])
+        return tuple(ranges)
 
 
 class Buffers:
