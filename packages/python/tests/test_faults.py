@@ -90,6 +90,13 @@ class Faults(unittest.TestCase):
                 BidiText("a").line(wrong, 1)
         with self.assertRaises(TypeError):
             BidiText(b"a")
+        for upper in (False, True):
+            with self.assertRaises(TypeError):
+                unicode_bidi.get_base_level(b"a", upper)
+        with self.assertRaises(ValueError):
+            Tables([], [(0x28, 0x29)])
+        with self.assertRaises(TypeError):
+            Tables([("a", "z", R)])
         with self.assertRaises(TypeError):
             reorder_visual(5)
         with self.assertRaises(TypeError):
