@@ -171,7 +171,7 @@ buffers = _buffers.Buffers(len(text))
 length = _library.size(len(text))
 before = bytes(buffers.levels)
 used = int(open("/proc/self/statm").read().split()[0]) * resource.getpagesize()
-resource.setrlimit(resource.RLIMIT_AS, (used + 100000, resource.RLIM_INFINITY))
+resource.setrlimit(resource.RLIMIT_AS, (used + 500000, resource.RLIM_INFINITY))
 try:
     _analysis.analyse(buffers, characters, length, 255, 2)
 except NoMemoryError:
