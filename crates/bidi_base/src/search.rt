@@ -1,7 +1,6 @@
 //! Finds the next item of a list that passes a test: one by one at first, and then sixteen items at a time.
 
-ghost use Rattle.std.specs.Prelude.{◌≡◌, ℕ, ◌+◌, ◌<◌, ◌≤◌, ◌==◌, Bool, length, min, slice_index, if◌then◌else◌};
-ghost use Rattle.std.specs.Int.{bit_at};
+ghost use Rattle.std.specs.Prelude.{◌≡◌, ℕ, ◌+◌, ◌<◌, ◌≤◌, false, Bool, length, min, slice_index, if◌then◌else◌, MatchOption};
 ghost use Rattle.bidi_base.specs.declared.char_data.BidiClass.{BidiClass};
 ghost use Rattle.bidi_base.specs.Search.{IsFirst, IsEndOfLast};
 
@@ -99,48 +98,37 @@ fn marks<T: Tested>(tested: T, at: usize) -> [u8; 16]
     array::from_fn(|lane| u8::from(tested.passes(at + lane)))
 }
 
-// Returns how many of `count` bits come before the first one that is set.
-fn bits_before(bits: u64, count: usize) -> usize
-    requires { count < 64 }
-    ensures { IsFirst (λ k. bit_at bits k == 1) 0 count result }
-{
-    // The bit after them is set, so that neither a test for 0 nor a minimum is needed.
-    (bits | 1 << count).trailing_zeros() as usize
-}
-
-// Returns how many of `count` items come before the first one that passes. They are among the sixteen items from `at` on,
-// after the first `skipped`. All sixteen are tested.
-fn before_first<T: Tested>(tested: T, at: usize, skipped: usize, count: usize) -> usize
-    requires inside { skipped + count ≤ 16 }
+// Returns the first index of the sixteen from `at` on whose item passes, if there is one.
+fn first_of_sixteen<T: Tested>(tested: T, at: usize) -> Option<usize>
     requires within { at + 16 ≤ T.count tested }
     requires fits { at + 16 ≤ usize.MAX }
-    ensures { IsFirst (T.passes tested) (at + skipped) (at + skipped + count) (at + skipped + result) }
+    ensures { MatchOption result
+        ((k : ℕ) → at ≤ k → k < at + 16 → T.passes tested k ≡ false)
+        (λ i. (i < at + 16) × IsFirst (T.passes tested) at (at + 16) i) }
 {
     let marks = u8x16::from_array(marks(tested, at));
     let bits = marks.simd_ne(u8x16::splat(0)).to_bitmask();
-    bits_before(bits >> skipped, count)
+    if bits == 0 {
+        None
+    } else {
+        Some(at + bits.trailing_zeros() as usize)
+    }
 }
 
-// Returns the first index in `from..to` whose item passes, or else `to`. There are fewer than sixteen of them.
-fn first_of_few<T: Tested, S: Ledger>(
+// Returns the first index in `from..to` whose item passes, or else `to`, and tests one item at a time.
+#[inline(always)]
+fn first_one_by_one<T: Tested, S: Ledger>(
     tested: T,
     from: usize,
     to: usize,
     steps: &mut Steps<S>,
 ) -> usize
     requires ordered { from ≤ to }
-    requires few { to < from + 16 }
     requires within { to ≤ T.count tested }
     ensures first { IsFirst (T.passes tested) from to result }
     ensures steps_at_least { steps.old ≤ steps.new }
     ensures steps_at_most { steps.new + from ≤ steps.old + min (result + 1) to }
 {
-    // Often the list is a line. If it has sixteen items, others are tested with the few: one block costs less than
-    // testing the few one by one.
-    if from < to && tested.len() >= 16 {
-        let at = from.min(tested.len() - 16);
-        return from + before_first(tested, at, from - at, to - from);
-    }
     for at in from..to {
         steps.tick();
         if tested.passes(at) {
@@ -151,7 +139,9 @@ fn first_of_few<T: Tested, S: Ledger>(
 }
 
 // Returns the first index in `from..to` whose item passes, or else `to`, and tests sixteen items at a time.
-#[inline(always)]
+//
+// This has the only call of `first_of_sixteen`: the compiler tests a block in vectors only if it finds a single call of
+// `array::from_fn` for a type.
 fn first_by_blocks<T: Tested, S: Ledger>(
     tested: T,
     from: usize,
@@ -164,22 +154,21 @@ fn first_by_blocks<T: Tested, S: Ledger>(
     ensures steps_at_least { steps.old ≤ steps.new }
     ensures steps_at_most { steps.new + from ≤ steps.old + min (result + 1) to }
 {
-    if to - from < 16 {
-        return first_of_few(tested, from, to, steps);
+    let len = tested.len();
+    if len - from < 16 {
+        return first_one_by_one(tested, from, to, steps);
     }
-    let last = to - 16;
     let mut at = from;
-    while at < last {
+    while at < to {
         steps.tick();
-        let before = before_first(tested, at, 0, 16);
-        if before < 16 {
-            return at + before;
+        // The last block may begin before `at`, with items that do not pass, and may end after `to`.
+        let block = at.min(len - 16);
+        if let Some(found) = first_of_sixteen(tested, block) {
+            return found.min(to);
         }
-        // The next block is tested without waiting for `before`.
-        at += 16;
+        at = block + 16;
     }
-    // The last block may overlap items before `at`, which do not pass.
-    last + before_first(tested, last, 0, 16)
+    to
 }
 
 /// Returns the first index in `from..to` whose item passes, or else `to`, and counts loop iterations in `steps`.

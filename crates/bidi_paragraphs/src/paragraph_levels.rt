@@ -382,10 +382,13 @@ fn fill_removed(para_level: Level, classes: &[BidiClass], levels: &mut [Level])
         test: Removed,
         classes,
     };
-    let mut at = first_passing(removed, 1, 0, units);
-    while at < units {
+    let mut from = 0;
+    while from < units {
+        let at = first_passing(removed, TESTED_SINGLY, from, units);
+        if at == units {
+            return;
+        }
         let before = level_before(para_level, levels, at);
-        let end = write_removed(classes, levels, at, before);
-        at = first_passing(removed, TESTED_SINGLY, end, units);
+        from = write_removed(classes, levels, at, before);
     }
 }

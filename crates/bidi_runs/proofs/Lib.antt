@@ -10,7 +10,6 @@ pub mod LinkedSequences
 pub mod Marks
 pub mod OpenIsolates
 pub mod PassOverText
-pub mod RemovedBlocks
 pub mod RunCutting
 pub mod RunGather
 pub mod RunJoining

@@ -15,7 +15,8 @@ use Rattle.bidi_base.proofs.UnitsLemmas.{per_unit-from_is_per_char, length-from_
 use Rattle.bidi_base.proofs.ChainLemmas.{filter_range-none}
 use Rattle.bidi_runs.specs.declared.prepare.links.RunLinks.{RunLinks}
 use Rattle.bidi_runs.specs.declared.prepare.links.RunSides.{RunSides}
-use Rattle.bidi_runs.specs.Joining.{JoinedRuns, IsKeptEnd, level_after_run, read_range, read_units}
+use Rattle.bidi_base.specs.Search.{IsEndOfLast}
+use Rattle.bidi_runs.specs.Joining.{JoinedRuns, level_after_run, read_range, read_units}
 use Rattle.bidi_runs.specs.Links.{with_link, with_sides, next_run, begins, sequence_at, linked_sequences, sequences_of, AreLinked}
 use Rattle.bidi_runs.proofs.LevelRunLemmas.{kept_in_run, length-level_run_ranges}
 use Rattle.bidi_runs.proofs.RunUnits.{cuts, NoneKept, IsRunAt, run_at, unit_run, level_of_unit, class_of_unit, IsLastUnit, none_kept, last_unit}
@@ -128,7 +129,7 @@ module _ (len_of : ℕ → ℕ) (h : HasUnits len_of) (chars : List ℕ) (units 
     pub boundary : is_boundary len_of chars kept_end ≡ true
     pub within : index + 1 ≤ length chars
 
-  pub last_kept : (n : ℕ) (run : Range ℕ) (kept_end : ℕ) → IsNext n run → IsKeptEnd units run.start run.end kept_end → ¬ (kept_end ≡ run.start) → IsLastKept n kept_end
+  pub last_kept : (n : ℕ) (run : Range ℕ) (kept_end : ℕ) → IsNext n run → IsEndOfLast (is_kept_at units) run.start run.end kept_end → ¬ (kept_end ≡ run.start) → IsLastKept n kept_end
   last_kept n run kept_end next e some =
       let w = last_unit len_of h chars classes levels long units unit_levels same units_are levels_are (cut len_of chars units unit_levels n) (cut len_of chars units unit_levels (n + 1)) run.start run.end kept_end next.at.start next.at.end (omega (arith, next.at.range.within, long)) e some in
       record {
@@ -149,7 +150,7 @@ module _ (len_of : ℕ → ℕ) (h : HasUnits len_of) (chars : List ℕ) (units 
     -- a run with a kept character comes
     module _ (reads : Bool) (came : List (Range ℕ)) (run : Range ℕ) (links : RunLinks) (before kept_end : ℕ) (g : Option ℕ)
         (state : AreLinkedSoFar len_of chars units unit_levels paragraph reads came links before) (next : IsNext (length came) run)
-        (more_runs : length came < length runs) (e : IsKeptEnd units run.start run.end kept_end) (some : ¬ (kept_end ≡ run.start)) (g_is : g ≡ waiting_for (class_at units run.start) links.waiting) where
+        (more_runs : length came < length runs) (e : IsEndOfLast (is_kept_at units) run.start run.end kept_end) (some : ¬ (kept_end ≡ run.start)) (g_is : g ≡ waiting_for (class_at units run.start) links.waiting) where
       abbrev a : ℕ
       a = cut len_of chars units unit_levels (length came)
 
@@ -184,7 +185,7 @@ module _ (len_of : ℕ → ℕ) (h : HasUnits len_of) (chars : List ℕ) (units 
         after_at = grind (arith, last, past_end)
 
         level_at_last : level ≡ level_at (per_char 0 len_of chars unit_levels) last.index
-        level_at_last = level_is ∙ get_or_default unit_levels (kept_end - 1) level 0 (omega (arith, next.some, next.inside_levels, e.to)) ∙ last.unit.level
+        level_at_last = level_is ∙ get_or_default unit_levels (kept_end - 1) level 0 (omega (arith, next.some, next.inside_levels, e.ends)) ∙ last.unit.level
 
         linked_with : more.waiting ≡ read_range (per_char L len_of chars units) (last.index + 1) (length came) (cut len_of chars units unit_levels (length came)) (cut len_of chars units unit_levels (length came + 1)) links.waiting
             → (reads ≡ false → more.waiting ≡ [])
@@ -230,7 +231,7 @@ module _ (len_of : ℕ → ℕ) (h : HasUnits len_of) (chars : List ℕ) (units 
 
     -- X9 removes the whole paragraph
     pub AreSequences-removed : (reads : Bool) (came : List (Range ℕ)) (run : Range ℕ) (links : RunLinks) (before kept_end : ℕ) (side : BidiClass) (new : RunLinks)
-        → AreLinkedSoFar len_of chars units unit_levels paragraph reads came links before → IsNext (length came) run → length came < length runs → run ≡ get_or runs (length came) run → IsKeptEnd units run.start run.end kept_end → kept_end ≡ run.start
+        → AreLinkedSoFar len_of chars units unit_levels paragraph reads came links before → IsNext (length came) run → length came < length runs → run ≡ get_or runs (length came) run → IsEndOfLast (is_kept_at units) run.start run.end kept_end → kept_end ≡ run.start
         → is_l_or_r side ≡ true → new.next.items ≡ with_link None links.next.items → new.sides.items ≡ with_sides None side side links.sides.items → AreSequences len_of chars units unit_levels paragraph runs new
     AreSequences-removed reads came run links before kept_end side new state next within is e none known next_is sides_are = record {
       in_order = simp (runs_one, one_is, sequences-none paragraph classes levels gone.none, no_places);

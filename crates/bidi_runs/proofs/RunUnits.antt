@@ -8,7 +8,7 @@ use Rattle.bidi_base.proofs.TextLemmas.{HasUnits}
 use Rattle.bidi_base.proofs.PlaceLemmas.{place-more, place-mono, place-lt, place-le, UnitOf, unit_of}
 use Rattle.bidi_base.proofs.PerUnit.{get_or-per_unit, get_or-per_unit-place}
 use Rattle.bidi_laws.proofs.RunsLemmas.{IsLevelRun}
-use Rattle.bidi_runs.specs.Joining.{IsKeptEnd}
+use Rattle.bidi_base.specs.Search.{IsEndOfLast}
 use Rattle.bidi_runs.proofs.LevelRunLemmas.{IsLevelRun-at, level_run_ranges-at, length-level_run_ranges}
 
 -- where level runs begin, and the end
@@ -69,16 +69,16 @@ module _ (len_of : ℕ → ℕ) (h : HasUnits len_of) (chars : List ℕ) (classe
       pub class : get_or units (last - 1) L ≡ class_at classes l
       pub level : get_or unit_levels (last - 1) 0 ≡ level_at levels l
 
-    pub none_kept : (a b start end last : ℕ) → start ≡ place len_of chars a → end ≡ place len_of chars b → b ≤ length chars → IsKeptEnd units start end last → last ≡ start → NoneKept classes a b
+    pub none_kept : (a b start end last : ℕ) → start ≡ place len_of chars a → end ≡ place len_of chars b → b ≤ length chars → IsEndOfLast (is_kept_at units) start end last → last ≡ start → NoneKept classes a b
     none_kept a b start end last first next fits e none m from below =
-        ap is_kept (sym (class_of_unit m (omega arith))) ∙ e.gone (place len_of chars m) (omega (arith, place-mono len_of chars a m from)) (omega (arith, place-lt len_of chars h m b below (omega arith)))
+        ap is_kept (sym (class_of_unit m (omega arith))) ∙ e.after (place len_of chars m) (omega (arith, place-mono len_of chars a m from)) (omega (arith, place-lt len_of chars h m b below (omega arith)))
 
     pub last_unit : (a b start end last : ℕ) → start ≡ place len_of chars a → end ≡ place len_of chars b → b ≤ length chars
-        → IsKeptEnd units start end last → ¬ (last ≡ start) → (l : ℕ) × IsLastUnit a b last l
+        → IsEndOfLast (is_kept_at units) start end last → ¬ (last ≡ start) → (l : ℕ) × IsLastUnit a b last l
     last_unit a b start end last first next fits e some = by_unit (unit_of len_of chars (last - 1) (omega (
       arith,
-      e.from,
-      e.to,
+      e.begins,
+      e.ends,
       place-le len_of chars b,
       next,
     )))
@@ -90,13 +90,13 @@ module _ (len_of : ℕ → ℕ) (h : HasUnits len_of) (chars : List ℕ) (classe
             after = place-more len_of chars w.index 0 w.within
 
             unit_is : last ≡ place len_of chars w.index + w.offset + 1
-            unit_is = omega (arith, w.at_place, e.from)
+            unit_is = omega (arith, w.at_place, e.begins)
 
             from : a ≤ w.index
             from = grind (arith, w.below, after, unit_is, place-mono)
 
             below : w.index < b
-            below = grind (arith, unit_is, e.to, place-mono)
+            below = grind (arith, unit_is, e.ends, place-mono)
 
             class : get_or units (last - 1) L ≡ class_at classes w.index
             class = simp (units_is, w.at_place, get_or-per_unit len_of chars classes w.index w.offset 0 L long w.within w.below)
@@ -105,7 +105,7 @@ module _ (len_of : ℕ → ℕ) (h : HasUnits len_of) (chars : List ℕ) (classe
             level = simp (levels_is, w.at_place, get_or-per_unit len_of chars levels w.index w.offset 0 0 same w.within w.below)
 
             kept : is_kept_at classes w.index ≡ true
-            kept = ap is_kept (sym class) ∙ e.kept (omega (arith, e.from))
+            kept = ap is_kept (sym class) ∙ e.before (last - 1) (omega (arith, e.begins)) (omega (arith, e.begins))
 
             -- no unit of the character is left after it
             at_end : last ≡ place len_of chars (w.index + 1)
@@ -113,11 +113,11 @@ module _ (len_of : ℕ → ℕ) (h : HasUnits len_of) (chars : List ℕ) (classe
               | inl inside ↦
                   let there : last ≡ place len_of chars w.index + (w.offset + 1) = omega (arith, unit_is) in
                   let same_class : get_or units last L ≡ class_at classes w.index = simp (units_is, there, get_or-per_unit len_of chars classes w.index (w.offset + 1) 0 L long w.within inside) in
-                  absurd (both_ways (is_kept_at classes w.index) (ap is_kept (sym same_class) ∙ e.gone last (omega arith) (omega (arith, after, next, place-mono len_of chars (w.index + 1) b (omega (arith, below))))) kept)
+                  absurd (both_ways (is_kept_at classes w.index) (ap is_kept (sym same_class) ∙ e.after last (omega arith) (omega (arith, after, next, place-mono len_of chars (w.index + 1) b (omega (arith, below))))) kept)
               | inr out ↦ omega (arith, unit_is, after, w.below)
             ]
 
             none : NoneKept classes (w.index + 1) b
             none m low high =
                 ap is_kept (sym (class_of_unit m (omega arith)))
-                ∙ e.gone (place len_of chars m) (omega (arith, at_end, place-mono len_of chars (w.index + 1) m low)) (omega (arith, next, place-lt len_of chars h m b high (omega arith)))
+                ∙ e.after (place len_of chars m) (omega (arith, at_end, place-mono len_of chars (w.index + 1) m low)) (omega (arith, next, place-lt len_of chars h m b high (omega arith)))

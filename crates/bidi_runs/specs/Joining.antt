@@ -1,11 +1,11 @@
 -- The steps of the pass over units that joins level runs to isolating run sequences.
-use Rattle.std.specs.Prelude.{◌≡◌, ℕ, ◌+◌, ◌-◌, ◌<◌, ◌≤◌, Bool, true, false, ◌||◌, ◌==◌, if◌then◌else◌, List, length, Option, Some, None}
+use Rattle.std.specs.Prelude.{ℕ, ◌+◌, Bool, ◌||◌, ◌==◌, if◌then◌else◌, List, length, Option, Some, None}
 use Rattle.std.specs.List.{fold}
 use Rattle.bidi_base.specs.declared.char_data.BidiClass.{BidiClass}
 use Rattle.bidi_base.specs.declared.char_data.BidiClass.TheVariants.{L}
-use Rattle.bidi_base.specs.Classes.{is_initiator, is_kept, is_pdi}
+use Rattle.bidi_base.specs.Classes.{is_initiator, is_pdi}
 use Rattle.bidi_base.specs.Places.{between, class_at}
-use Rattle.bidi_base.specs.Sequences.{RunSequence, is_kept_at, level_at}
+use Rattle.bidi_base.specs.Sequences.{RunSequence, level_at}
 use Rattle.bidi_base.specs.SequencePass.{read_class}
 use Rattle.bidi_base.specs.Text.{char_index, per_char}
 use Rattle.bidi_base.specs.Units.{kept_in_runs}
@@ -19,17 +19,6 @@ pub record JoinedRuns : Type 0 where
 -- the characters that X9 keeps in them
 abbrev pub characters_of : (ℕ → ℕ) → List ℕ → List BidiClass → JoinedRuns → RunSequence
 characters_of len_of chars classes j = record { places = kept_in_runs len_of chars classes j.runs; sos = j.sos; eos = j.eos }
-
--- the end of the last unit from `start` up to `end` whose class X9 keeps, or `start` where there is none
-pub record IsKeptEnd (classes : List BidiClass) (start end kept_end : ℕ) : Type 0 where
-  pub from : start ≤ kept_end
-  pub to : kept_end ≤ end
-  pub gone : (u : ℕ) → kept_end ≤ u → u < end → is_kept_at classes u ≡ false
-  pub kept : start < kept_end → is_kept_at classes (kept_end - 1) ≡ true
-
--- one of the classes is kept
-abbrev pub is_kept_in : List BidiClass → Bool
-is_kept_in classes = fold (λ found class. found || is_kept class) false classes
 
 -- a class that opens or closes an isolate
 abbrev pub is_isolate_control : BidiClass → Bool

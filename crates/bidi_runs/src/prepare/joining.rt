@@ -5,11 +5,11 @@ ghost use Rattle.bidi_base.specs.PerChar.{HaveClass, HaveLevel};
 ghost use Rattle.bidi_base.specs.declared.char_data.BidiClass.TheVariants.{L};
 ghost use Rattle.bidi_base.specs.Explicit.{explicit_levels};
 ghost use Rattle.bidi_base.specs.Levels.{direction_of};
-ghost use Rattle.bidi_base.specs.Search.{IsFirst, passing};
+ghost use Rattle.bidi_base.specs.Search.{IsEndOfLast, IsFirst, passing};
 ghost use Rattle.bidi_base.specs.Sequences.{is_kept_at, sequences, HasExplicitLevels, FlagsInitiators};
 ghost use Rattle.bidi_base.specs.Text.{IsLine, is_boundary, per_char};
 ghost use Rattle.bidi_base.specs.Units.{bounds, level_run_ranges, AreLines};
-ghost use Rattle.bidi_runs.specs.Joining.{level_after_run, is_isolate_control, is_kept_in, IsKeptEnd, read_units};
+ghost use Rattle.bidi_runs.specs.Joining.{level_after_run, is_isolate_control, read_units};
 ghost use Rattle.bidi_runs.specs.RunSequence.{run_bounds, sequences_in};
 
 use super::waiting::Waiting;
@@ -22,70 +22,35 @@ use crate::leveled_text::LeveledText;
 use bidi_base::char_data::BidiClass;
 use bidi_base::classes::{is_initiator, is_pdi};
 use bidi_base::level::Level;
-use bidi_base::search::{Among, ClassTest, first_passing};
+use bidi_base::search::{Among, ClassTest, end_of_last_passing, first_passing};
 use bidi_text::text::TextSource;
 use std::alloc::{AllocError, Global};
+
+// Classes that X9 keeps.
+#[derive(Clone, Copy, Debug)]
+struct Kept;
+
+impl ClassTest for Kept {
+    ghost use Rattle.bidi_base.specs.Classes.{is_kept};
+
+    ghost test = { λ _ class. is_kept class };
+
+    fn passes(self, class: BidiClass) -> bool {
+        not_removed_by_x9(&class)
+    }
+}
 
 // The end of the last code unit of a run whose class X9 keeps, or the run's start if there is none.
 pub(super) fn kept_end(classes: &[BidiClass], run: &LevelRun) -> usize
     requires ordered { run.now.start ≤ run.now.end }
     requires inside { run.now.end ≤ length classes.now }
-    ensures { IsKeptEnd classes.now run.now.start run.now.end result }
+    ensures { IsEndOfLast (is_kept_at classes.now) run.now.start run.now.end result }
 {
-    for unit in (run.start..run.end).rev() {
-        if not_removed_by_x9(&classes[unit]) {
-            return unit + 1;
-        }
-        if run.end - unit == TESTED_SINGLY {
-            return kept_end_by_blocks(classes, run.start, unit);
-        }
-    }
-    run.start
-}
-
-// The end of the last code unit in `start..end` whose class X9 keeps, or `start` if there is none. Suits a range
-// that ends with many code units that X9 removes.
-#[inline(never)]
-fn kept_end_by_blocks(classes: &[BidiClass], start: usize, end: usize) -> usize
-    requires ordered { start ≤ end }
-    requires inside { end ≤ length classes.now }
-    ensures { IsKeptEnd classes.now start end result }
-{
-    let begin = before_removed_blocks(classes, start, end);
-    for at in (start..begin).rev() {
-        if not_removed_by_x9(&classes[at]) {
-            return at + 1;
-        }
-    }
-    start
-}
-
-// How many code units are tested at once.
-const BLOCK: usize = 16;
-
-// Goes back from `end` towards `start` over blocks in which X9 removes every code unit. Returns the start of the first
-// such block, or `end` if there is none.
-fn before_removed_blocks(classes: &[BidiClass], start: usize, end: usize) -> usize
-    requires ordered { start ≤ end }
-    requires inside { end ≤ length classes.now }
-    ensures from { start ≤ result }
-    ensures to { result ≤ end }
-    ensures gone { (u : ℕ) → result ≤ u → u < end → is_kept_at classes.now u ≡ false }
-{
-    let mut at = end;
-    while at - start >= BLOCK && !is_kept_in(&classes[at - BLOCK..at]) {
-        at -= BLOCK;
-    }
-    at
-}
-
-// Whether X9 keeps one of the classes. Tests all of them, many at once.
-fn is_kept_in(classes: &[BidiClass]) -> bool
-    ensures { result ≡ is_kept_in classes.now }
-{
-    classes
-        .iter()
-        .fold(false, |found, class| found | not_removed_by_x9(class))
+    let kept = Among {
+        test: Kept,
+        classes,
+    };
+    end_of_last_passing(kept, TESTED_SINGLY, run.start, run.end)
 }
 
 // The class at an end of a sequence, between characters of these levels (X10).
