@@ -1,0 +1,88 @@
+"""The buffers that the calls of C write, kept for each thread.
+
+ctypes lets other threads run during a call of C. So no two threads may share a buffer. A thread takes buffers with
+``borrow`` and puts them back with ``give_back``. While they are taken, a signal handler that runs in the same thread gets
+others.
+"""
+from __future__ import annotations
+
+import struct
+import threading
+from ctypes import c_size_t, c_uint8, c_uint32, sizeof
+from typing import Iterator, List, Tuple
+
+from ._library import Range
+
+#: Buffers begin with room for so many characters, and double when a text needs more.
+LEAST_ROOM = 64
+#: Buffers for longer texts are not kept.
+MOST_KEPT = 1 << 16
+
+_RANGE = struct.Struct("@NNB7x")
+assert _RANGE.size == sizeof(Range)
+
+
+class Ranges:
+    """A buffer for paragraphs or runs."""
+
+    __slots__ = ("array", "room", "_bytes")
+
+    def __init__(self, room: int) -> None:
+        self.array = (Range * room)()
+        self.room = c_size_t(room)
+        self._bytes = memoryview(self.array).cast("B")
+
+    def read(self, count: int) -> Iterator[Tuple[int, int, int]]:
+        """Returns the first ranges, each as its start, its end and its level."""
+        return _RANGE.iter_unpack(self._bytes[: count * _RANGE.size])  # type: ignore[return-value]
+
+
+class Buffers:
+    """What an analysis and a displayed line need: room for the classes, levels and characters of a text."""
+
+    __slots__ = ("room", "shown_room", "classes", "levels", "shown", "shown_bytes", "paragraphs", "runs", "characters")
+
+    def __init__(self, room: int) -> None:
+        self.paragraphs = Ranges(4)
+        self.runs = Ranges(16)
+        self.characters = (c_size_t * 1)()
+        self.make_room(room)
+
+    def make_room(self, room: int) -> None:
+        """Makes new buffers for the characters of a text."""
+        self.room = room
+        self.shown_room = c_size_t(room)
+        self.classes = (c_uint8 * room)()
+        self.levels = (c_uint8 * room)()
+        self.shown = (c_uint32 * room)()
+        self.shown_bytes = memoryview(self.shown).cast("B")
+
+
+class _Spare(threading.local):
+    """The buffers of one thread that are not in use."""
+
+    def __init__(self) -> None:
+        self.buffers: List[Buffers] = []
+
+
+_spare = _Spare()
+
+
+def borrow(length: int) -> Buffers:
+    """Returns buffers with room for a text of so many characters. The caller gives them back."""
+    if length > MOST_KEPT:
+        return Buffers(length)
+    spare = _spare.buffers
+    buffers = spare.pop() if spare else Buffers(LEAST_ROOM)
+    if buffers.room < length:
+        room = buffers.room
+        while room < length:
+            room *= 2
+        buffers.make_room(room)
+    return buffers
+
+
+def give_back(buffers: Buffers) -> None:
+    """Keeps buffers for the next call of this thread."""
+    if buffers.room <= MOST_KEPT:
+        _spare.buffers.append(buffers)

@@ -1,0 +1,276 @@
+"""A text with its levels, paragraphs, lines and displayed text."""
+from __future__ import annotations
+
+import bisect
+import enum
+import operator
+from ctypes import byref, c_size_t, c_uint8
+from typing import Any, Iterable, List, NamedTuple, Optional, Tuple
+
+from . import _library as library
+from ._analysis import Analysis, analyse
+from ._buffers import borrow, give_back
+from ._characters import CLASSES, BidiClass, readable
+from .faults import BadBaseLevelError, BadLineError, BadSplitError, checked
+
+_MOST_SIZE = 2 ** 64 - 1
+
+
+class Split(enum.IntEnum):
+    """Where paragraphs end (P1)."""
+
+    #: The text is one paragraph, even if it is empty.
+    ONE_PARAGRAPH = 0
+    #: After each character of class B.
+    EACH_SEPARATOR = 1
+    #: The same, but not between CR and LF.
+    CR_LF_TOGETHER = 2
+
+
+class Direction(enum.IntEnum):
+    """A base direction."""
+
+    LTR = 0
+    RTL = 1
+    #: No character decides the direction.
+    MIXED = 2
+
+
+class Paragraph(NamedTuple):
+    """A paragraph: its characters, with the separator that ends it, and its level."""
+
+    start: int
+    end: int
+    level: int
+
+
+class Run(NamedTuple):
+    """A visual run: characters that have one level after L1. A run of an odd level is displayed from right to left."""
+
+    start: int
+    end: int
+    level: int
+
+
+class Tables:
+    """Classes and brackets of the caller's own, instead of Unicode's.
+
+    ``ranges`` are triples of the first character, the last one and their class. They ascend and do not overlap. Any other
+    character has class L. ``brackets`` are triples of an opening bracket, its closing one, and the normal form that they
+    pair by. Characters are numbers. If two pairs name a character, the first one counts.
+
+    Raises :class:`NotScalarError`, :class:`BadClassError` and :class:`BadRangesError`.
+    """
+
+    __slots__ = ("_arguments",)
+
+    def __init__(self, ranges: Iterable[Tuple[int, int, int]], brackets: Iterable[Tuple[int, int, int]] = ()) -> None:
+        rows = [(_limited(first, 2 ** 32 - 1), _limited(last, 2 ** 32 - 1), _limited(number, 255))
+                for first, last, number in ranges]
+        pairs = [tuple(_limited(character, 2 ** 32 - 1) for character in pair) for pair in brackets]
+        self._arguments = ((library.ClassRange * len(rows))(*rows), c_size_t(len(rows)),
+                           (library.BracketPair * len(pairs))(*pairs), c_size_t(len(pairs)))
+        checked(library.base_direction_by_tables(*self._arguments, b"", 0, 0))
+
+    @property
+    def arguments(self) -> Tuple[Any, ...]:
+        """The arguments of the C calls by tables."""
+        return self._arguments
+
+
+class BidiText:
+    """A text, analysed by UAX #9. Indexes are those of ``text``, and the end of a range is exclusive.
+
+    ``base_level`` is the level of every paragraph, from 0 to 125. With None each paragraph finds its own (P2, P3).
+    ``split`` says where paragraphs end. ``tables`` are classes and brackets to use instead of Unicode's. A lone surrogate
+    is analysed as U+FFFD, and displayed as itself. An object never changes, and threads may share it.
+
+    Raises :class:`BadBaseLevelError`, :class:`BadSplitError` and :class:`NoMemoryError`.
+
+    The cost is in proportion to the length of the text. An object keeps six bytes a character besides the text.
+    """
+
+    def __init__(self, text: str, base_level: Optional[int] = None, *, split: int = Split.CR_LF_TOGETHER,
+                 tables: Optional[Tables] = None) -> None:
+        base = library.AUTO if base_level is None else operator.index(base_level)
+        if base_level is not None and not 0 <= base < library.AUTO:
+            raise BadBaseLevelError
+        rule = operator.index(split)
+        if not 0 <= rule <= 255:
+            raise BadSplitError
+        read_as, characters = readable(text)
+        length = len(text)
+        buffers = borrow(length)
+        try:
+            count = analyse(buffers, characters, base, rule, tables.arguments if tables else ())
+            self._paragraphs = tuple(map(Paragraph._make, buffers.paragraphs.read(count)))
+            self._starts = [paragraph.start for paragraph in self._paragraphs]
+            classes = bytes(memoryview(buffers.classes)[:length])
+            levels = bytes(memoryview(buffers.levels)[:length])
+        finally:
+            give_back(buffers)
+        self._analysis = Analysis(text, read_as, characters, classes, levels)
+
+    def __repr__(self) -> str:
+        return f"BidiText({self.text!r})"
+
+    @property
+    def text(self) -> str:
+        """The text in logical order."""
+        return self._analysis.text
+
+    @property
+    def classes(self) -> Tuple[BidiClass, ...]:
+        """The class of each character. An FSI has class RLI or LRI if a character decides its direction (X5c)."""
+        return tuple(map(CLASSES.__getitem__, self._analysis.classes))
+
+    @property
+    def levels(self) -> Tuple[int, ...]:
+        """The level of each character (X1 to I2), before L1. A line has the levels after L1."""
+        return tuple(self._analysis.levels)
+
+    @property
+    def paragraphs(self) -> Tuple[Paragraph, ...]:
+        """The paragraphs. An empty text has none, except with :attr:`Split.ONE_PARAGRAPH`."""
+        return self._paragraphs
+
+    def line(self, start: int, end: int, *, paragraph: Optional[Paragraph] = None) -> Line:
+        """Returns the characters from ``start`` up to ``end`` as one line. The cost is that of the line.
+
+        ``paragraph`` is the paragraph of the line: without it, the one of the text that contains ``start``.
+
+        Raises :class:`BadLineError` if the line is not a range of its paragraph, :class:`BadLevelError` if the level of
+        the paragraph is above 126, and :class:`NoMemoryError`.
+        """
+        return Line(self, self._paragraph_at(start) if paragraph is None else paragraph, start, end)
+
+    def lines(self) -> List[Line]:
+        """Returns each paragraph as one line, without the separators at its end."""
+        return [Line(self, paragraph, paragraph.start, self._analysis.end_of_line(paragraph.start, paragraph.end))
+                for paragraph in self._paragraphs]
+
+    def display(self, *, mirror: bool = True, keep_removed: bool = True) -> str:
+        """Returns the text with each paragraph as one line from left to right (L2). Separators stay at the line ends.
+
+        With ``mirror``, characters at odd levels are mirrored (L4). Without ``keep_removed``, the characters that X9
+        removes are left out: the controls of embeddings and overrides, and those of class BN, such as U+200D.
+        """
+        buffers = borrow(len(self.text))
+        try:
+            return self._analysis.display(buffers, self._paragraphs, mirror, keep_removed)
+        finally:
+            give_back(buffers)
+
+    def _paragraph_at(self, index: int) -> Paragraph:
+        if not self._paragraphs:
+            raise BadLineError("the text is empty and has no paragraph")
+        return self._paragraphs[max(bisect.bisect_right(self._starts, index) - 1, 0)]
+
+
+class Line:
+    """A line of a text, from :meth:`BidiText.line`. Its ranges and its order have indexes of the whole text.
+
+    An object never changes, and threads may share it.
+    """
+
+    def __init__(self, text: BidiText, paragraph: Paragraph, start: int, end: int) -> None:
+        self._analysis = text._analysis
+        self._paragraph = paragraph
+        self._start, self._end = _limited(start, _MOST_SIZE), _limited(end, _MOST_SIZE)
+        self._pointer = byref(library.Range(_limited(paragraph[0], _MOST_SIZE), _limited(paragraph[1], _MOST_SIZE),
+                                            _limited(paragraph[2], 255)))
+        buffers = borrow(len(self.text))
+        try:
+            runs, self._read_shown = self._analysis.line(buffers, self._pointer, self._start, self._end)
+        finally:
+            give_back(buffers)
+        self._runs = tuple(map(Run._make, runs))
+
+    def __repr__(self) -> str:
+        return f"<Line {self._start}..{self._end}: {self.text!r}>"
+
+    @property
+    def start(self) -> int:
+        """The index of the first character."""
+        return self._start
+
+    @property
+    def end(self) -> int:
+        """The index after the last character."""
+        return self._end
+
+    @property
+    def paragraph(self) -> Paragraph:
+        """The paragraph of the line. L1 uses its level."""
+        return self._paragraph
+
+    @property
+    def text(self) -> str:
+        """The characters of the line in logical order."""
+        return self._analysis.text[self._start : self._end]
+
+    @property
+    def levels(self) -> Tuple[int, ...]:
+        """The level of each character of the line after L1."""
+        room = self._end - self._start
+        levels = (c_uint8 * room)()
+        length = self._analysis.length
+        checked(library.line_levels(self._analysis.classes, length, self._analysis.levels, length, self._pointer,
+                                    self._start, self._end, levels, room))
+        return tuple(levels)
+
+    @property
+    def runs(self) -> Tuple[Run, ...]:
+        """The visual runs from left to right (L2)."""
+        return self._runs
+
+    @property
+    def order(self) -> Tuple[int, ...]:
+        """The index in the whole text of the character at each visual position, from left to right (L2)."""
+        start = self._start
+        return tuple(start + index for index in self._analysis.order(self._pointer, start, self._end))
+
+    def display(self, *, mirror: bool = True, keep_removed: bool = True) -> str:
+        """Returns the line from left to right. The options are those of :meth:`BidiText.display`."""
+        return self._analysis.display_line(self._pointer, self._runs, self._read_shown, self._start, mirror, keep_removed)
+
+
+def base_direction(text: str, *, full: bool = False, tables: Optional[Tables] = None) -> Direction:
+    """Returns the direction of the first paragraph by its first strong character (P2, P3).
+
+    With ``full``, returns the direction of the first paragraph that has one.
+    """
+    characters = readable(text)[1]
+    if tables is None:
+        return Direction(checked(library.first_direction(characters, len(text), full)))
+    return Direction(checked(library.base_direction_by_tables(*tables.arguments, characters, len(text), full)))
+
+
+def base_direction_of_classes(classes: Iterable[int], *, full: bool = False) -> Direction:
+    """Returns the direction of a list of classes, as ``base_direction`` does of a text.
+
+    Raises :class:`BadClassError`.
+    """
+    numbers = _bytes_of(classes)
+    return Direction(checked(library.base_direction_of_classes(numbers, len(numbers), full)))
+
+
+def reorder_visual(levels: Iterable[int]) -> Tuple[int, ...]:
+    """Returns the index of the item at each visual position (L2), by the level of each item after L1.
+
+    Raises :class:`BadLevelError`.
+    """
+    numbers = _bytes_of(levels)
+    order = (c_size_t * len(numbers))()
+    checked(library.reorder_visual(numbers, len(numbers), order, len(numbers)))
+    return tuple(order)
+
+
+def _limited(number: int, most: int) -> int:
+    """Returns a number as C can have it. One that has no place in C becomes the greatest, which C rejects."""
+    number = operator.index(number)
+    return number if 0 <= number <= most else most
+
+
+def _bytes_of(numbers: Iterable[int]) -> bytes:
+    return bytes(_limited(number, 255) for number in numbers)
