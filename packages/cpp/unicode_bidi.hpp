@@ -1,7 +1,7 @@
 /// The Unicode Bidirectional Algorithm (UAX #9, revision 46) for C++17 and later, over the calls of unicode_bidi.h.
 ///
 ///     unicode_bidi::Text text("car (מכונית) 12");
-///     for (const auto &paragraph : text.paragraphs())
+///     for (const auto paragraph : text.paragraphs())
 ///         std::cout << paragraph.displayed() << '\n';
 ///
 /// Units. A `Char` is `char` for a text in UTF-8, `char16_t` for UTF-16, `char32_t` for a list of characters (scalar
@@ -479,9 +479,11 @@ inline const std::uint8_t *numbers(Span<const Class> classes) noexcept {
     return reinterpret_cast<const std::uint8_t *>(not_null(classes.data()));
 }
 
-inline std::uint8_t base_number(std::optional<Level> base) noexcept {
+/// Returns a base level as the library takes it. A number that is no level must not become one, or UNICODE_BIDI_AUTO.
+inline std::uint8_t base_number(std::optional<int> base) noexcept {
+    constexpr int no_level = UNICODE_BIDI_AUTO - 1;
     if (!base) return UNICODE_BIDI_AUTO;
-    return *base == UNICODE_BIDI_AUTO ? UNICODE_BIDI_AUTO - 1 : *base; // a level of 255 is a fault, as 254 is
+    return static_cast<std::uint8_t>(*base < 0 || *base > no_level ? no_level : *base);
 }
 
 /// Returns the fault of a call that failed.
@@ -871,13 +873,14 @@ template <class Char>
 class Text {
 public:
 #ifdef UNICODE_BIDI_EXCEPTIONS
-    /// Analyses a text by Unicode's own data. Without a base level, each paragraph finds its own (P2, P3). Throws `Error`.
-    explicit Text(std::basic_string_view<Char> text, std::optional<Level> base = std::nullopt,
+    /// Analyses a text by Unicode's own data. The base level is 0 to 125. Without one, each paragraph finds its own (P2,
+    /// P3). Throws `Error`.
+    explicit Text(std::basic_string_view<Char> text, std::optional<int> base = std::nullopt,
                   Split split = Split::each_separator)
         : Text(try_new(text, base, split).value()) {}
 
     /// Analyses a text by the caller's tables. Throws `Error`.
-    Text(const Tables &tables, std::basic_string_view<Char> text, std::optional<Level> base = std::nullopt,
+    Text(const Tables &tables, std::basic_string_view<Char> text, std::optional<int> base = std::nullopt,
          Split split = Split::each_separator)
         : Text(try_new(tables, text, base, split).value()) {}
 
@@ -902,7 +905,7 @@ public:
 
     /// Analyses a text by Unicode's own data. Without a base level, each paragraph finds its own (P2, P3).
     /// `try_analyse` does the same, and finds the type of unit.
-    static Result<Text> try_new(std::basic_string_view<Char> text, std::optional<Level> base = std::nullopt,
+    static Result<Text> try_new(std::basic_string_view<Char> text, std::optional<int> base = std::nullopt,
                                 Split split = Split::each_separator) noexcept {
         return try_write(text, split, [&](auto... buffers) {
             return Encoding::analyse(detail::units(text), text.size(), detail::base_number(base),
@@ -912,7 +915,7 @@ public:
 
     /// Analyses a text by the caller's tables. Without a base level, each paragraph finds its own (P2, P3).
     static Result<Text> try_new(const Tables &tables, std::basic_string_view<Char> text,
-                                std::optional<Level> base = std::nullopt,
+                                std::optional<int> base = std::nullopt,
                                 Split split = Split::each_separator) noexcept {
         return try_write(text, split, [&](auto... buffers) {
             return Encoding::analyse_by_tables(
@@ -984,7 +987,7 @@ Text(const Tables &, const String &, Rest...) -> Text<detail::CharOf<String>>;
 /// Returns the analysis of a text by Unicode's own data, as `Text::try_new` does. `text` is a view, a string that stays, or
 /// a literal.
 template <class String>
-Result<Text<detail::CharOf<String>>> try_analyse(const String &text, std::optional<Level> base = std::nullopt,
+Result<Text<detail::CharOf<String>>> try_analyse(const String &text, std::optional<int> base = std::nullopt,
                                                  Split split = Split::each_separator) noexcept {
     return Text<detail::CharOf<String>>::try_new(detail::view(text), base, split);
 }
@@ -992,16 +995,16 @@ Result<Text<detail::CharOf<String>>> try_analyse(const String &text, std::option
 /// Returns the analysis of a text by the caller's tables, as `Text::try_new` does.
 template <class String>
 Result<Text<detail::CharOf<String>>> try_analyse(const Tables &tables, const String &text,
-                                                 std::optional<Level> base = std::nullopt,
+                                                 std::optional<int> base = std::nullopt,
                                                  Split split = Split::each_separator) noexcept {
     return Text<detail::CharOf<String>>::try_new(tables, detail::view(text), base, split);
 }
 
 /// A string that ends with the call can't be viewed.
 template <class Char>
-void try_analyse(std::basic_string<Char> &&, std::optional<Level> = std::nullopt, Split = Split::each_separator) = delete;
+void try_analyse(std::basic_string<Char> &&, std::optional<int> = std::nullopt, Split = Split::each_separator) = delete;
 template <class Char>
-void try_analyse(const Tables &, std::basic_string<Char> &&, std::optional<Level> = std::nullopt,
+void try_analyse(const Tables &, std::basic_string<Char> &&, std::optional<int> = std::nullopt,
                  Split = Split::each_separator) = delete;
 
 /// Returns the base direction of the first paragraph, or of the first paragraph that has one (P2, P3).

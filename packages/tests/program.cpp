@@ -7,7 +7,7 @@ extern "C" void *rattle_alloc() { return nullptr; }
 
 int main() {
     const unicode_bidi::Text text("car (מכונית) 12\nשלום");
-    for (const auto &paragraph : text.paragraphs())
+    for (const auto paragraph : text.paragraphs())
         std::cout << paragraph.line(paragraph.start(), paragraph.content_end()).displayed() << '\n';
     try {
         const unicode_bidi::Text broken("\xFF");
