@@ -1,0 +1,617 @@
+//! Runs the shared test vectors through the crate's public names, and prints how many of each file it ran.
+//!
+//! A vector is left out if the crate has no name for it: the separate stages, lines of a width, `cr-lf-together`, and a
+//! table with a fault.
+
+use std::collections::BTreeSet;
+use std::panic;
+use std::process::exit;
+use std::sync::atomic::{AtomicUsize, Ordering};
+
+use unicode_bidi::level::MAX_IMPLICIT_DEPTH;
+use unicode_bidi::{format_chars, BidiClass, Direction, Level, LevelRun, ParagraphInfo};
+use unicode_bidi_tests::rows::{self, Row};
+use unicode_bidi_tests::sources::Sources;
+use unicode_bidi_tests::texts::{Encoded, Text};
+
+/// How many results differ from the expected ones.
+static DIFFERENT: AtomicUsize = AtomicUsize::new(0);
+
+fn main() {
+    let sources = Sources::read();
+    println!(
+        "sources.rows: {} data sources, which other test vectors name",
+        sources.len()
+    );
+    let mut total = 0;
+    for file in rows::files() {
+        let rows = rows::read(&file);
+        let mut left_out = BTreeSet::new();
+        let mut ran = 0;
+        for row in &rows {
+            if run(row, &sources) {
+                ran += 1;
+            } else {
+                left_out.insert(row.kind.as_str());
+            }
+        }
+        let kinds: Vec<&str> = left_out.into_iter().collect();
+        let left_out = match kinds.len() {
+            0 => String::new(),
+            _ => format!(", without: {}", kinds.join(", ")),
+        };
+        println!(
+            "{}: {} of {} test vectors{}",
+            file,
+            ran,
+            rows.len(),
+            left_out
+        );
+        total += ran;
+    }
+    assert!(total > 0, "no test vector was found");
+    match DIFFERENT.load(Ordering::Relaxed) {
+        0 => println!("ok rows: {} test vectors", total),
+        different => {
+            println!("failed: {} results differ", different);
+            exit(1);
+        }
+    }
+}
+
+/// Runs a test vector. Returns false if the crate has no name for it.
+fn run(row: &Row, sources: &Sources) -> bool {
+    match row.kind.as_str() {
+        "text" => run_text(row, sources),
+        "initial" => in_each_encoding(row, sources, in_utf8::initial, in_utf16::initial),
+        "base direction" => in_each_encoding(
+            row,
+            sources,
+            in_utf8::base_direction,
+            in_utf16::base_direction,
+        ),
+        "direction" => in_each_encoding(row, sources, in_utf8::direction, in_utf16::direction),
+        "line" => in_each_encoding(row, sources, in_utf8::line, in_utf16::line),
+        "line map" => in_each_encoding(row, sources, in_utf8::line_map, in_utf16::line_map),
+        "units" => run_units(row),
+        "order" => run_order(row),
+        "visual runs" => run_visual_runs(row),
+        "level" => run_level(row),
+        "level step" => run_level_step(row),
+        "level name" => run_level_name(row),
+        "list of levels" => run_list_of_levels(row),
+        "format character" => run_format_character(row),
+        "character of Unicode" => run_character_of_unicode(row),
+        _ => false,
+    }
+}
+
+/// Compares a result with the expected one, and prints both if they differ.
+fn expect<T: PartialEq + std::fmt::Debug>(row: &Row, what: &str, found: T, expected: T) {
+    if found != expected {
+        println!(
+            "{}: {}: expected {:?}, found {:?}",
+            row.title(),
+            what,
+            expected,
+            found
+        );
+        DIFFERENT.fetch_add(1, Ordering::Relaxed);
+    }
+}
+
+/// Compares entries, one a code unit, with the words of a field, one a character. A dash fits any entry.
+fn expect_entries(row: &Row, key: &str, at: &[usize], found: &[String]) {
+    let words = match row.words(key) {
+        Some(words) => words,
+        None => return,
+    };
+    expect(row, key, at.len() - 1, words.len());
+    expect(row, key, found.len(), at[words.len()]);
+    for (index, word) in words.iter().enumerate() {
+        for unit in &found[at[index]..at[index + 1]] {
+            if word != "-" {
+                expect(row, &format!("{} of character {}", key, index), unit, word);
+            }
+        }
+    }
+}
+
+fn names(classes: &[BidiClass]) -> Vec<String> {
+    classes.iter().map(|class| format!("{:?}", class)).collect()
+}
+
+fn numbers(levels: &[Level]) -> Vec<String> {
+    levels
+        .iter()
+        .map(|level| level.number().to_string())
+        .collect()
+}
+
+/// Compares paragraphs with those of a row.
+fn expect_paragraphs(row: &Row, at: &[usize], found: &[ParagraphInfo]) {
+    let words = match row.words("paragraphs") {
+        Some(words) => words,
+        None => return,
+    };
+    let expected: Vec<ParagraphInfo> = words
+        .iter()
+        .map(|word| {
+            let colon = word.find(':').unwrap_or_else(|| row.reject("a paragraph"));
+            let range = row.parse_range(&word[..colon]);
+            ParagraphInfo {
+                range: at[range.start]..at[range.end],
+                level: Level::from(row.parse_number(&word[colon + 1..]) as u8),
+            }
+        })
+        .collect();
+    expect(row, "paragraphs", found, &expected);
+    for (paragraph, expected) in found.iter().zip(&expected) {
+        expect(row, "length", paragraph.len(), expected.range.len());
+    }
+}
+
+/// Compares runs, which are ranges of code units, with those of a row, which count characters.
+fn expect_runs(row: &Row, at: &[usize], found: &[LevelRun]) {
+    if let Some(words) = row.words("runs") {
+        let ranges = words.iter().map(|word| row.parse_range(word));
+        let expected: Vec<LevelRun> = ranges.map(|range| at[range.start]..at[range.end]).collect();
+        expect(row, "runs", found, &expected[..]);
+    }
+}
+
+fn expect_direction(row: &Row, key: &str, found: Direction) {
+    let expected = match row.get(key) {
+        None => return,
+        Some("ltr") => Direction::Ltr,
+        Some("rtl") => Direction::Rtl,
+        Some("mixed") => Direction::Mixed,
+        Some(_) => row.reject("a direction"),
+    };
+    expect(row, key, found, expected);
+}
+
+fn expect_yes(row: &Row, key: &str, found: bool) {
+    if let Some(expected) = row.get(key) {
+        expect(row, key, if found { "yes" } else { "no" }, expected);
+    }
+}
+
+type Check<T> = fn(&Row, &Sources, &Encoded<T>);
+
+/// Runs a check in UTF-16, and in UTF-8 if the text can be written so.
+fn in_each_encoding(
+    row: &Row,
+    sources: &Sources,
+    utf8: Check<String>,
+    utf16: Check<Vec<u16>>,
+) -> bool {
+    let text = Text::of(row, "text").unwrap_or_else(|| row.reject("no text"));
+    if let Some(text) = &text.utf8 {
+        utf8(row, sources, text);
+    }
+    utf16(row, sources, &text.utf16);
+    true
+}
+
+fn run_text(row: &Row, sources: &Sources) -> bool {
+    match row.get("split") {
+        None | Some("each-separator") => {
+            in_each_encoding(row, sources, in_utf8::text, in_utf16::text)
+        }
+        Some("whole") => in_each_encoding(row, sources, in_utf8::paragraph, in_utf16::paragraph),
+        Some(_) => false,
+    }
+}
+
+/// The checks of an encoding: those whose types the crate has twice.
+macro_rules! checks {
+    ($encoding:ident, $types:path, $Owned:ty, $borrow:expr) => {
+        mod $encoding {
+            use super::*;
+            use $types::{BidiInfo, InitialInfo, Paragraph, ParagraphBidiInfo};
+
+            pub fn text(row: &Row, sources: &Sources, case: &Encoded<$Owned>) {
+                let text = $borrow(&case.text);
+                let info = BidiInfo::new_with_data_source(sources.of(row), text, row.base());
+                expect(row, "text", info.text, text);
+                expect_entries(row, "classes", &case.at, &names(&info.original_classes));
+                expect_entries(row, "levels", &case.at, &numbers(&info.levels));
+                expect_paragraphs(row, &case.at, &info.paragraphs);
+                expect(
+                    row,
+                    "odd levels",
+                    info.has_rtl(),
+                    info.levels.iter().any(Level::is_rtl),
+                );
+                for paragraph in &info.paragraphs {
+                    let paragraph = Paragraph::new(&info, paragraph);
+                    for pos in 0..paragraph.para.len() {
+                        let level = info.levels[paragraph.para.range.start + pos];
+                        expect(row, "level_at", paragraph.level_at(pos), level);
+                    }
+                }
+                initial(row, sources, case);
+            }
+
+            pub fn paragraph(row: &Row, sources: &Sources, case: &Encoded<$Owned>) {
+                let text = $borrow(&case.text);
+                let source = sources.of(row);
+                let info = ParagraphBidiInfo::new_with_data_source(source, text, row.base());
+                expect_entries(row, "classes", &case.at, &names(&info.original_classes));
+                expect_entries(row, "levels", &case.at, &numbers(&info.levels));
+                let paragraph = ParagraphInfo {
+                    range: 0..text.len(),
+                    level: info.paragraph_level,
+                };
+                expect_paragraphs(row, &case.at, &[paragraph]);
+            }
+
+            pub fn initial(row: &Row, sources: &Sources, case: &Encoded<$Owned>) {
+                let text = $borrow(&case.text);
+                let info = InitialInfo::new_with_data_source(sources.of(row), text, row.base());
+                expect_entries(row, "classes", &case.at, &names(&info.original_classes));
+                expect_paragraphs(row, &case.at, &info.paragraphs);
+            }
+
+            pub fn base_direction(row: &Row, sources: &Sources, case: &Encoded<$Owned>) {
+                let text = $borrow(&case.text);
+                let source = sources.of(row);
+                let first = unicode_bidi::get_base_direction_with_data_source(source, text);
+                expect_direction(row, "first", first);
+                let full = unicode_bidi::get_base_direction_full_with_data_source(source, text);
+                expect_direction(row, "full", full);
+            }
+
+            pub fn direction(row: &Row, sources: &Sources, case: &Encoded<$Owned>) {
+                let text = $borrow(&case.text);
+                let source = sources.of(row);
+                let info = ParagraphBidiInfo::new_with_data_source(source, text, row.base());
+                expect_yes(row, "pure ltr", info.is_pure_ltr);
+                expect_yes(row, "has rtl", info.has_rtl());
+                expect_direction(row, "direction", info.direction());
+                let info = BidiInfo::new_with_data_source(source, text, row.base());
+                if let [paragraph] = &info.paragraphs[..] {
+                    expect_yes(row, "has rtl", info.has_rtl());
+                    let paragraph = Paragraph::new(&info, paragraph);
+                    expect_direction(row, "direction", paragraph.direction());
+                }
+            }
+
+            pub fn line(row: &Row, sources: &Sources, case: &Encoded<$Owned>) {
+                let text = $borrow(&case.text);
+                let info = BidiInfo::new_with_data_source(sources.of(row), text, row.base());
+                let line = match row.get("line") {
+                    Some(word) => {
+                        let line = row.parse_range(word);
+                        case.at[line.start]..case.at[line.end]
+                    }
+                    None => 0..text.len(),
+                };
+                let mut paragraph = info.paragraphs[0].clone();
+                if let Some(level) = row.number("paragraph") {
+                    paragraph.level = Level::from(level as u8);
+                }
+                expect_entries(row, "levels", &case.at, &numbers(&info.levels));
+                let after = info.reordered_levels(&paragraph, line.clone());
+                expect_entries(row, "after", &case.at, &numbers(&after));
+                let after = info.reordered_levels_per_char(&paragraph, line.clone());
+                let each: Vec<usize> = (0..case.at.len()).collect();
+                expect_entries(row, "after", &each, &numbers(&after));
+                // The crate has a run in an empty line, but UAX #9 has none.
+                if !line.is_empty() {
+                    let (levels, runs) = info.visual_runs(&paragraph, line.clone());
+                    expect_entries(row, "after", &case.at, &numbers(&levels));
+                    expect_runs(row, &case.at, &runs);
+                }
+                let shown = info.reorder_line(&paragraph, line);
+                if let Some(expected) = Text::of(row, "shown") {
+                    expect(row, "shown", &shown[..], of_encoding::$encoding(&expected));
+                    let is_borrowed = matches!(shown, std::borrow::Cow::Borrowed(_));
+                    expect_yes(row, "borrowed", is_borrowed);
+                }
+            }
+
+            pub fn line_map(row: &Row, sources: &Sources, case: &Encoded<$Owned>) {
+                let text = $borrow(&case.text);
+                let info = BidiInfo::new_with_data_source(sources.of(row), text, row.base());
+                let line = row.parse_range(row.need("line"));
+                let units = case.at[line.start]..case.at[line.end];
+                let levels = info.reordered_levels_per_char(&info.paragraphs[0], units);
+                let order = BidiInfo::reorder_visual(&levels[line]);
+                if let Some(words) = row.words("order") {
+                    let expected: Vec<usize> = words.iter().map(|w| row.parse_number(w)).collect();
+                    expect(row, "order", order, expected);
+                }
+            }
+        }
+    };
+}
+
+checks!(in_utf8, unicode_bidi, String, String::as_str);
+checks!(in_utf16, unicode_bidi::utf16, Vec<u16>, Vec::as_slice);
+
+/// The text of a row in an encoding.
+mod of_encoding {
+    use super::Text;
+
+    pub fn in_utf8(text: &Text) -> &str {
+        &text.utf8.as_ref().expect("a text of UTF-8").text
+    }
+
+    pub fn in_utf16(text: &Text) -> &[u16] {
+        &text.utf16.text
+    }
+}
+
+/// Compares the iterators of a text with a row.
+fn run_units(row: &Row) -> bool {
+    let text = Text::of(row, "text").unwrap_or_else(|| row.reject("no text"));
+    let expected: String = row
+        .words("characters")
+        .unwrap_or_default()
+        .iter()
+        .map(|word| std::char::from_u32(row.parse_character(word)).expect("a character"))
+        .collect();
+    if let Some(text) = &text.utf8 {
+        expect_units(row, "utf8", text.text.as_str(), &expected);
+    }
+    expect_units(row, "utf16", text.utf16.text.as_slice(), &expected);
+    let backwards: String = unicode_bidi::utf16::Utf16CharIter::new(&text.utf16.text)
+        .rev()
+        .collect();
+    expect(
+        row,
+        "backwards",
+        backwards,
+        expected.chars().rev().collect(),
+    );
+    true
+}
+
+fn expect_units<'a, T: unicode_bidi::TextSource<'a> + ?Sized>(
+    row: &Row,
+    key: &str,
+    text: &'a T,
+    characters: &str,
+) {
+    expect(
+        row,
+        "characters",
+        text.chars().collect::<String>(),
+        characters.to_string(),
+    );
+    let words = match row.words(key) {
+        Some(words) => words,
+        None => return,
+    };
+    let at: Vec<usize> = words.iter().map(|word| row.parse_number(word)).collect();
+    expect(row, key, text.len(), at[at.len() - 1]);
+    let with_index: Vec<(usize, char)> = at.iter().copied().zip(characters.chars()).collect();
+    expect(
+        row,
+        key,
+        text.char_indices().collect::<Vec<_>>(),
+        with_index,
+    );
+    let with_len: Vec<(usize, usize)> = at
+        .windows(2)
+        .map(|pair| (pair[0], pair[1] - pair[0]))
+        .collect();
+    expect(
+        row,
+        key,
+        text.indices_lengths().collect::<Vec<_>>(),
+        with_len.clone(),
+    );
+    for (&(index, len), character) in with_len.iter().zip(characters.chars()) {
+        expect(row, key, T::char_len(character), len);
+        expect(row, key, text.char_at(index), Some((character, len)));
+        for inside in index + 1..index + len {
+            expect(row, key, text.char_at(inside), None);
+        }
+        let part = text.subrange(index..index + len);
+        expect(row, key, part.len(), len);
+    }
+    expect(row, key, text.char_at(text.len()), None);
+}
+
+fn levels_of(row: &Row, key: &str) -> Vec<Level> {
+    let words = row.words(key).unwrap_or_default();
+    words
+        .iter()
+        .map(|word| Level::from(row.parse_number(word) as u8))
+        .collect()
+}
+
+fn run_order(row: &Row) -> bool {
+    let levels = levels_of(row, "levels");
+    let words = row.words("order").unwrap_or_default();
+    let expected: Vec<usize> = words.iter().map(|word| row.parse_number(word)).collect();
+    for order in [
+        unicode_bidi::BidiInfo::reorder_visual,
+        unicode_bidi::ParagraphBidiInfo::reorder_visual,
+        unicode_bidi::utf16::BidiInfo::reorder_visual,
+        unicode_bidi::utf16::ParagraphBidiInfo::reorder_visual,
+    ]
+    .iter()
+    {
+        expect(row, "order", order(&levels), expected.clone());
+    }
+    true
+}
+
+fn run_visual_runs(row: &Row) -> bool {
+    let levels = levels_of(row, "levels");
+    let each: Vec<usize> = (0..=levels.len()).collect();
+    #[allow(deprecated)]
+    let runs = unicode_bidi::deprecated::visual_runs(row.parse_range(row.need("line")), &levels);
+    expect_runs(row, &each, &runs);
+    true
+}
+
+/// Compares a level, or the error, with a field that is a number or `none`.
+fn expect_level(row: &Row, key: &str, found: Result<Level, unicode_bidi::level::Error>) {
+    if let Some(expected) = row.get(key) {
+        let found = found.map_or("none".to_string(), |level| level.number().to_string());
+        expect(row, key, found.as_str(), expected);
+    }
+}
+
+fn run_level(row: &Row) -> bool {
+    let number = row.parse_number(row.need("number")) as u8;
+    expect_level(row, "level", Level::new(number));
+    expect_level(row, "explicit", Level::new_explicit(number));
+    if number <= MAX_IMPLICIT_DEPTH {
+        let level = Level::from(number);
+        expect(row, "number", u8::from(level), number);
+        expect_level(row, "next ltr", level.new_explicit_next_ltr());
+        expect_level(row, "next rtl", level.new_explicit_next_rtl());
+        expect_level(row, "lowest rtl", level.new_lowest_ge_rtl());
+        expect_yes(row, "is rtl", level.is_rtl());
+        expect_yes(row, "is rtl", !level.is_ltr());
+        if let Some(class) = row.get("class") {
+            expect(row, "class", level.bidi_class(), row.parse_class(class));
+        }
+    }
+    true
+}
+
+fn run_level_step(row: &Row) -> bool {
+    let level = Level::from(row.parse_number(row.need("level")) as u8);
+    let by = row.parse_number(row.need("by")) as u8;
+    let step = |change: fn(&mut Level, u8) -> Result<(), unicode_bidi::level::Error>| {
+        let mut changed = level;
+        let result = change(&mut changed, by);
+        if result.is_err() {
+            expect(row, "level after an error", changed, level);
+        }
+        result.map(|()| changed)
+    };
+    expect_level(row, "raised", step(Level::raise));
+    expect_level(row, "explicit", step(Level::raise_explicit));
+    expect_level(row, "lowered", step(Level::lower));
+    true
+}
+
+fn run_level_name(row: &Row) -> bool {
+    let level = Level::from(row.parse_number(row.need("level")) as u8);
+    let name = row.need("name");
+    expect_yes(row, "matches", level == name);
+    let owned = name.to_string();
+    expect_yes(row, "matches", level == owned);
+    true
+}
+
+fn run_list_of_levels(row: &Row) -> bool {
+    let words = row.words("numbers").unwrap_or_default();
+    let numbers: Vec<u8> = words
+        .iter()
+        .map(|word| row.parse_number(word) as u8)
+        .collect();
+    if row.need("levels") == "none" {
+        // The crate panics at a number that is no level.
+        let hook = panic::take_hook();
+        panic::set_hook(Box::new(|_| {}));
+        let result = panic::catch_unwind(|| Level::vec(&numbers));
+        panic::set_hook(hook);
+        expect(row, "levels", result.is_err(), true);
+    } else {
+        expect(
+            row,
+            "levels",
+            Level::vec(&numbers),
+            levels_of(row, "levels"),
+        );
+        let unchecked = Level::from_slice_unchecked(&numbers);
+        expect(row, "levels", unchecked, &levels_of(row, "levels")[..]);
+    }
+    true
+}
+
+fn run_format_character(row: &Row) -> bool {
+    let character = match row.name.as_str() {
+        "ALM" => format_chars::ALM,
+        "LRM" => format_chars::LRM,
+        "RLM" => format_chars::RLM,
+        "LRE" => format_chars::LRE,
+        "RLE" => format_chars::RLE,
+        "PDF" => format_chars::PDF,
+        "LRO" => format_chars::LRO,
+        "RLO" => format_chars::RLO,
+        "LRI" => format_chars::LRI,
+        "RLI" => format_chars::RLI,
+        "FSI" => format_chars::FSI,
+        "PDI" => format_chars::PDI,
+        _ => row.reject("no format character"),
+    };
+    expect(
+        row,
+        "character",
+        u32::from(character),
+        row.parse_character(row.need("character")),
+    );
+    #[cfg(feature = "hardcoded-data")]
+    expect(
+        row,
+        "class",
+        unicode_bidi::bidi_class(character),
+        row.parse_class(row.need("class")),
+    );
+    true
+}
+
+#[cfg(feature = "hardcoded-data")]
+fn run_character_of_unicode(row: &Row) -> bool {
+    use unicode_bidi::{BidiDataSource, HardcodedBidiData};
+
+    let code = row.parse_character(row.need("character"));
+    let character = std::char::from_u32(code).unwrap_or_else(|| row.reject("no character"));
+    if let Some(class) = row.get("class") {
+        let class = row.parse_class(class);
+        expect(row, "class", unicode_bidi::bidi_class(character), class);
+        expect(row, "class", HardcodedBidiData.bidi_class(character), class);
+    }
+    if let Some(expected) = row.get("bracket") {
+        let found = HardcodedBidiData.bidi_matched_opening_bracket(character);
+        expect_bracket(row, expected, found);
+    }
+    row.get("class").is_some() || row.get("bracket").is_some()
+}
+
+#[cfg(not(feature = "hardcoded-data"))]
+fn run_character_of_unicode(row: &Row) -> bool {
+    // The default function of a source has Unicode's brackets without the feature too.
+    struct OnlyClasses;
+    impl unicode_bidi::BidiDataSource for OnlyClasses {
+        fn bidi_class(&self, _: char) -> BidiClass {
+            BidiClass::ON
+        }
+    }
+    use unicode_bidi::BidiDataSource;
+
+    let code = row.parse_character(row.need("character"));
+    let character = std::char::from_u32(code).unwrap_or_else(|| row.reject("no character"));
+    if let Some(expected) = row.get("bracket") {
+        let found = OnlyClasses.bidi_matched_opening_bracket(character);
+        expect_bracket(row, expected, found);
+    }
+    row.get("bracket").is_some()
+}
+
+/// Compares a bracket with `none`, `opens (` or `closes (`.
+fn expect_bracket(
+    row: &Row,
+    expected: &str,
+    found: Option<unicode_bidi::data_source::BidiMatchedOpeningBracket>,
+) {
+    let words: Vec<&str> = expected.split_whitespace().collect();
+    let expected = match words[..] {
+        ["none"] => None,
+        ["opens", form] => Some((row.parse_character(form), true)),
+        ["closes", form] => Some((row.parse_character(form), false)),
+        _ => row.reject("a bracket"),
+    };
+    let found = found.map(|bracket| (u32::from(bracket.opening), bracket.is_open));
+    expect(row, "bracket", found, expected);
+}
