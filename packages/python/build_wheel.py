@@ -74,7 +74,7 @@ def check_version(library: pathlib.Path, version: str) -> None:
 def contents(library: bytes, version: str, licences: List[pathlib.Path]) -> Dict[str, bytes]:
     """Returns the files of the wheel, without its record."""
     files = {f"{PACKAGE}/{path.name}": path.read_bytes()
-             for path in (HERE / PACKAGE).iterdir() if path.suffix == ".py" or path.name == "py.typed"}
+             for path in (HERE / "src" / PACKAGE).iterdir() if path.suffix == ".py" or path.name == "py.typed"}
     files[f"{PACKAGE}/{LIBRARY}"] = library
     info = f"{PACKAGE}-{version}.dist-info"
     description = (HERE / "README.md").read_text(encoding="utf-8")

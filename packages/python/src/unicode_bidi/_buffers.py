@@ -8,10 +8,13 @@ from __future__ import annotations
 
 import struct
 import threading
-from ctypes import c_size_t, c_uint8, c_uint32, sizeof
-from typing import Iterator, List, Tuple
+from ctypes import byref, c_size_t, c_uint8, c_uint32, sizeof
+from typing import Any, List, Sequence, Tuple
 
-from ._library import Range
+from ._library import Range, size
+
+#: A range of characters and its level, as C writes it.
+RangeTuple = Tuple[int, int, int]
 
 #: Buffers begin with room for so many characters, and double when a text needs more.
 LEAST_ROOM = 64
@@ -25,37 +28,46 @@ assert _RANGE.size == sizeof(Range)
 class Ranges:
     """A buffer for paragraphs or runs."""
 
-    __slots__ = ("array", "room", "_bytes")
+    __slots__ = ("pointer", "room", "_bytes")
 
     def __init__(self, room: int) -> None:
-        self.array = (Range * room)()
-        self.room = c_size_t(room)
-        self._bytes = memoryview(self.array).cast("B")
+        array = (Range * room)()
+        self.pointer = byref(array)
+        self.room = size(room)
+        self._bytes = memoryview(array).cast("B")
 
-    def read(self, count: int) -> Iterator[Tuple[int, int, int]]:
+    def read(self, count: int) -> Sequence[RangeTuple]:
         """Returns the first ranges, each as its start, its end and its level."""
-        return _RANGE.iter_unpack(self._bytes[: count * _RANGE.size])  # type: ignore[return-value]
+        ranges: Any = _RANGE.iter_unpack(self._bytes[: count * _RANGE.size])
+        return tuple(ranges)
 
 
 class Buffers:
-    """What an analysis and a displayed line need: room for the classes, levels and characters of a text."""
+    """What an analysis and a displayed line need: room for the classes, levels and characters of a text.
 
-    __slots__ = ("room", "shown_room", "classes", "levels", "shown", "shown_bytes", "paragraphs", "runs", "characters")
+    The pointers, and ``shown_room``, are arguments of C.
+    """
+
+    __slots__ = ("room", "shown_room", "classes", "classes_pointer", "levels", "levels_pointer", "shown_bytes",
+                 "shown_pointer", "characters_pointer", "paragraphs", "runs")
 
     def __init__(self, room: int) -> None:
         self.paragraphs = Ranges(4)
         self.runs = Ranges(16)
-        self.characters = (c_size_t * 1)()
+        self.characters_pointer = byref(c_size_t())
         self.make_room(room)
 
     def make_room(self, room: int) -> None:
         """Makes new buffers for the characters of a text."""
+        shown = (c_uint32 * room)()
         self.room = room
-        self.shown_room = c_size_t(room)
+        self.shown_room = size(room)
         self.classes = (c_uint8 * room)()
+        self.classes_pointer = byref(self.classes)
         self.levels = (c_uint8 * room)()
-        self.shown = (c_uint32 * room)()
-        self.shown_bytes = memoryview(self.shown).cast("B")
+        self.levels_pointer = byref(self.levels)
+        self.shown_bytes = memoryview(shown).cast("B")
+        self.shown_pointer = byref(shown)
 
 
 class _Spare(threading.local):

@@ -5,6 +5,7 @@ Programs that call ``bidi.algorithm.get_display`` can import it from here.
 from __future__ import annotations
 
 import sys
+from ctypes import byref
 from typing import Optional, Union, overload
 
 from . import _library as library
@@ -81,13 +82,24 @@ def _upper_as_hebrew(text: str) -> str:
 
 
 def _displayed(text: str, read_as: str, characters: bytes, base: int) -> str:
+    """Returns the text with each paragraph as a line from left to right. C reads ``read_as``, as ``characters``."""
+    length = library.size(len(text))
     buffers = borrow(len(text))
     try:
-        count = analyse(buffers, characters, base, Split.CR_LF_TOGETHER)
+        count = analyse(buffers, characters, length, base, Split.CR_LF_TOGETHER)
         if count > 1 and base == library.AUTO:
-            count = analyse(buffers, characters, _base_level(characters), Split.CR_LF_TOGETHER)
-        analysis = Analysis(text, read_as, characters, buffers.classes, buffers.levels)
-        return analysis.display(buffers, list(buffers.paragraphs.read(count)), mirror=True, keep=False)
+            count = analyse(buffers, characters, length, _base_level(characters), Split.CR_LF_TOGETHER)
+        analysis = Analysis(text, read_as, characters, length, buffers.classes, buffers.classes_pointer,
+                            buffers.levels_pointer)
+        pieces = []
+        for start, end, level in buffers.paragraphs.read(count):
+            paragraph = byref(library.Range(start, end, level))
+            last = analysis.end_of_line(start, end)
+            runs, shown = analysis.line(buffers, paragraph, start, last)
+            pieces.append(analysis.display_line(paragraph, runs, shown, start, mirror=True, keep=False))
+            if last < end:
+                pieces.append(text[last:end])
+        return "".join(pieces)
     finally:
         give_back(buffers)
 

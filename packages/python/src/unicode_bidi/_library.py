@@ -1,14 +1,15 @@
 """The shared library, loaded once, with the calls that the package makes.
 
-``unicode_bidi.h`` describes each call. ``analyse`` and ``show_line`` have no ``argtypes``, because converting twenty
-arguments takes longer than the call: pass each argument as a ctypes object of its type, or as bytes.
+``unicode_bidi.h`` describes each call. ``analyse``, ``analyse_by_tables`` and ``show_line`` have no ``argtypes``, because
+it takes longer to convert their arguments than to run them. Pass these as ``size`` and ``byref`` return them, as bytes,
+or, where C takes one byte, as a number up to 255.
 """
 from __future__ import annotations
 
 import ctypes
 import os
 from ctypes import c_int64, c_size_t, c_uint8, c_uint32, c_void_p
-from typing import Any, Optional
+from typing import Any, Callable, Optional
 
 from ._machine import problem_here, problem_of_loader
 
@@ -19,6 +20,10 @@ PATH = os.path.join(os.path.dirname(os.path.abspath(__file__)), "libunicode_bidi
 AUTO = 255
 #: The bit of a bracket that opens.
 OPENING = 0x80000000
+
+
+#: Converts a number to an argument of type size_t, once for many calls.
+size: Callable[[int], Any] = c_size_t.from_param
 
 
 class Range(ctypes.Structure):

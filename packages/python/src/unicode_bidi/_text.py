@@ -4,7 +4,7 @@ from __future__ import annotations
 import bisect
 import enum
 import operator
-from ctypes import byref, c_size_t, c_uint8
+from ctypes import byref, c_size_t
 from typing import Any, Iterable, List, NamedTuple, Optional, Tuple
 
 from . import _library as library
@@ -62,20 +62,26 @@ class Tables:
     Raises :class:`NotScalarError`, :class:`BadClassError` and :class:`BadRangesError`.
     """
 
-    __slots__ = ("_arguments",)
+    __slots__ = ("_ranges", "_brackets")
 
     def __init__(self, ranges: Iterable[Tuple[int, int, int]], brackets: Iterable[Tuple[int, int, int]] = ()) -> None:
-        rows = [(_limited(first, 2 ** 32 - 1), _limited(last, 2 ** 32 - 1), _limited(number, 255))
+        rows = [library.ClassRange(_character(first), _character(last), _limited(number, 255))
                 for first, last, number in ranges]
-        pairs = [tuple(_limited(character, 2 ** 32 - 1) for character in pair) for pair in brackets]
-        self._arguments = ((library.ClassRange * len(rows))(*rows), c_size_t(len(rows)),
-                           (library.BracketPair * len(pairs))(*pairs), c_size_t(len(pairs)))
-        checked(library.base_direction_by_tables(*self._arguments, b"", 0, 0))
+        pairs = [library.BracketPair(*map(_character, pair)) for pair in brackets]
+        self._ranges = (library.ClassRange * len(rows))(*rows)
+        self._brackets = (library.BracketPair * len(pairs))(*pairs)
+        self.direction("", False)
 
     @property
     def arguments(self) -> Tuple[Any, ...]:
-        """The arguments of the C calls by tables."""
-        return self._arguments
+        """The tables as arguments of C."""
+        return (byref(self._ranges), library.size(len(self._ranges)), byref(self._brackets),
+                library.size(len(self._brackets)))
+
+    def direction(self, text: str, full: bool) -> int:
+        """Returns the number of the base direction of a text."""
+        return checked(library.base_direction_by_tables(self._ranges, len(self._ranges), self._brackets,
+                                                        len(self._brackets), readable(text)[1], len(text), full))
 
 
 class BidiText:
@@ -99,17 +105,18 @@ class BidiText:
         if not 0 <= rule <= 255:
             raise BadSplitError
         read_as, characters = readable(text)
-        length = len(text)
-        buffers = borrow(length)
+        length = library.size(len(text))
+        buffers = borrow(len(text))
         try:
-            count = analyse(buffers, characters, base, rule, tables.arguments if tables else ())
+            count = analyse(buffers, characters, length, base, rule, tables.arguments if tables else ())
             self._paragraphs = tuple(map(Paragraph._make, buffers.paragraphs.read(count)))
             self._starts = [paragraph.start for paragraph in self._paragraphs]
-            classes = bytes(memoryview(buffers.classes)[:length])
-            levels = bytes(memoryview(buffers.levels)[:length])
+            classes = bytes(memoryview(buffers.classes)[: len(text)])
+            levels = bytes(memoryview(buffers.levels)[: len(text)])
         finally:
             give_back(buffers)
-        self._analysis = Analysis(text, read_as, characters, classes, levels)
+        self._analysis = Analysis(text, read_as, characters, length, classes, classes, levels)
+        self._levels = levels
 
     def __repr__(self) -> str:
         return f"BidiText({self.text!r})"
@@ -127,7 +134,7 @@ class BidiText:
     @property
     def levels(self) -> Tuple[int, ...]:
         """The level of each character (X1 to I2), before L1. A line has the levels after L1."""
-        return tuple(self._analysis.levels)
+        return tuple(self._levels)
 
     @property
     def paragraphs(self) -> Tuple[Paragraph, ...]:
@@ -155,11 +162,11 @@ class BidiText:
         With ``mirror``, characters at odd levels are mirrored (L4). Without ``keep_removed``, the characters that X9
         removes are left out: the controls of embeddings and overrides, and those of class BN, such as U+200D.
         """
-        buffers = borrow(len(self.text))
-        try:
-            return self._analysis.display(buffers, self._paragraphs, mirror, keep_removed)
-        finally:
-            give_back(buffers)
+        pieces = []
+        for line in self.lines():
+            pieces.append(line.display(mirror=mirror, keep_removed=keep_removed))
+            pieces.append(self.text[line.end : line.paragraph.end])
+        return "".join(pieces)
 
     def _paragraph_at(self, index: int) -> Paragraph:
         if not self._paragraphs:
@@ -212,12 +219,7 @@ class Line:
     @property
     def levels(self) -> Tuple[int, ...]:
         """The level of each character of the line after L1."""
-        room = self._end - self._start
-        levels = (c_uint8 * room)()
-        length = self._analysis.length
-        checked(library.line_levels(self._analysis.classes, length, self._analysis.levels, length, self._pointer,
-                                    self._start, self._end, levels, room))
-        return tuple(levels)
+        return tuple(self._analysis.levels(self._pointer, self._start, self._end))
 
     @property
     def runs(self) -> Tuple[Run, ...]:
@@ -240,10 +242,9 @@ def base_direction(text: str, *, full: bool = False, tables: Optional[Tables] = 
 
     With ``full``, returns the direction of the first paragraph that has one.
     """
-    characters = readable(text)[1]
-    if tables is None:
-        return Direction(checked(library.first_direction(characters, len(text), full)))
-    return Direction(checked(library.base_direction_by_tables(*tables.arguments, characters, len(text), full)))
+    if tables is not None:
+        return Direction(tables.direction(text, full))
+    return Direction(checked(library.first_direction(readable(text)[1], len(text), full)))
 
 
 def base_direction_of_classes(classes: Iterable[int], *, full: bool = False) -> Direction:
@@ -270,6 +271,10 @@ def _limited(number: int, most: int) -> int:
     """Returns a number as C can have it. One that has no place in C becomes the greatest, which C rejects."""
     number = operator.index(number)
     return number if 0 <= number <= most else most
+
+
+def _character(number: int) -> int:
+    return _limited(number, 2 ** 32 - 1)
 
 
 def _bytes_of(numbers: Iterable[int]) -> bytes:

@@ -53,7 +53,7 @@ def readable(text: str) -> Tuple[str, bytes]:
     It is the text itself, or else the text with U+FFFD in place of each lone surrogate.
     """
     try:
-        return text, text.encode("utf-32-le")
+        return text, str.encode(text, "utf-32-le")
     except UnicodeEncodeError:
         text = _LONE_SURROGATE.sub("\ufffd", text)
         return text, text.encode("utf-32-le")
