@@ -32,10 +32,13 @@ fn main() {
             if run(row, &sources) {
                 ran += 1;
             } else {
-                left_out.insert(row.kind.as_str());
+                left_out.insert(match row.get("split") {
+                    Some(split) => format!("{} {}", row.kind, split),
+                    None => row.kind.clone(),
+                });
             }
         }
-        let kinds: Vec<&str> = left_out.into_iter().collect();
+        let kinds: Vec<String> = left_out.into_iter().collect();
         let left_out = match kinds.len() {
             0 => String::new(),
             _ => format!(", without: {}", kinds.join(", ")),

@@ -6,6 +6,18 @@ use unicode_bidi::BidiInfo;
 use unicode_bidi_tests::sources::Sources;
 
 #[test]
+fn types_are_send_and_sync() {
+    fn check<T: Send + Sync>() {}
+    check::<unicode_bidi::InitialInfo>();
+    check::<BidiInfo>();
+    check::<unicode_bidi::ParagraphBidiInfo>();
+    check::<unicode_bidi::Paragraph>();
+    check::<unicode_bidi::utf16::BidiInfo>();
+    check::<unicode_bidi::utf16::ParagraphBidiInfo>();
+    check::<unicode_bidi::utf16::Utf16CharIter>();
+}
+
+#[test]
 fn threads() {
     let texts: Vec<String> = (1..40)
         .map(|n| "ab (\u{5D0}\u{5D1}) 12\n".repeat(n))
