@@ -1,5 +1,6 @@
 """What an import says on a machine that can't run the library."""
 import pathlib
+import re
 import shutil
 import subprocess
 import sys
@@ -66,6 +67,28 @@ class Imports(unittest.TestCase):
 
     def test_other_c_library(self):
         self.see_import("needs the C library glibc", "import os; os.confstr = lambda name: None")
+
+    def test_old_processor(self):
+        self.see_import("needs a processor of the level x86-64-v2, and this one has no SSE4.2.", """
+import builtins, io
+real = open
+def open_other(path, *rest, **named):
+    if path == "/proc/cpuinfo":
+        return io.StringIO("flags : cx16 lahf_lm pni popcnt sse4_1 ssse3\\n")
+    return real(path, *rest, **named)
+builtins.open = open_other""")
+
+    def test_old_c_library(self):
+        """A copy of the library that names a version of glibc which this machine does not have."""
+        library = pathlib.Path(_library.PATH).read_bytes()
+        newest = max(re.findall(rb"(?<=\0)GLIBC_2\.[0-9.]+(?=\0)", library), key=len)
+        other = b"GLIBC_9." + b"9" * (len(newest) - 8)
+        with tempfile.TemporaryDirectory() as folder:
+            package = pathlib.Path(folder, "unicode_bidi")
+            shutil.copytree(pathlib.Path(_library.PATH).parent, package, ignore=shutil.ignore_patterns("*.so"))
+            (package / "libunicode_bidi.so").write_bytes(library.replace(newest + b"\0", other + b"\0"))
+            self.see_import(f"needs {other.decode().replace('_', ' ').lower()} or later, and this machine has glibc 2.",
+                            "", folder)
 
     def test_broken_library(self):
         """A library that the loader rejects."""

@@ -119,12 +119,13 @@ class Analysis:
 
 def _mirrored(shown: str, runs: Sequence[RangeTuple]) -> str:
     """Returns a line from left to right, with the characters of its runs at odd levels mirrored (L4)."""
-    if len(runs) == 1:
-        return shown.translate(MIRRORED) if runs[0][2] % 2 else shown
+    mirrored = shown.translate(MIRRORED)
+    if mirrored == shown:
+        return shown
     pieces = []
     at = 0
     for start, end, level in runs:
-        piece = shown[at : at + end - start]
-        pieces.append(piece.translate(MIRRORED) if level % 2 else piece)
-        at += end - start
+        after = at + end - start
+        pieces.append((mirrored if level % 2 else shown)[at:after])
+        at = after
     return "".join(pieces)

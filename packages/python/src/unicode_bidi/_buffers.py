@@ -28,13 +28,17 @@ assert _RANGE.size == sizeof(Range)
 class Ranges:
     """A buffer for paragraphs or runs."""
 
-    __slots__ = ("pointer", "room", "_bytes")
+    __slots__ = ("pointer", "room", "_array", "_bytes")
 
     def __init__(self, room: int) -> None:
-        array = (Range * room)()
-        self.pointer = byref(array)
+        self._array = (Range * room)()
+        self.pointer = byref(self._array)
         self.room = size(room)
-        self._bytes = memoryview(array).cast("B")
+        self._bytes = memoryview(self._array).cast("B")
+
+    def pointer_to(self, index: int) -> Any:
+        """Returns a pointer to one range, as an argument of C."""
+        return byref(self._array, index * _RANGE.size) if index else self.pointer
 
     def read(self, count: int) -> Sequence[RangeTuple]:
         """Returns the first ranges, each as its start, its end and its level."""

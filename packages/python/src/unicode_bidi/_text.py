@@ -188,10 +188,9 @@ class Line:
                                             _limited(paragraph[2], 255)))
         buffers = borrow(len(self.text))
         try:
-            runs, self._read_shown = self._analysis.line(buffers, self._pointer, self._start, self._end)
+            self._runs, self._read_shown = self._analysis.line(buffers, self._pointer, self._start, self._end)
         finally:
             give_back(buffers)
-        self._runs = tuple(map(Run._make, runs))
 
     def __repr__(self) -> str:
         return f"<Line {self._start}..{self._end}: {self.text!r}>"
@@ -224,7 +223,7 @@ class Line:
     @property
     def runs(self) -> Tuple[Run, ...]:
         """The visual runs from left to right (L2)."""
-        return self._runs
+        return tuple(map(Run._make, self._runs))
 
     @property
     def order(self) -> Tuple[int, ...]:

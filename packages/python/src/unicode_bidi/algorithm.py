@@ -5,7 +5,6 @@ Programs that call ``bidi.algorithm.get_display`` can import it from here.
 from __future__ import annotations
 
 import sys
-from ctypes import byref
 from typing import Optional, Union, overload
 
 from . import _library as library
@@ -92,8 +91,8 @@ def _displayed(text: str, read_as: str, characters: bytes, base: int) -> str:
         analysis = Analysis(text, read_as, characters, length, buffers.classes, buffers.classes_pointer,
                             buffers.levels_pointer)
         pieces = []
-        for start, end, level in buffers.paragraphs.read(count):
-            paragraph = byref(library.Range(start, end, level))
+        for index, (start, end, _) in enumerate(buffers.paragraphs.read(count)):
+            paragraph = buffers.paragraphs.pointer_to(index)
             last = analysis.end_of_line(start, end)
             runs, shown = analysis.line(buffers, paragraph, start, last)
             pieces.append(analysis.display_line(paragraph, runs, shown, start, mirror=True, keep=False))
