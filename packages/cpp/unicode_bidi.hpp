@@ -109,6 +109,7 @@ constexpr const char *message(Fault fault) noexcept {
 /// The exception of each call without `try_`.
 class Error : public std::exception {
 public:
+    /// The exception of a fault.
     explicit Error(Fault fault) noexcept : fault_(fault) {}
 
     /// Returns the fault.
@@ -144,7 +145,7 @@ public:
     /// Returns whether there is a value.
     explicit operator bool() const noexcept { return has_value(); }
 
-    /// Returns the value. There must be one.
+    /// Returns the value. There must be one. This and the next four do not check that.
     T &operator*() & noexcept { return *std::get_if<0>(&state_); }
     const T &operator*() const & noexcept { return *std::get_if<0>(&state_); }
     T &&operator*() && noexcept { return std::move(*std::get_if<0>(&state_)); }
@@ -201,10 +202,19 @@ public:
                                    decltype(std::declval<Container &>().data()), T *>>>
     constexpr Span(Container &&container) noexcept : data_(container.data()), size_(container.size()) {}
 
+    /// Returns a pointer to the first element. It may be null if there are none.
     constexpr T *data() const noexcept { return data_; }
+
+    /// Returns the number of elements.
     constexpr std::size_t size() const noexcept { return size_; }
+
+    /// Returns whether there are no elements.
     constexpr bool empty() const noexcept { return size_ == 0; }
+
+    /// Returns an iterator at the first element.
     constexpr T *begin() const noexcept { return data_; }
+
+    /// Returns the iterator behind the last element.
     constexpr T *end() const noexcept { return data_ + size_; }
 
     /// Returns the element at an index, which must be below `size()`.
@@ -233,18 +243,29 @@ public:
     /// Has no elements.
     Array() noexcept = default;
 
+    /// Takes the elements of another array, which then has none.
     Array(Array &&other) noexcept : data_(std::move(other.data_)), size_(std::exchange(other.size_, 0)) {}
 
+    /// Frees its elements, and takes those of another array, which then has none.
     Array &operator=(Array &&other) noexcept {
         data_ = std::move(other.data_);
         size_ = std::exchange(other.size_, 0);
         return *this;
     }
 
+    /// Returns a pointer to the first element. It may be null if there are none.
     const T *data() const noexcept { return data_.get(); }
+
+    /// Returns the number of elements.
     std::size_t size() const noexcept { return size_; }
+
+    /// Returns whether there are no elements.
     bool empty() const noexcept { return size_ == 0; }
+
+    /// Returns an iterator at the first element.
     const T *begin() const noexcept { return data(); }
+
+    /// Returns the iterator behind the last element.
     const T *end() const noexcept { return data() + size_; }
 
     /// Returns the element at an index, which must be below `size()`.
@@ -348,9 +369,11 @@ struct Run : unicode_bidi_run {
     constexpr bool is_rtl() const noexcept { return unicode_bidi::is_rtl(level); }
 };
 
-/// A version, as three numbers.
+/// A version, as three numbers: 0.1.0 is 0, 1 and 0.
 struct Version {
-    int major_number, minor_number, patch_number;
+    int major_number; ///< changes if programs must change
+    int minor_number; ///< changes if there is something new
+    int patch_number; ///< changes otherwise
 };
 
 /// A range of characters of one class, `last` included. Make one with `class_range`.
@@ -377,8 +400,8 @@ constexpr BracketPair bracket_pair(char32_t opening, char32_t closing) noexcept 
 /// The caller's own classes and brackets, in place of Unicode's data. They are only viewed. The ranges must ascend and not
 /// overlap (BAD_RANGES). A character outside all of them has class L. If two pairs name a character, the first one counts.
 struct Tables {
-    Span<const ClassRange> ranges;
-    Span<const BracketPair> brackets;
+    Span<const ClassRange> ranges;    ///< the classes
+    Span<const BracketPair> brackets; ///< the pairs of brackets
 };
 
 // ---- How this header makes the calls ----
@@ -775,9 +798,16 @@ public:
     using iterator = detail::Iterator<Lines>;
     using const_iterator = iterator;
 
+    /// Returns the number of lines.
     std::size_t size() const noexcept { return ends_.size(); }
+
+    /// Returns whether there are no lines.
     bool empty() const noexcept { return ends_.empty(); }
+
+    /// Returns an iterator at the first line.
     iterator begin() const noexcept { return iterator(*this, 0); }
+
+    /// Returns the iterator behind the last line.
     iterator end() const noexcept { return iterator(*this, size()); }
 
     /// Returns the line at an index, which must be below `size()`.
@@ -842,9 +872,16 @@ public:
                Span<const unicode_bidi_paragraph> paragraphs) noexcept
         : text_(text), classes_(classes), levels_(levels), paragraphs_(paragraphs) {}
 
+    /// Returns the number of paragraphs.
     std::size_t size() const noexcept { return paragraphs_.size(); }
+
+    /// Returns whether there are no paragraphs.
     bool empty() const noexcept { return paragraphs_.empty(); }
+
+    /// Returns an iterator at the first paragraph.
     iterator begin() const noexcept { return iterator(*this, 0); }
+
+    /// Returns the iterator behind the last paragraph.
     iterator end() const noexcept { return iterator(*this, size()); }
 
     /// Returns the paragraph at an index, which must be below `size()`.
@@ -891,10 +928,12 @@ public:
     Text(const Tables &, String &&, Rest...) = delete;
 #endif
 
+    /// Takes the analysis of another object, which is then that of an empty text without paragraphs.
     Text(Text &&other) noexcept
         : text_(std::exchange(other.text_, {})), classes_(std::move(other.classes_)), levels_(std::move(other.levels_)),
           paragraphs_(std::move(other.paragraphs_)) {}
 
+    /// Frees its analysis, and takes that of another object, as above.
     Text &operator=(Text &&other) noexcept {
         text_ = std::exchange(other.text_, {});
         classes_ = std::move(other.classes_);
