@@ -371,9 +371,9 @@ struct Run : unicode_bidi_run {
 
 /// A version, as three numbers: 0.1.0 is 0, 1 and 0.
 struct Version {
-    int major_number; ///< changes if programs must change
-    int minor_number; ///< changes if there is something new
-    int patch_number; ///< changes otherwise
+    int major_number; ///< the first number
+    int minor_number; ///< the second number
+    int patch_number; ///< the third number
 };
 
 /// A range of characters of one class, `last` included. Make one with `class_range`.
