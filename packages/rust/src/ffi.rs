@@ -337,26 +337,14 @@ pub fn analyse<U: Unit>(
     let mut classes = vec![BidiClass::L; text.len()];
     let mut levels = vec![LTR_LEVEL; text.len()];
     let mut paragraphs = Vec::with_capacity(usual_paragraphs(text.len(), split));
-    let mut result = U::analyse(
-        text,
-        tables,
-        base,
-        split,
-        &mut classes,
-        &mut levels,
-        &mut paragraphs,
-    );
+    let mut call = |paragraphs: &mut Vec<Paragraph>| {
+        let (classes, levels) = (&mut classes, &mut levels);
+        U::analyse(text, tables, base, split, classes, levels, paragraphs)
+    };
+    let mut result = call(&mut paragraphs);
     if result == NO_ROOM {
         paragraphs.reserve(text.len());
-        result = U::analyse(
-            text,
-            tables,
-            base,
-            split,
-            &mut classes,
-            &mut levels,
-            &mut paragraphs,
-        );
+        result = call(&mut paragraphs);
     }
     checked(result, text.len());
     Analysis {
@@ -366,8 +354,8 @@ pub fn analyse<U: Unit>(
     }
 }
 
-/// How many paragraphs a text of so many code units usually has at most. It has at most one a code unit, but a buffer
-/// for as many would be 24 times as long as the text.
+/// How many paragraphs a text of so many code units usually has at most. It can have one a code unit, but a buffer for
+/// so many would be 24 times as long as the text.
 fn usual_paragraphs(units: usize, split: Split) -> usize {
     match split {
         Split::OneParagraph => 1,
