@@ -70,15 +70,14 @@ class Tables:
         pairs = [library.BracketPair(*map(_character, pair)) for pair in brackets]
         self._ranges = (library.ClassRange * len(rows))(*rows)
         self._brackets = (library.BracketPair * len(pairs))(*pairs)
-        self.direction("", False)
+        self._direction("", False)
 
-    @property
-    def arguments(self) -> Tuple[Any, ...]:
-        """The tables as arguments of C."""
+    def _arguments(self) -> Tuple[Any, ...]:
+        """Returns the tables as arguments of C."""
         return (byref(self._ranges), library.size(len(self._ranges)), byref(self._brackets),
                 library.size(len(self._brackets)))
 
-    def direction(self, text: str, full: bool) -> int:
+    def _direction(self, text: str, full: bool) -> int:
         """Returns the number of the base direction of a text."""
         return checked(library.base_direction_by_tables(self._ranges, len(self._ranges), self._brackets,
                                                         len(self._brackets), readable(text)[1], len(text), full))
@@ -108,7 +107,7 @@ class BidiText:
         length = library.size(len(text))
         buffers = borrow(len(text))
         try:
-            count = analyse(buffers, characters, length, base, rule, tables.arguments if tables else ())
+            count = analyse(buffers, characters, length, base, rule, () if tables is None else tables._arguments())
             self._paragraphs = tuple(map(Paragraph._make, buffers.paragraphs.read(count)))
             self._starts = [paragraph.start for paragraph in self._paragraphs]
             classes = bytes(memoryview(buffers.classes)[: len(text)])
@@ -242,7 +241,7 @@ def base_direction(text: str, *, full: bool = False, tables: Optional[Tables] = 
     With ``full``, returns the direction of the first paragraph that has one.
     """
     if tables is not None:
-        return Direction(tables.direction(text, full))
+        return Direction(tables._direction(text, full))
     return Direction(checked(library.first_direction(readable(text)[1], len(text), full)))
 
 
