@@ -968,15 +968,20 @@ public:
     std::basic_string_view<Char> text() const noexcept { return text_; }
 
     /// Returns the class of each unit. If a character decides the direction of an FSI, the FSI has class RLI or LRI (X5c).
-    Span<const Class> classes() const noexcept { return Span<const Class>(classes_); }
+    Span<const Class> classes() const & noexcept { return Span<const Class>(classes_); }
 
     /// Returns the level of each unit (X1 to I2, before L1).
-    Span<const Level> levels() const noexcept { return Span<const Level>(levels_); }
+    Span<const Level> levels() const & noexcept { return Span<const Level>(levels_); }
 
     /// Returns the paragraphs.
-    Paragraphs<Char> paragraphs() const noexcept {
+    Paragraphs<Char> paragraphs() const & noexcept {
         return Paragraphs<Char>(text_, classes(), levels(), Span<const unicode_bidi_paragraph>(paragraphs_));
     }
+
+    /// What an object owns can't be viewed if the object ends with the call.
+    Span<const Class> classes() const && = delete;
+    Span<const Level> levels() const && = delete;
+    Paragraphs<Char> paragraphs() const && = delete;
 
 private:
     using Encoding = detail::Encoding<Char>;
@@ -1040,11 +1045,10 @@ Result<Text<detail::CharOf<String>>> try_analyse(const Tables &tables, const Str
 }
 
 /// A string that ends with the call can't be viewed.
-template <class Char>
-void try_analyse(std::basic_string<Char> &&, std::optional<int> = std::nullopt, Split = Split::each_separator) = delete;
-template <class Char>
-void try_analyse(const Tables &, std::basic_string<Char> &&, std::optional<int> = std::nullopt,
-                 Split = Split::each_separator) = delete;
+template <class String, class... Rest, class = detail::IfTemporary<String>>
+void try_analyse(String &&, Rest...) = delete;
+template <class String, class... Rest, class = detail::IfTemporary<String>>
+void try_analyse(const Tables &, String &&, Rest...) = delete;
 
 /// Returns the base direction of the first paragraph, or of the first paragraph that has one (P2, P3).
 /// Faults: NOT_UTF8, NOT_SCALAR (by the encoding). UTF-8 and UTF-32 are checked as a whole. UTF-32 allocates a copy.
