@@ -417,8 +417,10 @@ void run_character(const Row &row) {
                           bracket.normal_form() == character_of(row, wanted->at(1)),
                       "bracket");
     }
-    if (const auto wanted = row.get("mirrored"))
-        row.check(value_of(row, bidi::try_mirrored(character)) == character_of(row, *wanted), "mirrored");
+    if (const auto wanted = row.get("mirrored")) {
+        const char32_t partner = *wanted == "none" ? character : character_of(row, *wanted);
+        row.check(value_of(row, bidi::try_mirrored(character)) == partner, "mirrored");
+    }
     in_each_encoding({character}, [&](auto unit) { check_character_in_text<decltype(unit)>(row, character); });
 #ifdef UNICODE_BIDI_EXCEPTIONS
     check_throwing(row, std::nullopt, [&] { bidi::class_of(character), bidi::bracket_of(character), bidi::mirrored(character); });
