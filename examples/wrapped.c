@@ -58,13 +58,10 @@ static uint32_t decoded(const uint8_t *text, size_t length) {
 
 /* Prints a character in UTF-8. */
 static void print_character(uint32_t character) {
-    if (character < 0x80) {
-        putchar((int)character);
-        return;
-    }
-    int more = character < 0x800 ? 1 : character < 0x10000 ? 2 : 3;
-    putchar((int)((0xF00u >> more & 0xFF) | character >> 6 * more));
-    while (more-- > 0) putchar((int)(0x80 | (character >> 6 * more & 0x3F)));
+    static const uint32_t first_byte[] = {0, 0xC0, 0xE0, 0xF0}; /* by the number of bytes that follow */
+    int following = character < 0x80 ? 0 : character < 0x800 ? 1 : character < 0x10000 ? 2 : 3;
+    putchar((int)(first_byte[following] | character >> 6 * following));
+    while (following-- > 0) putchar((int)(0x80 | (character >> 6 * following & 0x3F)));
 }
 
 /* Prints the characters of a run of an odd level: from the last to the first, each as its mirrored partner (L4). */
