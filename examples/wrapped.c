@@ -99,6 +99,8 @@ int main(void) {
         print_line(text, runs, count);
         start = end;
     }
-    free(runs), free(levels), free(classes);
+    free(runs);
+    free(levels);
+    free(classes);
     return 0;
 }
