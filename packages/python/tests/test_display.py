@@ -2,12 +2,13 @@
 import contextlib
 import importlib.util
 import io
+import random
 import subprocess
 import sys
 import unittest
 
 import unicode_bidi.algorithm
-from unicode_bidi import get_base_level, get_display
+from unicode_bidi import BidiClass, BidiText, _library, bidi_classes, get_base_level, get_display
 
 RLI, LRI, PDI, RLE, RLO, PDF, ZWJ = "\u2067", "\u2066", "\u2069", "\u202b", "\u202e", "\u202c", "\u200d"
 
@@ -85,14 +86,14 @@ class Arguments(unittest.TestCase):
         self.assertEqual("", get_display(RLE))
 
     def test_upper_is_rtl(self):
-        self.assertEqual("CBA 12", get_display("ABC 12", upper_is_rtl=True, base_dir="L"))
+        self.assertEqual("12 CBA x", get_display("ABC 12 x", upper_is_rtl=True, base_dir="L"))
         self.assertEqual("ABC 12", get_display("ABC 12"))
         self.assertEqual("12 \ud800CBA", get_display("ABC\ud800 12", upper_is_rtl=True))
 
     def test_debug(self):
         written = io.StringIO()
         with contextlib.redirect_stderr(written):
-            self.assertEqual("בא 1", get_display("אב 1", base_dir="L", debug=True))
+            self.assertEqual("1 בא", get_display("אב 1", base_dir="L", debug=True))
         self.assertIn("base level: 0\nclasses: R R WS EN\nlevels: 1 1 1 2\n", written.getvalue())
 
     def test_lone_surrogates(self):
@@ -116,6 +117,25 @@ class Arguments(unittest.TestCase):
             self.assertEqual("ב" * count + "א", get_display("א" + "ב" * count))
             self.assertEqual("a" + "אa" * count, get_display("aא" * count + "a"))
             self.assertEqual("בא\n" * count, get_display("אב\n" * count))
+
+
+class Agreement(unittest.TestCase):
+    """get_display finds what BidiText finds by other calls of C."""
+
+    def test_random_texts(self):
+        chance = random.Random(78)
+        palette = "ab1 \n\r()[]<\u00ab!,\u05d0\u05d1\u0627\u0661\u0301\u200d\u202b\u202e\u202c\u2067\u2069\u2329\ud800"
+        for _ in range(3000):
+            text = "".join(chance.choices(palette, k=chance.randint(1, 30)))
+            base_dir, level = chance.choice(((None, get_base_level(text)), ("L", 0), ("R", 1)))
+            self.assertEqual(BidiText(text, level).display(keep_removed=False), get_display(text, base_dir=base_dir))
+
+    def test_mirrored_characters_are_neutral(self):
+        """Only characters of class ON have a mirrored partner, which get_display relies on."""
+        characters = [number for number in range(0x110000) if not 0xD800 <= number <= 0xDFFF]
+        have_partner = {chr(number) for number in characters if _library.mirrored(number) != number}
+        self.assertGreater(len(have_partner), 300)
+        self.assertEqual({BidiClass.ON}, set(bidi_classes("".join(have_partner))))
 
 
 class AsBidi(unittest.TestCase):

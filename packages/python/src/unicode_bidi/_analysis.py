@@ -4,7 +4,8 @@ from __future__ import annotations
 import re
 from codecs import utf_32_le_decode
 from ctypes import Array, byref, c_size_t, c_uint8
-from typing import Any, Sequence, Tuple, Union
+from functools import partial
+from typing import Any, Iterable, Sequence, Tuple, Union
 
 from . import _library as library
 from ._buffers import Buffers, Ranges, RangeTuple
@@ -12,9 +13,26 @@ from ._characters import MIRRORED, REMOVED_BY_X9, BidiClass
 from ._library import size
 from .faults import NoRoomError, checked
 
+#: The classes of a text, one a character, in a buffer of C or kept.
+Classes = Union[bytes, Array[c_uint8]]
+
 _nothing = (c_uint8 * 1)()
 _NOTHING, _ZERO = byref(_nothing), size(0)
+_NO_ROOM = NoRoomError.code
+_B = int(BidiClass.B)
 _REMOVED = re.compile(b"[" + REMOVED_BY_X9 + b"]")
+
+
+def has_removed(classes: Classes, start: int, end: int) -> bool:
+    """Returns whether X9 removes a character of a range."""
+    return _REMOVED.search(classes, start, end) is not None
+
+
+def end_of_line(classes: Classes, start: int, end: int) -> int:
+    """Returns the end of a paragraph without the separators at its end."""
+    while start < end and classes[end - 1] == _B:
+        end -= 1
+    return end
 
 
 def analyse(buffers: Buffers, characters: bytes, length: Any, base: int, split: int, tables: Tuple[Any, ...] = ()) -> int:
@@ -23,102 +41,106 @@ def analyse(buffers: Buffers, characters: bytes, length: Any, base: int, split: 
     ``length`` is an argument of C. ``base`` and ``split`` are numbers up to 255. ``tables`` are the arguments of C for
     the caller's own tables.
     """
-    call = library.analyse_by_tables if tables else library.analyse
-    front = (*tables, characters, length, base, split, buffers.classes_pointer, length, buffers.levels_pointer, length)
+    call = partial(library.analyse_by_tables, *tables) if tables else library.analyse
     paragraphs = buffers.paragraphs
-    count: int = call(*front, paragraphs.pointer, paragraphs.room)
-    if count == NoRoomError.code:
-        paragraphs = buffers.paragraphs = Ranges(checked(call(*front, _NOTHING, _ZERO)))
-        count = call(*front, paragraphs.pointer, paragraphs.room)
-    return checked(count)
+    count: int = call(characters, length, base, split, buffers.classes_pointer, length, buffers.levels_pointer, length,
+                      paragraphs.pointer, paragraphs.room)
+    if count == _NO_ROOM:  # for the paragraphs: the first call counts them
+        buffers.paragraphs = Ranges(0)
+        buffers.paragraphs = Ranges(analyse(buffers, characters, length, base, split, tables))
+        return analyse(buffers, characters, length, base, split, tables)
+    return count if count >= 0 else checked(count)
+
+
+def restored(shown: str, order: Iterable[int], start: int, text: str, read_as: str, classes: Classes, keep: bool) -> str:
+    """Returns a displayed line with the characters of ``text``, where C read ``read_as`` instead.
+
+    The line begins at ``start``, and ``order`` has the index in the line of each displayed character. Without ``keep``,
+    the characters that X9 removes are left out.
+    """
+    pieces = []
+    for character, place in zip(shown, order):
+        index = start + place
+        if keep or classes[index] not in REMOVED_BY_X9:
+            own = text[index]
+            pieces.append(character if own == read_as[index] else own)
+    return "".join(pieces)
+
+
+def order_of(characters: bytes, classes: Any, levels: Any, paragraph: Any, start: int, end: int) -> Iterable[int]:
+    """Returns the index in a line of the character at each visual position.
+
+    ``classes``, ``levels`` and ``paragraph`` are pointers, as arguments of C.
+    """
+    length, room = len(characters) // 4, end - start
+    order = (c_size_t * room)()
+    checked(library.line_map(characters, length, classes, length, levels, length, paragraph, start, end, order, room))
+    return order
 
 
 class Analysis:
-    """A text, its characters as C reads them, and the class and the level of each.
+    """A text, and the class and the level of each of its characters.
 
-    ``read_as`` is the text that C reads. It differs from ``text`` where C can't read a character, or where another class
-    is wanted. Displayed text has the characters of ``text``. ``length`` and the pointers are arguments of C.
+    ``read_as`` is the text that C reads, and ``characters`` its characters. It differs from ``text`` in lone surrogates.
     """
 
-    __slots__ = ("text", "read_as", "characters", "length", "classes", "classes_pointer", "levels_pointer")
+    __slots__ = ("text", "read_as", "characters", "length", "classes", "levels")
 
-    def __init__(self, text: str, read_as: str, characters: bytes, length: Any, classes: Union[bytes, Array[c_uint8]],
-                 classes_pointer: Any, levels_pointer: Any) -> None:
+    def __init__(self, text: str, read_as: str, characters: bytes, classes: bytes, levels: bytes) -> None:
         self.text = text
         self.read_as = read_as
         self.characters = characters
-        self.length = length
+        self.length = size(len(text))
         self.classes = classes
-        self.classes_pointer = classes_pointer
-        self.levels_pointer = levels_pointer
+        self.levels = levels
 
-    def line(self, buffers: Buffers, paragraph: Any, start: int, end: int) -> Tuple[Sequence[RangeTuple], str]:
-        """Returns the visual runs of a line, and its characters from left to right, as C reads them.
+    def line(self, buffers: Buffers, paragraph: Any, start: int, end: int) -> Tuple[int, str]:
+        """Writes the visual runs of a line to the buffers. Returns their number, and the characters from left to right.
 
-        ``paragraph`` is a pointer to the paragraph of the line. The buffers have room for the line.
+        ``paragraph`` is a pointer to the paragraph of the line. The buffers have room for the characters of the line. The
+        characters are those of ``read_as``, not mirrored.
         """
         length = self.length
-        front = (self.characters, length, self.classes_pointer, length, self.levels_pointer, length, paragraph,
-                 size(start), size(end), _NOTHING, _ZERO)
-        back = (_NOTHING, _ZERO, buffers.shown_pointer, buffers.shown_room, buffers.characters_pointer)
         runs = buffers.runs
-        count: int = library.show_line(*front, runs.pointer, runs.room, *back)
-        if count == NoRoomError.code:
-            runs = buffers.runs = Ranges(checked(library.line_runs(*self._line(paragraph, start, end), _NOTHING, 0)))
-            count = library.show_line(*front, runs.pointer, runs.room, *back)
-        checked(count)
-        shown, _ = utf_32_le_decode(buffers.shown_bytes[: 4 * (end - start)])
-        return runs.read(count), shown
+        count: int = library.show_line(
+            self.characters, length, self.classes, length, self.levels, length, paragraph, size(start), size(end),
+            _NOTHING, _ZERO, runs.pointer, runs.room, _NOTHING, _ZERO,
+            buffers.shown_pointer, buffers.shown_room, buffers.characters_pointer)
+        if count == _NO_ROOM:  # for the runs: the first call counts them
+            buffers.runs = Ranges(0)
+            buffers.runs = Ranges(self.line(buffers, paragraph, start, end)[0])
+            return self.line(buffers, paragraph, start, end)
+        return checked(count), utf_32_le_decode(buffers.shown_bytes[: 4 * (end - start)])[0]
 
-    def levels(self, paragraph: Any, start: int, end: int) -> Array[c_uint8]:
+    def levels_of_line(self, paragraph: Any, start: int, end: int) -> Iterable[int]:
         """Returns the level of each character of a line after L1."""
-        levels = (c_uint8 * (end - start))()
-        checked(library.line_levels(*self._line(paragraph, start, end), levels, end - start))
+        length, room = len(self.text), end - start
+        levels = (c_uint8 * room)()
+        checked(library.line_levels(self.classes, length, self.levels, length, paragraph, start, end, levels, room))
         return levels
 
-    def order(self, paragraph: Any, start: int, end: int) -> Array[c_size_t]:
-        """Returns the index in the line of the character at each visual position."""
-        order = (c_size_t * (end - start))()
-        checked(library.line_map(self.characters, len(self.text), *self._line(paragraph, start, end), order, end - start))
-        return order
-
-    def _line(self, paragraph: Any, start: int, end: int) -> Tuple[Any, ...]:
-        """Returns the arguments of a line for the calls that convert their arguments."""
-        length = len(self.text)
-        return self.classes_pointer, length, self.levels_pointer, length, paragraph, start, end
+    def order(self, paragraph: Any, start: int, end: int) -> Iterable[int]:
+        """Returns the index in a line of the character at each visual position."""
+        return order_of(self.characters, self.classes, self.levels, paragraph, start, end)
 
     def display_line(self, paragraph: Any, runs: Sequence[RangeTuple], shown: str, start: int, mirror: bool,
                      keep: bool) -> str:
-        """Returns the text of a line from left to right, from the runs and characters that ``line`` returned.
+        """Returns the text of a line from left to right, from the runs and characters that ``line`` found.
 
         With ``mirror``, characters at odd levels are mirrored (L4). Without ``keep``, those that X9 removes are left out.
         """
-        keep = keep or not _REMOVED.search(self.classes, start, start + len(shown))
+        end = start + len(shown)
         if mirror:
             shown = _mirrored(shown, runs)
+        keep = keep or not has_removed(self.classes, start, end)
         if keep and self.read_as is self.text:
             return shown
-        return self._restored(shown, self.order(paragraph, start, start + len(shown)), start, keep)
-
-    def _restored(self, shown: str, order: Array[c_size_t], start: int, keep: bool) -> str:
-        """Returns a displayed line with the characters of the text where C read others."""
-        pieces = []
-        for character, place in zip(shown, order):
-            index = start + place
-            if keep or self.classes[index] not in REMOVED_BY_X9:
-                own = self.text[index]
-                pieces.append(character if own == self.read_as[index] else own)
-        return "".join(pieces)
-
-    def end_of_line(self, start: int, end: int) -> int:
-        """Returns the end of a paragraph without the separators at its end."""
-        while start < end and self.classes[end - 1] == BidiClass.B:
-            end -= 1
-        return end
+        order = self.order(paragraph, start, end)
+        return restored(shown, order, start, self.text, self.read_as, self.classes, keep)
 
 
 def _mirrored(shown: str, runs: Sequence[RangeTuple]) -> str:
-    """Returns a line from left to right, with the characters of its runs at odd levels mirrored (L4)."""
+    """Returns a displayed line with the characters of its runs at odd levels mirrored (L4)."""
     mirrored = shown.translate(MIRRORED)
     if mirrored == shown:
         return shown

@@ -26,12 +26,12 @@ assert _RANGE.size == sizeof(Range)
 
 
 class Ranges:
-    """A buffer for paragraphs or runs."""
+    """A buffer for paragraphs or runs. With room for none, a call of C only counts them."""
 
     __slots__ = ("pointer", "room", "_array", "_bytes")
 
     def __init__(self, room: int) -> None:
-        self._array = (Range * room)()
+        self._array = (Range * max(room, 1))()
         self.pointer = byref(self._array)
         self.room = size(room)
         self._bytes = memoryview(self._array).cast("B")

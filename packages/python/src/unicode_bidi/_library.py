@@ -1,8 +1,8 @@
 """The shared library, loaded once, with the calls that the package makes.
 
-``unicode_bidi.h`` describes each call. ``analyse``, ``analyse_by_tables`` and ``show_line`` have no ``argtypes``, because
-it takes longer to convert their arguments than to run them. Pass these as ``size`` and ``byref`` return them, as bytes,
-or, where C takes one byte, as a number up to 255.
+``unicode_bidi.h`` describes each call. ``analyse``, ``analyse_by_tables``, ``reorder_line`` and ``show_line`` have no
+``argtypes``, because it takes longer to convert their arguments than to run them. Pass these as ``size`` and ``byref``
+return them, as bytes, or, where C takes one byte, as a number up to 255.
 """
 from __future__ import annotations
 
@@ -84,6 +84,7 @@ analyse_by_tables = _call("analyse_by_tables_utf32")
 line_levels = _call("line_levels", *_line, c_void_p, c_size_t)
 line_runs = _call("line_runs", *_line, c_void_p, c_size_t)
 line_map = _call("line_map_utf32", *_text, *_line, c_void_p, c_size_t)
+reorder_line = _call("reorder_line_utf32")
 show_line = _call("show_line_utf32")
 reorder_visual = _call("reorder_visual", *_text, c_void_p, c_size_t)
 

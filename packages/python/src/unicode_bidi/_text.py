@@ -8,7 +8,7 @@ from ctypes import byref, c_size_t
 from typing import Any, Iterable, List, NamedTuple, Optional, Tuple
 
 from . import _library as library
-from ._analysis import Analysis, analyse
+from ._analysis import Analysis, analyse, end_of_line
 from ._buffers import borrow, give_back
 from ._characters import CLASSES, BidiClass, readable
 from .faults import BadBaseLevelError, BadLineError, BadSplitError, checked
@@ -114,8 +114,7 @@ class BidiText:
             levels = bytes(memoryview(buffers.levels)[: len(text)])
         finally:
             give_back(buffers)
-        self._analysis = Analysis(text, read_as, characters, length, classes, classes, levels)
-        self._levels = levels
+        self._analysis = Analysis(text, read_as, characters, classes, levels)
 
     def __repr__(self) -> str:
         return f"BidiText({self.text!r})"
@@ -133,7 +132,7 @@ class BidiText:
     @property
     def levels(self) -> Tuple[int, ...]:
         """The level of each character (X1 to I2), before L1. A line has the levels after L1."""
-        return tuple(self._levels)
+        return tuple(self._analysis.levels)
 
     @property
     def paragraphs(self) -> Tuple[Paragraph, ...]:
@@ -152,7 +151,7 @@ class BidiText:
 
     def lines(self) -> List[Line]:
         """Returns each paragraph as one line, without the separators at its end."""
-        return [Line(self, paragraph, paragraph.start, self._analysis.end_of_line(paragraph.start, paragraph.end))
+        return [Line(self, paragraph, paragraph.start, end_of_line(self._analysis.classes, paragraph.start, paragraph.end))
                 for paragraph in self._paragraphs]
 
     def display(self, *, mirror: bool = True, keep_removed: bool = True) -> str:
@@ -187,7 +186,8 @@ class Line:
                                             _limited(paragraph[2], 255)))
         buffers = borrow(len(self.text))
         try:
-            self._runs, self._read_shown = self._analysis.line(buffers, self._pointer, self._start, self._end)
+            count, self._shown = self._analysis.line(buffers, self._pointer, self._start, self._end)
+            self._runs = tuple(map(Run._make, buffers.runs.read(count)))
         finally:
             give_back(buffers)
 
@@ -217,12 +217,12 @@ class Line:
     @property
     def levels(self) -> Tuple[int, ...]:
         """The level of each character of the line after L1."""
-        return tuple(self._analysis.levels(self._pointer, self._start, self._end))
+        return tuple(self._analysis.levels_of_line(self._pointer, self._start, self._end))
 
     @property
     def runs(self) -> Tuple[Run, ...]:
         """The visual runs from left to right (L2)."""
-        return tuple(map(Run._make, self._runs))
+        return self._runs
 
     @property
     def order(self) -> Tuple[int, ...]:
@@ -232,7 +232,8 @@ class Line:
 
     def display(self, *, mirror: bool = True, keep_removed: bool = True) -> str:
         """Returns the line from left to right. The options are those of :meth:`BidiText.display`."""
-        return self._analysis.display_line(self._pointer, self._runs, self._read_shown, self._start, mirror, keep_removed)
+        return self._analysis.display_line(self._pointer, self._runs, self._shown, self._start, mirror,
+                                           keep_removed)
 
 
 def base_direction(text: str, *, full: bool = False, tables: Optional[Tables] = None) -> Direction:

@@ -4,19 +4,25 @@ Programs that call ``bidi.algorithm.get_display`` can import it from here.
 """
 from __future__ import annotations
 
+import re
 import sys
+from codecs import utf_32_le_decode
 from typing import Optional, Union, overload
 
 from . import _library as library
-from ._analysis import Analysis, analyse
-from ._buffers import borrow, give_back
-from ._characters import readable
+from ._analysis import analyse, end_of_line, has_removed, order_of, restored
+from ._buffers import Buffers, borrow, give_back
+from ._characters import MIRRORED, REMOVED_BY_X9, BidiClass, readable
+from ._library import size
 from ._text import BidiText, Direction, Split
 from .faults import checked
 
 __all__ = ["get_base_level", "get_display"]
 
 _BASE_LEVELS = {"L": 0, "R": 1, "AL": 1}
+_SPLIT = int(Split.CR_LF_TOGETHER)
+_ON = re.compile(bytes((BidiClass.ON,)))
+_REMOVED_OR_ON = re.compile(b"[" + REMOVED_BY_X9 + bytes((BidiClass.ON,)) + b"]")
 _HEBREW_LETTER = "\u05d0"
 
 
@@ -44,10 +50,10 @@ def get_display(text: Union[str, bytes, bytearray], /, encoding: str = "utf-8", 
     Raises ``ValueError`` for another ``base_dir``, ``UnicodeError`` if the bytes are not in the encoding, and
     :class:`NoMemoryError`.
     """
-    if isinstance(text, (bytes, bytearray)):
-        return get_display(text.decode(encoding), encoding, upper_is_rtl, base_dir, debug).encode(encoding)
     if not isinstance(text, str):
-        raise TypeError(f"get_display takes str or bytes, and not {type(text).__name__}")
+        if not isinstance(text, (bytes, bytearray)):
+            raise TypeError(f"get_display takes str or bytes, and not {type(text).__name__}")
+        return get_display(text.decode(encoding), encoding, upper_is_rtl, base_dir, debug).encode(encoding)
     if base_dir is None:
         base = library.AUTO
     elif base_dir in _BASE_LEVELS:
@@ -82,25 +88,56 @@ def _upper_as_hebrew(text: str) -> str:
 
 def _displayed(text: str, read_as: str, characters: bytes, base: int) -> str:
     """Returns the text with each paragraph as a line from left to right. C reads ``read_as``, as ``characters``."""
-    length = library.size(len(text))
-    buffers = borrow(len(text))
+    if not text:
+        return ""
+    count = len(text)
+    length = size(count)
+    buffers = borrow(count)
     try:
-        count = analyse(buffers, characters, length, base, Split.CR_LF_TOGETHER)
-        if count > 1 and base == library.AUTO:
-            count = analyse(buffers, characters, length, _base_level(characters), Split.CR_LF_TOGETHER)
-        analysis = Analysis(text, read_as, characters, length, buffers.classes, buffers.classes_pointer,
-                            buffers.levels_pointer)
+        paragraphs = analyse(buffers, characters, length, base, _SPLIT)
+        if paragraphs > 1 and base == library.AUTO:
+            paragraphs = analyse(buffers, characters, length, _base_level(characters), _SPLIT)
+        classes = buffers.classes
+        keep = True
+        if _REMOVED_OR_ON.search(classes, 0, count):
+            keep = not has_removed(classes, 0, count)
+            characters = _mirrored(read_as, characters, buffers)
         pieces = []
-        for index, (start, end, _) in enumerate(buffers.paragraphs.read(count)):
+        for index, (start, end, _) in enumerate(buffers.paragraphs.read(paragraphs)):
+            last = end_of_line(classes, start, end)
             paragraph = buffers.paragraphs.pointer_to(index)
-            last = analysis.end_of_line(start, end)
-            runs, shown = analysis.line(buffers, paragraph, start, last)
-            pieces.append(analysis.display_line(paragraph, runs, shown, start, mirror=True, keep=False))
-            if last < end:
-                pieces.append(text[last:end])
+            checked(library.reorder_line(
+                characters, length, buffers.classes_pointer, length, buffers.levels_pointer, length, paragraph,
+                size(start), size(last), buffers.shown_pointer, buffers.shown_room))
+            shown, _ = utf_32_le_decode(buffers.shown_bytes[: 4 * (last - start)])
+            if not keep or read_as is not text:
+                order = order_of(characters, buffers.classes_pointer, buffers.levels_pointer, paragraph, start, last)
+                shown = restored(shown, order, start, text, read_as, classes, keep)
+            pieces.append(shown)
+            pieces.append(text[last:end])
         return "".join(pieces)
     finally:
         give_back(buffers)
+
+
+def _mirrored(text: str, characters: bytes, buffers: Buffers) -> bytes:
+    """Returns the characters of an analysed text, with those at odd levels mirrored (L4).
+
+    In Unicode's data only characters of class ON have a mirrored partner. L1 does not change their levels, so they can be
+    mirrored before a line is reordered.
+    """
+    levels = buffers.levels
+    mirrored = None
+    for found in _ON.finditer(buffers.classes, 0, len(text)):
+        index = found.start()
+        if levels[index] % 2:
+            character = ord(text[index])
+            partner = MIRRORED[character]
+            if partner != character:
+                if mirrored is None:
+                    mirrored = bytearray(characters)
+                mirrored[4 * index : 4 * index + 4] = partner.to_bytes(4, "little")
+    return characters if mirrored is None else bytes(mirrored)
 
 
 def _explain(text: str, base: int, shown: str) -> None:
