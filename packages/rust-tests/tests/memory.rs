@@ -1,7 +1,7 @@
 //! A failed allocation in the library ends the program as one in Rust does: by `handle_alloc_error`.
 //!
-//! The program replaces `malloc` and `realloc` of glibc, and runs itself again with a number n: then the n-th request of
-//! the library fails. Requests of Rust's allocator are marked, and do not fail.
+//! The program replaces `malloc` and `realloc` of glibc, and runs itself again with a number n. Then the n-th request
+//! of the library fails. Requests of Rust's allocator are marked, and do not fail.
 
 use std::alloc::{GlobalAlloc, Layout, System};
 use std::cell::Cell;

@@ -1,4 +1,6 @@
-//! The directional formatting characters of [UAX #9, section 2](https://www.unicode.org/reports/tr9/#Directional_Formatting_Characters).
+//! The directional formatting characters ([UAX #9][section], section 2).
+//!
+//! [section]: https://www.unicode.org/reports/tr9/#Directional_Formatting_Characters
 
 /// ARABIC LETTER MARK: an invisible character of class AL.
 pub const ALM: char = '\u{61C}';

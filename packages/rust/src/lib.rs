@@ -21,13 +21,12 @@
 //!
 //! # Code units
 //!
-//! The types here take `str`, those of the module [`utf16`] take `[u16]`. Indexes, ranges, classes and levels count code
-//! units. A code unit is a byte in `str`, and a `u16` in UTF-16. All code units of a character have its class and its
-//! level.
+//! The types here take `str`, those of the module [`utf16`] take `[u16]`. Indexes and ranges count code units. A code
+//! unit is a byte in `str`, and a `u16` in UTF-16. All code units of a character have its class and its level.
 //!
 //! # Panics
 //!
-//! A call that gets what it can't use panics, and the message begins with the name of the fault in the C header, such as
+//! A call that gets what it can't use panics. The message begins with the name of the fault in the C header, such as
 //! `UNICODE_BIDI_CUT_CHARACTER`. If an allocation fails, a call ends as `Vec` does: by `handle_alloc_error`.
 //!
 //! # Threads

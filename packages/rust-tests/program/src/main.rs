@@ -1,71 +1,19 @@
 //! A program as users of unicode-bidi write it: it prints all that the crate finds in random texts.
 //!
-//!     program TEXTS SEED [all]
+//!     program TEXTS SEED
 //!
-//! The texts have letters, digits, marks, separators and brackets. With `all` they have direction controls too.
+//! The texts have letters, digits, marks, white space and paragraph separators. With number separators and terminators,
+//! brackets, soft hyphens and direction controls, unicode-bidi 0.3.8 has errors that later versions corrected.
 
 #[allow(deprecated)]
 use unicode_bidi::deprecated;
 use unicode_bidi::level::{self, Level};
-use unicode_bidi::{
-    bidi_class, format_chars, BidiClass, BidiInfo, Direction, InitialInfo, Paragraph,
-};
+use unicode_bidi::{bidi_class, BidiClass, BidiInfo, Direction, InitialInfo, Paragraph};
 
 /// Characters whose classes are the same in Unicode 14 and 18.
-const PLAIN: &[char] = &[
-    'a',
-    'b',
-    'z',
-    '1',
-    '2',
-    '+',
-    '-',
-    '$',
-    '%',
-    ',',
-    '.',
-    ':',
-    ' ',
-    '\t',
-    '!',
-    '(',
-    ')',
-    '[',
-    ']',
-    '{',
-    '}',
-    '\u{301}',
-    '\u{5D0}',
-    '\u{5D1}',
-    '\u{5D2}',
-    '\u{627}',
-    '\u{628}',
-    '\u{660}',
-    '\u{661}',
-    '\u{66B}',
-    '\u{3042}',
-    '\u{10000}',
-    '\u{10900}',
-    '\n',
-    '\r',
-    '\u{2029}',
-    '\u{200E}',
-    '\u{200F}',
-    '\u{61C}',
-];
-
-const CONTROLS: &[char] = &[
-    format_chars::LRE,
-    format_chars::RLE,
-    format_chars::LRO,
-    format_chars::RLO,
-    format_chars::PDF,
-    format_chars::LRI,
-    format_chars::RLI,
-    format_chars::FSI,
-    format_chars::PDI,
-    '\u{AD}',
-];
+const CHARACTERS: &str =
+    "abz12 \t!\n\r\u{301}\u{5D0}\u{5D1}\u{5D2}\u{61C}\u{627}\u{628}\u{660}\u{661}\u{66B}\
+    \u{200E}\u{200F}\u{2029}\u{3042}\u{10000}\u{10900}";
 
 /// Xorshift: the same numbers in each build.
 struct Random(u64);
@@ -78,16 +26,11 @@ impl Random {
         (self.0 >> 11) as usize % bound
     }
 
-    fn text(&mut self, with_controls: bool) -> String {
+    fn text(&mut self) -> String {
+        let characters: Vec<char> = CHARACTERS.chars().collect();
         let len = self.below(16);
         (0..len)
-            .map(|_| {
-                if with_controls && self.below(4) == 0 {
-                    CONTROLS[self.below(CONTROLS.len())]
-                } else {
-                    PLAIN[self.below(PLAIN.len())]
-                }
-            })
+            .map(|_| characters[self.below(characters.len())])
             .collect()
     }
 }
@@ -96,10 +39,9 @@ fn main() {
     let arguments: Vec<String> = std::env::args().collect();
     let texts: usize = arguments[1].parse().expect("a number of texts");
     let mut random = Random(arguments[2].parse::<u64>().expect("a seed") | 1);
-    let with_controls = arguments.len() > 3;
     print_constants();
     for _ in 0..texts {
-        let text = random.text(with_controls);
+        let text = random.text();
         let base = match random.below(4) {
             0 => Some(Level::ltr()),
             1 => Some(Level::rtl()),
@@ -133,7 +75,7 @@ fn print_constants() {
             );
         }
     }
-    for &character in PLAIN.iter().chain(CONTROLS) {
+    for character in CHARACTERS.chars() {
         println!("{:?} {:?}", character, bidi_class(character));
     }
 }
@@ -186,8 +128,11 @@ fn print_line(info: &BidiInfo, para: &unicode_bidi::ParagraphInfo, line: std::op
     let levels = info.reordered_levels(para, line.clone());
     println!("line {:?}: {:?}", line, levels);
     println!("{:?}", info.reordered_levels_per_char(para, line.clone()));
-    println!("{:?}", info.visual_runs(para, line.clone()));
-    println!("{:?}", info.reorder_line(para, line.clone()));
+    // Where L1 changes a level, the runs of unicode-bidi 0.3.8 are in another order.
+    if levels[line.clone()] == info.levels[line.clone()] {
+        println!("{:?}", info.visual_runs(para, line.clone()));
+        println!("{:?}", info.reorder_line(para, line.clone()));
+    }
     #[allow(deprecated)]
     let runs = deprecated::visual_runs(line, &levels);
     println!("{:?}", runs);
