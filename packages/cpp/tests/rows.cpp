@@ -558,6 +558,12 @@ void check_objects() {
     row.check(lines == std::vector<std::string>{"\u05D1\u05D0", "a "}, "lines");
     row.check(moved.paragraphs()[1].text() == "b" && moved.paragraphs()[1].content_end() == 9, "the last paragraph");
 
+    const auto separator = value_of(row, bidi::try_analyse("\n"sv));
+    row.check(separator.paragraphs().size() == 1 && separator.paragraphs()[0].content_end() == 0, "a separator by itself");
+    row.check(value_of(row, bidi::try_first_direction("a\xFF"sv)) == bidi::Direction::ltr &&
+                  value_of(row, bidi::try_first_direction(std::u32string_view(U"\u05D0\x110000", 2))) == bidi::Direction::rtl,
+              "a fault behind the character that decides");
+
     const auto version = bidi::version(), unicode = bidi::unicode_version();
     row.check(version.major_number == UNICODE_BIDI_VERSION_MAJOR && version.minor_number == UNICODE_BIDI_VERSION_MINOR &&
                   version.patch_number == UNICODE_BIDI_VERSION_PATCH,
