@@ -2,19 +2,15 @@
 from __future__ import annotations
 
 import re
-from codecs import utf_32_le_decode
-from ctypes import Array, byref, c_size_t, c_uint8
+from ctypes import byref, c_size_t, c_uint8
 from functools import partial
-from typing import Any, Iterable, Sequence, Tuple, Union
+from typing import Any, Iterable, Sequence, Tuple
 
 from . import _library as library
 from ._buffers import Buffers, Ranges, RangeTuple
 from ._characters import MIRRORED, REMOVED_BY_X9, BidiClass
 from ._library import size
 from .faults import NoRoomError, checked
-
-#: The classes of a text, one a character, in a buffer of C or kept.
-Classes = Union[bytes, Array[c_uint8]]
 
 _nothing = (c_uint8 * 1)()
 _NOTHING, _ZERO = byref(_nothing), size(0)
@@ -23,12 +19,12 @@ _B = int(BidiClass.B)
 _REMOVED = re.compile(b"[" + REMOVED_BY_X9 + b"]")
 
 
-def has_removed(classes: Classes, start: int, end: int) -> bool:
+def has_removed(classes: bytes, start: int, end: int) -> bool:
     """Returns whether X9 removes a character of a range."""
     return _REMOVED.search(classes, start, end) is not None
 
 
-def end_of_line(classes: Classes, start: int, end: int) -> int:
+def end_of_line(classes: bytes, start: int, end: int) -> int:
     """Returns the end of a paragraph without the separators at its end."""
     while start < end and classes[end - 1] == _B:
         end -= 1
@@ -52,7 +48,7 @@ def analyse(buffers: Buffers, characters: bytes, length: Any, base: int, split: 
     return count if count >= 0 else checked(count)
 
 
-def restored(shown: str, order: Iterable[int], start: int, text: str, read_as: str, classes: Classes, keep: bool) -> str:
+def restored(shown: str, order: Iterable[int], start: int, text: str, read_as: str, classes: bytes, keep: bool) -> str:
     """Returns a displayed line with the characters of ``text``, where C read ``read_as`` instead.
 
     The line begins at ``start``, and ``order`` has the index in the line of each displayed character. Without ``keep``,
@@ -110,7 +106,7 @@ class Analysis:
             buffers.runs = Ranges(0)
             buffers.runs = Ranges(self.line(buffers, paragraph, start, end)[0])
             return self.line(buffers, paragraph, start, end)
-        return checked(count), utf_32_le_decode(buffers.shown_bytes[: 4 * (end - start)])[0]
+        return checked(count), buffers.shown_text(end - start)
 
     def levels_of_line(self, paragraph: Any, start: int, end: int) -> Iterable[int]:
         """Returns the level of each character of a line after L1."""

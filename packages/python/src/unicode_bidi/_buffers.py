@@ -8,6 +8,7 @@ from __future__ import annotations
 
 import struct
 import threading
+from codecs import utf_32_le_decode
 from ctypes import byref, c_size_t, c_uint8, c_uint32, sizeof
 from typing import Any, List, Sequence, Tuple
 
@@ -49,11 +50,11 @@ class Ranges:
 class Buffers:
     """What an analysis and a displayed line need: room for the classes, levels and characters of a text.
 
-    The pointers, and ``shown_room``, are arguments of C.
+    ``shown`` has the bytes of the displayed characters. The pointers, and ``shown_room``, are arguments of C.
     """
 
-    __slots__ = ("room", "shown_room", "classes", "classes_pointer", "levels", "levels_pointer", "shown_bytes",
-                 "shown_pointer", "characters_pointer", "paragraphs", "runs")
+    __slots__ = ("room", "shown_room", "classes", "classes_pointer", "levels", "levels_pointer", "shown", "shown_pointer",
+                 "characters_pointer", "paragraphs", "runs")
 
     def __init__(self, room: int) -> None:
         self.paragraphs = Ranges(4)
@@ -63,15 +64,15 @@ class Buffers:
 
     def make_room(self, room: int) -> None:
         """Makes new buffers for the characters of a text."""
-        shown = (c_uint32 * room)()
+        classes, levels, shown = (c_uint8 * room)(), (c_uint8 * room)(), (c_uint32 * room)()
         self.room = room
-        self.shown_room = size(room)
-        self.classes = (c_uint8 * room)()
-        self.classes_pointer = byref(self.classes)
-        self.levels = (c_uint8 * room)()
-        self.levels_pointer = byref(self.levels)
-        self.shown_bytes = memoryview(shown).cast("B")
-        self.shown_pointer = byref(shown)
+        self.classes, self.classes_pointer = memoryview(classes).cast("B"), byref(classes)
+        self.levels, self.levels_pointer = memoryview(levels).cast("B"), byref(levels)
+        self.shown, self.shown_pointer, self.shown_room = memoryview(shown).cast("B"), byref(shown), size(room)
+
+    def shown_text(self, length: int) -> str:
+        """Returns the characters of a displayed line of this length."""
+        return utf_32_le_decode(self.shown[: 4 * length])[0]
 
 
 class _Spare(threading.local):

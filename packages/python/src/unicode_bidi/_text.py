@@ -110,8 +110,8 @@ class BidiText:
             count = analyse(buffers, characters, length, base, rule, () if tables is None else tables._arguments())
             self._paragraphs = tuple(map(Paragraph._make, buffers.paragraphs.read(count)))
             self._starts = [paragraph.start for paragraph in self._paragraphs]
-            classes = bytes(memoryview(buffers.classes)[: len(text)])
-            levels = bytes(memoryview(buffers.levels)[: len(text)])
+            classes = bytes(buffers.classes[: len(text)])
+            levels = bytes(buffers.levels[: len(text)])
         finally:
             give_back(buffers)
         self._analysis = Analysis(text, read_as, characters, classes, levels)

@@ -4,15 +4,13 @@ Programs that call ``bidi.algorithm.get_display`` can import it from here.
 """
 from __future__ import annotations
 
-import re
 import sys
-from codecs import utf_32_le_decode
 from typing import Optional, Union, overload
 
 from . import _library as library
 from ._analysis import analyse, end_of_line, has_removed, order_of, restored
-from ._buffers import Buffers, borrow, give_back
-from ._characters import MIRRORED, REMOVED_BY_X9, BidiClass, readable
+from ._buffers import borrow, give_back
+from ._characters import MIRRORED, BidiClass, readable
 from ._library import size
 from ._text import BidiText, Direction, Split
 from .faults import checked
@@ -21,8 +19,7 @@ __all__ = ["get_base_level", "get_display"]
 
 _BASE_LEVELS = {"L": 0, "R": 1, "AL": 1}
 _SPLIT = int(Split.CR_LF_TOGETHER)
-_ON = re.compile(bytes((BidiClass.ON,)))
-_REMOVED_OR_ON = re.compile(b"[" + REMOVED_BY_X9 + bytes((BidiClass.ON,)) + b"]")
+_ON = int(BidiClass.ON)
 _HEBREW_LETTER = "\u05d0"
 
 
@@ -97,47 +94,51 @@ def _displayed(text: str, read_as: str, characters: bytes, base: int) -> str:
         paragraphs = analyse(buffers, characters, length, base, _SPLIT)
         if paragraphs > 1 and base == library.AUTO:
             paragraphs = analyse(buffers, characters, length, _base_level(characters), _SPLIT)
-        classes = buffers.classes
-        keep = True
-        if _REMOVED_OR_ON.search(classes, 0, count):
-            keep = not has_removed(classes, 0, count)
-            characters = _mirrored(read_as, characters, buffers)
+        classes = bytes(buffers.classes[:count])
+        characters = _mirrored(read_as, characters, classes, buffers.levels)
+        keep = not has_removed(classes, 0, count)
+        ranges = buffers.paragraphs.read(paragraphs) if paragraphs > 1 else ((0, count, base),)
         pieces = []
-        for index, (start, end, _) in enumerate(buffers.paragraphs.read(paragraphs)):
+        for index, (start, end, _) in enumerate(ranges):
             last = end_of_line(classes, start, end)
             paragraph = buffers.paragraphs.pointer_to(index)
             checked(library.reorder_line(
                 characters, length, buffers.classes_pointer, length, buffers.levels_pointer, length, paragraph,
                 size(start), size(last), buffers.shown_pointer, buffers.shown_room))
-            shown, _ = utf_32_le_decode(buffers.shown_bytes[: 4 * (last - start)])
+            line = buffers.shown_text(last - start)
             if not keep or read_as is not text:
                 order = order_of(characters, buffers.classes_pointer, buffers.levels_pointer, paragraph, start, last)
-                shown = restored(shown, order, start, text, read_as, classes, keep)
-            pieces.append(shown)
-            pieces.append(text[last:end])
+                line = restored(line, order, start, text, read_as, classes, keep)
+            pieces.append(line)
+            if last < end:
+                pieces.append(text[last:end])
         return "".join(pieces)
     finally:
         give_back(buffers)
 
 
-def _mirrored(text: str, characters: bytes, buffers: Buffers) -> bytes:
+def _mirrored(text: str, characters: bytes, classes: bytes, levels: memoryview) -> bytes:
     """Returns the characters of an analysed text, with those at odd levels mirrored (L4).
 
     In Unicode's data only characters of class ON have a mirrored partner. L1 does not change their levels, so they can be
     mirrored before a line is reordered.
     """
-    levels = buffers.levels
-    mirrored = None
-    for found in _ON.finditer(buffers.classes, 0, len(text)):
-        index = found.start()
+    pieces = []
+    at = 0
+    index = classes.find(_ON)
+    while index >= 0:
         if levels[index] % 2:
             character = ord(text[index])
             partner = MIRRORED[character]
             if partner != character:
-                if mirrored is None:
-                    mirrored = bytearray(characters)
-                mirrored[4 * index : 4 * index + 4] = partner.to_bytes(4, "little")
-    return characters if mirrored is None else bytes(mirrored)
+                pieces.append(characters[at : 4 * index])
+                pieces.append(partner.to_bytes(4, "little"))
+                at = 4 * index + 4
+        index = classes.find(_ON, index + 1)
+    if not pieces:
+        return characters
+    pieces.append(characters[at:])
+    return b"".join(pieces)
 
 
 def _explain(text: str, base: int, shown: str) -> None:
