@@ -55,6 +55,10 @@ fn runs_join_by_matching_isolates() {
     let sample = Sources::read();
     let text = "\u{5D0}\u{2066}a\n\u{2069}\u{202B}\u{5D0}\u{202C}\u{2069}\u{5D0}";
     assert_eq!(levels(sample.named("sample"), text, level(0))[1], 0);
+    // The last PDI matches nothing, and is in the embedding.
+    let text = "\u{2066}\u{5D0}\n\u{2069}\u{202B}\u{2069}";
+    let found = levels(sample.named("sample"), text, None);
+    assert_eq!(found.last(), Some(&1));
 }
 
 #[test]
@@ -92,6 +96,9 @@ fn reorder_line_applies_l1_first() {
     let sample = Sources::read();
     let info = ParagraphBidiInfo::new_with_data_source(sample.named("sample"), "a b", level(1));
     assert_eq!(info.reorder_line(0..2), " a");
+    let text = "a\u{AD}";
+    let info = ParagraphBidiInfo::new_with_data_source(sample.named("sample"), text, level(1));
+    assert_eq!(info.reorder_line(0..text.len()), "\u{AD}a");
 }
 
 #[test]

@@ -222,10 +222,17 @@ fn the_panic_is_in_the_code_of_the_caller() {
     }));
     let first = line!();
     message(|| unicode_bidi::BidiInfo::new_with_data_source(&Letters, "a", Some(Level::from(126))));
+    let between = line!();
+    let info = unicode_bidi::ParagraphBidiInfo::new_with_data_source(&Letters, "a", None);
+    message(|| info.reorder_line(0..2));
     let last = line!();
     panic::set_hook(before);
     let places = places.lock().unwrap();
-    assert!(places
-        .iter()
-        .any(|(file, line)| file.ends_with("panics.rs") && first < *line && *line < last));
+    let is_between = |first: u32, last: u32| {
+        places
+            .iter()
+            .any(|(file, line)| file.ends_with("panics.rs") && first < *line && *line < last)
+    };
+    assert!(is_between(first, between));
+    assert!(is_between(between, last));
 }

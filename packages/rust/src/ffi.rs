@@ -5,7 +5,7 @@
 //!
 //! The library checks all its arguments except pointers. So a call is sound if each pointer points to as many elements
 //! as the length behind it says, and if no buffer that it writes overlaps another argument. Pointers and lengths of
-//! slices, and of the room in a vector, are so.
+//! slices, and of the room in a vector, are so. A class that the library writes is one of the 23.
 
 use alloc::alloc::{handle_alloc_error, Layout};
 use alloc::vec;
@@ -359,7 +359,7 @@ pub fn analyse<U: Unit>(
 fn usual_paragraphs(units: usize, split: Split) -> usize {
     match split {
         Split::OneParagraph => 1,
-        Split::EachSeparator => 8 + units / 32,
+        Split::EachSeparator => 8 + units / 8,
     }
 }
 

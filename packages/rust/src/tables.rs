@@ -1,6 +1,5 @@
 //! The tables by which the library knows a custom data source.
 
-use alloc::collections::BTreeSet;
 use alloc::vec::Vec;
 
 use crate::ffi::{BracketPair, ClassRange};
@@ -15,7 +14,9 @@ pub struct Tables {
 impl Tables {
     /// Asks a data source about each distinct character.
     pub fn of<D: BidiDataSource>(source: &D, characters: impl Iterator<Item = char>) -> Tables {
-        let characters: BTreeSet<char> = characters.collect();
+        let mut characters: Vec<char> = characters.collect();
+        characters.sort_unstable();
+        characters.dedup();
         Tables {
             ranges: class_ranges(source, &characters),
             brackets: bracket_pairs(source, &characters),
@@ -25,7 +26,7 @@ impl Tables {
 
 /// Returns the ranges of the characters that do not have class L. In the library, a character outside all ranges has
 /// class L.
-fn class_ranges<D: BidiDataSource>(source: &D, characters: &BTreeSet<char>) -> Vec<ClassRange> {
+fn class_ranges<D: BidiDataSource>(source: &D, characters: &[char]) -> Vec<ClassRange> {
     let mut ranges: Vec<ClassRange> = Vec::new();
     for &character in characters {
         let class = source.bidi_class(character);
@@ -50,7 +51,7 @@ fn class_ranges<D: BidiDataSource>(source: &D, characters: &BTreeSet<char>) -> V
 /// The library takes the first pair that has a character, and sees it as opening if it is the first of the pair. So the
 /// opening brackets come first, each in a pair with itself. A closing bracket comes in a pair with some opening bracket
 /// of the text that has its normal form. Without one it can't match, so it needs no pair.
-fn bracket_pairs<D: BidiDataSource>(source: &D, characters: &BTreeSet<char>) -> Vec<BracketPair> {
+fn bracket_pairs<D: BidiDataSource>(source: &D, characters: &[char]) -> Vec<BracketPair> {
     let mut pairs = Vec::new();
     let mut closings = Vec::new();
     for &character in characters {
