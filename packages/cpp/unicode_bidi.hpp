@@ -14,8 +14,8 @@
 ///
 /// Faults. A call without `try_` throws `Error`. Its `try_` form does not throw, and returns a `Result`, which has the
 /// value or the fault. If exceptions are off (-fno-exceptions), only the `try_` forms are declared. A fault leaves every
-/// object and buffer unchanged. Out of memory is the fault `no_memory`. There is one exception: with -fno-exceptions, a
-/// `std::basic_string` that fails to allocate ends the program. `Line::try_displayed_into` makes no string.
+/// object and buffer unchanged. Out of memory is the fault `no_memory`. With -fno-exceptions, a `std::basic_string` can't
+/// report that, and ends the program. `Line::try_displayed_into` makes no string.
 ///
 /// Cost. Each function makes one call of unicode_bidi.h, and has its cost. What a function adds is said with it.
 ///
@@ -583,16 +583,27 @@ bool resize(std::basic_string<Char> &string, std::size_t size) {
 template <class Range>
 class Iterator {
 public:
-    using iterator_category = std::input_iterator_tag;
     using value_type = typename Range::value_type;
     using difference_type = std::ptrdiff_t;
-    using pointer = const value_type *;
     using reference = value_type;
+    using iterator_category = std::input_iterator_tag; // an element is returned, so there is no reference to it
+    using iterator_concept = std::forward_iterator_tag;
+
+    /// An element for the operator `->`.
+    class pointer {
+    public:
+        explicit pointer(value_type element) noexcept : element_(element) {}
+        const value_type *operator->() const noexcept { return &element_; }
+
+    private:
+        value_type element_;
+    };
 
     Iterator() noexcept = default;
     Iterator(const Range &range, std::size_t index) noexcept : range_(range), index_(index) {}
 
     value_type operator*() const noexcept { return range_[index_]; }
+    pointer operator->() const noexcept { return pointer(range_[index_]); }
 
     Iterator &operator++() noexcept {
         ++index_;
@@ -650,6 +661,9 @@ class Line {
     using Encoding = detail::Encoding<Char>;
 
 public:
+    /// The empty line of an empty text.
+    Line() noexcept = default;
+
     /// The line of a text from `start` up to `end`, by classes and levels (X1 to I2) of each unit of the text. They need
     /// not come from a `Text`. `paragraph` has the line in it, and its level is that of L1.
     Line(std::basic_string_view<Char> text, Span<const Class> classes, Span<const Level> levels,
@@ -783,8 +797,8 @@ private:
     std::basic_string_view<Char> text_;
     Span<const Class> classes_;
     Span<const Level> levels_;
-    unicode_bidi_paragraph paragraph_;
-    std::size_t start_, end_;
+    unicode_bidi_paragraph paragraph_ = {0, 0, 0};
+    std::size_t start_ = 0, end_ = 0;
 };
 
 template <class Char>
@@ -797,6 +811,9 @@ public:
     using value_type = Line<Char>;
     using iterator = detail::Iterator<Lines>;
     using const_iterator = iterator;
+
+    /// Has no lines.
+    Lines() noexcept = default;
 
     /// Returns the number of lines.
     std::size_t size() const noexcept { return ends_.size(); }
@@ -827,6 +844,9 @@ private:
 template <class Char>
 class Paragraph : public Line<Char> {
 public:
+    /// The empty paragraph of an empty text.
+    Paragraph() noexcept = default;
+
     /// A paragraph of a text, by classes and levels of each unit of the text, as of a `Line`.
     Paragraph(std::basic_string_view<Char> text, Span<const Class> classes, Span<const Level> levels,
               const unicode_bidi_paragraph &paragraph) noexcept
@@ -866,6 +886,9 @@ public:
     using value_type = Paragraph<Char>;
     using iterator = detail::Iterator<Paragraphs>;
     using const_iterator = iterator;
+
+    /// Has no paragraphs.
+    Paragraphs() noexcept = default;
 
     /// The paragraphs of a text, by classes and levels of each unit of the text.
     Paragraphs(std::basic_string_view<Char> text, Span<const Class> classes, Span<const Level> levels,

@@ -6,8 +6,12 @@
 
 #include <algorithm>
 #include <array>
+#include <iterator>
 #include <map>
 #include <tuple>
+#if __cplusplus >= 202002L
+#include <ranges>
+#endif
 
 namespace bidi = unicode_bidi;
 using namespace std::string_view_literals;
@@ -555,6 +559,9 @@ void check_objects() {
     const std::array<std::size_t, 2> ends = {4, first.content_end()};
     std::vector<std::string> lines;
     for (const auto line : first.lines(ends)) lines.push_back(value_of(row, line.try_displayed()));
+    row.check(first.lines(ends).begin()->end() == 4 && std::distance(first.lines(ends).begin(), first.lines(ends).end()) == 2, "iterators");
+    row.check(bidi::Lines<char>().empty() && bidi::Paragraphs<char16_t>().empty() && value_of(row, bidi::Line<char>().try_runs()).empty(),
+              "ranges of nothing");
     row.check(lines == std::vector<std::string>{"\u05D1\u05D0", "a "}, "lines");
     row.check(moved.paragraphs()[1].text() == "b" && moved.paragraphs()[1].content_end() == 9, "the last paragraph");
 
@@ -574,6 +581,11 @@ void check_objects() {
     row.check(bidi::name(static_cast<bidi::Class>(23)) == "?"sv && bidi::name(static_cast<bidi::Fault>(-99)) == "UNKNOWN_FAULT"sv,
               "names of other numbers");
 }
+
+#ifdef __cpp_lib_ranges
+static_assert(std::ranges::forward_range<bidi::Paragraphs<char>> && std::ranges::forward_range<bidi::Lines<char>>);
+static_assert(std::ranges::contiguous_range<bidi::Array<bidi::Run>> && std::ranges::contiguous_range<bidi::Span<const bidi::Level>>);
+#endif
 
 } // namespace
 
