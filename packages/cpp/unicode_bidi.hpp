@@ -25,6 +25,7 @@
 
 #include "unicode_bidi.h"
 
+#include <algorithm>
 #include <cstddef>
 #include <cstdint>
 #include <cstdlib>
@@ -926,9 +927,9 @@ private:
 ///
 /// Faults: NOT_UTF8, NOT_SCALAR (by the encoding), BAD_BASE_LEVEL, BAD_SPLIT. With tables before those: NOT_SCALAR in a
 /// range, NOT_SCALAR in a pair, BAD_CLASS, BAD_RANGES.
-/// Cost: the text, once. The `Text` keeps two bytes a unit, and one `unicode_bidi_paragraph` a paragraph. During the
-/// analysis it has room for a paragraph a unit, if there is memory for them. Otherwise the paragraphs are counted first,
-/// and the text is analysed twice.
+/// Cost: the text, once. A text of more than 64 paragraphs and more than one in four units is analysed twice, because the
+/// number of paragraphs is not known before. The `Text` keeps two bytes a unit, and one `unicode_bidi_paragraph` a
+/// paragraph.
 template <class Char>
 class Text {
 public:
@@ -1021,21 +1022,17 @@ private:
         detail::Buffer<Level> levels(n);
         if (!classes.is_allocated() || !levels.is_allocated()) return Fault::no_memory;
         auto *class_numbers = reinterpret_cast<std::uint8_t *>(classes.data());
-        const auto write = [&](unicode_bidi_paragraph *paragraphs, std::size_t room) {
-            return analyse(class_numbers, n, levels.data(), n, paragraphs, room);
-        };
-        detail::Buffer<unicode_bidi_paragraph> paragraphs(split == Split::one_paragraph ? 1 : n);
-        if (!paragraphs.is_allocated()) {
-            unicode_bidi_paragraph none;
-            const std::int64_t count = write(&none, 0);
-            if (count < 0) return detail::fault_of(count);
-            paragraphs = detail::Buffer<unicode_bidi_paragraph>(static_cast<std::size_t>(count));
+        std::size_t room = split == Split::one_paragraph ? 1 : std::min(n, n / 4 + 64);
+        for (;;) {
+            detail::Buffer<unicode_bidi_paragraph> paragraphs(room);
             if (!paragraphs.is_allocated()) return Fault::no_memory;
+            const std::int64_t count = analyse(class_numbers, n, levels.data(), n, paragraphs.data(), room);
+            if (count >= 0)
+                return Text(text, std::move(classes).take(n), std::move(levels).take(n),
+                            std::move(paragraphs).take(static_cast<std::size_t>(count)));
+            if (detail::fault_of(count) != Fault::no_room || room >= n) return detail::fault_of(count);
+            room = n; // there are at most so many
         }
-        const std::int64_t count = write(paragraphs.data(), paragraphs.room());
-        if (count < 0) return detail::fault_of(count);
-        return Text(text, std::move(classes).take(n), std::move(levels).take(n),
-                    std::move(paragraphs).take(static_cast<std::size_t>(count)));
     }
 
     std::basic_string_view<Char> text_;

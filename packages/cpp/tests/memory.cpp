@@ -85,6 +85,8 @@ void sweep_all() {
     const auto line = text->paragraphs()[0];
     const auto equal = [](const auto &a, const auto &b) { return a == b; };
     sweep("analyse", [&] { return bidi::try_analyse(source); }, is_same_text<char32_t>);
+    const std::string lines_only(1000, '\n');
+    sweep("analyse many paragraphs", [&] { return bidi::try_analyse(lines_only); }, is_same_text<char>);
     sweep("base_direction", [&] { return bidi::try_base_direction(source); }, equal);
     sweep("first_direction", [&] { return bidi::try_first_direction(source); }, equal);
     sweep("classes", [&] { return bidi::try_classes(source); }, is_same<bidi::Array<bidi::Class>>);

@@ -567,6 +567,9 @@ void check_objects() {
 
     const auto separator = value_of(row, bidi::try_analyse("\n"sv));
     row.check(separator.paragraphs().size() == 1 && separator.paragraphs()[0].content_end() == 0, "a separator by itself");
+    const std::string many(1000, '\n');
+    const auto lines_only = value_of(row, bidi::try_analyse(many));
+    row.check(lines_only.paragraphs().size() == 1000 && lines_only.paragraphs()[999].start() == 999, "many paragraphs");
     row.check(value_of(row, bidi::try_first_direction("a\xFF"sv)) == bidi::Direction::ltr &&
                   value_of(row, bidi::try_first_direction(std::u32string_view(U"\u05D0\x110000", 2))) == bidi::Direction::rtl,
               "a fault behind the character that decides");
