@@ -6,6 +6,7 @@ installed (apt-get install python3-bidi). One ctypes call is measured too, becau
 """
 from __future__ import annotations
 
+import argparse
 import platform
 import time
 from typing import Any, Callable, Dict, List, Tuple
@@ -64,6 +65,7 @@ def calls_of(text: str) -> Dict[str, Callable[[], Any]]:
 
 def main() -> None:
     """Prints the table."""
+    argparse.ArgumentParser(description=__doc__, formatter_class=argparse.RawDescriptionHelpFormatter).parse_args()
     print(f"Python {platform.python_version()}, microseconds a call")
     print(f"one ctypes call: {measured({'': lambda: _library.mirrored(0x28)})[0][1]:.2f}")
     for label, text in TEXTS.items():

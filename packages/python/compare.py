@@ -20,7 +20,7 @@ try:
     import bidi.algorithm as other
     from bidi.mirror import MIRRORED
 except ImportError:
-    sys.exit("compare.py: python-bidi is not installed: apt-get install python3-bidi")
+    other = None
 
 #: Characters of every class, brackets, and characters that differ between versions of Unicode.
 PALETTE = ("abA12 \t\n\r.,:;!?'\"+-/$%#&@=*()[]{}<>\u05d0\u05d1\u0627\u0628\u0660\u0661\u06f1\u0301\u05b7\u064b"
@@ -101,6 +101,8 @@ def main() -> None:
     parser.add_argument("--most", type=int, default=12, help="the most characters of a text (12)")
     parser.add_argument("--seed", type=int, default=1, help="the seed of the random texts (1)")
     arguments = parser.parse_args()
+    if other is None:
+        sys.exit("compare.py: python-bidi is not installed: apt-get install python3-bidi")
     chance = random.Random(arguments.seed)
     found: Dict[Tuple[str, str], Tuple[int, str, str, Tuple[Call, Call]]] = {}
     equal = 0

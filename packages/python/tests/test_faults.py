@@ -90,6 +90,13 @@ class Faults(unittest.TestCase):
                 BidiText("a").line(wrong, 1)
         with self.assertRaises(TypeError):
             BidiText(b"a")
+        for upper in (False, True):
+            with self.assertRaises(TypeError):
+                unicode_bidi.get_base_level(b"a", upper)
+        with self.assertRaises(ValueError):
+            Tables([], [(0x28, 0x29)])
+        with self.assertRaises(TypeError):
+            Tables([("a", "z", R)])
         with self.assertRaises(TypeError):
             reorder_visual(5)
         with self.assertRaises(TypeError):
@@ -164,7 +171,7 @@ buffers = _buffers.Buffers(len(text))
 length = _library.size(len(text))
 before = bytes(buffers.levels)
 used = int(open("/proc/self/statm").read().split()[0]) * resource.getpagesize()
-resource.setrlimit(resource.RLIMIT_AS, (used + 100000, resource.RLIM_INFINITY))
+resource.setrlimit(resource.RLIMIT_AS, (used + 500000, resource.RLIM_INFINITY))
 try:
     _analysis.analyse(buffers, characters, length, 255, 2)
 except NoMemoryError:

@@ -67,7 +67,8 @@ class Tables:
     def __init__(self, ranges: Iterable[Tuple[int, int, int]], brackets: Iterable[Tuple[int, int, int]] = ()) -> None:
         rows = [library.ClassRange(_character(first), _character(last), _limited(number, 255))
                 for first, last, number in ranges]
-        pairs = [library.BracketPair(*map(_character, pair)) for pair in brackets]
+        pairs = [library.BracketPair(_character(opening), _character(closing), _character(normal_form))
+                 for opening, closing, normal_form in brackets]
         self._ranges = (library.ClassRange * len(rows))(*rows)
         self._brackets = (library.BracketPair * len(pairs))(*pairs)
         self._direction("", False)

@@ -80,7 +80,7 @@ def _base_level(characters: bytes) -> int:
 
 
 def _upper_as_hebrew(text: str) -> str:
-    return "".join(_HEBREW_LETTER if character.isupper() else character for character in text)
+    return "".join(_HEBREW_LETTER if str.isupper(character) else character for character in text)
 
 
 def _displayed(text: str, read_as: str, characters: bytes, base: int) -> str:
