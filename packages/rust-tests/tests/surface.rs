@@ -195,6 +195,18 @@ fn other_names() {
     }
 }
 
+#[test]
+fn iterators_of_texts() {
+    let text = "a";
+    let _: std::str::Chars = TextSource::chars(text);
+    let _: std::str::CharIndices = TextSource::char_indices(text);
+    let _: Utf8IndexLenIter = TextSource::indices_lengths(text);
+    let text: &[u16] = &[0x61];
+    let _: utf16::Utf16CharIter = TextSource::chars(text);
+    let _: utf16::Utf16CharIndexIter = TextSource::char_indices(text);
+    let _: utf16::Utf16IndexLenIter = TextSource::indices_lengths(text);
+}
+
 /// The numbers are those of the enumeration in `unicode_bidi.h`, in its order.
 #[test]
 fn numbers_of_classes() {

@@ -17,7 +17,8 @@
 //! # }
 //! ```
 //!
-//! Names such as L1, P2 and X9 are rules of UAX #9, revision 46.
+//! Names such as L1, P2 and X9 are rules of UAX #9, revision 46. The library is for x86-64 Linux, and for processors of
+//! level x86-64-v2.
 //!
 //! # Code units
 //!
