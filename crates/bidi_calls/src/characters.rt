@@ -102,12 +102,26 @@ pub fn bracket_of<D: BidiDataSource>(data_source: &D, character: u32) -> Result<
     Ok(Brackets.number(data_source, char_of(character)) as usize)
 }
 
-// Writes a number to each entry. Most characters are one or two code units long, so the loop is short.
+// Writes a number to each entry. Most characters have up to three code units, which are written without a loop.
 fn fill<N: Copy>(out: &mut [N], number: N)
     ensures { out.new ≡ replicate (length out.old) number }
 {
-    for i in 0..out.len() {
-        out[i] = number;
+    match out.len() {
+        1 => out[0] = number,
+        2 => {
+            out[0] = number;
+            out[1] = number;
+        }
+        3 => {
+            out[0] = number;
+            out[1] = number;
+            out[2] = number;
+        }
+        _ => {
+            for i in 0..out.len() {
+                out[i] = number;
+            }
+        }
     }
 }
 
