@@ -90,6 +90,9 @@ enum {
   UNICODE_BIDI_PDI
 };
 
+/* What the number of an opening bracket has more than that of its closing bracket. */
+#define UNICODE_BIDI_OPENING 0x80000000u
+
 /* A paragraph: its units, including a separator that ends it, and its level. */
 typedef struct {
   size_t start, end;
@@ -127,6 +130,55 @@ int64_t unicode_bidi_version(void);
 
 /* Returns the version of Unicode's data in the form of UNICODE_BIDI_UNICODE_VERSION: 180000 is 18.0.0. */
 int64_t unicode_bidi_unicode_version(void);
+
+/* -------- Characters, by Unicode's own data --------
+ *
+ * The calls do not allocate. */
+
+/* Returns the class (Bidi_Class) of a character: UNICODE_BIDI_L to UNICODE_BIDI_PDI.
+ * Faults   NOT_SCALAR
+ * Proved   the class (class_of of unicode_source). */
+int64_t unicode_bidi_class_of(uint32_t character);
+
+/* Returns the number of the bracket that a character is (BD14, BD15), or 0 if it is none. Two brackets of one pair have
+ * the same number, except that the opening one has UNICODE_BIDI_OPENING more. The number without it is the opening
+ * bracket of the pair, or its canonical equivalent (BD16): U+2329 and U+232A have the numbers of U+3008 and U+3009.
+ * Faults   NOT_SCALAR
+ * Proved   the number (bracket_number of unicode_source). */
+int64_t unicode_bidi_bracket_of(uint32_t character);
+
+/* Returns the mirrored partner of a character (Bidi_Mirroring_Glyph), or the character itself if it has none. With L4, a
+ * character at an odd level is displayed as its partner.
+ * Faults   NOT_SCALAR
+ * Proved   the partner (mirrored_of). */
+int64_t unicode_bidi_mirrored(uint32_t character);
+
+/* Writes the class of each unit's character, and returns the number of units. An FSI has class FSI: X5c is not applied.
+ * classes_len   at least text_len
+ * Faults   NOT_UTF8, NOT_SCALAR (by the encoding), NO_ROOM
+ * Cost     the text
+ * Proved   the classes (class_of of unicode_source), each repeated on the units of its character. */
+int64_t unicode_bidi_classes_utf8(const uint8_t *text, size_t text_len, uint8_t *classes, size_t classes_len);
+int64_t unicode_bidi_classes_utf16(const uint16_t *text, size_t text_len, uint8_t *classes, size_t classes_len);
+int64_t unicode_bidi_classes_utf32(const uint32_t *text, size_t text_len, uint8_t *classes, size_t classes_len);
+
+/* Writes the number of each unit's character as unicode_bidi_bracket_of returns it, and returns the number of units.
+ * brackets_len  at least text_len
+ * Faults   NOT_UTF8, NOT_SCALAR (by the encoding), NO_ROOM
+ * Cost     the text
+ * Proved   the numbers (bracket_number of unicode_source), each repeated on the units of its character. */
+int64_t unicode_bidi_brackets_utf8(const uint8_t *text, size_t text_len, uint32_t *brackets, size_t brackets_len);
+int64_t unicode_bidi_brackets_utf16(const uint16_t *text, size_t text_len, uint32_t *brackets, size_t brackets_len);
+int64_t unicode_bidi_brackets_utf32(const uint32_t *text, size_t text_len, uint32_t *brackets, size_t brackets_len);
+
+/* Returns the base direction (P2, P3) of characters with these classes, one a character: UNICODE_BIDI_LTR, _RTL or
+ * _MIXED. With full 0 it is the direction of the first paragraph, otherwise that of the first paragraph that has one. A
+ * paragraph ends after each class B.
+ * Faults   BAD_CLASS, in any of the classes
+ * Cost     the classes
+ * Proved   the direction (base_direction, full_base_direction), with the numbers as the characters of a data source in
+ *          which the number of a class has that class (numbered_source). */
+int64_t unicode_bidi_base_direction_of_classes(const uint8_t *classes, size_t classes_len, uint8_t full);
 
 /* -------- The whole text, by Unicode's own data --------
  *

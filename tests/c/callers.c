@@ -308,7 +308,7 @@ static size_t place_of(const row *r, const text *t, int e, size_t k) {
     return t->at[e][k];
 }
 
-static long texts_seen, lines_seen, orders_seen, left_out;
+static long texts_seen, lines_seen, orders_seen, characters_seen, left_out;
 
 static void try_text(const row *r) {
     if (strcmp(r->kind, "text")) return;
@@ -490,6 +490,143 @@ static int direction_of(const row *r, const char *key) {
     BAD_ROW(r, "no direction");
 }
 
+/* ---- characters ---- */
+
+static void expect(const char *what, int64_t found, int64_t wanted) {
+    if (found != wanted) FAIL("%s: %lld and not %lld", what, (long long)found, (long long)wanted);
+}
+
+static int64_t classes_of(int e, const void *text, size_t n, uint8_t *classes, size_t room) {
+    return BY_ENCODING(e, classes, text, n, classes, room);
+}
+
+static int64_t brackets_of(int e, const void *text, size_t n, uint32_t *brackets, size_t room) {
+    return BY_ENCODING(e, brackets, text, n, brackets, room);
+}
+
+/* The number of the bracket that words of a row name, from the word *at on: none, or opens or closes with a character. */
+static uint32_t bracket_from(const row *r, const list *l, size_t *at) {
+    const char *kind = *at < l->count ? l->items[(*at)++] : "";
+    if (!strcmp(kind, "none")) return 0;
+    bool opens = !strcmp(kind, "opens");
+    if ((!opens && strcmp(kind, "closes")) || *at == l->count) BAD_ROW(r, "a bracket");
+    return code_of(r, l->items[(*at)++]) + (opens ? UNICODE_BIDI_OPENING : 0);
+}
+
+/* The numbers of brackets of a row's field, one a character. Whether the row has it. */
+static bool read_brackets(const row *r, const char *key, uint32_t *brackets, size_t count) {
+    static list l;
+    if (!words(r, key, &l)) return false;
+    size_t at = 0;
+    for (size_t k = 0; k < count; k++) brackets[k] = bracket_from(r, &l, &at);
+    if (at != l.count) BAD_ROW(r, "more brackets than characters");
+    return true;
+}
+
+/* Each call over a text has for each unit what the call over a character has. */
+static void see_characters(const char *what, const text *t) {
+    for (int e = UTF8; e <= UTF32; e++) {
+        if (t->is_utf16_alone && e != UTF16) continue;
+        size_t n = t->units[e];
+        const void *in = copied(texts, t->in[e], n * SIZES[e]);
+        for (size_t more = 0; more < 2; more++) {
+            uint8_t *c = buffer(classes_at, n + more, 0x77);
+            uint32_t *b = buffer(out_at, (n + more) * sizeof *b, 0x77);
+            if (classes_of(e, in, n, c, n + more) != (int64_t)n || brackets_of(e, in, n, b, n + more) != (int64_t)n)
+                FAIL("%s: characters in %s", what, NAMES[e]);
+            for (size_t k = 0; k < t->len; k++) {
+                uint32_t character = t->chars[k] - 0xD800 < 0x800 ? 0xFFFD : t->chars[k];
+                for (size_t u = t->at[e][k]; u < t->at[e][k + 1]; u++)
+                    if (c[u] != unicode_bidi_class_of(character) || b[u] != unicode_bidi_bracket_of(character))
+                        FAIL("%s: character %zu in %s", what, k, NAMES[e]);
+            }
+            if (!all_are(c + n, more, 0x77) || !all_are(b + n, more * sizeof *b, 0x77)) FAIL("%s: past the characters in %s", what, NAMES[e]);
+            watch(classes_at, n + more, what), watch(out_at, (n + more) * sizeof *b, what);
+        }
+        if (!n) continue;
+        uint8_t *c = buffer(classes_at, n - 1, 0x77);
+        uint32_t *b = buffer(out_at, (n - 1) * sizeof *b, 0x77);
+        if (classes_of(e, in, n, c, n - 1) != UNICODE_BIDI_NO_ROOM || brackets_of(e, in, n, b, n - 1) != UNICODE_BIDI_NO_ROOM)
+            FAIL("%s: characters in %s with little room", what, NAMES[e]);
+        if (!all_are(c, n - 1, 0x77) || !all_are(b, (n - 1) * sizeof *b, 0x77)) FAIL("%s: a fault of %s that wrote", what, NAMES[e]);
+        watch(classes_at, n - 1, what), watch(out_at, (n - 1) * sizeof *b, what);
+    }
+}
+
+static void try_character(const row *r) {
+    if (!strcmp(r->kind, "character of Unicode")) {
+        uint32_t c = code_of(r, get(r, "character")), bracket;
+        characters_seen++;
+        if (get(r, "class") && unicode_bidi_class_of(c) != class_of(r, get(r, "class"))) BAD_ROW(r, "its class");
+        if (read_brackets(r, "bracket", &bracket, 1) && unicode_bidi_bracket_of(c) != bracket) BAD_ROW(r, "its bracket");
+        const char *partner = get(r, "mirrored");
+        if (partner && unicode_bidi_mirrored(c) != (strcmp(partner, "none") ? code_of(r, partner) : c)) BAD_ROW(r, "its mirrored partner");
+        text one;
+        memset(&one, 0, sizeof one);
+        push(&one, c);
+        see_characters(r->name, &one);
+    } else if (!strcmp(r->kind, "characters of Unicode")) {
+        static text t;
+        if (!read_text(r, "text", &t)) BAD_ROW(r, "a long text");
+        characters_seen++;
+        uint32_t brackets[MOST];
+        bool has_brackets = read_brackets(r, "brackets", brackets, t.len);
+        for (int e = UTF8; e <= UTF32; e++) {
+            size_t n = t.units[e];
+            uint8_t *c = buffer(classes_at, n, 99);
+            uint32_t *b = buffer(out_at, n * sizeof *b, 0);
+            if (classes_of(e, t.in[e], n, c, n) != (int64_t)n || brackets_of(e, t.in[e], n, b, n) != (int64_t)n) BAD_ROW(r, "its length");
+            see_field(r, "classes", e, &t, c, CLASSES);
+            for (size_t k = 0; has_brackets && k < t.len; k++)
+                for (size_t u = t.at[e][k]; u < t.at[e][k + 1]; u++)
+                    if (b[u] != brackets[k]) BAD_ROW(r, "%s: the bracket %zu", NAMES[e], k);
+        }
+        see_characters(r->name, &t);
+    }
+}
+
+/* The calls over characters: faults, a surrogate in no pair, and no request for memory. */
+static void try_characters(void) {
+    static const uint32_t none[] = {0xD800, 0xDFFF, 0x110000, UINT32_MAX}, scalars[] = {0, 0xD7FF, 0xE000, 0x10FFFF};
+    static const uint8_t broken[] = {'a', 0xD7}, bad[] = {0, 22, 23};
+    uint8_t c[3] = {99, 99, 99};
+    uint32_t b[3] = {99, 99, 99};
+    for (size_t i = 0; i < COUNT(none); i++) {
+        const uint32_t two[] = {'a', none[i]};
+        expect("the class of no scalar value", unicode_bidi_class_of(none[i]), UNICODE_BIDI_NOT_SCALAR);
+        expect("the bracket of no scalar value", unicode_bidi_bracket_of(none[i]), UNICODE_BIDI_NOT_SCALAR);
+        expect("the partner of no scalar value", unicode_bidi_mirrored(none[i]), UNICODE_BIDI_NOT_SCALAR);
+        expect("classes of no scalar value", unicode_bidi_classes_utf32(two, 2, c, 3), UNICODE_BIDI_NOT_SCALAR);
+        expect("brackets of no scalar value", unicode_bidi_brackets_utf32(two, 2, b, 3), UNICODE_BIDI_NOT_SCALAR);
+        expect("no scalar value before no room", unicode_bidi_classes_utf32(two, 2, c, 1), UNICODE_BIDI_NOT_SCALAR);
+        expect("no scalar value before no room", unicode_bidi_brackets_utf32(two, 2, b, 1), UNICODE_BIDI_NOT_SCALAR);
+    }
+    for (size_t i = 0; i < COUNT(scalars); i++)
+        if (unicode_bidi_class_of(scalars[i]) < 0 || unicode_bidi_bracket_of(scalars[i]) != 0 || unicode_bidi_mirrored(scalars[i]) != scalars[i])
+            FAIL("the scalar value %x", scalars[i]);
+    expect("classes of what is not UTF-8", unicode_bidi_classes_utf8(broken, 2, c, 3), UNICODE_BIDI_NOT_UTF8);
+    expect("brackets of what is not UTF-8", unicode_bidi_brackets_utf8(broken, 2, b, 3), UNICODE_BIDI_NOT_UTF8);
+    expect("no UTF-8 before no room", unicode_bidi_classes_utf8(broken, 2, c, 1), UNICODE_BIDI_NOT_UTF8);
+    expect("no UTF-8 before no room", unicode_bidi_brackets_utf8(broken, 2, b, 1), UNICODE_BIDI_NOT_UTF8);
+    for (size_t i = 0; i < 3; i++)
+        if (c[i] != 99 || b[i] != 99) FAIL("a fault in characters that wrote");
+    for (uint8_t full = 0; full < 2; full++) {
+        expect("a class above 22", unicode_bidi_base_direction_of_classes(bad, 3, full), UNICODE_BIDI_BAD_CLASS);
+        expect("no class", unicode_bidi_base_direction_of_classes(bad, 0, full), UNICODE_BIDI_MIXED);
+    }
+    static text t;
+    memset(&t, 0, sizeof t);
+    static const uint32_t lone[] = {'(', 0xD800, 0x5D0, 0xDC00, ')', 0x1F600, 0xDBFF};
+    for (size_t i = 0; i < COUNT(lone); i++) push(&t, lone[i]);
+    t.is_utf16_alone = true;
+    until_refusal = 0, was_refused = false;
+    see_characters("a surrogate in no pair", &t);
+    read_utf8(&t, u8"a(\u05D0)\u2329\u232A\u0F3A\U0001F600 1\u2068\u0661\u2069\n");
+    see_characters("some characters", &t);
+    if (unicode_bidi_base_direction_of_classes(bad, 2, 1) != UNICODE_BIDI_LTR || was_refused) FAIL("a call over characters asks for memory");
+    until_refusal = -1;
+}
+
 /* The characters of these rows have the same classes in the sample as in Unicode's data. */
 static void try_direction(const row *r) {
     if (strcmp(r->kind, "base direction")) return;
@@ -503,6 +640,10 @@ static void try_direction(const row *r) {
     for (int e = UTF8; e <= UTF32; e++)
         if (first_direction(e, t.in[e], t.units[e], 0) != direction_of(r, "first") || first_direction(e, t.in[e], t.units[e], 1) != direction_of(r, "full"))
             BAD_ROW(r, "%s, read no further than it is decided", NAMES[e]);
+    uint8_t c[MOST];
+    if (unicode_bidi_classes_utf32((const uint32_t *)t.in[UTF32], t.len, c, MOST) != (int64_t)t.len
+        || unicode_bidi_base_direction_of_classes(c, t.len, 0) != direction_of(r, "first") || unicode_bidi_base_direction_of_classes(c, t.len, 1) != direction_of(r, "full"))
+        BAD_ROW(r, "by its classes");
 }
 
 /* Each call once, by Unicode's own data, and by a table of one range and no brackets. */
@@ -539,10 +680,6 @@ static void try_each_call(void) {
         FAIL("a table of one range");
     see("classes by a table of one range", UTF32, &t, "L L R R L", c, CLASSES);
     see("levels by a table of one range", UTF32, &t, "0 0 1 1 0", l, NULL);
-}
-
-static void expect(const char *what, int64_t found, int64_t wanted) {
-    if (found != wanted) FAIL("%s: %lld and not %lld", what, (long long)found, (long long)wanted);
 }
 
 /* The versions that the header names are those of the library. */
@@ -807,7 +944,7 @@ static void call_at_random(void) {
     if (start > end && below(8)) { size_t s = start; start = end, end = s; }
     uint8_t base = below(2) ? AUTO : below(8) ? below(126) : next() >> 56, split = below(9) ? below(3) : next() >> 56;
     int64_t answer;
-    switch (below(8)) {
+    switch (below(9)) {
     case 0: case 1: {
         unicode_bidi_paragraph *ps = copied(rows_at, seed, np * sizeof p);
         answer = analyse(e, below(2), in, m, base, split, c, nc, l, nl, ps, np);
@@ -858,6 +995,20 @@ static void call_at_random(void) {
         expect("show_line at random", answer, wanted);
         break;
     }
+    case 7: {
+        copied(out_at, seed, room * sizeof(uint32_t));
+        answer = brackets_of(e, in, m, (uint32_t *)out_at.end - room, room);
+        unchanged(answer, out_at, seed, room * sizeof(uint32_t), "brackets");
+        copied(out_at, seed, room);
+        expect("classes at random", classes_of(e, in, m, out_at.end - room, room), answer);
+        unchanged(answer, out_at, seed, room, "classes");
+        uint8_t full = next() & 1;
+        int64_t found = unicode_bidi_base_direction_of_classes(c, nc, full);
+        bool good = true;
+        for (size_t i = 0; i < nc; i++) good &= c[i] < 23;
+        if (good ? found < UNICODE_BIDI_LTR || found > UNICODE_BIDI_MIXED : found != UNICODE_BIDI_BAD_CLASS) FAIL("the direction of classes at random");
+        break;
+    }
     default: {
         size_t *order = copied(order_at, seed, room * sizeof *order);
         answer = unicode_bidi_reorder_visual(l, nl, order, room);
@@ -906,7 +1057,14 @@ static void compare_at_random(void) {
         for (size_t k = 0; k < t.len; k++)
             for (size_t u = t.at[e][k]; u < t.at[e][k + 1]; u++)
                 if (c[e][u] != c[0][t.at[0][k]] || l[e][u] != l[0][t.at[0][k]]) FAIL("levels differ in %s", NAMES[e]);
+        uint8_t own[96];
+        if (classes_of(e, t.in[e], n, own, n) != (int64_t)n) FAIL("classes in %s", NAMES[e]);
+        for (size_t u = 0; !tables && u < n; u++) /* X5c alone gives an analysis another class */
+            if (own[u] != c[e][u] && (own[u] != UNICODE_BIDI_FSI || (c[e][u] != UNICODE_BIDI_LRI && c[e][u] != UNICODE_BIDI_RLI)))
+                FAIL("classes differ from those of an analysis in %s", NAMES[e]);
+        if (e == UTF32 && unicode_bidi_base_direction_of_classes(own, n, full) != direction(e, false, t.in[e], n, full)) FAIL("the direction of classes differs");
     }
+    see_characters("at random", &t);
     try_fault_at_random(&t, full);
     if (!count[0]) return;
     size_t q = below(count[0]), first = 0, last = 0;
@@ -955,18 +1113,20 @@ int main(int argc, char **argv) {
     each_row(folder, "lines.rows", try_line);
     each_row(folder, "orders.rows", try_order);
     each_row(folder, "directions.rows", try_direction);
+    each_row(folder, "characters.rows", try_character);
     now = &sources[0];
     try_each_call();
     try_versions();
     try_faults();
     try_first_direction();
+    try_characters();
     try_refusals();
     try_long_lines();
     for (long i = 0; i < calls; i++) {
         if (i % 4) call_at_random();
         else compare_at_random();
     }
-    printf("ok callers: %ld rows of texts, %ld of lines, %ld of orders, %ld left out as too long, each fault, %ld refusals of memory, and %ld random calls\n",
-           texts_seen, lines_seen, orders_seen, left_out, refusals, calls);
+    printf("ok callers: %ld rows of texts, %ld of lines, %ld of orders, %ld of characters, %ld left out as too long, each fault, %ld refusals of memory, and %ld random calls\n",
+           texts_seen, lines_seen, orders_seen, characters_seen, left_out, refusals, calls);
     return 0;
 }

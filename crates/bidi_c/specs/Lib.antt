@@ -1,1 +1,2 @@
+pub mod Mirroring
 pub mod Versions

@@ -6,9 +6,11 @@
 #![tactic(auto)]
 
 mod exports;
+mod exports_characters;
 mod exports_direction;
 mod exports_utf16;
 mod exports_utf32;
 mod exports_utf8;
 mod exports_version;
+mod mirroring;
 mod version;

@@ -1,3 +1,4 @@
+pub mod CharacterLemmas
 pub mod CountLemmas
 pub mod EvenChars
 pub mod EvenSteps

@@ -1,3 +1,4 @@
+pub mod Characters
 pub mod Even
 pub mod Everything
 pub mod FirstDirection

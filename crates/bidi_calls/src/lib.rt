@@ -4,6 +4,7 @@
 pub mod buffers;
 pub mod by_tables;
 pub mod char_order;
+pub mod characters;
 pub mod checked;
 pub mod counted;
 pub mod even;

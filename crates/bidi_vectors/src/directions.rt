@@ -36,7 +36,7 @@ pub fn run_base(
     row: &Row<'_>,
     tally: &mut Tally,
 ) -> Result<(), RowFault> {
-    row.has_only(&["text", "source", "first", "full"])?;
+    row.has_only(&["text", "types", "source", "first", "full"])?;
     let source = tables.source(row.line)?;
     let text = RowText::of_row(alloc, row)?;
     check_base(&source, StrText::new(text.utf8.as_str()), row, tally);

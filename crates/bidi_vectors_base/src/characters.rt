@@ -15,7 +15,7 @@ use bidi_vectors_format::fault::{RowFault, Why};
 use bidi_vectors_format::row::Row;
 use bidi_vectors_format::source::Tables;
 use bidi_vectors_format::tally::Tally;
-use bidi_vectors_format::text::char_of;
+use bidi_vectors_format::text::{RowText, char_of};
 use std::alloc::Global;
 
 // Returns the bracket of a character as text: `opens` or `closes` with its pair's opening bracket, or `none`.
@@ -93,6 +93,40 @@ pub fn run_unicode(alloc: Global, row: &Row<'_>, tally: &mut Tally) -> Result<()
         "bidi_unicode::mirrored",
         partner_words(alloc, c),
     );
+    Ok(())
+}
+
+// Returns the classes of characters by Unicode's data, as words.
+fn unicode_classes(alloc: Global, chars: &[char]) -> Result<String, RowFault> {
+    let mut classes = Vec::new(alloc);
+    for c in chars {
+        classes.push(UnicodeData.bidi_class(*c))?;
+    }
+    class_words(alloc, classes.as_slice())
+}
+
+// Returns the brackets of characters by Unicode's data, as words.
+fn unicode_brackets(alloc: Global, chars: &[char]) -> Result<String, RowFault> {
+    let mut words = String::new(alloc);
+    for c in chars {
+        if !words.is_empty() {
+            words.push(' ')?;
+        }
+        let bracket = bracket_words(alloc, &UnicodeData, *c)?;
+        words.push_str(bracket.as_str())?;
+    }
+    Ok(words)
+}
+
+/// Runs a row of a text over Unicode's data: the classes and the brackets of its characters.
+pub fn run_unicode_text(alloc: Global, row: &Row<'_>, tally: &mut Tally) -> Result<(), RowFault> {
+    row.has_only(&["text", "classes", "brackets"])?;
+    let text = RowText::by_characters(alloc, row.field("text")?)?;
+    let chars = text.chars.as_slice();
+    let words = unicode_classes(alloc, chars);
+    tally.agree(row, "classes", "UnicodeData::bidi_class", words);
+    let call = "UnicodeData::bidi_matched_opening_bracket";
+    tally.agree(row, "brackets", call, unicode_brackets(alloc, chars));
     Ok(())
 }
 

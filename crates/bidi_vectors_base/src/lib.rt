@@ -30,6 +30,7 @@ pub fn run(
         "group of classes" => characters::run_group(alloc, row, tally)?,
         "character" => characters::run_character(alloc, tables, row, tally)?,
         "character of Unicode" => characters::run_unicode(alloc, row, tally)?,
+        "characters of Unicode" => characters::run_unicode_text(alloc, row, tally)?,
         "format character" => characters::run_format(alloc, tables, row, tally)?,
         "search" => searches::run(alloc, row, tally)?,
         _ => return Ok(false),

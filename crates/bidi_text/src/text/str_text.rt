@@ -150,6 +150,8 @@ impl<'t> TextSource for StrText<'t> {
         self.as_str().len()
     }
 
+    // N0 calls this for each character that may be a bracket.
+    #[inline(always)]
     fn char_at(&self, index: usize) -> Option<(char, usize)> {
         let text = self.as_str();
         if !text.is_char_boundary(index) {

@@ -1,0 +1,255 @@
+//! The calls over characters by themselves: their classes, their brackets, and the base direction of classes.
+//!
+//! The number of a bracket is 0 if the character is no bracket. Otherwise it is the opening bracket of its pair in
+//! normal form (BD16), plus `OPENING` if the character is an opening bracket.
+ghost use Rattle.std.specs.Prelude.{◌≡◌, ℕ, true, nat_le, IsUtf8, if◌then◌else◌, length, map, replicate};
+ghost use Rattle.std.specs.Char.{len_utf8};
+ghost use Rattle.std.specs.List.{list_all};
+ghost use Rattle.std.specs.Option.{option_or};
+ghost use Rattle.std.specs.Result.{result_err};
+ghost use Rattle.std.specs.Str.{chars};
+ghost use Rattle.bidi_base.specs.Source.{Source};
+ghost use Rattle.bidi_base.specs.Text.{text_len, one_unit};
+ghost use Rattle.bidi_base.specs.Utf16.{utf16_text, utf16_len};
+ghost use Rattle.bidi_calls.specs.Characters.{bracket_number, class_number_in, bracket_number_in, if_scalar, numbers_of, numbered_source};
+ghost use Rattle.bidi_calls.specs.Kept.{WritesList};
+ghost use Rattle.bidi_numbers.specs.Faults.{fault_unless};
+ghost use Rattle.bidi_numbers.specs.Numbers.{is_class, direction_in};
+ghost use Rattle.bidi_numbers.specs.Texts.{is_scalar};
+
+use crate::checked::number_of_direction;
+use bidi_base::data_source::BidiMatchedOpeningBracket;
+use bidi_numbers::fault::{Fault, check};
+use bidi_numbers::numbers::{check_classes, class_of as class_numbered, number_of};
+use bidi_numbers::texts::{all_scalar, char_of, is_scalar, utf8};
+use unicode_bidi::direction_search::{DirectionSearch, search_class};
+use unicode_bidi::text::{StrText, TextSource, Utf16Text};
+use unicode_bidi::{BidiDataSource, Direction};
+
+/// What the number of an opening bracket has more than that of its closing bracket.
+pub const OPENING: u32 = 0x8000_0000;
+
+/// A number that a data source has for each character.
+pub trait Numbering: Copy {
+    /// The type of the numbers.
+    type Number: Copy;
+
+    /// The number of a character.
+    ghost number: { Source → ℕ → Self.Number };
+
+    /// Returns the number of a character.
+    fn number<D: BidiDataSource>(self, data_source: &D, c: char) -> Self::Number
+        ensures { result ≡ number (D.source data_source.now) c };
+}
+
+/// The numbers of the classes of characters.
+#[derive(Clone, Copy, Debug)]
+pub struct Classes;
+
+impl Numbering for Classes {
+    type Number = u8;
+
+    ghost number = { class_number_in };
+
+    fn number<D: BidiDataSource>(self, data_source: &D, c: char) -> u8 {
+        number_of(data_source.bidi_class(c))
+    }
+}
+
+// Returns the number of a bracket.
+fn bracket_number(bracket: Option<BidiMatchedOpeningBracket>) -> u32
+    ensures { result ≡ bracket_number bracket }
+{
+    match bracket {
+        None => 0,
+        Some(BidiMatchedOpeningBracket { opening, is_open }) => {
+            if is_open {
+                opening as u32 + OPENING
+            } else {
+                opening as u32
+            }
+        }
+    }
+}
+
+/// The numbers of the brackets that characters are.
+#[derive(Clone, Copy, Debug)]
+pub struct Brackets;
+
+impl Numbering for Brackets {
+    type Number = u32;
+
+    ghost number = { bracket_number_in };
+
+    fn number<D: BidiDataSource>(self, data_source: &D, c: char) -> u32 {
+        bracket_number(data_source.bidi_matched_opening_bracket(c))
+    }
+}
+
+/// Returns the number of a character's class, or `NotScalar` if the number is not a scalar value.
+pub fn class_of<D: BidiDataSource>(data_source: &D, character: u32) -> Result<usize, Fault>
+    ensures { result ≡ if_scalar character (class_number_in (D.source data_source.now) character) }
+{
+    check(is_scalar(character), Fault::NotScalar)?;
+    Ok(usize::from(Classes.number(data_source, char_of(character))))
+}
+
+/// Returns the number of the bracket that a character is, or `NotScalar` if the number is not a scalar value.
+pub fn bracket_of<D: BidiDataSource>(data_source: &D, character: u32) -> Result<usize, Fault>
+    ensures { result ≡ if_scalar character (bracket_number_in (D.source data_source.now) character) }
+{
+    check(is_scalar(character), Fault::NotScalar)?;
+    Ok(Brackets.number(data_source, char_of(character)) as usize)
+}
+
+// Writes a number to each entry. Most characters have up to three code units, which are written without a loop.
+fn fill<N: Copy>(out: &mut [N], number: N)
+    ensures { out.new ≡ replicate (length out.old) number }
+{
+    match out.len() {
+        1 => out[0] = number,
+        2 => {
+            out[0] = number;
+            out[1] = number;
+        }
+        3 => {
+            out[0] = number;
+            out[1] = number;
+            out[2] = number;
+        }
+        _ => {
+            for i in 0..out.len() {
+                out[i] = number;
+            }
+        }
+    }
+}
+
+// Writes the number of each character to each of its code units.
+fn write_each<D: BidiDataSource, T: TextSource, N: Numbering>(
+    data_source: &D,
+    text: T,
+    numbering: N,
+    out: &mut [N::Number],
+)
+    requires { length out.old ≡ text_len T.units (T.characters text) }
+    ensures { out.new ≡ numbers_of (N.number (D.source data_source.now)) T.units (T.characters text) }
+{
+    let mut at = 0;
+    for c in text.chars() {
+        let end = at + T::char_len(c);
+        fill(&mut out[at..end], numbering.number(data_source, c));
+        at = end;
+    }
+}
+
+// Writes the number of each code unit's character, and returns how many code units there are.
+fn write_numbers<D: BidiDataSource, T: TextSource, N: Numbering>(
+    data_source: &D,
+    text: T,
+    numbering: N,
+    out: &mut [N::Number],
+) -> Result<usize, Fault>
+    ensures fault { result_err result
+        ≡ fault_unless (nat_le (text_len T.units (T.characters text)) (length out.old)) Fault.NoRoom }
+    ensures writes { WritesList (numbers_of (N.number (D.source data_source.now)) T.units (T.characters text))
+        result out.old out.new }
+{
+    let len = text.len();
+    check(len <= out.len(), Fault::NoRoom)?;
+    write_each(data_source, text, numbering, &mut out[..len]);
+    Ok(len)
+}
+
+/// Writes the number of each byte's character in a text of UTF-8, and returns the number of bytes.
+///
+/// Returns `NotUtf8` if the text is not UTF-8, and then `NoRoom`. Writes nothing after a fault. Does not allocate.
+pub fn numbers_utf8<D: BidiDataSource, N: Numbering>(
+    data_source: &D,
+    numbering: N,
+    text: &[u8],
+    out: &mut [N::Number],
+) -> Result<usize, Fault>
+    ensures not_utf8 { ¬ (IsUtf8 text.now) → result ≡ Err Fault.NotUtf8 }
+    ensures fault { IsUtf8 text.now
+        → result_err result ≡ fault_unless (nat_le (length text.now) (length out.old)) Fault.NoRoom }
+    ensures writes { WritesList (numbers_of (N.number (D.source data_source.now)) len_utf8 (chars text.now))
+        result out.old out.new }
+{
+    let text = StrText::new(utf8(text)?);
+    write_numbers(data_source, text, numbering, out)
+}
+
+/// Writes the number of each code unit's character in a text of UTF-16, and returns the number of code units.
+///
+/// An unpaired surrogate is the character U+FFFD. The only fault is `NoRoom`, after which nothing is written. Does not
+/// allocate.
+pub fn numbers_utf16<D: BidiDataSource, N: Numbering>(
+    data_source: &D,
+    numbering: N,
+    text: &[u16],
+    out: &mut [N::Number],
+) -> Result<usize, Fault>
+    ensures fault { result_err result ≡ fault_unless (nat_le (length text.now) (length out.old)) Fault.NoRoom }
+    ensures writes { WritesList (numbers_of (N.number (D.source data_source.now)) utf16_len (utf16_text text.now))
+        result out.old out.new }
+{
+    write_numbers(data_source, Utf16Text::new(text), numbering, out)
+}
+
+// Writes the number of each character of a list.
+fn write_listed<D: BidiDataSource, N: Numbering>(
+    data_source: &D,
+    numbering: N,
+    text: &[u32],
+    out: &mut [N::Number],
+)
+    requires scalars { list_all is_scalar text.now ≡ true }
+    requires room { length out.old ≡ length text.now }
+    ensures { out.new ≡ map (N.number (D.source data_source.now)) text.now }
+{
+    for i in 0..text.len() {
+        out[i] = numbering.number(data_source, char_of(text[i]));
+    }
+}
+
+/// Writes the number of each character of a list, and returns how many there are.
+///
+/// Returns `NotScalar` if a number is not a scalar value, and then `NoRoom`. Writes nothing after a fault. Does not
+/// allocate.
+pub fn numbers_utf32<D: BidiDataSource, N: Numbering>(
+    data_source: &D,
+    numbering: N,
+    text: &[u32],
+    out: &mut [N::Number],
+) -> Result<usize, Fault>
+    ensures fault { result_err result ≡ option_or (fault_unless (list_all is_scalar text.now) Fault.NotScalar)
+        (fault_unless (nat_le (length text.now) (length out.old)) Fault.NoRoom) }
+    ensures writes { WritesList (map (N.number (D.source data_source.now)) text.now) result out.old out.new }
+{
+    check(all_scalar(text), Fault::NotScalar)?;
+    check(text.len() <= out.len(), Fault::NoRoom)?;
+    write_listed(data_source, numbering, text, &mut out[..text.len()]);
+    Ok(text.len())
+}
+
+/// Returns the number of the base direction of characters with these classes (P2, P3): 0 for left to right, 1 for right
+/// to left, 2 for mixed.
+///
+/// Without `full` it is that of the first paragraph, and with `full` that of the first paragraph that has one. Returns
+/// `BadClass` if a number is not that of a class. Does not allocate.
+pub fn base_direction_of_classes(classes: &[u8], full: bool) -> Result<usize, Fault>
+    ensures { result
+        ≡ (if list_all is_class classes.now then Ok (direction_in numbered_source full classes.now)
+        else Err Fault.BadClass) }
+{
+    check_classes(classes)?;
+    let mut depth = 0;
+    for class in classes {
+        match search_class(class_numbered(*class), depth, full) {
+            DirectionSearch::Found(direction) => return Ok(number_of_direction(direction)),
+            DirectionSearch::Open(now) => depth = now,
+        }
+    }
+    Ok(number_of_direction(Direction::Mixed))
+}
