@@ -34,12 +34,15 @@ module _ (test : ℕ → Bool) (at : ℕ) (marks : List ℕ) (long : length mark
   none_of_sixteen none k low high = let own = bit_of k low high in let clear = bit_at-zero (k - at) in grind (arith, nat_tests)
 
   pub first_of_sixteen : 0 < mask → (at + trailing_zeros w64 mask < at + 16) × IsFirst test at (at + 16) (at + trailing_zeros w64 mask)
-  first_of_sixteen some = (within, record {
-    begins = omega arith;
-    ends = omega (arith, within);
-    before = λ k low high. let clear = lowest.2 (k - at) (omega arith) in let own = bit_of k low (omega (arith, within)) in grind (arith, nat_tests);
-    at = λ below. let own = bit_of (at + found) (omega arith) (omega (arith, within)) in let back : at + found - at ≡ found = omega arith in grind (arith, nat_tests, lowest.1);
-  })
+  first_of_sixteen some = (
+    within,
+    record {
+      begins = omega arith;
+      ends = omega (arith, within);
+      before = λ k low high. let clear = lowest.2 (k - at) (omega arith) in let own = bit_of k low (omega (arith, within)) in grind (arith, nat_tests);
+      at = λ below. let own = bit_of (at + found) (omega arith) (omega (arith, within)) in let back : at + found - at ≡ found = omega arith in grind (arith, nat_tests, lowest.1);
+    },
+  )
     where
       found : ℕ
       found = trailing_zeros w64 mask
