@@ -45,6 +45,9 @@ impl<L: LevelList> Tested for OtherLevels<L> {
     }
 }
 
+// Many runs are not longer than this. Further levels are tested sixteen at a time.
+const TESTED_SINGLY: usize = 3;
+
 // Returns the end of the run of items from `from` on that have the same level.
 #[inline(always)]
 pub(crate) fn run_end<L: LevelList>(levels: L, from: usize) -> usize
@@ -56,7 +59,7 @@ pub(crate) fn run_end<L: LevelList>(levels: L, from: usize) -> usize
 {
     let len = levels.len();
     let level = levels.number_at(from);
-    first_passing(OtherLevels { levels, level }, 1, from + 1, len)
+    first_passing(OtherLevels { levels, level }, TESTED_SINGLY, from + 1, len)
 }
 
 /// The levels of a list, with a test for those that are at most `base`.
