@@ -1,4 +1,7 @@
-"""Runs the shared test vectors that are about calls of this package, and prints how many it ran of each file."""
+"""Runs the shared test vectors that are about calls of this package.
+
+Prints how many it ran of each file, and the kinds that it left out.
+"""
 import collections
 import re
 import unittest
@@ -32,11 +35,14 @@ REMOVED = {BidiClass.BN, BidiClass.LRE, BidiClass.LRO, BidiClass.RLE, BidiClass.
 SURROGATE = re.compile("[\ud800-\udfff]")
 
 ran = collections.Counter()
+ran_kinds = set()
 
 
 def tearDownModule():
     for file, count in sorted(ran.items()):
-        print(f"{count} rows of {file}")
+        every = rows(file)
+        left_out = ", ".join(sorted({row.kind for row in every if row.kind not in ran_kinds}))
+        print(f"{file}: {count} of {len(every)} rows" + (f", without: {left_out}" if left_out else ""))
     print(f"ok python: {sum(ran.values())} rows")
 
 
@@ -100,6 +106,7 @@ class Rows(unittest.TestCase):
         """Calls ``see`` with each row of these kinds, and counts it."""
         found = [row for row in rows(file) if row.kind in kinds]
         self.assertTrue(found, f"no row of {kinds} in {file}")
+        ran_kinds.update(kinds)
         for row in found:
             with self.subTest(row=row.place):
                 ran[file] += 1
