@@ -147,8 +147,9 @@ int64_t unicode_bidi_class_of(uint32_t character);
  * Proved   the number (bracket_number of unicode_source). */
 int64_t unicode_bidi_bracket_of(uint32_t character);
 
-/* Returns the mirrored partner of a character (Bidi_Mirroring_Glyph), or the character itself if it has none. With L4, a
- * character at an odd level is displayed as its partner.
+/* Returns the mirrored partner of a character (Bidi_Mirroring_Glyph), or the character itself if it has none. By L4 a
+ * character at an odd level is displayed as its partner. The few characters that became mirrored after Unicode
+ * 15.0 have no partner here, except U+2E62 and U+2E63.
  * Faults   NOT_SCALAR
  * Proved   the partner (mirrored_of). */
 int64_t unicode_bidi_mirrored(uint32_t character);
