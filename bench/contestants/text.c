@@ -139,6 +139,19 @@ bool make_text(contest_text *text, const char *name, const uint8_t *bytes, size_
   return true;
 }
 
+void cut_at_paragraphs(contest_text *text) {
+  const encoded_text *utf32 = &text->encoded[UTF32];
+  for (encoding each = UTF8; each < ENCODINGS; each++)
+    text->encoded[each].lines_len = text->encoded[each].pieces_len = 0;
+  size_t first = 0;
+  for (size_t at = 0; at < utf32->characters; at++) {
+    if (!ends_paragraph(utf32, at)) continue;
+    add_line(text, first, at + 1);
+    add_piece(text, first, at + 1);
+    first = at + 1;
+  }
+}
+
 void free_text(contest_text *text) {
   for (encoding each = UTF8; each < ENCODINGS; each++) {
     free(text->encoded[each].units);

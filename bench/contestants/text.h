@@ -16,6 +16,9 @@ typedef struct {
 bool make_text(contest_text *text, const char *name, const uint8_t *bytes, size_t length);
 void free_text(contest_text *text);
 
+/* Makes each paragraph one line and one piece. */
+void cut_at_paragraphs(contest_text *text);
+
 /* The hostile texts, of 64 KB each. */
 extern const size_t hostile_texts_len;
 void make_hostile_text(contest_text *text, size_t index);

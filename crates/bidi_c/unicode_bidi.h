@@ -1,5 +1,5 @@
-/* The Unicode Bidirectional Algorithm (UAX #9, revision 46) for callers in C and C++. Link libbidi_c.a, and after it
- * the kit's liblibc_c.a, through which the library allocates (see the README).
+/* The Unicode Bidirectional Algorithm (UAX #9, revision 46) for callers in C and C++. With the package, link
+ * libunicode_bidi. Without it, link libbidi_c.a, and after it the kit's liblibc_c.a, through which the library allocates.
  *
  * A call accepts any numbers in its arguments and buffers. It first checks all that the library requires, and
  * returns one of the negative codes below if a check fails. Only pointers can't be checked. The caller must

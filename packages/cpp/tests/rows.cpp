@@ -8,6 +8,7 @@
 #include <array>
 #include <iterator>
 #include <map>
+#include <set>
 #include <tuple>
 #if __cplusplus >= 202002L
 #include <ranges>
@@ -138,6 +139,33 @@ bidi::Class class_of_word(const Row &row, const std::string &word) {
     for (std::uint8_t number = 0; number <= UNICODE_BIDI_PDI; number++)
         if (word == bidi::name(static_cast<bidi::Class>(number))) return static_cast<bidi::Class>(number);
     row.fail(word + " is no class");
+}
+
+/// Returns the classes of a field, if the row has it.
+std::optional<std::vector<bidi::Class>> classes_of(const Row &row, const std::string &key) {
+    const auto words = row.words(key);
+    if (!words) return std::nullopt;
+    std::vector<bidi::Class> classes;
+    for (const std::string &word : *words) classes.push_back(class_of_word(row, word));
+    return classes;
+}
+
+/// Returns the brackets of a field, if the row has it: each is `none`, `opens (` or `closes (`.
+std::optional<std::vector<bidi::Bracket>> brackets_of(const Row &row, const std::string &key) {
+    const auto words = row.words(key);
+    if (!words) return std::nullopt;
+    std::vector<bidi::Bracket> brackets;
+    for (std::size_t k = 0; k < words->size(); k++) {
+        const std::string &word = (*words)[k];
+        if (word == "none") {
+            brackets.push_back({0});
+            continue;
+        }
+        row.check((word == "opens" || word == "closes") && k + 1 < words->size(), word + " is no bracket");
+        const std::uint32_t normal_form = character_of(row, (*words)[++k]);
+        brackets.push_back({word == "opens" ? normal_form | UNICODE_BIDI_OPENING : normal_form});
+    }
+    return brackets;
 }
 
 std::optional<int> base_of(const Row &row) {
@@ -369,17 +397,31 @@ void run_visual_runs(const Row &row) {
     check_runs(row, in, line, value_of(row, line.try_runs()), value_of(row, line.try_levels()));
 }
 
+constexpr std::array searches = {bidi::Search::first_paragraph, bidi::Search::all_paragraphs};
+
+bidi::Direction wanted_direction(const Row &row, bidi::Search search) {
+    return direction_of(row, search == bidi::Search::first_paragraph ? "first" : "full");
+}
+
+void check_direction_of_classes(const Row &row, bidi::Span<const bidi::Class> classes, bidi::Search search, bidi::Direction wanted) {
+    row.check(value_of(row, bidi::try_base_direction_of_classes(classes, search)) == wanted, "by classes");
+#ifdef UNICODE_BIDI_EXCEPTIONS
+    row.check(bidi::base_direction_of_classes(classes, search) == wanted, "by classes, in the form that throws");
+#endif
+}
+
+/// The characters of these rows have the same classes in the sample as in Unicode's data.
 template <class Char>
 void check_direction(const Row &row, const std::vector<char32_t> &characters) {
     const auto in = encoded<Char>(characters);
-    for (const bidi::Search search : {bidi::Search::first_paragraph, bidi::Search::all_paragraphs}) {
-        const auto wanted = direction_of(row, search == bidi::Search::first_paragraph ? "first" : "full");
+    for (const bidi::Search search : searches) {
+        const auto wanted = wanted_direction(row, search);
         row.check(value_of(row, bidi::try_base_direction(in.text, search)) == wanted, "by Unicode's data");
         row.check(value_of(row, bidi::try_base_direction(tables_of(row), in.text, search)) == wanted, "by tables");
         row.check(value_of(row, bidi::try_first_direction(in.text, search)) == wanted, "by the first character that decides");
-        if (sizeof(Char) == 4) {
+        if constexpr (sizeof(Char) == 4) {
             const auto classes = value_of(row, bidi::try_classes(in.text));
-            row.check(value_of(row, bidi::try_base_direction_of_classes(classes, search)) == wanted, "by classes");
+            check_direction_of_classes(row, classes, search, wanted);
         }
 #ifdef UNICODE_BIDI_EXCEPTIONS
         row.check(bidi::base_direction(in.text, search) == wanted && bidi::first_direction(in.text, search) == wanted &&
@@ -392,6 +434,8 @@ void check_direction(const Row &row, const std::vector<char32_t> &characters) {
 void run_direction(const Row &row) {
     const auto characters = characters_of(row, "text");
     in_each_encoding(characters, [&](auto unit) { check_direction<decltype(unit)>(row, characters); });
+    if (const auto classes = classes_of(row, "types"))
+        for (const bidi::Search search : searches) check_direction_of_classes(row, *classes, search, wanted_direction(row, search));
 }
 
 /// Checks that each unit of a character has the class and the bracket of the character.
@@ -412,14 +456,11 @@ void run_character(const Row &row) {
     const char32_t character = character_of(row, row.get("character").value());
     if (const auto wanted = row.get("class"))
         row.check(value_of(row, bidi::try_class_of(character)) == class_of_word(row, *wanted), "class");
-    if (const auto wanted = row.words("bracket")) {
-        const bidi::Bracket bracket = value_of(row, bidi::try_bracket_of(character));
-        if (wanted->at(0) == "none")
-            row.check(!bracket, "bracket");
-        else
-            row.check(bracket && bracket.opens() == (wanted->at(0) == "opens") &&
-                          bracket.normal_form() == character_of(row, wanted->at(1)),
-                      "bracket");
+    if (const auto wanted = brackets_of(row, "bracket")) {
+        const bidi::Bracket bracket = value_of(row, bidi::try_bracket_of(character)), first = wanted->at(0);
+        row.check(wanted->size() == 1 && static_cast<bool>(bracket) == static_cast<bool>(first) &&
+                      bracket.opens() == first.opens() && bracket.normal_form() == first.normal_form(),
+                  "bracket");
     }
     if (const auto wanted = row.get("mirrored")) {
         const char32_t partner = *wanted == "none" ? character : character_of(row, *wanted);
@@ -429,6 +470,27 @@ void run_character(const Row &row) {
 #ifdef UNICODE_BIDI_EXCEPTIONS
     check_throwing(row, std::nullopt, [&] { bidi::class_of(character), bidi::bracket_of(character), bidi::mirrored(character); });
 #endif
+}
+
+template <class Char>
+void check_characters(const Row &row, const std::vector<char32_t> &characters) {
+    const auto in = encoded<Char>(characters);
+    const auto classes = value_of(row, bidi::try_classes(in.text));
+    check_units(row, "classes", in, classes, class_word);
+    const auto brackets = value_of(row, bidi::try_brackets(in.text));
+    const auto wanted = brackets_of(row, "brackets");
+    row.check(wanted && wanted->size() == characters.size() && brackets.size() == in.text.size(), "the number of brackets");
+    for (std::size_t k = 0; k < characters.size(); k++)
+        for (std::size_t unit = in.at[k]; unit < in.at[k + 1]; unit++)
+            row.check(brackets[unit].number == (*wanted)[k].number, "the bracket of character " + std::to_string(k));
+#ifdef UNICODE_BIDI_EXCEPTIONS
+    row.check(bidi::classes(in.text).size() == classes.size() && bidi::brackets(in.text).size() == brackets.size(), "the forms that throw");
+#endif
+}
+
+void run_characters(const Row &row) {
+    const auto characters = characters_of(row, "text");
+    in_each_encoding(characters, [&](auto unit) { check_characters<decltype(unit)>(row, characters); });
 }
 
 /// Keeps the tables of a source for later rows. Tables that are rejected must cause BAD_RANGES.
@@ -452,23 +514,30 @@ void run_source(const Row &row) {
         sources[row.name] = source;
 }
 
-/// Runs the rows of a file that are about a call of the library, and prints how many.
+/// Runs the rows of a file that are about a call of the library. Prints how many, and the kinds that it leaves out.
 void run_file(const std::string &folder, const std::string &file) {
     static const std::map<std::string, void (*)(const Row &)> kinds = {
         {"text", run_text},     {"line", run_line},
         {"order", run_order},   {"line map", run_line_map},
         {"source", run_source}, {"visual runs", run_visual_runs},
-        {"base direction", run_direction}, {"character of Unicode", run_character}};
+        {"base direction", run_direction}, {"character of Unicode", run_character},
+        {"characters of Unicode", run_characters}, {"format character", run_character}};
     const auto rows = read_rows(folder, file);
     std::size_t count = 0;
+    std::set<std::string> left_out;
     for (const Row &row : rows) {
         const auto kind = kinds.find(row.kind);
-        if (kind == kinds.end()) continue;
+        if (kind == kinds.end()) {
+            left_out.insert(row.kind);
+            continue;
+        }
         kind->second(row);
         count++;
     }
     if (count == 0) fail(file + ": no row ran");
-    std::printf("%s: %zu of %zu rows\n", file.c_str(), count, rows.size());
+    std::string without;
+    for (const std::string &kind : left_out) without += (without.empty() ? ", without: " : ", ") + kind;
+    std::printf("%s: %zu of %zu rows%s\n", file.c_str(), count, rows.size(), without.c_str());
 }
 
 // ---- Faults ----

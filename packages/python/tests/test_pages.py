@@ -39,6 +39,7 @@ class Pages(unittest.TestCase):
             from bidi import algorithm as other
         except ImportError:
             other = None
+            print("\nleft out: the results of python-bidi on docs/PYTHON.md, since python-bidi is not installed")
         for call, ours, theirs in found:
             with self.subTest(call=call):
                 self.assertEqual(ours, self.result_of(unicode_bidi, call, ours))

@@ -1,4 +1,7 @@
-"""Runs the shared test vectors that are about calls of this package, and prints how many it ran of each file."""
+"""Runs the shared test vectors that are about calls of this package.
+
+Prints how many it ran of each file, and the kinds that it left out.
+"""
 import collections
 import re
 import unittest
@@ -32,11 +35,14 @@ REMOVED = {BidiClass.BN, BidiClass.LRE, BidiClass.LRO, BidiClass.RLE, BidiClass.
 SURROGATE = re.compile("[\ud800-\udfff]")
 
 ran = collections.Counter()
+ran_kinds = set()
 
 
 def tearDownModule():
     for file, count in sorted(ran.items()):
-        print(f"{count} rows of {file}")
+        every = rows(file)
+        left_out = ", ".join(sorted({row.kind for row in every if row.kind not in ran_kinds}))
+        print(f"{file}: {count} of {len(every)} rows" + (f", without: {left_out}" if left_out else ""))
     print(f"ok python: {sum(ran.values())} rows")
 
 
@@ -65,10 +71,28 @@ def read_sources():
             if row.kind == "source" and row.get("fault", "none") == "none"}
 
 
-def bracket_of(row):
-    """Returns the bracket of a row, as ``bracket`` returns it."""
-    words = row.words("bracket")
-    return None if words == ["none"] else (character(words[1]), {"opens": True, "closes": False}[words[0]])
+def text_of(row):
+    """Returns the text of a row. If the row has ``types`` instead, returns a character of each class."""
+    text = row.text()
+    return "".join(OF_CLASS[number] for number in types_of(row)) if text is None else text
+
+
+def types_of(row):
+    """Returns the classes that a row has in place of a text, or None."""
+    words = row.words("types")
+    return None if words is None else [BidiClass[word] for word in words]
+
+
+def brackets_of(row, key):
+    """Returns the brackets of a field, as ``brackets`` returns them, or None if the row does not have it."""
+    words = row.words(key)
+    if words is None:
+        return None
+    found = []
+    waiting = iter(words)
+    for word in waiting:
+        found.append(None if word == "none" else (character(next(waiting)), {"opens": True, "closes": False}[word]))
+    return tuple(found)
 
 
 class Rows(unittest.TestCase):
@@ -82,6 +106,7 @@ class Rows(unittest.TestCase):
         """Calls ``see`` with each row of these kinds, and counts it."""
         found = [row for row in rows(file) if row.kind in kinds]
         self.assertTrue(found, f"no row of {kinds} in {file}")
+        ran_kinds.update(kinds)
         for row in found:
             with self.subTest(row=row.place):
                 ran[file] += 1
@@ -91,11 +116,8 @@ class Rows(unittest.TestCase):
         return self.sources[row.get("source", "sample")]
 
     def analysed(self, row, split):
-        text = row.text()
-        if text is None:
-            text = "".join(OF_CLASS[BidiClass[word]] for word in row.words("types"))
         base = row.get("base", "auto")
-        return BidiText(text, None if base == "auto" else int(base), split=split, tables=self.source(row))
+        return BidiText(text_of(row), None if base == "auto" else int(base), split=split, tables=self.source(row))
 
     def compare(self, row, key, found):
         """Compares a field, if the row has it, with what was found. A dash fits anything."""
@@ -191,11 +213,16 @@ class Rows(unittest.TestCase):
         self.each("directions.rows", self.see_base_direction, "base direction")
 
     def see_base_direction(self, row):
-        for tables in (None, self.source(row)):
-            for key, full in (("first", False), ("full", True)):
-                self.assertEqual(DIRECTIONS[row.get(key)], base_direction(row.text(), full=full, tables=tables))
+        """The characters of these rows have the same classes in the sample as in Unicode's data."""
+        text = text_of(row)
+        classes = types_of(row) or bidi_classes(text)
+        for key, full in (("first", False), ("full", True)):
+            wanted = DIRECTIONS[row.get(key)]
+            self.assertEqual(wanted, base_direction_of_classes(classes, full=full))
+            self.assertEqual(wanted, base_direction(text, full=full))
+            self.assertEqual(wanted, base_direction(text, full=full, tables=self.source(row)))
 
-    def test_characters_of_unicode(self):
+    def test_character_of_unicode(self):
         self.each("characters.rows", self.see_character, "character of Unicode", "format character")
 
     def see_character(self, row):
@@ -204,10 +231,20 @@ class Rows(unittest.TestCase):
             self.assertEqual(row.get("class"), bidi_class(found).name)
             self.assertEqual((bidi_class(found),), bidi_classes(found))
         if row.get("bracket"):
-            self.assertEqual(bracket_of(row), bracket(found))
+            self.assertEqual(brackets_of(row, "bracket"), (bracket(found),))
             self.assertEqual((bracket(found),), brackets(found))
         if row.get("mirrored"):
             self.assertEqual(found if row.get("mirrored") == "none" else row.text("mirrored"), mirrored(found))
+
+    def test_characters_of_unicode(self):
+        self.each("characters.rows", self.see_characters, "characters of Unicode")
+
+    def see_characters(self, row):
+        text = row.text()
+        self.compare(row, "classes", bidi_classes(text))
+        self.compare(row, "classes", map(bidi_class, text))
+        self.assertEqual(brackets_of(row, "brackets"), brackets(text))
+        self.assertEqual(brackets(text), tuple(map(bracket, text)))
 
     def test_characters_of_the_sample(self):
         self.each("characters.rows", self.see_character_of_sample, "character")

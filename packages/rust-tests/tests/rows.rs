@@ -1,7 +1,8 @@
 //! Runs the shared test vectors through the crate's public names, and prints how many of each file it ran.
 //!
-//! A vector is left out if the crate has no name for it: the separate stages, lines of a width, `cr-lf-together`, and a
-//! table with a fault.
+//! A vector is left out if the crate has no name for it: the separate stages, lines of a width, `cr-lf-together`, mirrored
+//! partners, and a table with a fault. The classes of Unicode's data need the feature `hardcoded-data`. The crate has no
+//! base direction of classes: `types` are a text of the source `sample`.
 
 use std::collections::BTreeSet;
 use std::panic;
@@ -9,7 +10,9 @@ use std::process::exit;
 use std::sync::atomic::{AtomicUsize, Ordering};
 
 use unicode_bidi::level::MAX_IMPLICIT_DEPTH;
-use unicode_bidi::{format_chars, BidiClass, Direction, Level, LevelRun, ParagraphInfo};
+use unicode_bidi::{
+    format_chars, BidiClass, BidiDataSource, Direction, Level, LevelRun, ParagraphInfo,
+};
 use unicode_bidi_tests::rows::{self, Row};
 use unicode_bidi_tests::sources::Sources;
 use unicode_bidi_tests::texts::{Encoded, Text};
@@ -32,10 +35,7 @@ fn main() {
             if run(row, &sources) {
                 ran += 1;
             } else {
-                left_out.insert(match row.get("split") {
-                    Some(split) => format!("{} {}", row.kind, split),
-                    None => row.kind.clone(),
-                });
+                left_out.insert(kind_left_out(row));
             }
         }
         let kinds: Vec<String> = left_out.into_iter().collect();
@@ -62,6 +62,22 @@ fn main() {
     }
 }
 
+/// Returns the kind of a test vector that is left out, and which vectors of this kind are.
+fn kind_left_out(row: &Row) -> String {
+    let which = match row.kind.as_str() {
+        "text" => row.get("split"),
+        "character of Unicode" => ["class", "mirrored"]
+            .iter()
+            .copied()
+            .find(|field| row.get(field).is_some()),
+        _ => None,
+    };
+    match which {
+        Some(which) => format!("{} {}", row.kind, which),
+        None => row.kind.clone(),
+    }
+}
+
 /// Runs a test vector. Returns false if the crate has no name for it.
 fn run(row: &Row, sources: &Sources) -> bool {
     match row.kind.as_str() {
@@ -85,6 +101,7 @@ fn run(row: &Row, sources: &Sources) -> bool {
         "list of levels" => run_list_of_levels(row),
         "format character" => run_format_character(row),
         "character of Unicode" => run_character_of_unicode(row),
+        "characters of Unicode" => run_characters_of_unicode(row),
         _ => false,
     }
 }
@@ -564,57 +581,85 @@ fn run_format_character(row: &Row) -> bool {
     true
 }
 
+/// Unicode's data, as the crate has it.
 #[cfg(feature = "hardcoded-data")]
-fn run_character_of_unicode(row: &Row) -> bool {
-    use unicode_bidi::{BidiDataSource, HardcodedBidiData};
+use unicode_bidi::HardcodedBidiData as UnicodeData;
 
-    let code = row.parse_character(row.need("character"));
-    let character = std::char::from_u32(code).unwrap_or_else(|| row.reject("no character"));
-    if let Some(class) = row.get("class") {
-        let class = row.parse_class(class);
-        expect(row, "class", unicode_bidi::bidi_class(character), class);
-        expect(row, "class", HardcodedBidiData.bidi_class(character), class);
-    }
-    if let Some(expected) = row.get("bracket") {
-        let found = HardcodedBidiData.bidi_matched_opening_bracket(character);
-        expect_bracket(row, expected, found);
-    }
-    row.get("class").is_some() || row.get("bracket").is_some()
-}
+/// Unicode's brackets, which the default function of a source has without the feature too.
+#[cfg(not(feature = "hardcoded-data"))]
+struct UnicodeData;
 
 #[cfg(not(feature = "hardcoded-data"))]
-fn run_character_of_unicode(row: &Row) -> bool {
-    // The default function of a source has Unicode's brackets without the feature too.
-    struct OnlyClasses;
-    impl unicode_bidi::BidiDataSource for OnlyClasses {
-        fn bidi_class(&self, _: char) -> BidiClass {
-            BidiClass::ON
-        }
+impl BidiDataSource for UnicodeData {
+    fn bidi_class(&self, _: char) -> BidiClass {
+        BidiClass::ON
     }
-    use unicode_bidi::BidiDataSource;
-
-    let code = row.parse_character(row.need("character"));
-    let character = std::char::from_u32(code).unwrap_or_else(|| row.reject("no character"));
-    if let Some(expected) = row.get("bracket") {
-        let found = OnlyClasses.bidi_matched_opening_bracket(character);
-        expect_bracket(row, expected, found);
-    }
-    row.get("bracket").is_some()
 }
 
-/// Compares a bracket with `none`, `opens (` or `closes (`.
-fn expect_bracket(
-    row: &Row,
-    expected: &str,
-    found: Option<unicode_bidi::data_source::BidiMatchedOpeningBracket>,
-) {
-    let words: Vec<&str> = expected.split_whitespace().collect();
-    let expected = match words[..] {
-        ["none"] => None,
-        ["opens", form] => Some((row.parse_character(form), true)),
-        ["closes", form] => Some((row.parse_character(form), false)),
-        _ => row.reject("a bracket"),
+fn run_character_of_unicode(row: &Row) -> bool {
+    let code = row.parse_character(row.need("character"));
+    let character = std::char::from_u32(code).unwrap_or_else(|| row.reject("no character"));
+    let has_class = expect_classes_of_unicode(row, "class", &[character]);
+    let has_bracket = expect_brackets_of_unicode(row, "bracket", &[character]);
+    has_class || has_bracket
+}
+
+fn run_characters_of_unicode(row: &Row) -> bool {
+    let text = Text::of(row, "text").unwrap_or_else(|| row.reject("no text"));
+    let text = text.utf8.unwrap_or_else(|| row.reject("a surrogate")).text;
+    let characters: Vec<char> = text.chars().collect();
+    let has_classes = expect_classes_of_unicode(row, "classes", &characters);
+    let has_brackets = expect_brackets_of_unicode(row, "brackets", &characters);
+    has_classes || has_brackets
+}
+
+/// Compares the class of each character with a field. Returns false if the row does not have it.
+#[cfg(feature = "hardcoded-data")]
+fn expect_classes_of_unicode(row: &Row, key: &str, characters: &[char]) -> bool {
+    let words = match row.words(key) {
+        Some(words) => words,
+        None => return false,
     };
-    let found = found.map(|bracket| (u32::from(bracket.opening), bracket.is_open));
-    expect(row, "bracket", found, expected);
+    expect(row, key, characters.len(), words.len());
+    for (&character, word) in characters.iter().zip(&words) {
+        let class = row.parse_class(word);
+        expect(row, key, unicode_bidi::bidi_class(character), class);
+        expect(row, key, UnicodeData.bidi_class(character), class);
+    }
+    true
+}
+
+/// Without the feature the crate has no class of Unicode.
+#[cfg(not(feature = "hardcoded-data"))]
+fn expect_classes_of_unicode(_: &Row, _: &str, _: &[char]) -> bool {
+    false
+}
+
+/// Compares the bracket of each character with a field: `none`, `opens (` or `closes (`. Returns false if the row does
+/// not have it.
+fn expect_brackets_of_unicode(row: &Row, key: &str, characters: &[char]) -> bool {
+    let words = match row.words(key) {
+        Some(words) => words,
+        None => return false,
+    };
+    let mut expected = Vec::new();
+    let mut waiting = words.iter().map(String::as_str);
+    while let Some(word) = waiting.next() {
+        let mut form = || match waiting.next() {
+            Some(form) => row.parse_character(form),
+            None => row.reject("a bracket without its normal form"),
+        };
+        expected.push(match word {
+            "none" => None,
+            "opens" => Some((form(), true)),
+            "closes" => Some((form(), false)),
+            _ => row.reject("no bracket"),
+        });
+    }
+    let brackets = characters.iter().map(|&character| {
+        let bracket = UnicodeData.bidi_matched_opening_bracket(character)?;
+        Some((u32::from(bracket.opening), bracket.is_open))
+    });
+    expect(row, key, brackets.collect::<Vec<_>>(), expected);
+    true
 }
