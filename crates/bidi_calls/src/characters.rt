@@ -9,7 +9,7 @@ ghost use Rattle.std.specs.Option.{option_or};
 ghost use Rattle.std.specs.Result.{result_err};
 ghost use Rattle.std.specs.Str.{chars};
 ghost use Rattle.bidi_base.specs.Source.{Source};
-ghost use Rattle.bidi_base.specs.Text.{text_len};
+ghost use Rattle.bidi_base.specs.Text.{text_len, one_unit};
 ghost use Rattle.bidi_base.specs.Utf16.{utf16_text, utf16_len};
 ghost use Rattle.bidi_calls.specs.Characters.{bracket_number, class_number_in, bracket_number_in, if_scalar, numbers_of, numbered_source};
 ghost use Rattle.bidi_calls.specs.Kept.{WritesList};
