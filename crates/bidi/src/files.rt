@@ -3,7 +3,7 @@ use crate::help::help;
 use bidi_arguments::operands::STANDARD_INPUT_NAME;
 use bidi_arguments::refusal::Subcommand;
 use bidi_inputs::status::Status;
-use bidi_names::names::shown_name;
+use bidi_terminal::names::shown_name;
 use bidi_shown::stream::{Stream, StreamFault};
 use bidi_unicode::UNICODE_VERSION;
 use bidi_visual::view::View;

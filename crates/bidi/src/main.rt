@@ -14,7 +14,7 @@ mod walk;
 use bidi_arguments::command::Command;
 use bidi_arguments::refusal::Refusal;
 use bidi_inputs::status::Status;
-use bidi_names::names::{shown_bytes, shown_name};
+use bidi_terminal::names::{shown_bytes, shown_name};
 use bidi_stages::view::StageView;
 use explain::explain_operands;
 use files::{end_without_memory, show_files, write_help, write_versions};

@@ -7,7 +7,7 @@ use bidi_bytes::pieces::read_piece;
 use bidi_inputs::input::check_input;
 use bidi_inputs::status::Status;
 use bidi_inputs::told::push_lines_told;
-use bidi_names::names::shown_name;
+use bidi_terminal::names::shown_name;
 use bidi_reports::report::Report;
 use bidi_scan::file_search::{FileSearch, FoundLine};
 use std::alloc::AllocError;

@@ -7,7 +7,7 @@ use bidi_arguments::check_options::CheckOptions;
 use bidi_arguments::operands::STANDARD_INPUT_NAME;
 use bidi_inputs::entries::{listed_names, names_in_order, path_below};
 use bidi_inputs::status::Status;
-use bidi_names::names::{shown_bytes, shown_name};
+use bidi_terminal::names::{shown_bytes, shown_name};
 use bidi_reports::form::Form;
 use bidi_reports::report::Report;
 use std::alloc::AllocError;

@@ -3,8 +3,8 @@ use Rattle.bidi_base.proofs.Common.{length-take-le, ◌≡◌, ◌∙◌, ℕ, �
 use Rattle.bidi_base.proofs.Common.{ap₂, sym, Option, length-map, AnalysedText, Source}
 use Rattle.unicode_bidi.specs.ParagraphInfo.{range_of, level_of, ranges_of, levels_of}
 use Rattle.unicode_bidi.specs.SplitRule.{IsAnalysisBy}
-use Rattle.bidi_walk.specs.declared.paragraph_info.ParagraphInfo.{ParagraphInfo}
-use Rattle.bidi_walk.specs.declared.split_rule.SplitRule.{SplitRule}
+use Rattle.bidi_paragraphs.specs.declared.paragraph_info.ParagraphInfo.{ParagraphInfo}
+use Rattle.bidi_paragraphs.specs.declared.split_rule.SplitRule.{SplitRule}
 use Rattle.bidi_numbers.specs.declared.rows.Paragraph.{Paragraph}
 use Rattle.bidi_calls.specs.Kept.{paragraphs_in}
 use Rattle.bidi_numbers.specs.Rows.{paragraph_row, paragraph_rows}

@@ -6,10 +6,10 @@ use Rattle.bidi_base.proofs.PerUnit.{length-per_char}
 use Rattle.bidi_base.proofs.PlaceLemmas.{place-zero, place-end, char_index-place}
 use Rattle.bidi_base.proofs.TextLemmas.{HasUnits}
 use Rattle.bidi_lines.proofs.LineInText.{length-line}
-use Rattle.bidi_text_lines.proofs.ShownUnits.{length-shown_units}
-use Rattle.bidi_text_lines.proofs.StoredLine.{classes_IsPerChar, levels_IsPerChar}
-use Rattle.bidi_text_lines.proofs.TextOfLine.{flat_map-runs, levels_of_line-per_unit, visual_runs_at_boundaries}
-use Rattle.bidi_text_lines.specs.Written.{shown_units, AreRunsOfChars}
+use Rattle.bidi_lines.proofs.ShownUnits.{length-shown_units}
+use Rattle.bidi_lines.proofs.StoredLine.{classes_IsPerChar, levels_IsPerChar}
+use Rattle.bidi_lines.proofs.TextOfLine.{flat_map-runs, levels_of_line-per_unit, visual_runs_at_boundaries}
+use Rattle.bidi_lines.specs.Written.{shown_units, AreRunsOfChars}
 use Rattle.unicode_bidi.proofs.WholeText.{whole-IsLine}
 use Rattle.bidi_calls.proofs.KeptLines.{length-own_levels, length-shown_levels, shown_levels-own}
 use Rattle.bidi_calls.specs.declared.line.KeptLine.{KeptLine}

@@ -4,7 +4,7 @@ use Rattle.bidi_base.proofs.PerUnit.{per_unit-one_unit, per_char-per_unit}
 use Rattle.bidi_base.proofs.TextLemmas.{HasUnits}
 use Rattle.bidi_lines.proofs.LineInText.{length-part}
 use Rattle.bidi_calls.proofs.KeptLines.{length-shown_levels}
-use Rattle.bidi_text_lines.proofs.RunLengths.{length-visual_order}
+use Rattle.bidi_lines.proofs.RunLengths.{length-visual_order}
 use Rattle.bidi_calls.specs.declared.line.KeptLine.{KeptLine}
 use Rattle.bidi_calls.specs.Lines.{IsSound, shown_levels}
 use Rattle.bidi_calls.specs.Shown.{own_units, order_of_line, reordered_chars}

@@ -12,10 +12,10 @@ use Rattle.bidi_base.proofs.UnitsLemmas.{per_unit-from_IsPerChar}
 use Rattle.bidi_lines.proofs.LineInText.{length-part}
 use Rattle.bidi_lines.proofs.Pieces.{length-between}
 use Rattle.bidi_lines.proofs.VisualRuns.{visual_runs-are}
-use Rattle.bidi_text_lines.proofs.CharRuns.{units_of, place_from, run_level-units, visual_runs-units}
-use Rattle.bidi_text_lines.proofs.RunLengths.{length-visual_order}
-use Rattle.bidi_text_lines.proofs.RunText.{flat_map-same_on}
-use Rattle.bidi_text_lines.proofs.WrittenRuns.{ranges_at_boundaries}
+use Rattle.bidi_lines.proofs.CharRuns.{units_of, place_from, run_level-units, visual_runs-units}
+use Rattle.bidi_lines.proofs.RunLengths.{length-visual_order}
+use Rattle.bidi_lines.proofs.RunText.{flat_map-same_on}
+use Rattle.bidi_lines.proofs.WrittenRuns.{ranges_at_boundaries}
 use Rattle.bidi_calls.proofs.ShownRuns.{runs_within}
 
 -- the indexes of a run's characters from left to right

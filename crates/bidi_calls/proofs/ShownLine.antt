@@ -1,7 +1,7 @@
 -- Everything about a line: how much room it needs.
 use Rattle.bidi_base.proofs.Common.{◌≡◌, ℕ, ◌&&◌, Bool, true, List, length, refl, ◌∙◌, per_char}
 use Rattle.bidi_base.proofs.PerUnit.{length-per_char}
-use Rattle.bidi_text_lines.proofs.RunLengths.{length-visual_order}
+use Rattle.bidi_lines.proofs.RunLengths.{length-visual_order}
 use Rattle.bidi_calls.specs.declared.line.KeptLine.{KeptLine}
 use Rattle.bidi_calls.specs.declared.buffers.LineBuffers.{LineBuffers}
 use Rattle.bidi_calls.specs.Everything.{line_shown, run_rows, room_fault, everything, everything_fault}

@@ -3,7 +3,7 @@ use Rattle.bidi_base.proofs.Common.{◌≡◌, ℕ, ◌+◌, ◌-◌, ◌<◌, �
 use Rattle.bidi_base.proofs.Common.{Run, run_of, level_runs_from, level_runs, run_level, visual_runs, visual_order, AreVisualRuns, All}
 use Rattle.bidi_lines.proofs.Ordered.{visual_order-is}
 use Rattle.bidi_lines.proofs.VisualRuns.{order_below}
-use Rattle.bidi_text_lines.proofs.CharRuns.{map-same_on, at_places-moved}
+use Rattle.bidi_lines.proofs.CharRuns.{map-same_on, at_places-moved}
 use Rattle.bidi_numbers.specs.Rows.{run_row}
 
 -- a run that begins so many units later

@@ -7,7 +7,7 @@ ghost use Rattle.bidi_base.specs.Utf16.{utf16_text};
 ghost use Rattle.bidi_calls.specs.Everything.{begins_character};
 ghost use Rattle.bidi_calls.specs.declared.counted.TheConstants.{FEW_BYTES};
 
-use bidi_text_lines::line_text::LineText;
+use bidi_lines::line_text::LineText;
 use unicode_bidi::text::{StrText, TextSource, Utf16Text, are_characters};
 
 /// A text that can count its characters.

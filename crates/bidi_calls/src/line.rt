@@ -11,7 +11,7 @@ ghost use Rattle.bidi_calls.specs.Kept.{written, written_if_room, WritesList};
 ghost use Rattle.bidi_calls.specs.Lines.{lies_in, IsSound, IsAsLongAs, own_classes, own_levels, line_fault, levels_fault, runs_fault, order_fault, shown_levels};
 ghost use Rattle.bidi_numbers.specs.Numbers.{class_numbered, is_class, is_level};
 ghost use Rattle.bidi_calls.specs.Shown.{is_even, order_of_line, map_fault};
-ghost use Rattle.bidi_text_lines.specs.Written.{shown_units};
+ghost use Rattle.bidi_lines.specs.Written.{shown_units};
 ghost use Rattle.bidi_numbers.specs.Rows.{run_row};
 
 use crate::checked::write_levels;
@@ -23,7 +23,7 @@ use bidi_numbers::class_numbers::ClassNumbers;
 use bidi_numbers::fault::{Fault, check, check_room_or_none};
 use bidi_numbers::numbers::{all_below, check_classes};
 use bidi_numbers::rows::{Paragraph, Run};
-use bidi_text_lines::line_text::{LineText, StoredLine, write_line};
+use bidi_lines::line_text::{LineText, StoredLine, write_line};
 use std::alloc::{AllocError, Global};
 use std::ops::Range;
 use unicode_bidi::{Level, TextSource};

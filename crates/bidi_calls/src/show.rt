@@ -12,7 +12,7 @@ ghost use Rattle.bidi_calls.specs.Shown.{is_even, chars_at};
 ghost use Rattle.bidi_numbers.specs.Faults.{FaultsAs, has_room_or_none};
 ghost use Rattle.bidi_numbers.specs.Rows.{run_row};
 ghost use Rattle.bidi_lines.specs.ShownLevels.{levels as levels_of};
-ghost use Rattle.bidi_text_lines.specs.Written.{run_units, shown_units};
+ghost use Rattle.bidi_lines.specs.Written.{run_units, shown_units};
 
 use crate::buffers::LineBuffers;
 use crate::char_order::{COUNTED_RUNS, write_char_order};
@@ -24,7 +24,7 @@ use bidi_lines::shown_levels::ShownLevels;
 use bidi_lines::visual_order::write_visual_order;
 use bidi_lines::visual_runs::LineRuns;
 use bidi_numbers::fault::{Fault, check};
-use bidi_text_lines::line_text::{LineText, write_runs};
+use bidi_lines::line_text::{LineText, write_runs};
 use std::alloc::Global;
 use std::ops::Range;
 use unicode_bidi::{Level, TextSource};

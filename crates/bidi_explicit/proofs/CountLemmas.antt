@@ -1,7 +1,7 @@
 -- What the pass counts up to an index: characters, or code units.
 use Rattle.bidi_base.proofs.Common.{◌≡◌, ℕ, ◌+◌, ◌<◌, ◌≤◌, true, List, refl, arith, char_index, is_boundary}
 use Rattle.bidi_base.proofs.TextLemmas.{HasUnits}
-use Rattle.bidi_runs.proofs.CharEnds.{index-lt, index-zero}
+use Rattle.bidi_explicit.proofs.CharEnds.{index-lt, index-zero}
 use Rattle.bidi_explicit.specs.Stride.{count_to, least_of}
 use Rattle.bidi_explicit.specs.declared.explicit.Stride.{Stride}
 use Rattle.bidi_explicit.specs.declared.explicit.Stride.TheVariants.{Character, CodeUnit}

@@ -14,7 +14,7 @@ use Rattle.bidi_base.proofs.TextLemmas.{HasUnits, length-le-text_len}
 use Rattle.bidi_base.proofs.UnitsLemmas.{length-from_IsPerChar, per_unit-from_IsPerChar, IsPerChar-from_is_per_char}
 use Rattle.bidi_text.proofs.PerCharTests.{class_test}
 use Rattle.bidi_base.specs.contracts.char_data.BidiClassPartialEq.TheImpl.{ghosts}
-use Rattle.bidi_runs.specs.ExplicitPass.{IsCutTo, filled, differs, runs_before, run_start}
+use Rattle.bidi_explicit.specs.ExplicitPass.{IsCutTo, filled, differs, runs_before, run_start}
 use Rattle.bidi_explicit.specs.Control.{is_control}
 use Rattle.bidi_explicit.specs.ExplicitStretches.{overridden, put_over, run_met, runs_met, IsOverridden, Paragraph, stored, levels_of, classes_of, IsReadTo}
 use Rattle.bidi_explicit.specs.Stride.{count_to, count_of}
@@ -22,7 +22,7 @@ use Rattle.bidi_explicit.specs.declared.explicit.Stride.{Stride}
 use Rattle.bidi_explicit.specs.declared.explicit.Stride.TheVariants.{Character, CodeUnit}
 use Rattle.bidi_explicit.specs.declared.explicit.stretches.OpenRun.{OpenRun}
 use Rattle.bidi_explicit.proofs.ExplicitUnits.{CanRead, can_read, length-filled, processing_class-is, level_at as level_of_next, put_at, next_at, text_len-some}
-use Rattle.bidi_runs.proofs.RunCutting.{IsCutTo-start, IsCutTo-removed, IsCutTo-kept, IsCutTo-end, IsCutTo-none}
+use Rattle.bidi_explicit.proofs.RunCutting.{IsCutTo-start, IsCutTo-removed, IsCutTo-kept, IsCutTo-end, IsCutTo-none}
 use Rattle.bidi_explicit.proofs.StackLemmas.{closed-other, opened-other}
 
 -- ---- a part of a list that is written over

@@ -7,7 +7,7 @@ use Rattle.bidi_base.specs.Explicit.{explicit_levels, processing_classes}
 use Rattle.bidi_base.specs.Places.{class_at}
 use Rattle.bidi_base.specs.StatusMachine.{State, state_at}
 use Rattle.bidi_base.specs.Text.{place, text_len, per_char, per_unit, IsPerChar}
-use Rattle.bidi_runs.specs.ExplicitPass.{runs_before, run_start, IsCutTo}
+use Rattle.bidi_explicit.specs.ExplicitPass.{runs_before, run_start, IsCutTo}
 use Rattle.bidi_explicit.specs.declared.explicit.stretches.OpenRun.{OpenRun}
 use Rattle.bidi_explicit.specs.declared.explicit.stretches.Progress.{Progress}
 

@@ -1,5 +1,12 @@
 pub mod Control
+pub mod ExplicitPass
 pub mod ExplicitStretches
+pub mod Gathered
+pub mod Joining
+pub mod Links
 pub mod Paragraph
+pub mod RunSequence
 pub mod Status
 pub mod Stride
+pub mod Waiting
+pub mod Written

@@ -5,7 +5,7 @@ ghost use Rattle.std.specs.Prelude.{◌≡◌, ℕ, ◌+◌, ◌*◌, ◌-◌, �
 ghost use Rattle.bidi_base.specs.InPlace.{AreExplicitLevels, CanFindExplicitLevels};
 ghost use Rattle.bidi_base.specs.Units.{bounds};
 ghost use Rattle.bidi_explicit.specs.Paragraph.{AreLevelsOf, CanFindLevels, least_count, whole_count};
-ghost use Rattle.bidi_runs.specs.ExplicitPass.{filled, runs_before, run_start as run_start_after};
+ghost use Rattle.bidi_explicit.specs.ExplicitPass.{filled, runs_before, run_start as run_start_after};
 
 mod overrides;
 mod status;
@@ -13,7 +13,7 @@ mod stretches;
 
 use bidi_base::char_data::BidiClass;
 use bidi_base::level::Level;
-use bidi_runs::prepare::{LevelRunVec, Steps};
+use crate::prepare::{LevelRunVec, Steps};
 use bidi_text::text::TextSource;
 use status::StatusStack;
 use std::alloc::{AllocError, Global};

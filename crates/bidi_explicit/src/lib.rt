@@ -1,4 +1,8 @@
 //! The explicit levels of one paragraph, and its level runs, as a pass over its code units.
 #![tactic(auto)]
 
+pub mod characters;
 pub mod explicit;
+pub mod leveled_text;
+pub mod prepare;
+pub mod written;

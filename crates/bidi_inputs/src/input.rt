@@ -14,7 +14,7 @@ use crate::status::Status;
 use crate::told::push_lines_told;
 use bidi_allowed::allowed::AllowList;
 use bidi_controls::finding::Wanted;
-use bidi_names::names::chars_of;
+use bidi_terminal::names::chars_of;
 use bidi_reports::report::Report;
 use bidi_scan::file_search::found_lines;
 use bidi_shown::stream::StreamFault;

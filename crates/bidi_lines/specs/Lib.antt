@@ -1,6 +1,10 @@
+pub mod Analysed
 pub mod Arranged
 pub mod LineOrder
 pub mod LineRuns
 pub mod Runs
 pub mod ShownLevels
+pub mod ShownLine
 pub mod Stops
+pub mod Turned
+pub mod Written

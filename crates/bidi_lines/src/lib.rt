@@ -2,8 +2,12 @@
 //! order (L2).
 #![tactic(auto)]
 
+pub mod analysed;
+pub mod level_direction;
 pub mod line_levels;
+pub mod line_text;
 pub mod shown_levels;
+pub mod shown_line;
 pub mod stored;
 pub mod visual_order;
 pub mod visual_runs;

@@ -10,7 +10,7 @@ use crate::fault::{Fault, check};
 use bidi_base::char_data::BidiClass;
 use bidi_base::level::Level;
 use bidi_base::search::{Tested, first_passing};
-use bidi_walk::split_rule::SplitRule;
+use bidi_paragraphs::split_rule::SplitRule;
 
 /// The number for no base level.
 const AUTO: u8 = 255;

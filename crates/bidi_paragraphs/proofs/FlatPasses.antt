@@ -10,9 +10,9 @@ use Rattle.bidi_base.proofs.PlaceLemmas.{char_index-place, is_boundary-place, pl
 use Rattle.bidi_laws.proofs.StoredSteps.{length-stored_classes}
 use Rattle.bidi_base.proofs.TextLemmas.{HasUnits}
 use Rattle.bidi_laws.proofs.NeutralLemmas.{direction_of-l_or_r}
-use Rattle.bidi_runs.specs.Joining.{JoinedRuns, characters_of}
-use Rattle.bidi_runs.specs.RunSequence.{lent_runs, lent_sos, lent_eos, lent_joined}
-use Rattle.bidi_runs.specs.declared.prepare.lent.LentSequence.{LentSequence}
+use Rattle.bidi_explicit.specs.Joining.{JoinedRuns, characters_of}
+use Rattle.bidi_explicit.specs.RunSequence.{lent_runs, lent_sos, lent_eos, lent_joined}
+use Rattle.bidi_explicit.specs.declared.prepare.lent.LentSequence.{LentSequence}
 use Rattle.bidi_paragraphs.proofs.FilledUnits.{per_unit-replicate}
 use Rattle.bidi_paragraphs.proofs.LevelPasses.{AreResolvedTo, AreResolvedTo-start}
 use Rattle.bidi_paragraphs.proofs.SequencesInPlace.{IsNext, IsNext-at}

@@ -17,10 +17,10 @@ use Rattle.bidi_base.proofs.TextLemmas.{HasUnits}
 use Rattle.bidi_base.proofs.UnitsLemmas.{per_unit-from_is_per_char, is_per_char-per_unit}
 use Rattle.bidi_laws.proofs.NeutralSource.{neutral_classes-source, marks-stored_classes}
 use Rattle.bidi_laws.proofs.StoredLemmas.{explicit_levels-IsExplicitIn}
-use Rattle.bidi_runs.specs.Joining.{JoinedRuns, characters_of}
-use Rattle.bidi_runs.specs.Links.{begins, sequence_at, sequences_before, linked_runs, linked_sequences, sequences_of, AreLinked}
-use Rattle.bidi_runs.specs.declared.prepare.links.RunLinks.{RunLinks}
-use Rattle.bidi_runs.proofs.LinkedSequences.{IsPart, linked_sequences-part, sequences_before-more, sequences_before-same}
+use Rattle.bidi_explicit.specs.Joining.{JoinedRuns, characters_of}
+use Rattle.bidi_explicit.specs.Links.{begins, sequence_at, sequences_before, linked_runs, linked_sequences, sequences_of, AreLinked}
+use Rattle.bidi_explicit.specs.declared.prepare.links.RunLinks.{RunLinks}
+use Rattle.bidi_explicit.proofs.LinkedSequences.{IsPart, linked_sequences-part, sequences_before-more, sequences_before-same}
 use Rattle.bidi_paragraphs.proofs.OneLevel.{GiveLevels, KeepLevels}
 use Rattle.bidi_paragraphs.proofs.SequencesInPlace.{IsUnderWay, IsNext, IsWeakNext, IsWeakNext-from, weak_next-resolved, IsUnderWay-more, IsUnderWay-settled, IsUnderWay-start, IsUnderWay-written, kept_before, IsNext-at, AreResolved-all}
 use Rattle.bidi_paragraphs.proofs.SequenceUnits.{at_places-map, at_places-place, level_at-first, kept_in_place-kept, kept_in_runs-within, stays_elsewhere}

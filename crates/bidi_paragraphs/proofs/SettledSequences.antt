@@ -10,16 +10,16 @@ use Rattle.bidi_base.specs.declared.char_data.BidiClass.{BidiClass}
 use Rattle.bidi_base.specs.declared.char_data.BidiClass.TheVariants.{L, AL, BN, EN, ES, ET, AN, CS, NSM, R}
 use Rattle.bidi_base.proofs.TextLemmas.{HasUnits, is_boundary-le}
 use Rattle.bidi_base.proofs.UnitsLemmas.{IsPerChar-from_is_per_char, is_per_char-from_IsPerChar, length-from_IsPerChar}
-use Rattle.bidi_runs.proofs.PassOverText.{IsPerChar-alike, alike_class, in_runs-alike}
+use Rattle.bidi_explicit.proofs.PassOverText.{IsPerChar-alike, alike_class, in_runs-alike}
 use Rattle.bidi_text.proofs.PerCharTests.{class_eq, class_test}
-use Rattle.bidi_neutral.proofs.FirstKept.{first_kept-is, first-Some}
-use Rattle.bidi_neutral.proofs.NeutralUnits.{places_in_runs}
-use Rattle.bidi_runs.specs.RunSequence.{lent_runs, lent_sos, lent_eos}
-use Rattle.bidi_runs.specs.declared.prepare.lent.LentSequence.{LentSequence}
+use Rattle.bidi_rules.proofs.FirstKept.{first_kept-is, first-Some}
+use Rattle.bidi_rules.proofs.NeutralUnits.{places_in_runs}
+use Rattle.bidi_explicit.specs.RunSequence.{lent_runs, lent_sos, lent_eos}
+use Rattle.bidi_explicit.specs.declared.prepare.lent.LentSequence.{LentSequence}
 use Rattle.bidi_paragraphs.proofs.OneLevel.{begins_unmarked, GiveLevels, KeepLevels, KeepLevels-one}
 use Rattle.bidi_paragraphs.proofs.NumbersAfterL.{GiveLevels-numbers}
 use Rattle.bidi_paragraphs.specs.Settled.{raises, is_directed, is_r_al_or_an, number_as_l, first_unit, own_direction, AreNumbersWritten, HasEuropeanNumbers, HasOneDirection, HasNoNeutral}
-use Rattle.bidi_neutral.proofs.OneDirection.{read_each}
+use Rattle.bidi_rules.proofs.OneDirection.{read_each}
 
 -- ---- W1 to W7 change numbers, terminators, separators, Arabic letters and nonspacing marks alone
 

@@ -1,3 +1,8 @@
+pub mod ClassSet
+pub mod FirstWalk
 pub mod Paragraph
+pub mod ParagraphFlags
+pub mod ParagraphInfo
 pub mod Settled
+pub mod SplitRule
 pub mod Written

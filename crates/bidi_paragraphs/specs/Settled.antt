@@ -7,8 +7,8 @@ use Rattle.bidi_base.specs.Levels.{direction_of}
 use Rattle.bidi_base.specs.Places.{class_at}
 use Rattle.bidi_base.specs.Sequences.{level_at}
 use Rattle.bidi_base.specs.Units.{bounds, in_runs}
-use Rattle.bidi_runs.specs.RunSequence.{lent_runs, lent_sos, lent_eos}
-use Rattle.bidi_runs.specs.declared.prepare.lent.LentSequence.{LentSequence}
+use Rattle.bidi_explicit.specs.RunSequence.{lent_runs, lent_sos, lent_eos}
+use Rattle.bidi_explicit.specs.declared.prepare.lent.LentSequence.{LentSequence}
 
 -- a class that can raise the level of a character in a sequence of the direction d: numbers, and strong classes of the other direction
 unfoldable pub raises : BidiClass → BidiClass → Bool

@@ -2,7 +2,10 @@
 //! [`paragraph_levels`] finds the levels of each paragraph's code units.
 #![tactic(auto)]
 
+mod class_set;
+pub mod first_walk;
+pub mod paragraph_flags;
+pub mod paragraph_info;
 pub mod paragraph_levels;
 mod settled;
-
-pub use bidi_walk::{first_walk, paragraph_flags, paragraph_info, split_rule};
+pub mod split_rule;

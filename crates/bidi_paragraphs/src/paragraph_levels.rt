@@ -10,9 +10,9 @@ ghost use Rattle.bidi_base.specs.Sequences.{is_kept_at, sequences};
 ghost use Rattle.bidi_base.specs.Stored.{levels_in};
 ghost use Rattle.bidi_base.specs.Text.{text_len, per_unit, per_char};
 ghost use Rattle.bidi_base.specs.Units.{AreLines};
-ghost use Rattle.bidi_runs.specs.Links.{linked_runs, linked_sequences, sequences_of, AreLinked};
+ghost use Rattle.bidi_explicit.specs.Links.{linked_runs, linked_sequences, sequences_of, AreLinked};
 ghost use Rattle.bidi_paragraphs.specs.Written.{IsWritten};
-ghost use Rattle.bidi_walk.specs.ParagraphFlags.{flags_of};
+ghost use Rattle.bidi_paragraphs.specs.ParagraphFlags.{flags_of};
 
 use crate::settled::{is_settled, settle_numbers};
 use bidi_base::char_data::BidiClass;
@@ -28,7 +28,7 @@ use bidi_rules::implicit::{
 use bidi_rules::leveled_text::LeveledText;
 use bidi_rules::prepare::{LentSequence, LevelRunVec, RunLinks};
 use bidi_text::text::TextSource;
-use bidi_walk::paragraph_flags::ParagraphFlags;
+use crate::paragraph_flags::ParagraphFlags;
 use smallvec::SmallVec;
 use std::alloc::{AllocError, Global};
 use std::marker::Brand;

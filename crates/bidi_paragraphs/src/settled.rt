@@ -4,8 +4,8 @@ ghost use Rattle.std.specs.Prelude.{◌≡◌, ◌⊎◌, ℕ, ◌<◌, ◌≤�
 ghost use Rattle.bidi_base.specs.Places.{class_at};
 ghost use Rattle.bidi_base.specs.Units.{bounds, in_runs};
 ghost use Rattle.bidi_paragraphs.specs.Settled.{number_as_l, own_direction, raises, AreInside, AreNumbersWritten, HasEuropeanNumbers, HasOneDirection, HasNoNeutral};
-ghost use Rattle.bidi_runs.specs.RunSequence.{lent_runs};
-ghost use Rattle.bidi_runs.specs.Written.{KeepsAround};
+ghost use Rattle.bidi_explicit.specs.RunSequence.{lent_runs};
+ghost use Rattle.bidi_explicit.specs.Written.{KeepsAround};
 
 use bidi_base::char_data::BidiClass::{self, AL, AN, BN, EN, L, NSM, R};
 use bidi_base::level::Level;

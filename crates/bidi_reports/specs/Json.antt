@@ -5,8 +5,8 @@ use Rattle.bidi_controls.specs.Findings.{trouble_text}
 use Rattle.bidi_controls.specs.declared.finding.Finding.{Finding}
 use Rattle.bidi_controls.specs.declared.finding.Trouble.{Trouble}
 use Rattle.bidi_controls.specs.declared.finding.Trouble.TheVariants.{NotClosed, ClosesNothing, Present, DisplayedDifferently}
-use Rattle.bidi_names.specs.Json.{json_string}
-use Rattle.bidi_names.specs.Uris.{uri_of}
+use Rattle.bidi_terminal.specs.Json.{json_string}
+use Rattle.bidi_terminal.specs.Uris.{uri_of}
 use Rattle.bidi_reports.specs.Parts.{marked_part}
 use Rattle.unicode_bidi.specs.declared.version.TheConstants.{VERSION}
 use Rattle.bidi_reports.specs.Words.{code_of, character_of, kind_of, level_of, is_about_line, message_of}

@@ -3,7 +3,7 @@ use Rattle.std.specs.Prelude.{ℕ, Bool, true, List, [], ◌∷◌, ◌++◌}
 use Rattle.std.specs.Str.{chars}
 use Rattle.bidi_base.specs.Source.{Source}
 use Rattle.bidi_controls.specs.declared.finding.Finding.{Finding}
-use Rattle.bidi_names.specs.Names.{shown_name}
+use Rattle.bidi_terminal.specs.Names.{shown_name}
 use Rattle.bidi_reports.specs.Json.{json_report, sarif_report, sarif_head, sarif_foot}
 use Rattle.bidi_reports.specs.Shown.{displayed_for}
 use Rattle.bidi_reports.specs.Text.{text_report}

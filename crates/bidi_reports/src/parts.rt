@@ -3,7 +3,7 @@ ghost use Rattle.std.specs.Prelude.{◌≡◌, ◌++◌, ◌≤◌, ◌<◌, len
 ghost use Rattle.bidi_reports.specs.Parts.{bold, bold_red, as_before, styled, is_marked, marked_char, part_start, part_end, dots, marked_part, shown_columns, blanks, blank_part};
 
 use bidi_columns::cluster::columns;
-use bidi_names::names::{is_hidden, push_quoted};
+use bidi_terminal::names::{is_hidden, push_quoted};
 use std::alloc::AllocError;
 
 /// Sets bold letters.

@@ -10,7 +10,7 @@ use crate::json_text::{SARIF_FOOT, push_json, push_result, push_sarif_head};
 use crate::text::{ToldFinding, push_text};
 use bidi_base::data_source::BidiDataSource;
 use bidi_controls::finding::Finding;
-use bidi_names::names::shown_name;
+use bidi_terminal::names::shown_name;
 use std::alloc::{AllocError, Global};
 
 // Appends the report of a finding in this form.

@@ -3,6 +3,6 @@
 
 mod levels;
 
-pub use bidi_neutral::neutral::{NeutralResolver, resolve_neutral, resolve_up_to_n1};
-pub use bidi_weak::weak::{resolve_weak, resolve_weak_counted, resolve_weak_lent_counted};
+pub use crate::neutral::{NeutralResolver, resolve_neutral, resolve_up_to_n1};
+pub use crate::weak::{resolve_weak, resolve_weak_counted, resolve_weak_lent_counted};
 pub use levels::resolve_levels;

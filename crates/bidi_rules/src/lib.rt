@@ -3,6 +3,8 @@
 #![tactic(auto)]
 
 pub mod implicit;
+pub mod neutral;
+pub mod weak;
 
 pub use bidi_explicit::explicit;
-pub use bidi_runs::{leveled_text, prepare};
+pub use bidi_explicit::{leveled_text, prepare};

@@ -23,7 +23,7 @@ use Rattle.bidi_show_run.specs.declared.command.View.{View}
 use Rattle.bidi_show_run.specs.declared.command.View.TheVariants.{Whole, Lines}
 use Rattle.bidi_show_run.proofs.ShownLemmas.{without_separator-IsFront}
 use Rattle.unicode_bidi.specs.ParagraphInfo.{ranges_of, levels_of}
-use Rattle.bidi_walk.specs.declared.paragraph_info.ParagraphInfo.{ParagraphInfo}
+use Rattle.bidi_paragraphs.specs.declared.paragraph_info.ParagraphInfo.{ParagraphInfo}
 
 -- ---- a part of a list
 

@@ -9,7 +9,7 @@ use Rattle.bidi_base.specs.Layout.{line_ranges}
 use Rattle.bidi_base.specs.Source.{Source}
 use Rattle.bidi_base.specs.Text.{text_len, subrange, per_char, IsLine}
 use Rattle.unicode_bidi.specs.ParagraphInfo.{level_of, range_of}
-use Rattle.bidi_walk.specs.declared.paragraph_info.ParagraphInfo.{ParagraphInfo}
+use Rattle.bidi_paragraphs.specs.declared.paragraph_info.ParagraphInfo.{ParagraphInfo}
 use Rattle.bidi_show_run.specs.Texts.{heading, levels_line, text_line, without_separator, shown_line, one_column, one_at_least}
 use Rattle.bidi_show_run.specs.declared.command.View.{View}
 use Rattle.bidi_show_run.specs.declared.command.View.TheVariants.{Whole, Lines}

@@ -12,9 +12,9 @@ use Rattle.bidi_terminal.specs.Bases.{level_of_base}
 use Rattle.bidi_text.proofs.StrLemmas.{has_units, text_len-chars}
 use Rattle.bidi_visual.specs.Shown.{shown_levels, shown_paragraph, shown_range, shown_ranges}
 use Rattle.bidi_visual.specs.declared.view.View.{View}
-use Rattle.bidi_walk.specs.ParagraphInfo.{levels_of, ranges_of}
-use Rattle.bidi_walk.specs.SplitRule.{IsAnalysisBy}
-use Rattle.bidi_walk.specs.declared.paragraph_info.ParagraphInfo.{ParagraphInfo}
+use Rattle.bidi_paragraphs.specs.ParagraphInfo.{levels_of, ranges_of}
+use Rattle.bidi_paragraphs.specs.SplitRule.{IsAnalysisBy}
+use Rattle.bidi_paragraphs.specs.declared.paragraph_info.ParagraphInfo.{ParagraphInfo}
 use Rattle.bidi_shown.specs.Paragraph.{analysed, shown_in, IsAnalysed}
 
 module _ (source : Source) (view : View) (own : List ℕ) (classes : List BidiClass) (levels : List ℕ) (level : ℕ)

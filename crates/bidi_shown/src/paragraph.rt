@@ -6,7 +6,7 @@ ghost use Rattle.bidi_base.specs.Display.{run_of};
 ghost use Rattle.bidi_columns.specs.Bounds.{IsRangeOf};
 ghost use Rattle.bidi_terminal.specs.Bases.{level_of_base};
 ghost use Rattle.bidi_visual.specs.Shown.{shown_paragraph, shown_ranges};
-ghost use Rattle.bidi_walk.specs.ParagraphInfo.{levels_of};
+ghost use Rattle.bidi_paragraphs.specs.ParagraphInfo.{levels_of};
 ghost use Rattle.bidi_shown.specs.Paragraph.{shown_in, text_of, IsAnalysed};
 
 use bidi_base::char_data::BidiClass;

@@ -1,2 +1,5 @@
 pub mod Bases
+pub mod Json
+pub mod Names
 pub mod Numbers
+pub mod Uris

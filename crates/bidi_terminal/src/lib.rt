@@ -2,7 +2,10 @@
 #![tactic(auto)]
 
 mod base;
+pub mod json_text;
+pub mod names;
 mod number;
+pub mod uri;
 
 pub use base::Base;
 pub use number::{parse_number, push_hex_digit, push_number};

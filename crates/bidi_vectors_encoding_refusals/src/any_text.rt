@@ -4,7 +4,7 @@ use bidi_base::char_data::BidiClass;
 use bidi_base::data_source::TableBidiData;
 use bidi_base::level::Level;
 use bidi_text::text::{CharsText, StrText, TextSource, Utf16Text, is_line, is_per_char};
-use bidi_text_lines::shown_line::ShownLine;
+use bidi_lines::shown_line::ShownLine;
 use bidi_vectors_trials::texts::{CHARACTERS, LONG_TEXT, UNITS};
 use bidi_vectors_trials::trial::{Fault, NoAnswer};
 use bidi_vectors_trials::tried;

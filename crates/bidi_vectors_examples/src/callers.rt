@@ -8,7 +8,7 @@ ghost use Rattle.bidi_base.specs.Levels.{is_odd};
 ghost use Rattle.bidi_base.specs.Order.{IsVisualOrder};
 ghost use Rattle.bidi_vectors_examples.specs.Runs.{mirrored_run, runs_of_line, shown_paragraph, shown_run};
 ghost use Rattle.bidi_unicode.specs.Unicode.{unicode_source};
-ghost use Rattle.bidi_walk.specs.ParagraphInfo.{level_of};
+ghost use Rattle.bidi_paragraphs.specs.ParagraphInfo.{level_of};
 ghost use Rattle.unicode_bidi.specs.BidiInfo.{analysed, text};
 
 use bidi_unicode::{UnicodeData, mirrored};

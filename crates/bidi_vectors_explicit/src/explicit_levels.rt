@@ -17,7 +17,7 @@ use bidi_vectors_format::fault::RowFault;
 use bidi_vectors_format::row::Row;
 use bidi_vectors_format::tally::Tally;
 use bidi_vectors_format::text::RowText;
-use bidi_vectors_resolve::conditions::{explicit_level, has_initiator};
+use bidi_vectors_format::conditions::{explicit_level, has_initiator};
 use std::alloc::Global;
 
 // Returns a text with one character for each class, of one and two code units by turns.

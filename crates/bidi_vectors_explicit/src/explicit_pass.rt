@@ -10,8 +10,8 @@ use bidi_rules::explicit::{Stride, compute};
 use bidi_rules::prepare::{IsolatingRunSequence, isolating_run_sequences};
 use bidi_text::text::{StrText, is_per_char};
 use bidi_vectors_format::fault::{RowFault, Why};
-use bidi_vectors_resolve::conditions::has_initiator;
-use bidi_vectors_resolve::units::per_unit;
+use bidi_vectors_format::conditions::has_initiator;
+use bidi_vectors_format::units::per_unit;
 use std::alloc::Global;
 use std::mem::replace;
 

@@ -6,10 +6,15 @@
 
 pub mod answer;
 pub mod base;
+mod by_rules;
 pub mod class;
+pub mod conditions;
 pub mod fault;
 pub mod item;
 pub mod row;
 pub mod source;
 pub mod tally;
 pub mod text;
+pub mod units;
+
+pub use by_rules::resolve;

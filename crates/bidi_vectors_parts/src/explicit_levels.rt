@@ -6,7 +6,7 @@ use crate::check::same;
 use bidi_base::char_data::BidiClass;
 use bidi_base::level::{LTR_LEVEL, Level, RTL_LEVEL};
 use bidi_explicit::explicit::{self, Stride, find_levels_counted};
-use bidi_runs::prepare::{LevelRunVec, Steps};
+use bidi_explicit::prepare::{LevelRunVec, Steps};
 use bidi_text::text::{StrText, is_per_char};
 use std::alloc::{AllocError, Global};
 use std::marker::Brand;

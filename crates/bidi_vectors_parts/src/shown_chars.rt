@@ -5,8 +5,8 @@ use bidi_base::char_data::BidiClass;
 use bidi_base::char_data::BidiClass::{L, R};
 use bidi_base::level::Level;
 use bidi_text::text::{CharsText, is_line, is_per_char};
-use bidi_text_lines::analysed::Analysed;
-use bidi_text_lines::shown_line::ShownLine;
+use bidi_lines::analysed::Analysed;
+use bidi_lines::shown_line::ShownLine;
 use std::alloc::Global;
 use std::test::Fail;
 

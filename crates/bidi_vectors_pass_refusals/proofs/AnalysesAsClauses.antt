@@ -11,10 +11,10 @@ use Rattle.bidi_base.specs.Source.{Source}
 use Rattle.bidi_base.specs.Stored.{text_classes, text_levels, stored_levels, paragraph_levels}
 use Rattle.bidi_base.specs.Text.{is_per_char, per_char, per_unit, subrange, text_len}
 use Rattle.bidi_text.proofs.PerCharTests.{class_eq, level_eq}
-use Rattle.bidi_walk.specs.declared.paragraph_info.ParagraphInfo.{ParagraphInfo}
-use Rattle.bidi_walk.specs.declared.split_rule.SplitRule.{SplitRule}
-use Rattle.bidi_walk.specs.ParagraphInfo.{ranges_of, levels_of}
-use Rattle.bidi_walk.specs.SplitRule.{pieces_by, AreParagraphRangesBy}
+use Rattle.bidi_paragraphs.specs.declared.paragraph_info.ParagraphInfo.{ParagraphInfo}
+use Rattle.bidi_paragraphs.specs.declared.split_rule.SplitRule.{SplitRule}
+use Rattle.bidi_paragraphs.specs.ParagraphInfo.{ranges_of, levels_of}
+use Rattle.bidi_paragraphs.specs.SplitRule.{pieces_by, AreParagraphRangesBy}
 use Rattle.unicode_bidi.specs.Analysed.{HasParagraphs, IsAnalysed, IsAnalysedAsOne, IsAnalysedBy, ObeysLaws}
 
 -- the values of a range of units are those that its characters have as the whole text

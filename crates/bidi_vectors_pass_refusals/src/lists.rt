@@ -6,7 +6,7 @@ use bidi_base::level::{LTR_LEVEL, Level};
 use bidi_plain::plain::{
     Explicit, PlainSequence, explicit_levels, implicit, neutral, pairs, sequences, weak,
 };
-use bidi_vectors_resolve::conditions::{are_directed, are_kept, are_left, is_side};
+use bidi_vectors_format::conditions::{are_directed, are_kept, are_left, is_side};
 use bidi_vectors_trials::texts::{CHARACTERS, LENGTH};
 use bidi_vectors_trials::trial::Fault;
 use bidi_vectors_trials::tried;

@@ -9,7 +9,7 @@ use bidi_rules::explicit::{compute, compute_counted};
 use bidi_rules::implicit::{NeutralResolver, resolve_levels, resolve_neutral, resolve_weak};
 use bidi_rules::prepare::{IsolatingRunSequence, LevelRunVec, Steps, isolating_run_sequences};
 use bidi_text::text::{StrText, is_per_char};
-use bidi_vectors_resolve::conditions::{are_left_or_removed, has_initiator};
+use bidi_vectors_format::conditions::{are_left_or_removed, has_initiator};
 use bidi_vectors_trials::texts::{TEXT, WITHOUT_ISOLATES};
 use bidi_vectors_trials::trial::{Fault, NoAnswer};
 use bidi_vectors_trials::tried;

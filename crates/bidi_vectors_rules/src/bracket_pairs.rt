@@ -10,7 +10,7 @@ use bidi_vectors_format::row::Row;
 use bidi_vectors_format::source::Tables;
 use bidi_vectors_format::tally::Tally;
 use bidi_vectors_format::text::RowText;
-use bidi_vectors_resolve::conditions::are_left;
+use bidi_vectors_format::conditions::are_left;
 use std::alloc::Global;
 
 /// Returns the bracket of each character of a text, if it is one.

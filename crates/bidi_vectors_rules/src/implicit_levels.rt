@@ -11,7 +11,7 @@ use bidi_vectors_format::class::classes_of;
 use bidi_vectors_format::fault::RowFault;
 use bidi_vectors_format::row::Row;
 use bidi_vectors_format::tally::Tally;
-use bidi_vectors_resolve::conditions::{are_directed, explicit_level};
+use bidi_vectors_format::conditions::{are_directed, explicit_level};
 use std::alloc::Global;
 
 // Resolves one level for each class in place, and returns the levels and their maximum.

@@ -25,10 +25,10 @@ use bidi_vectors_format::row::Row;
 use bidi_vectors_format::source::Tables;
 use bidi_vectors_format::tally::Tally;
 use bidi_vectors_format::text::RowText;
-use bidi_vectors_resolve::conditions::{
+use bidi_vectors_format::conditions::{
     are_directed, are_kept, are_left, are_left_or_removed, explicit_level, is_side,
 };
-use bidi_vectors_resolve::units::per_unit;
+use bidi_vectors_format::units::per_unit;
 use std::alloc::Global;
 
 // Resolves the neutrals of a sequence over lists.

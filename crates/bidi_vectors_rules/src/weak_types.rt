@@ -12,8 +12,8 @@ use bidi_vectors_format::fault::{RowFault, Why};
 use bidi_vectors_format::row::Row;
 use bidi_vectors_format::tally::Tally;
 use bidi_vectors_format::text::RowText;
-use bidi_vectors_resolve::conditions::{are_kept, is_side};
-use bidi_vectors_resolve::units::per_unit;
+use bidi_vectors_format::conditions::{are_kept, is_side};
+use bidi_vectors_format::units::per_unit;
 use std::alloc::Global;
 
 /// Returns the class in a field of a row.

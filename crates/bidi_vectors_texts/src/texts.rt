@@ -15,7 +15,7 @@ use bidi_vectors_format::row::Row;
 use bidi_vectors_format::source::Tables;
 use bidi_vectors_format::tally::Tally;
 use bidi_vectors_format::text::RowText;
-use bidi_vectors_resolve::resolve;
+use bidi_vectors_format::resolve;
 use std::alloc::Global;
 use unicode_bidi::engine::{Analyser, Analysis, analyse, analyse_with_rule};
 use unicode_bidi::{BidiInfo, InitialInfo, ParagraphBidiInfo, ParagraphInfo, SplitRule, utf16};

@@ -4,10 +4,10 @@ use Rattle.bidi_base.proofs.Common.{get_or-map, flat_map-append, has_rtl, is_odd
 use Rattle.bidi_lines.proofs.Ordered.{none_odd}
 use Rattle.bidi_lines.proofs.RunsLemmas.{Follow, level_runs-follow, level_runs-each}
 use Rattle.bidi_lines.proofs.FoundRuns.{visual_runs-still}
-use Rattle.bidi_text_lines.proofs.RunText.{flat_map-same_on}
+use Rattle.bidi_lines.proofs.RunText.{flat_map-same_on}
 use Rattle.bidi_visual.specs.Shown.{run_at, shown_line, tabbed_line}
 use Rattle.bidi_visual.proofs.TabLemmas.{spread-none, spread_values-none}
-use Rattle.bidi_text_lines.proofs.StillLine.{follow-up, slice_range-joined}
+use Rattle.bidi_lines.proofs.StillLine.{follow-up, slice_range-joined}
 
 -- parts that follow one another from a up to b
 parts-joined : (chars : List ℕ) (a b : ℕ) (runs : List Run) → Follow a b runs

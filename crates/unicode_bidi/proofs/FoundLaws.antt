@@ -11,11 +11,11 @@ use Rattle.bidi_base.proofs.UnitsLemmas.{is_per_char-per_unit}
 use Rattle.bidi_laws.proofs.LevelLaws.{BoundaryNeutralsAreAlike-all, StaysLeftToRight-all, length-text_levels, text_classes-one}
 use Rattle.bidi_laws.proofs.LevelLaws.{text_levels-one, paragraph_levels-one, stored_levels-AreLevelsFrom, All-per_unit}
 use Rattle.bidi_laws.proofs.ParagraphsLemmas.{cut_after-joined, joined, length-text_classes, paragraphs-AreParagraphRanges}
-use Rattle.bidi_walk.specs.declared.paragraph_info.ParagraphInfo.{ParagraphInfo}
-use Rattle.bidi_walk.specs.ParagraphInfo.{range_of, ranges_of, levels_of}
-use Rattle.bidi_walk.specs.SplitRule.{pieces_by, AreParagraphRangesBy, IsAnalysisOf, IsAnalysisBy}
-use Rattle.bidi_walk.specs.declared.split_rule.SplitRule.{SplitRule}
-use Rattle.bidi_walk.specs.declared.split_rule.SplitRule.TheVariants.{EachSeparator}
+use Rattle.bidi_paragraphs.specs.declared.paragraph_info.ParagraphInfo.{ParagraphInfo}
+use Rattle.bidi_paragraphs.specs.ParagraphInfo.{range_of, ranges_of, levels_of}
+use Rattle.bidi_paragraphs.specs.SplitRule.{pieces_by, AreParagraphRangesBy, IsAnalysisOf, IsAnalysisBy}
+use Rattle.bidi_paragraphs.specs.declared.split_rule.SplitRule.{SplitRule}
+use Rattle.bidi_paragraphs.specs.declared.split_rule.SplitRule.TheVariants.{EachSeparator}
 use Rattle.unicode_bidi.specs.Analysed.{IsAnalysed, IsAnalysedBy, ObeysLaws}
 use Rattle.unicode_bidi.proofs.ParagraphUnits.{paragraphs-HasOwnUnits, paragraphs-are_lines, paragraphs-AreLevelsFrom}
 

@@ -3,7 +3,7 @@ use Rattle.bidi_base.proofs.Common.{◌≡◌, Option, ℕ, ◌+◌, ◌-◌, �
 use Rattle.bidi_base.proofs.Common.{zero-add, take-append_seam, drop-append-add, Range, All, IfSome, slice_range, get_or-map, take_more, drop_more, drop-drop, length-map, flat_map-map}
 use Rattle.bidi_base.proofs.Common.{sum_by-append, map-map, paragraph_level, stored_classes, HasOwnUnits, AreLevelsFrom, ranges_from, Source, levels_in, stored_levels, text_classes, text_levels}
 use Rattle.bidi_base.proofs.Common.{paragraph_levels, text_len, subrange, per_unit, IsLine, flat_map, flat_map-append}
-use Rattle.bidi_text_lines.proofs.RunText.{flat_map-same_on}
+use Rattle.bidi_lines.proofs.RunText.{flat_map-same_on}
 use Rattle.bidi_base.specs.declared.char_data.BidiClass.{BidiClass}
 use Rattle.bidi_laws.proofs.LevelLaws.{paragraph_level-few, length-stored_levels, stored_levels-AreLevelsFrom, All-per_unit}
 use Rattle.bidi_laws.proofs.StoredSteps.{length-stored_classes}
@@ -13,10 +13,10 @@ use Rattle.bidi_base.proofs.TextLemmas.{HasUnits, is_boundary-le, subrange-middl
 use Rattle.bidi_laws.proofs.ParagraphsLemmas.{ranges-lines, joined}
 use Rattle.bidi_laws.proofs.PieceUnits.{per_unit-pieces, HasOwnUnits-pieces}
 use Rattle.bidi_laws.proofs.ResolvedLemmas.{length-levels_in}
-use Rattle.bidi_walk.specs.declared.paragraph_info.ParagraphInfo.{ParagraphInfo}
+use Rattle.bidi_paragraphs.specs.declared.paragraph_info.ParagraphInfo.{ParagraphInfo}
 use Rattle.unicode_bidi.specs.Engine.{unit_levels, own_flags, CanWrite, Follow, chars_of}
-use Rattle.bidi_walk.specs.ParagraphFlags.{flags_of, paragraph_flags}
-use Rattle.bidi_walk.specs.ParagraphInfo.{range_of, level_of, ranges_of, levels_of}
+use Rattle.bidi_paragraphs.specs.ParagraphFlags.{flags_of, paragraph_flags}
+use Rattle.bidi_paragraphs.specs.ParagraphInfo.{range_of, level_of, ranges_of, levels_of}
 
 -- ---- one paragraph
 

@@ -8,10 +8,10 @@ use Rattle.bidi_base.specs.PerChar.{HaveClass}
 use Rattle.bidi_base.specs.Source.{Source}
 use Rattle.bidi_base.specs.Stored.{text_classes, text_levels, stored_levels, paragraph_levels}
 use Rattle.bidi_base.specs.Text.{per_unit, text_len}
-use Rattle.bidi_walk.specs.declared.paragraph_info.ParagraphInfo.{ParagraphInfo}
-use Rattle.bidi_walk.specs.declared.split_rule.SplitRule.{SplitRule}
-use Rattle.bidi_walk.specs.ParagraphInfo.{level_of, range_of, ranges_of, levels_of}
-use Rattle.bidi_walk.specs.SplitRule.{pieces_by, AreParagraphRangesBy, IsAnalysisBy}
+use Rattle.bidi_paragraphs.specs.declared.paragraph_info.ParagraphInfo.{ParagraphInfo}
+use Rattle.bidi_paragraphs.specs.declared.split_rule.SplitRule.{SplitRule}
+use Rattle.bidi_paragraphs.specs.ParagraphInfo.{level_of, range_of, ranges_of, levels_of}
+use Rattle.bidi_paragraphs.specs.SplitRule.{pieces_by, AreParagraphRangesBy, IsAnalysisBy}
 
 -- ---- a text and its paragraphs
 

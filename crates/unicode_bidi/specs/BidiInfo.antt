@@ -4,9 +4,9 @@ use Rattle.bidi_base.specs.Analysed.{AnalysedText}
 use Rattle.bidi_base.specs.declared.char_data.BidiClass.{BidiClass}
 use Rattle.bidi_text.specs.declared.text.str_text.StrText.{StrText}
 use Rattle.bidi_text.specs.declared.text.utf16_text.Utf16Text.{Utf16Text}
-use Rattle.bidi_text_lines.specs.Analysed as of
+use Rattle.bidi_lines.specs.Analysed as of
 use Rattle.unicode_bidi.specs.declared.info.BidiInfo.{BidiInfo}
-use Rattle.bidi_walk.specs.declared.paragraph_info.ParagraphInfo.{ParagraphInfo}
+use Rattle.bidi_paragraphs.specs.declared.paragraph_info.ParagraphInfo.{ParagraphInfo}
 
 -- `i.text()`, of UTF-8
 abbrev pub text : {C I L : Type 0} {t : _} {c : _} {i : _} {l : _} → BidiInfo StrText C I L t c i l → List ℕ

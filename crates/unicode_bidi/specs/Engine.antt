@@ -6,12 +6,12 @@ use Rattle.bidi_base.specs.Isolates.{stored_classes}
 use Rattle.bidi_base.specs.Source.{Source}
 use Rattle.bidi_base.specs.Stored.{levels_in}
 use Rattle.bidi_base.specs.Text.{subrange, per_unit, IsLine}
-use Rattle.bidi_text_lines.specs.Analysed.{with_lists}
-use Rattle.bidi_walk.specs.ParagraphFlags.{flags_of}
+use Rattle.bidi_lines.specs.Analysed.{with_lists}
+use Rattle.bidi_paragraphs.specs.ParagraphFlags.{flags_of}
 use Rattle.unicode_bidi.specs.declared.engine.Analyser.{Analyser}
 use Rattle.unicode_bidi.specs.declared.engine.Analysis.{Analysis}
-use Rattle.bidi_walk.specs.declared.paragraph_flags.ParagraphFlags.{ParagraphFlags}
-use Rattle.bidi_walk.specs.declared.paragraph_info.ParagraphInfo.{ParagraphInfo}
+use Rattle.bidi_paragraphs.specs.declared.paragraph_flags.ParagraphFlags.{ParagraphFlags}
+use Rattle.bidi_paragraphs.specs.declared.paragraph_info.ParagraphInfo.{ParagraphInfo}
 
 -- `a.original_classes()`, `a.levels()` and `a.paragraphs()`
 abbrev pub original_classes : Analysis → List BidiClass

@@ -4,7 +4,7 @@ use Rattle.bidi_base.specs.declared.char_data.BidiClass.{BidiClass}
 use Rattle.bidi_text.specs.declared.text.str_text.StrText.{StrText}
 use Rattle.bidi_text.specs.declared.text.utf16_text.Utf16Text.{Utf16Text}
 use Rattle.unicode_bidi.specs.declared.initial_info.InitialInfo.{InitialInfo}
-use Rattle.bidi_walk.specs.declared.paragraph_info.ParagraphInfo.{ParagraphInfo}
+use Rattle.bidi_paragraphs.specs.declared.paragraph_info.ParagraphInfo.{ParagraphInfo}
 
 -- `i.text()`, of UTF-8
 abbrev pub text : {C I L : Type 0} {t : _} {c : _} {i : _} {l : _} → InitialInfo StrText C I L t c i l → List ℕ

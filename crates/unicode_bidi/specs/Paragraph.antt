@@ -1,7 +1,7 @@
 -- What the accessors of `Paragraph` show.
 use Rattle.unicode_bidi.specs.declared.info.BidiInfo.{BidiInfo}
 use Rattle.unicode_bidi.specs.declared.paragraph.Paragraph.{Paragraph}
-use Rattle.bidi_walk.specs.declared.paragraph_info.ParagraphInfo.{ParagraphInfo}
+use Rattle.bidi_paragraphs.specs.declared.paragraph_info.ParagraphInfo.{ParagraphInfo}
 
 module _ {T C I L : Type 0} {t : _} {c : _} {i : _} {l : _} (paragraph : Paragraph T C I L t c i l) where
   -- `p.info()` and `p.para()`

@@ -4,7 +4,7 @@ use Rattle.bidi_base.specs.Analysed.{AnalysedText}
 use Rattle.bidi_base.specs.declared.char_data.BidiClass.{BidiClass}
 use Rattle.bidi_text.specs.declared.text.str_text.StrText.{StrText}
 use Rattle.bidi_text.specs.declared.text.utf16_text.Utf16Text.{Utf16Text}
-use Rattle.bidi_text_lines.specs.Analysed as of
+use Rattle.bidi_lines.specs.Analysed as of
 use Rattle.unicode_bidi.specs.declared.paragraph_bidi_info.ParagraphBidiInfo.{ParagraphBidiInfo}
 
 -- `i.text()`, of UTF-8

@@ -1,2 +1,2 @@
 -- What the accessors of `ParagraphInfo` show.
-pub use Rattle.bidi_walk.specs.ParagraphInfo.{range_of, level_of, ranges_of, levels_of}
+pub use Rattle.bidi_paragraphs.specs.ParagraphInfo.{range_of, level_of, ranges_of, levels_of}

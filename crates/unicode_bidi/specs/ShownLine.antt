@@ -1,2 +1,2 @@
 -- What a `ShownLine` shows.
-pub use Rattle.bidi_text_lines.specs.ShownLine.{text_of, levels, runs, Shows, AppendsTextOfLine}
+pub use Rattle.bidi_lines.specs.ShownLine.{text_of, levels, runs, Shows, AppendsTextOfLine}

@@ -7,12 +7,12 @@ ghost use Rattle.bidi_base.specs.Line.{levels_with_line as levels_with_line_of};
 ghost use Rattle.bidi_base.specs.PerChar.{HaveClass, HaveLevel};
 ghost use Rattle.bidi_base.specs.declared.char_data.BidiClass.TheVariants.{L};
 ghost use Rattle.bidi_base.specs.Text.{text_len, is_per_char, per_char, char_index, IsLine};
-ghost use Rattle.bidi_text_lines.specs.Analysed.{with_lists};
+ghost use Rattle.bidi_lines.specs.Analysed.{with_lists};
 ghost use Rattle.unicode_bidi.specs.Analysed.{IsAnalysed, IsAnalysedBy};
 ghost use Rattle.unicode_bidi.specs.Engine.{with_analysis, found_paragraphs, found_flags, original_classes as original_classes_of, levels as stored_levels_of, paragraphs as paragraphs_of_analysis, flags as flags_of_analysis, unit_levels, own_flags, CanWrite, Follow};
-ghost use Rattle.bidi_walk.specs.ParagraphFlags.{paragraph_flags};
-ghost use Rattle.bidi_walk.specs.ParagraphInfo.{level_of, range_of, ranges_of, levels_of};
-ghost use Rattle.bidi_walk.specs.SplitRule.{pieces_by, IsAnalysisBy};
+ghost use Rattle.bidi_paragraphs.specs.ParagraphFlags.{paragraph_flags};
+ghost use Rattle.bidi_paragraphs.specs.ParagraphInfo.{level_of, range_of, ranges_of, levels_of};
+ghost use Rattle.bidi_paragraphs.specs.SplitRule.{pieces_by, IsAnalysisBy};
 
 use bidi_base::char_data::BidiClass;
 use bidi_base::data_source::BidiDataSource;

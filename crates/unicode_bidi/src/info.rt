@@ -4,7 +4,7 @@ ghost use Rattle.bidi_base.specs.Analysed.{IsLineOf, AreLevelsWithLine, AreLevel
 ghost use Rattle.bidi_base.specs.Display.{run_of};
 ghost use Rattle.bidi_base.specs.Levels.{has_rtl as has_rtl_of};
 ghost use Rattle.bidi_base.specs.Text.{IsLine};
-ghost use Rattle.bidi_walk.specs.ParagraphInfo.{level_of, range_of};
+ghost use Rattle.bidi_paragraphs.specs.ParagraphInfo.{level_of, range_of};
 ghost use Rattle.bidi_lines.specs.LineOrder.{IsLineOrder};
 ghost use Rattle.bidi_base.specs.PerChar.{HaveClass, HaveLevel};
 ghost use Rattle.unicode_bidi.specs.Analysed.{IsAnalysedBy, ObeysLaws};
@@ -17,8 +17,8 @@ use bidi_lines::visual_order;
 use bidi_paragraphs::paragraph_info::ParagraphInfo;
 use bidi_paragraphs::split_rule::SplitRule;
 use bidi_text::text::TextSource;
-use bidi_text_lines::analysed::Analysed;
-use bidi_text_lines::shown_line::ShownLine;
+use bidi_lines::analysed::Analysed;
+use bidi_lines::shown_line::ShownLine;
 use smallvec::SmallVec;
 use std::alloc::{AllocError, Global};
 use std::fmt;
@@ -49,8 +49,8 @@ impl<T: TextSource + fmt::Debug> fmt::Debug for BidiInfo<T> {
 }
 
 impl<T: TextSource> BidiInfo<T> {
-    ghost use Rattle.bidi_text_lines.specs.Analysed.{text_of as analysed_text};
-    ghost use Rattle.bidi_text_lines.specs.ShownLine.{text_of as shown_text, Shows};
+    ghost use Rattle.bidi_lines.specs.Analysed.{text_of as analysed_text};
+    ghost use Rattle.bidi_lines.specs.ShownLine.{text_of as shown_text, Shows};
     ghost use Rattle.unicode_bidi.specs.BidiInfo.{analysed as analysed_of, paragraphs, original_classes, levels as levels_of_info};
 
     // Finds the paragraphs of a text in any encoding, and the class and the level of each character (P1 to I2).

@@ -12,7 +12,7 @@ ghost use Rattle.bidi_base.specs.Text.{place, per_char, text_len, IsLine};
 ghost use Rattle.bidi_lines.specs.ShownLevels.{levels as kept_levels};
 ghost use Rattle.unicode_bidi.specs.BidiInfo.{analysed as analysed_of};
 ghost use Rattle.unicode_bidi.specs.KeptOrder.{entries};
-ghost use Rattle.bidi_walk.specs.ParagraphInfo.{level_of, range_of};
+ghost use Rattle.bidi_paragraphs.specs.ParagraphInfo.{level_of, range_of};
 
 use crate::utf8::BidiInfo;
 use bidi_base::level::{Level, has_rtl};

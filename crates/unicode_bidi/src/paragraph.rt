@@ -2,14 +2,14 @@
 ghost use Rattle.std.specs.Prelude.{◌≡◌, ◌+◌, ◌<◌, ◌≤◌, length, slice_index, slice_range};
 ghost use Rattle.bidi_base.specs.Direction.{direction_of_levels};
 ghost use Rattle.unicode_bidi.specs.BidiInfo.{levels as levels_of_info};
-ghost use Rattle.bidi_walk.specs.ParagraphInfo.{range_of};
+ghost use Rattle.bidi_paragraphs.specs.ParagraphInfo.{range_of};
 
 use crate::info::BidiInfo;
 use bidi_base::char_data::Direction;
 use bidi_base::level::Level;
 use bidi_paragraphs::paragraph_info::ParagraphInfo;
 use bidi_text::text::TextSource;
-use bidi_text_lines::level_direction::direction_of;
+use bidi_lines::level_direction::direction_of;
 
 /// A paragraph, and the result of the algorithm for its text.
 #[derive(Debug, Drop)]

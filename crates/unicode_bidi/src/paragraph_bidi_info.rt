@@ -14,8 +14,8 @@ use bidi_base::data_source::BidiDataSource;
 use bidi_base::level::Level;
 use bidi_lines::visual_order;
 use bidi_text::text::TextSource;
-use bidi_text_lines::analysed::Analysed;
-use bidi_text_lines::shown_line::ShownLine;
+use bidi_lines::analysed::Analysed;
+use bidi_lines::shown_line::ShownLine;
 use std::alloc::{AllocError, Global};
 use std::fmt;
 use std::ops::Range;
@@ -44,8 +44,8 @@ impl<T: TextSource + fmt::Debug> fmt::Debug for ParagraphBidiInfo<T> {
 }
 
 impl<T: TextSource> ParagraphBidiInfo<T> {
-    ghost use Rattle.bidi_text_lines.specs.Analysed.{text_of as analysed_text};
-    ghost use Rattle.bidi_text_lines.specs.ShownLine.{text_of as shown_text, Shows};
+    ghost use Rattle.bidi_lines.specs.Analysed.{text_of as analysed_text};
+    ghost use Rattle.bidi_lines.specs.ShownLine.{text_of as shown_text, Shows};
     ghost use Rattle.unicode_bidi.specs.ParagraphBidiInfo.{analysed as analysed_of, original_classes, levels as levels_of_info, paragraph_level, is_pure_ltr};
 
     // Finds the level of a text in any encoding that is one paragraph, and the class and the level of each character

@@ -7,7 +7,7 @@ ghost use Rattle.std.specs.Prelude.{◌≡◌, ◌≤◌, ◌↔◌, IfOk, IfSom
 ghost use Rattle.std.specs.Char.Escape.{encode_utf16};
 ghost use Rattle.std.specs.Cow.{cow_slice_items, IsBorrowedSlice};
 ghost use Rattle.bidi_base.specs.Analysed.{IsLineOf, IsTextOfLine, StaysInOrder};
-ghost use Rattle.bidi_walk.specs.ParagraphInfo.{level_of};
+ghost use Rattle.bidi_paragraphs.specs.ParagraphInfo.{level_of};
 ghost use Rattle.unicode_bidi.specs.Analysed.{Constructs, HasParagraphs, IsAnalysed, IsAnalysedAsOne, IsAnalysedBy};
 
 use crate::{info, initial_info, paragraph, paragraph_bidi_info};
@@ -17,7 +17,7 @@ use bidi_paragraphs::paragraph_info::ParagraphInfo;
 use bidi_paragraphs::split_rule::SplitRule;
 use bidi_text::text::Utf16Text;
 pub use bidi_text::text::{Utf16CharIndexIter, Utf16CharIter, Utf16IndexLenIter};
-use bidi_text_lines::shown_line;
+use bidi_lines::shown_line;
 use std::alloc::{AllocError, Global};
 use std::borrow::CowSlice;
 use std::ops::Range;

@@ -3,7 +3,7 @@
 ghost use Rattle.std.specs.Prelude.{◌≡◌, ◌≤◌, ◌↔◌, IfOk, IfSome, Some, true, encode_utf8};
 ghost use Rattle.std.specs.Cow.{cow_str_bytes, IsBorrowedStr};
 ghost use Rattle.bidi_base.specs.Analysed.{IsLineOf, IsTextOfLine, StaysInOrder};
-ghost use Rattle.bidi_walk.specs.ParagraphInfo.{level_of};
+ghost use Rattle.bidi_paragraphs.specs.ParagraphInfo.{level_of};
 ghost use Rattle.unicode_bidi.specs.Analysed.{Constructs, HasParagraphs, IsAnalysed, IsAnalysedAsOne, IsAnalysedBy};
 
 use crate::{info, initial_info, paragraph, paragraph_bidi_info};
@@ -12,7 +12,7 @@ use bidi_base::level::Level;
 use bidi_paragraphs::paragraph_info::ParagraphInfo;
 use bidi_paragraphs::split_rule::SplitRule;
 use bidi_text::text::StrText;
-use bidi_text_lines::shown_line;
+use bidi_lines::shown_line;
 use std::alloc::{AllocError, Global};
 use std::borrow::CowStr;
 use std::ops::Range;

@@ -7,7 +7,7 @@ use super::stretches::{Kept, Paragraph};
 use super::{Stride, write_class};
 use bidi_base::char_data::BidiClass;
 use bidi_base::search::ClassTest;
-use bidi_runs::prepare::Steps;
+use crate::prepare::Steps;
 use bidi_text::text::TextSource;
 use std::sync::ledger::Ledger;
 

@@ -12,7 +12,7 @@ ghost use Rattle.bidi_explicit.specs.Status.{below_last, entry_count, seen, stat
 use arrayvec::ArrayVec;
 use bidi_base::char_data::{BidiClass, is_rtl};
 use bidi_base::level::{Error, LTR_LEVEL, Level};
-use bidi_runs::prepare::Steps;
+use crate::prepare::Steps;
 use std::marker::Model;
 use std::sync::ledger::Ledger;
 

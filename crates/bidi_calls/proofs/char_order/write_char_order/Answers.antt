@@ -1,7 +1,7 @@
 use Rattle.bidi_base.proofs.Common.{◌≡◌, ◌+◌, ◌≤◌, Range, ℕ, List, arith, length, sym, refl, get_or, get_or_default, is_odd, run_of, run_level}
 use Rattle.bidi_base.proofs.PlaceLemmas.{line_places}
 use Rattle.bidi_base.proofs.UnitsLemmas.{length-from_IsPerChar}
-use Rattle.bidi_text_lines.proofs.WrittenRuns.{written_run}
+use Rattle.bidi_lines.proofs.WrittenRuns.{written_run}
 use Rattle.bidi_calls.proofs.OrderOfRuns.{run_indexes, count-is, index-after, char_index-zero, zero-boundary, range-IsLine, range-begins, run-fits, run-more, run_indexes-is, all-written}
 use Rattle.bidi_calls.proofs.char_order.write_char_order.Goals as goal
 

@@ -1,5 +1,5 @@
 use Rattle.bidi_base.proofs.Common.{◌∙◌, length, ap, rules, arith}
-use Rattle.bidi_text_lines.specs.Analysed.{with_lists}
+use Rattle.bidi_lines.specs.Analysed.{with_lists}
 use Rattle.unicode_bidi.specs.Engine.{found_paragraphs}
 use Rattle.bidi_calls.proofs.FoundText.{rows-found, count-found}
 use Rattle.bidi_calls.proofs.checked.write_analysis.Goals as goal

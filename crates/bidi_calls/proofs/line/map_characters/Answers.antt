@@ -1,5 +1,5 @@
 use Rattle.bidi_base.proofs.Common.{rules, refl, ap, sym, ◌∙◌, arith, length, per_char, visual_order}
-use Rattle.bidi_text_lines.proofs.RunLengths.{length-visual_order}
+use Rattle.bidi_lines.proofs.RunLengths.{length-visual_order}
 use Rattle.bidi_calls.specs.Lines.{shown_levels}
 use Rattle.bidi_calls.specs.Shown.{order_of_line}
 use Rattle.bidi_calls.proofs.line.map_characters.Goals as goal

@@ -1,5 +1,5 @@
-use Rattle.bidi_text_lines.proofs.RunLengths.{visual_runs-whole}
-use Rattle.bidi_text_lines.proofs.TextOfLine.{runs_begin}
+use Rattle.bidi_lines.proofs.RunLengths.{visual_runs-whole}
+use Rattle.bidi_lines.proofs.TextOfLine.{runs_begin}
 use Rattle.bidi_calls.proofs.show.put_text.Goals as goal
 
 pub write_runs-requires-clause-within : goal.write_runs-requires-clause-within

@@ -1,6 +1,6 @@
 use Rattle.bidi_base.proofs.Common.{rules, ◌≡◌, List, ℕ, map, length, sym, ap, ap₂, ◌∙◌, flat_map, length-map, arith, run_of, visual_runs, visual_order, subst, per_char, IsPerChar}
-use Rattle.bidi_text_lines.proofs.WrittenRuns.{ranges_at_boundaries}
-use Rattle.bidi_text_lines.specs.Written.{run_units, shown_units}
+use Rattle.bidi_lines.proofs.WrittenRuns.{ranges_at_boundaries}
+use Rattle.bidi_lines.specs.Written.{run_units, shown_units}
 use Rattle.bidi_calls.proofs.KeptText.{kept-runs, kept-even, length-shown}
 use Rattle.bidi_calls.proofs.ShownLine.{length-order, told-room}
 use Rattle.bidi_calls.proofs.ShownRuns.{length-rows}

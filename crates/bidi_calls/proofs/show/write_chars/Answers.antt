@@ -1,4 +1,4 @@
-use Rattle.bidi_text_lines.proofs.RunLengths.{visual_runs-whole}
+use Rattle.bidi_lines.proofs.RunLengths.{visual_runs-whole}
 use Rattle.bidi_calls.proofs.ShownRuns.{runs_within, runs_ordered}
 use Rattle.bidi_calls.proofs.show.write_chars.Goals as goal
 

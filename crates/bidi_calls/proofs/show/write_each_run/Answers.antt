@@ -1,6 +1,6 @@
 use Rattle.bidi_base.proofs.Common.{◌≡◌, ◌+◌, ◌-◌, ◌≤◌, Range, ℕ, arith, length, get_or, get_or_default, take, map, flat_map, ◌∙◌, ap, refl, sym, sum_by, take_all, length-map, is_odd, run_of}
 use Rattle.bidi_base.proofs.Common.{run_level, sub-zero, sum_by_more, sum_by_more_le}
-use Rattle.bidi_text_lines.proofs.WrittenRuns.{written_run}
+use Rattle.bidi_lines.proofs.WrittenRuns.{written_run}
 use Rattle.bidi_calls.proofs.WrittenChars.{run_chars, run_chars-is, all_run_chars}
 use Rattle.bidi_calls.proofs.show.write_each_run.Goals as goal
 

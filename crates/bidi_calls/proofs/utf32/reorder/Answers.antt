@@ -1,7 +1,7 @@
 use Rattle.bidi_base.proofs.Common.{arith, length-map}
 use Rattle.bidi_lines.proofs.VisualRuns.{order_below}
 use Rattle.bidi_calls.proofs.FoundText.{length-front}
-use Rattle.bidi_text_lines.proofs.RunLengths.{length-visual_order}
+use Rattle.bidi_lines.proofs.RunLengths.{length-visual_order}
 use Rattle.bidi_calls.specs.Shown.{reordered_chars}
 use Rattle.bidi_calls.proofs.utf32.reorder.Goals as goal
 

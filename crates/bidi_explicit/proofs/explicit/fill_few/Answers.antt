@@ -1,6 +1,6 @@
 -- One unit after another.
 use Rattle.bidi_base.proofs.Common.{◌≡◌, ◌+◌, ◌≤◌, ℕ, List, length, set, sym, arith, common_steps}
-use Rattle.bidi_runs.specs.ExplicitPass.{filled}
+use Rattle.bidi_explicit.specs.ExplicitPass.{filled}
 use Rattle.bidi_explicit.proofs.ExplicitUnits.{filled-none, filled-more}
 use Rattle.bidi_explicit.proofs.explicit.fill_few.Goals as goal
 

@@ -1,6 +1,6 @@
 -- One stretch or control after another.
 use Rattle.bidi_base.proofs.Common.{map, arith, rules, map-append, bounds}
-use Rattle.bidi_runs.proofs.CharEnds.{index-zero}
+use Rattle.bidi_explicit.proofs.CharEnds.{index-zero}
 use Rattle.bidi_explicit.proofs.CountLemmas.{count-one, count-zero, least-one, least-zero}
 use Rattle.bidi_explicit.proofs.ExplicitStretches.{read-start, read-levels, read-classes, read-runs, read-no_runs, read-all, read-begins, read-count, read-units}
 use Rattle.bidi_explicit.proofs.explicit.find_levels_counted.Goals as goal

@@ -1,6 +1,6 @@
 use Rattle.bidi_base.proofs.Common.{arith, get_or-map, length-map, take_all}
-use Rattle.bidi_runs.proofs.InRuns.{in_runs-more}
-use Rattle.bidi_runs.proofs.RunOf.{run_end}
+use Rattle.bidi_explicit.proofs.InRuns.{in_runs-more}
+use Rattle.bidi_explicit.proofs.RunOf.{run_end}
 use Rattle.bidi_paragraphs.proofs.settled.none_passes.Goals as goal
 
 pub one_passes-requires : goal.one_passes-requires

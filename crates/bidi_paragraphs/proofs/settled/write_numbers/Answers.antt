@@ -1,8 +1,8 @@
 use Rattle.bidi_base.proofs.Common.{◌≡◌, ℕ, map, ap, arith, common_steps, get_or-map, length-map, take_all, bounds}
 use Rattle.bidi_base.specs.declared.char_data.BidiClass.{BidiClass}
 use Rattle.bidi_paragraphs.specs.Settled.{number_as_l}
-use Rattle.bidi_runs.proofs.WalkLemmas.{no_range}
-use Rattle.bidi_runs.proofs.RunOf.{changed-more, run_end}
+use Rattle.bidi_explicit.proofs.WalkLemmas.{no_range}
+use Rattle.bidi_explicit.proofs.RunOf.{changed-more, run_end}
 use Rattle.bidi_paragraphs.proofs.settled.write_numbers.Goals as goal
 
 -- a class that has changed stays

@@ -2,7 +2,7 @@ use Rattle.bidi_base.proofs.Common.{◌≤◌, List, ℕ, length, arith, len_utf
 use Rattle.bidi_base.proofs.TextLemmas.{is_boundary-le}
 use Rattle.bidi_base.proofs.UnitsLemmas.{length-from_IsPerChar}
 use Rattle.bidi_show_run.proofs.shown.push_whole.Goals as goal
-use Rattle.bidi_text_lines.proofs.StoredLine.{levels_IsPerChar}
+use Rattle.bidi_lines.proofs.StoredLine.{levels_IsPerChar}
 
 reaches : (cs levels : List ℕ) (start end : ℕ) → IsLine len_utf8 cs start end → IsPerChar len_utf8 cs levels → end ≤ length levels
 reaches cs levels start end line per_char = grind (arith, is_boundary-le, length-from_IsPerChar)

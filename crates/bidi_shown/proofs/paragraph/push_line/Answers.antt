@@ -2,7 +2,7 @@ use Rattle.bidi_base.proofs.Common.{◌≡◌, ◌∙◌, append_assoc, sym, ap,
 use Rattle.bidi_base.proofs.PerUnit.{length-per_char}
 use Rattle.bidi_lines.specs.ShownLevels.{levels as kept_levels}
 use Rattle.bidi_text.proofs.StrLemmas.{has_units, subrange-from_str}
-use Rattle.bidi_text_lines.proofs.StoredLine.{same_len, within, length-shown, per_char-shown, of_line}
+use Rattle.bidi_lines.proofs.StoredLine.{same_len, within, length-shown, per_char-shown, of_line}
 use Rattle.bidi_shown.specs.Paragraph.{analysed_in}
 use Rattle.bidi_shown.proofs.BoundsLemmas.{IsLine-from, IsUtf8-range}
 use Rattle.bidi_shown.proofs.paragraph.push_line.Goals as goal

@@ -1,5 +1,5 @@
 use Rattle.bidi_base.proofs.Common.{arith, IfOk-weaker}
-use Rattle.bidi_text_lines.proofs.StoredLine.{same_len, within, of_units, of_chars-units}
+use Rattle.bidi_lines.proofs.StoredLine.{same_len, within, of_units, of_chars-units}
 use Rattle.unicode_bidi.proofs.engine.line_levels.Goals as goal
 
 pub levels_with_line-requires : goal.levels_with_line-requires

@@ -1,6 +1,6 @@
 use Rattle.bidi_base.proofs.Common.{◌∙◌, List, ℕ, get_or, arith, ap, sym, subst, get_or-map, All-get_or}
 use Rattle.unicode_bidi.specs.Engine.{unit_levels, own_flags, CanWrite}
-use Rattle.bidi_walk.specs.declared.paragraph_flags.ParagraphFlags.{ParagraphFlags}
+use Rattle.bidi_paragraphs.specs.declared.paragraph_flags.ParagraphFlags.{ParagraphFlags}
 use Rattle.unicode_bidi.proofs.ParagraphUnits.{AreParagraphsWritten-more, length-unit_levels}
 use Rattle.unicode_bidi.proofs.engine.write_paragraphs.Goals as goal
 

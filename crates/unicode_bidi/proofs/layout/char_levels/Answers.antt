@@ -2,8 +2,8 @@ use Rattle.bidi_base.proofs.Common.{◌≡◌, ◌∙◌, sym, ap, arith, len_ut
 use Rattle.bidi_text.proofs.StrLemmas.{has_units}
 use Rattle.bidi_lines.specs.ShownLevels.{levels as kept_levels}
 use Rattle.unicode_bidi.specs.BidiInfo.{text, analysed}
-use Rattle.bidi_walk.specs.ParagraphInfo.{level_of}
-use Rattle.bidi_text_lines.proofs.StoredLine.{same_len, within, length-shown, per_char-shown, of_line}
+use Rattle.bidi_paragraphs.specs.ParagraphInfo.{level_of}
+use Rattle.bidi_lines.proofs.StoredLine.{same_len, within, length-shown, per_char-shown, of_line}
 use Rattle.unicode_bidi.proofs.layout.char_levels.Goals as goal
 use Rattle.unicode_bidi.proofs.layout.char_levels.Goals.{In_ok-show}
 

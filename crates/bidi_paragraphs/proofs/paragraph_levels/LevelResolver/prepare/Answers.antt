@@ -4,9 +4,9 @@ use Rattle.bidi_base.specs.declared.char_data.BidiClass.TheVariants.{L}
 use Rattle.bidi_laws.proofs.ExplicitLemmas.{length-explicit_levels}
 use Rattle.bidi_base.proofs.PerUnit.{length-per_char, per_char-per_unit}
 use Rattle.bidi_base.proofs.UnitsLemmas.{is_per_char-per_unit}
-use Rattle.bidi_runs.specs.Links.{linked_runs}
+use Rattle.bidi_explicit.specs.Links.{linked_runs}
 use Rattle.bidi_paragraphs.proofs.LevelPasses.{linked_runs-all}
-use Rattle.bidi_walk.proofs.FlagsLemmas.{has_isolates-flags}
+use Rattle.bidi_paragraphs.proofs.FlagsLemmas.{has_isolates-flags}
 use Rattle.bidi_paragraphs.proofs.FilledUnits.{initiators-stored, stored-is_per_char}
 use Rattle.bidi_paragraphs.proofs.paragraph_levels.LevelResolver.prepare.Given.{Over}
 use Rattle.bidi_paragraphs.proofs.paragraph_levels.LevelResolver.prepare.Goals as goal

@@ -4,8 +4,8 @@ use Rattle.bidi_base.specs.declared.char_data.BidiClass.{BidiClass}
 use Rattle.bidi_laws.proofs.NeutralLemmas.{direction_of-l_or_r}
 use Rattle.bidi_base.proofs.PerUnit.{length-per_unit}
 use Rattle.bidi_laws.proofs.StoredSteps.{length-stored_classes}
-use Rattle.bidi_runs.specs.Joining.{JoinedRuns, characters_of}
-use Rattle.bidi_runs.specs.RunSequence.{lent_joined}
+use Rattle.bidi_explicit.specs.Joining.{JoinedRuns, characters_of}
+use Rattle.bidi_explicit.specs.RunSequence.{lent_joined}
 use Rattle.bidi_paragraphs.proofs.FlatPasses.{whole, lent-whole, joined-AreLines, joined-IsNext, joined-sequences, levels-whole, whole-AreResolvedTo}
 use Rattle.bidi_paragraphs.proofs.LevelPasses.{AreLevels, AreResolvedTo, AreResolvedTo-per_char, AreResolvedTo-long, AreWeakTo-from, AreWeakTo-resolved, AreResolvedTo-more, AreLevels-all}
 use Rattle.bidi_paragraphs.proofs.SequencesInPlace.{IsNext}

@@ -2,11 +2,11 @@
 use Rattle.bidi_base.proofs.Common.{◌≡◌, ◌∙◌, ◌<◌, List, ℕ, nat_lt, Bool, true, false, ◌&&◌, is_some, length, map, ap, sym, arith, rules, length-map, are_ordered, is_l_or_r, refl}
 use Rattle.bidi_base.proofs.PerUnit.{length-per_unit}
 use Rattle.bidi_laws.proofs.StoredSteps.{length-stored_classes}
-use Rattle.bidi_runs.specs.Gathered.{gathered_in}
-use Rattle.bidi_runs.specs.Links.{begins, sequence_at, linked_runs, linked_sequences}
-use Rattle.bidi_runs.specs.declared.prepare.lent.LentSequence.{LentSequence}
-use Rattle.bidi_runs.specs.declared.prepare.links.RunLinks.{RunLinks}
-use Rattle.bidi_runs.specs.RunSequence.{lent_joined}
+use Rattle.bidi_explicit.specs.Gathered.{gathered_in}
+use Rattle.bidi_explicit.specs.Links.{begins, sequence_at, linked_runs, linked_sequences}
+use Rattle.bidi_explicit.specs.declared.prepare.lent.LentSequence.{LentSequence}
+use Rattle.bidi_explicit.specs.declared.prepare.links.RunLinks.{RunLinks}
+use Rattle.bidi_explicit.specs.RunSequence.{lent_joined}
 use Rattle.bidi_paragraphs.proofs.LevelPasses.{ArePrepared, AreResolvedTo-same, AreResolvedTo-start, AreResolvedTo-per_char, AreResolvedTo-long, AreWeakTo-from, AreWeakTo-resolved, AreResolvedTo-more, AreResolvedTo-settled, AreResolvedTo-written, kept_of_units}
 use Rattle.bidi_paragraphs.proofs.LevelPasses.{prepared, prepared-next, prepared-lines, prepared-more, prepared-same, prepared-long, prepared-low, AreLevels-from}
 use Rattle.bidi_paragraphs.proofs.SettledSequences.{lines-within, numbers-give, settled-keeps, written-kept, written-per_char, written-removed}

@@ -1,7 +1,7 @@
 -- The sequences that begin before the next run are resolved, and the linked runs stay.
 use Rattle.bidi_base.proofs.Common.{◌≡◌, List, ℕ, map, stored_classes}
-use Rattle.bidi_runs.specs.Joining.{characters_of}
-use Rattle.bidi_runs.specs.Links.{linked_runs, sequences_before}
+use Rattle.bidi_explicit.specs.Joining.{characters_of}
+use Rattle.bidi_explicit.specs.Links.{linked_runs, sequences_before}
 use Rattle.bidi_paragraphs.proofs.LevelPasses.{AreResolvedTo}
 use Rattle.bidi_paragraphs.proofs.paragraph_levels.LevelResolver.resolve_nested.Given as goal
 

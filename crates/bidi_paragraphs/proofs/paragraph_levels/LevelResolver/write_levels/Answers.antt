@@ -4,7 +4,7 @@ use Rattle.bidi_base.proofs.PerUnit.{length-per_unit}
 use Rattle.bidi_laws.proofs.StoredSteps.{length-stored_classes}
 use Rattle.bidi_base.proofs.TextLemmas.{length-le-text_len}
 use Rattle.bidi_paragraphs.proofs.FilledUnits.{filled-levels_in, kept_to_levels, all_kept}
-use Rattle.bidi_walk.proofs.FlagsLemmas.{keeps_to-flags, has_removed-flags, some-keeps_to}
+use Rattle.bidi_paragraphs.proofs.FlagsLemmas.{keeps_to-flags, has_removed-flags, some-keeps_to}
 use Rattle.bidi_paragraphs.proofs.paragraph_levels.LevelResolver.write_levels.Goals as goal
 
 pub returns-then-keeps_to : goal.returns-then-keeps_to

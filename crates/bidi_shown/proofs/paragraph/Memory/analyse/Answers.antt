@@ -1,8 +1,8 @@
 use Rattle.bidi_base.proofs.Common.{◌≡◌, ◌∙◌, ◌++◌, ℕ, List, None, length, take, drop, get_or, ap, subst, arith, chars, Source, take-append_seam, IsPerCharText}
 use Rattle.bidi_terminal.specs.Bases.{level_of_base}
-use Rattle.bidi_walk.specs.ParagraphInfo.{ranges_of, levels_of}
-use Rattle.bidi_walk.specs.SplitRule.{IsAnalysisBy}
-use Rattle.bidi_walk.specs.declared.paragraph_info.ParagraphInfo.{ParagraphInfo}
+use Rattle.bidi_paragraphs.specs.ParagraphInfo.{ranges_of, levels_of}
+use Rattle.bidi_paragraphs.specs.SplitRule.{IsAnalysisBy}
+use Rattle.bidi_paragraphs.specs.declared.paragraph_info.ParagraphInfo.{ParagraphInfo}
 use Rattle.unicode_bidi.specs.Engine.{found_paragraphs}
 use Rattle.bidi_shown.specs.Paragraph.{analysed}
 use Rattle.bidi_shown.proofs.ParagraphLemmas.{analysed-whole}

@@ -1,8 +1,8 @@
 use Rattle.bidi_base.proofs.Common.{◌≡◌, ◌∙◌, ℕ, List, [], ◌∷◌, map, arith, refl, rules, paragraph_level}
 use Rattle.unicode_bidi.specs.Engine.{with_analysis}
-use Rattle.bidi_walk.specs.ParagraphFlags.{flags_of}
-use Rattle.bidi_walk.specs.ParagraphInfo.{level_of}
-use Rattle.bidi_walk.proofs.FlagsLemmas.{is_pure_ltr-flags}
+use Rattle.bidi_paragraphs.specs.ParagraphFlags.{flags_of}
+use Rattle.bidi_paragraphs.specs.ParagraphInfo.{level_of}
+use Rattle.bidi_paragraphs.proofs.FlagsLemmas.{is_pure_ltr-flags}
 use Rattle.unicode_bidi.proofs.FoundLaws.{laws-obeyed, classes-one, levels-one, paragraph_level-one, bounded-one}
 use Rattle.unicode_bidi.proofs.ParagraphUnits.{only, flags-one}
 use Rattle.unicode_bidi.proofs.paragraph_bidi_info.ParagraphBidiInfo.of_text.Goals as goal

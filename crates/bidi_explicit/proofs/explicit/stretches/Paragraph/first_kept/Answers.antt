@@ -1,6 +1,6 @@
 -- The characters passed over are among those of the stretch.
 use Rattle.bidi_base.proofs.Common.{arith}
-use Rattle.bidi_runs.proofs.CharEnds.{index-le}
+use Rattle.bidi_explicit.proofs.CharEnds.{index-le}
 use Rattle.bidi_explicit.proofs.explicit.stretches.Paragraph.first_kept.Goals as goal
 
 pub returns-in-Character-clause-at_least : goal.returns-in-Character-clause-at_least

@@ -1,6 +1,6 @@
 -- The units of a character have one class, so a test of its first unit tells of all.
 use Rattle.bidi_base.proofs.Common.{arith, cases_lt}
-use Rattle.bidi_runs.proofs.CharEnds.{Goes, goes}
+use Rattle.bidi_explicit.proofs.CharEnds.{Goes, goes}
 use Rattle.bidi_explicit.proofs.explicit.stretches.Paragraph.next_character.Given.{Over}
 use Rattle.bidi_explicit.proofs.explicit.stretches.Paragraph.next_character.Goals as goal
 use Rattle.bidi_explicit.proofs.explicit.stretches.Paragraph.next_character.Goals.{After-end_of-at}

@@ -1,6 +1,6 @@
 -- One character after another: their units have one class, which is BN or takes the override.
 use Rattle.bidi_base.proofs.Common.{◌≡◌, ℕ, ◌+◌, ◌<◌, ◌≤◌, sym, ap, ◌∙◌, arith, is_kept_in_place, class_at, char_index}
-use Rattle.bidi_runs.proofs.CharEnds.{Goes, goes}
+use Rattle.bidi_explicit.proofs.CharEnds.{Goes, goes}
 use Rattle.bidi_explicit.proofs.ExplicitStretches.{IsOverridden-more, IsOverridden-spared}
 use Rattle.bidi_explicit.proofs.explicit.stretches.Paragraph.put_on_characters.Given.{Over}
 use Rattle.bidi_explicit.proofs.explicit.stretches.Paragraph.put_on_characters.Goals as goal

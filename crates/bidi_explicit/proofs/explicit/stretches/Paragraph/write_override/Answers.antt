@@ -1,5 +1,5 @@
 use Rattle.bidi_base.proofs.Common.{arith}
-use Rattle.bidi_runs.proofs.CharEnds.{index-le}
+use Rattle.bidi_explicit.proofs.CharEnds.{index-le}
 use Rattle.bidi_explicit.proofs.explicit.stretches.Paragraph.write_override.Goals as goal
 
 pub returns-in-Character-clause-at_least : goal.returns-in-Character-clause-at_least

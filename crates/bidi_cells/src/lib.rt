@@ -1,4 +1,0 @@
-//! The cells of tables and pages that show characters, classes and levels.
-#![tactic(auto)]
-
-pub mod cells;

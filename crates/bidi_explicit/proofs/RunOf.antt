@@ -1,0 +1,50 @@
+-- The run of a unit, and what is found in the runs from it on, or up to it.
+use Rattle.bidi_base.proofs.Common.{◌≡◌, ℕ, zero, suc, ◌+◌, ◌<◌, ◌≤◌, ◌||◌, true, false, List, [], ◌∷◌, length, map, get_or, take, drop, refl, sym, ap, ◌∙◌, arith, take_all}
+use Rattle.bidi_base.proofs.Common.{get_or-map, length-map, class_at, All, All-take, are_ordered, are_ordered_from, bounds, in_runs, Range, cases_Bool}
+use Rattle.bidi_base.specs.declared.char_data.BidiClass.{BidiClass}
+use Rattle.bidi_explicit.proofs.WalkLemmas.{no_range, are_ordered-front}
+use Rattle.bidi_explicit.proofs.InRuns.{in_run, in_run-true, in_runs-more, in_run-above, in_runs-take, next_start, start_or-at}
+
+low_end : (low : ℕ) (runs : List (ℕ × ℕ)) (j : ℕ) → are_ordered_from low runs ≡ true → j < length runs → low ≤ (get_or runs j (0, 0)).1
+low_end low [] j h fits = absurd (omega arith)
+low_end low (r ∷ runs) zero h fits = let f = are_ordered-front low r runs h in omega (arith, f.from, f.not_empty)
+low_end low (r ∷ runs) (suc j) h fits = let f = are_ordered-front low r runs h in omega (arith, f.from, f.not_empty, low_end r.1 runs j f.later (omega arith))
+
+pub ends-rise : (low : ℕ) (runs : List (ℕ × ℕ)) (i j : ℕ) → are_ordered_from low runs ≡ true → i ≤ j → j < length runs → (get_or runs i (0, 0)).1 ≤ (get_or runs j (0, 0)).1
+ends-rise low [] i j h order fits = absurd (omega arith)
+ends-rise low (r ∷ runs) zero zero h order fits = omega arith
+ends-rise low (r ∷ runs) zero (suc j) h order fits = low_end r.1 runs j (are_ordered-front low r runs h).later (omega arith)
+ends-rise low (r ∷ runs) (suc i) zero h order fits = absurd (omega arith)
+ends-rise low (r ∷ runs) (suc i) (suc j) h order fits = ends-rise r.1 runs i j (are_ordered-front low r runs h).later (omega arith) (omega arith)
+
+-- without the runs that end before a unit
+pub in_runs-later : (index : ℕ) (runs : List (ℕ × ℕ)) (k : ℕ) → ((i : ℕ) → i < index → (get_or runs i (0, 0)).1 ≤ k) → in_runs (drop index runs) k ≡ in_runs runs k
+in_runs-later zero runs k h = refl
+in_runs-later (suc index) [] k h = refl
+in_runs-later (suc index) (r ∷ runs) k h = in_runs-later index runs k (λ i below. h (suc i) (omega arith)) ∙ sym (ap (λ b. b || in_runs runs k) (in_run-above r k (h 0 (omega arith))))
+
+-- up to the run that ends behind a unit
+pub in_runs-upto : (index : ℕ) (runs : List (ℕ × ℕ)) (k : ℕ) → are_ordered runs ≡ true → index ≤ length runs
+    → (index < length runs → k < (get_or runs index (0, 0)).1) → in_runs (take (index + 1) runs) k ≡ in_runs runs k
+in_runs-upto index runs k ordered fits ends = grind (arith, start_or-at, in_runs-take, next_start, take_all)
+
+-- a run ends within all units
+pub run_end : (n : ℕ) (runs : List (Range ℕ)) (i : ℕ) → All (λ (r : ℕ × ℕ). r.1 ≤ n) (map bounds runs) → i < length runs → (get_or runs i no_range).end ≤ n
+run_end n runs i within fits = omega (arith, ap (λ (r : ℕ × ℕ). r.1) (get_or-map bounds runs i no_range (0, 0) fits), within i (0, 0) (omega (arith, fits, length-map runs bounds)))
+
+-- a change that may be made twice, once one run more came
+pub changed-more : (f : BidiClass → BidiClass) → ((c : BidiClass) → f (f c) ≡ f c) → (runs : List (ℕ × ℕ)) (i : ℕ) (old now new : List BidiClass) → i < length runs
+    → ((u : ℕ) → in_runs (take i runs) u ≡ true → class_at now u ≡ f (class_at old u)) → ((u : ℕ) → in_runs (take i runs) u ≡ false → class_at now u ≡ class_at old u)
+    → ((u : ℕ) → (get_or runs i (0, 0)).0 ≤ u → u < (get_or runs i (0, 0)).1 → class_at new u ≡ f (class_at now u)) → ((u : ℕ) → in_run (get_or runs i (0, 0)) u ≡ false → class_at new u ≡ class_at now u)
+    → ((u : ℕ) → in_runs (take (i + 1) runs) u ≡ true → class_at new u ≡ f (class_at old u)) × ((u : ℕ) → in_runs (take (i + 1) runs) u ≡ false → class_at new u ≡ class_at old u)
+changed-more f twice runs i old now new fits changed same inside outside =
+    grind (
+      arith,
+      λ (u : ℕ). cases_Bool (in_run (get_or runs i (0, 0)) u),
+      λ (u : ℕ). cases_Bool (in_runs (take i runs) u),
+      in_run-true,
+      in_runs-more,
+    )
+
+pub ends-later : (n index : ℕ) (runs : List (ℕ × ℕ)) → All (λ r. r.1 ≤ n) runs → All (λ r. r.1 ≤ n) (take index runs)
+ends-later n index runs h = All-take (λ (r : ℕ × ℕ). r.1 ≤ n) index runs h

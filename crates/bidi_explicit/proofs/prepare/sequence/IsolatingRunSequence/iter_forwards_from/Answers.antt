@@ -1,0 +1,9 @@
+use Rattle.bidi_base.proofs.Common.{get_or_default, arith}
+use Rattle.bidi_explicit.proofs.WalkLemmas.{forwards-start, forwards-in_order}
+use Rattle.bidi_explicit.proofs.prepare.sequence.IsolatingRunSequence.iter_forwards_from.Goals as goal
+
+pub invariant_of-result : goal.invariant_of-result
+invariant_of-result c = grind (arith, forwards-in_order)
+
+pub returns : goal.returns
+returns c = grind (arith, forwards-start, get_or_default)

@@ -1,0 +1,59 @@
+-- What contracts see of an isolating run sequence in code, and of the walks over its units.
+use Rattle.std.specs.Prelude.{ℕ, List, ◌++◌, filter, map, reverse}
+use Rattle.std.specs.declared.ops.Range.{Range}
+use Rattle.bidi_base.specs.declared.char_data.BidiClass.{BidiClass}
+use Rattle.bidi_base.specs.Places.{between}
+use Rattle.bidi_base.specs.Sequences.{RunSequence, has_places}
+use Rattle.bidi_base.specs.Units.{bounds, units_in_runs}
+use Rattle.bidi_explicit.specs.Joining.{JoinedRuns, characters_of}
+use Rattle.bidi_explicit.specs.declared.prepare.sequence.IsolatingRunSequence.{IsolatingRunSequence}
+use Rattle.bidi_explicit.specs.declared.prepare.lent.LentSequence.{LentSequence}
+use Rattle.bidi_explicit.specs.declared.prepare.sequence.ForwardsFrom.{ForwardsFrom}
+use Rattle.bidi_explicit.specs.declared.prepare.sequence.BackwardsFrom.{BackwardsFrom}
+
+-- its level runs
+abbrev pub runs : IsolatingRunSequence → List (Range ℕ)
+runs s = s.runs.items
+
+-- the same as pairs of their ends
+abbrev pub run_bounds : IsolatingRunSequence → List (ℕ × ℕ)
+run_bounds s = map bounds s.runs.items
+
+-- the classes before its first character and after its last
+abbrev pub sos : IsolatingRunSequence → BidiClass
+sos s = s.sos
+
+abbrev pub eos : IsolatingRunSequence → BidiClass
+eos s = s.eos
+
+-- the same of a sequence whose runs are lent
+abbrev pub lent_runs : LentSequence → List (Range ℕ)
+lent_runs s = s.runs.now
+
+abbrev pub lent_sos : LentSequence → BidiClass
+lent_sos s = s.sos
+
+abbrev pub lent_eos : LentSequence → BidiClass
+lent_eos s = s.eos
+
+abbrev pub lent_joined : LentSequence → JoinedRuns
+lent_joined s = record { runs = map bounds s.runs.now; sos = s.sos; eos = s.eos }
+
+-- a sequence's runs, with the classes at both ends
+abbrev pub joined : IsolatingRunSequence → JoinedRuns
+joined s = record { runs = run_bounds s; sos = s.sos; eos = s.eos }
+
+-- the sequence of the characters that X9 keeps in its runs
+abbrev pub sequence_in : (ℕ → ℕ) → List ℕ → List BidiClass → IsolatingRunSequence → RunSequence
+sequence_in len_of chars classes s = characters_of len_of chars classes (joined s)
+
+-- those of some sequences, but for what holds no such character
+abbrev pub sequences_in : (ℕ → ℕ) → List ℕ → List BidiClass → List IsolatingRunSequence → List RunSequence
+sequences_in len_of chars classes out = filter has_places (map (sequence_in len_of chars classes) out)
+
+-- the units that a walk still has to give
+abbrev pub forwards_left : ForwardsFrom → List ℕ
+forwards_left w = between w.at w.end ++ units_in_runs (map bounds w.later.now)
+
+abbrev pub backwards_left : BackwardsFrom → List ℕ
+backwards_left w = reverse (units_in_runs (map bounds w.earlier.now) ++ between w.start w.at)

@@ -1,3 +1,0 @@
-pub mod Json
-pub mod Names
-pub mod Uris

@@ -1,3 +1,0 @@
-pub mod JoinPass
-pub mod NeutralPass
-pub mod PairWalk

@@ -1,0 +1,11 @@
+use Rattle.bidi_base.proofs.Common.{◌≡◌, length, drop, place}
+use Rattle.bidi_paragraphs.specs.declared.paragraph_flags.ParagraphFlags.{ParagraphFlags}
+use Rattle.bidi_paragraphs.specs.ClassSet.{has}
+use Rattle.bidi_paragraphs.specs.FirstWalk.{HasEachChange, IsSkimmed}
+use Rattle.bidi_paragraphs.proofs.first_walk.other_characters.read_to_sought.Given as goal
+
+abbrev pub invariant-loop-start : goal.invariant-loop-start
+invariant-loop-start g l =
+    (goal.iterator-loop-start g).can_next l.start-iterator × (goal.iterator-loop-start g).is_finite l.start-iterator
+    × ((flags : ParagraphFlags) → HasEachChange l.sought flags → (h : IsSkimmed (g.D.BidiDataSource.source l.data_source) g.T.TextSource.units (has l.sought) (g.T.TextSource.characters l.fn.block) 0 (place g.T.TextSource.units (g.T.TextSource.characters l.fn.block) (length l.yielded)) l.initial.classes l.classes flags flags)
+    × (h.rest ≡ drop (length l.yielded) (g.T.TextSource.characters l.fn.block)))

@@ -1,0 +1,106 @@
+//! What the later steps need to know of a paragraph's classes.
+ghost use Rattle.std.specs.Prelude.{◌≡◌, ◌||◌, not};
+ghost use Rattle.bidi_base.specs.Classes.{is_initiator, is_opener, is_removed};
+ghost use Rattle.bidi_base.specs.Direction.{may_turn};
+ghost use Rattle.bidi_base.specs.Flat.{may_leave};
+ghost use Rattle.bidi_base.specs.declared.char_data.BidiClass.{BidiClass};
+ghost use Rattle.bidi_paragraphs.specs.ClassSet.{any_of, has};
+ghost use Rattle.bidi_paragraphs.specs.ParagraphFlags.{is_missing, with_class, with_set};
+
+use crate::class_set::ClassSet;
+use bidi_base::char_data::BidiClass;
+use bidi_base::level::Level;
+use std::alloc::Global;
+use std::default::MadeWith;
+
+/// The classes in a paragraph, as the data source gives them. Only those are kept that the later steps tell
+/// apart.
+#[derive(Clone, Copy, PartialEq, Debug)]
+pub struct ParagraphFlags {
+    pub(crate) seen: ClassSet,
+}
+
+// The value of unused entries of a `SmallVec`.
+impl MadeWith<Global> for ParagraphFlags {
+    fn made_with(_alloc: Global) -> ParagraphFlags {
+        ParagraphFlags::NONE
+    }
+}
+
+impl ParagraphFlags {
+    /// The flags of a paragraph without characters.
+    pub(crate) const NONE: ParagraphFlags = ParagraphFlags {
+        seen: ClassSet::NONE,
+    };
+
+    /// Adds one more character, of this class.
+    pub(crate) fn with(self, class: BidiClass) -> ParagraphFlags
+        ensures { result ≡ with_class self class }
+    {
+        if ClassSet::COUNTED.has(class) {
+            ParagraphFlags {
+                seen: self.seen.with(class),
+            }
+        } else {
+            self
+        }
+    }
+
+    /// Adds characters of these classes.
+    pub(crate) fn with_all(self, classes: ClassSet) -> ParagraphFlags
+        ensures { result ≡ with_set self classes }
+    {
+        ParagraphFlags {
+            seen: self.seen.union(classes.common(ClassSet::COUNTED)),
+        }
+    }
+
+    /// Returns the classes of a set, and with them those that would change the flags.
+    pub(crate) fn sought_with(self, stop_classes: ClassSet) -> ClassSet
+        ensures { (c : BidiClass) → has result c ≡ (has stop_classes c || is_missing self c) }
+    {
+        stop_classes.union(ClassSet::COUNTED.without(self.seen))
+    }
+
+    /// Returns whether no character can make the paragraph anything but left to right throughout, at level
+    /// 0.
+    pub fn is_pure_ltr(self) -> bool
+        ensures { result ≡ not (any_of self.seen may_turn) }
+    {
+        !self.seen.meets(ClassSet::TURNING_EVEN)
+    }
+
+    /// Returns whether some character is an isolate initiator.
+    pub fn has_isolates(self) -> bool
+        ensures { result ≡ any_of self.seen is_initiator }
+    {
+        self.seen.meets(ClassSet::INITIATORS)
+    }
+
+    /// Returns whether no character begins an embedding or an isolate.
+    pub fn is_flat(self) -> bool
+        ensures { result ≡ not (any_of self.seen is_opener) }
+    {
+        !self.seen.meets(ClassSet::OPENERS)
+    }
+
+    /// Returns whether no character can give the paragraph a level other than this one, if it is the
+    /// paragraph level.
+    pub fn keeps_to(self, level: Level) -> bool
+        ensures { result ≡ not (any_of self.seen (may_leave level)) }
+    {
+        let turning = if level.is_rtl() {
+            ClassSet::TURNING_ODD
+        } else {
+            ClassSet::TURNING_EVEN
+        };
+        !self.seen.meets(turning)
+    }
+
+    /// Returns whether X9 removes some character.
+    pub fn has_removed(self) -> bool
+        ensures { result ≡ any_of self.seen is_removed }
+    {
+        self.seen.meets(ClassSet::REMOVED)
+    }
+}

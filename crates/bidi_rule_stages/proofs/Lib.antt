@@ -1,3 +1,0 @@
-pub mod AloneLemmas
-pub mod SequencesLemmas
-pub mod StagesLemmas

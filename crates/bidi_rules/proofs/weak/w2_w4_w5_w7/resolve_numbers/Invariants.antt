@@ -1,0 +1,17 @@
+-- The units before the run are read, with two turns at most for each, and two more for each that is settled.
+use Rattle.bidi_base.proofs.Common.{◌+◌, ◌*◌, ◌≤◌, length, map, bounds}
+use Rattle.bidi_rules.specs.WeakWalk.{len_at, settled_to, IsUnderWay, WaitsBelow}
+use Rattle.bidi_explicit.specs.Written.{count_below}
+use Rattle.bidi_explicit.proofs.InRuns.{start_or}
+use Rattle.bidi_rules.proofs.weak.w2_w4_w5_w7.resolve_numbers.Given as goal
+
+abbrev pub invariant-loop-run : goal.invariant-loop-run
+invariant-loop-run g l =
+    let runs = map bounds l.runs in
+    let next = start_or runs l.run (length l.fn.classes) in
+    record {
+      waiting : WaitsBelow runs l.walk next;
+      under_way : IsUnderWay (record { runs = runs; sos = l.fn.sos; old = l.fn.classes; len = len_at g.T.TextSource.units (g.T.TextSource.characters l.fn.text) }) l.classes l.walk next;
+      at_least : l.fn.steps ≤ l.steps;
+      at_most : l.steps ≤ l.fn.steps + 2 * count_below runs next + 2 * count_below runs (settled_to l.walk next);
+    }

@@ -1,0 +1,5 @@
+pub mod JoinPass
+pub mod NeutralPass
+pub mod PairWalk
+pub mod WeakPass
+pub mod WeakWalk

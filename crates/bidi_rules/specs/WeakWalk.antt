@@ -1,0 +1,193 @@
+-- The weak passes over units in place: what each has done once it read some units of a slice.
+use Rattle.std.specs.Prelude.{◌≡◌, ℕ, ◌+◌, ◌-◌, ◌*◌, ◌/◌, ◌<◌, ◌≤◌, Bool, true, false, ◌||◌, if◌then◌else◌, List, ◌++◌, length, map, get_or, min, nat_lt, slice_range}
+use Rattle.std.specs.List.{fold, list_any}
+use Rattle.std.specs.Option.{option_map_or}
+use Rattle.std.specs.declared.ops.Range.{Range}
+use Rattle.bidi_base.specs.declared.char_data.BidiClass.{BidiClass}
+use Rattle.bidi_base.specs.declared.char_data.BidiClass.TheVariants.{L}
+use Rattle.bidi_base.specs.Classes.{is_kept_in_place}
+use Rattle.bidi_base.specs.Places.{at_places, class_at}
+use Rattle.bidi_base.specs.Text.{char_at}
+use Rattle.bidi_base.specs.InPlace.{AreWeakTypesResolved, CanResolveWeakTypes}
+use Rattle.bidi_base.specs.Units.{bounds, chars_in_runs, in_runs, units_in_runs}
+use Rattle.bidi_base.specs.Weak.{carried}
+use Rattle.bidi_rules.specs.declared.weak.w2_w4_w5_w7.Walk.{Walk}
+use Rattle.bidi_rules.specs.declared.weak.before.Before.TheVariants.{Other}
+use Rattle.bidi_explicit.specs.RunSequence.{lent_runs, lent_sos}
+use Rattle.bidi_explicit.specs.declared.prepare.lent.LentSequence.{LentSequence}
+use Rattle.bidi_explicit.specs.Written.{is_seen, seen_from, seen_units}
+use Rattle.bidi_rules.specs.WeakPass.{after_w1, strengthened, next_before, waits, left_over, still_to_come, walked}
+
+-- the classes of a range of units, as far as there are any
+abbrev pub part_of : List BidiClass → ℕ × ℕ → List BidiClass
+part_of units r = let end = min r.1 (length units) in slice_range units (min r.0 end) end
+
+-- one of some classes passes the test
+abbrev pub is_any_of : (BidiClass → Bool) → List BidiClass → Bool
+is_any_of test classes = fold (λ found class. found || test class) false classes
+
+-- one in some ranges passes the test
+abbrev pub is_any : (BidiClass → Bool) → List (Range ℕ) → List BidiClass → Bool
+is_any test runs units = list_any (λ run. is_any_of test (part_of units (bounds run))) runs
+
+-- the classes of a range; where it has 32 or more, those of the units behind it too, up to a multiple of 32 in all
+abbrev pub wide_part_of : List BidiClass → ℕ × ℕ → List BidiClass
+wide_part_of units r =
+    let end = min r.1 (length units) in
+    let start = min r.0 end in
+    let wide = min (start + (end - start + 31) / 32 * 32) (length units) in
+    slice_range units start (if nat_lt (end - start) 32 then end else wide)
+
+abbrev pub is_any_wide : (BidiClass → Bool) → List (Range ℕ) → List BidiClass → Bool
+is_any_wide test runs units = list_any (λ run. is_any_of test (wide_part_of units (bounds run))) runs
+
+-- W1 is done for the seen units below i, where the next mark takes `mark`
+pub record AreMarked (runs : List (ℕ × ℕ)) (sos : BidiClass) (old now : List BidiClass) (mark : BidiClass) (i : ℕ) : Type 0 where
+  pub answers : at_places L now (seen_from runs old 0 i)
+      ++ after_w1 mark (at_places L old (seen_from runs old i (length old)))
+      ≡ after_w1 sos (at_places L old (seen_units runs old))
+  pub unread : (k : ℕ) → i ≤ k → class_at now k ≡ class_at old k
+  pub unseen : (k : ℕ) → is_seen runs old k ≡ false → class_at now k ≡ class_at old k
+  pub kept : (k : ℕ) → is_kept_in_place (class_at now k) ≡ is_kept_in_place (class_at old k)
+  pub takes : is_kept_in_place mark ≡ true
+  pub inside : i ≤ length old
+  pub long : length now ≡ length old
+
+-- the units from `start` up to `end` of a run take W1 on, behind a character of the class `before`, up to one of the class `last`
+abbrev pub Marks : ℕ → ℕ → BidiClass → BidiClass → List BidiClass → List BidiClass → Type 0
+Marks start end before last now new =
+    (runs : List (ℕ × ℕ)) (sos : BidiClass) (old : List BidiClass) → ((k : ℕ) → start ≤ k → k < end → in_runs runs k ≡ true)
+    → AreMarked runs sos old now (carried before) start → AreMarked runs sos old new (carried last) end
+
+-- W1 is done
+pub record IsMarked (runs : List (ℕ × ℕ)) (sos : BidiClass) (old new : List BidiClass) : Type 0 where
+  pub answers : at_places L new (seen_units runs old) ≡ after_w1 sos (at_places L old (seen_units runs old))
+  pub unseen : (k : ℕ) → is_seen runs old k ≡ false → class_at new k ≡ class_at old k
+  pub kept : (k : ℕ) → is_kept_in_place (class_at new k) ≡ is_kept_in_place (class_at old k)
+  pub long : length new ≡ length old
+
+-- the length of the character that begins at a unit, or 1 where none begins
+abbrev pub len_at : (ℕ → ℕ) → List ℕ → ℕ → ℕ
+len_at len_of chars u = option_map_or (λ e. e.1) (char_at len_of chars u) 1
+
+-- a walk over the seen units of some ranges, which had these classes at first
+pub record Pass : Type 0 where
+  pub runs : List (ℕ × ℕ)
+  pub sos : BidiClass
+  pub old : List BidiClass
+  pub len : ℕ → ℕ
+
+abbrev pub seen : Pass → ℕ → Bool
+seen p k = is_seen p.runs p.old k
+
+abbrev pub units : Pass → ℕ → ℕ → List ℕ
+units p low high = seen_from p.runs p.old low high
+
+-- the units from one up to another have the class of the first
+abbrev pub AreAlike : List BidiClass → ℕ → ℕ → Type 0
+AreAlike units from to = (k : ℕ) → from ≤ k → k < to → class_at units k ≡ class_at units from
+
+-- two for each code unit of some runs: the most iterations of a loop over the runs and their units, and the most units that
+-- a search looks at
+abbrev pub two_a_unit : List (Range ℕ) → ℕ
+two_a_unit runs = 2 * length (units_in_runs (map bounds runs))
+
+-- what W1 to W7 require of a sequence that borrows its runs
+abbrev pub CanResolveWeak : (ℕ → ℕ) → List ℕ → LentSequence → List BidiClass → Type 0
+CanResolveWeak len_of chars sequence old = CanResolveWeakTypes len_of chars (map bounds (lent_runs sequence)) old
+
+-- W1 to W7 are done in the sequence
+abbrev pub IsWeakResolved : (ℕ → ℕ) → List ℕ → LentSequence → List BidiClass → List BidiClass → Type 0
+IsWeakResolved len_of chars sequence old new =
+    AreWeakTypesResolved len_of chars (map bounds (lent_runs sequence)) (lent_sos sequence) old new
+
+-- how many code units a sequence has
+abbrev pub unit_count_of : LentSequence → ℕ
+unit_count_of sequence = length (units_in_runs (map bounds (lent_runs sequence)))
+
+-- how many characters begin in a sequence
+abbrev pub char_count_of : (ℕ → ℕ) → List ℕ → LentSequence → ℕ
+char_count_of len_of chars sequence = length (chars_in_runs len_of chars (map bounds (lent_runs sequence)))
+
+-- what waits begins at `from`, in the run that the walk names
+pub record AreHeld (p : Pass) (w : Walk) (from : ℕ) : Type 0 where
+  pub first : w.first ≡ from
+  pub run_fits : w.first_run < length p.runs
+  pub run : (get_or p.runs w.first_run (0, 0)).0 ≤ from
+
+-- the units below i are read, those from `from` on are not yet written, and the rest of the walk gives what it
+-- is to give
+pub record IsUnderWay (p : Pass) (now : List BidiClass) (w : Walk) (i : ℕ) : Type 0 where
+  pub from : ℕ
+  pub answers : map left_over (at_places L now (units p 0 from))
+      ++ walked (class_at p.old) p.len w.strong w.before 0 (length (units p from i)) (units p i (length p.old))
+      ≡ walked (class_at p.old) p.len p.sos Other 0 0 (units p 0 (length p.old))
+  pub unwritten : (k : ℕ) → from ≤ k → class_at now k ≡ class_at p.old k
+  pub unseen : (k : ℕ) → seen p k ≡ false → class_at now k ≡ class_at p.old k
+  pub waiting : waits w.before ≡ true → AreHeld p w from
+  pub idle : waits w.before ≡ false → from ≡ i
+  pub order : from ≤ i
+  pub inside : i ≤ length p.old
+  pub long : length now ≡ length p.old
+
+-- these units of the run at an index have one class that is read, and where one separator counts they are one character
+pub record IsStretch (p : Pass) (w : Walk) (runs : List (ℕ × ℕ)) (run from to : ℕ) : Type 0 where
+  pub runs_are : p.runs ≡ runs
+  pub some : from < to
+  pub inside : to ≤ length p.old
+  pub kept : is_kept_in_place (class_at p.old from) ≡ true
+  pub alike : AreAlike p.old from to
+  pub single : let next = next_before (strengthened w.strong (class_at p.old from)) w.before in
+      still_to_come next (p.len from) ≡ still_to_come next (to - from)
+  pub run_fits : run < length runs
+  pub run_starts : (get_or runs run (0, 0)).0 ≤ from
+  pub run_ends : to ≤ (get_or runs run (0, 0)).1
+
+-- the units from `from` up to `to` take each walk on
+abbrev pub Reads : List (ℕ × ℕ) → ℕ → ℕ → ℕ → Walk → Walk → List BidiClass → List BidiClass → Type 0
+Reads runs run from to before after old new =
+    (p : Pass) → IsStretch p before runs run from to → IsUnderWay p old before from → IsUnderWay p new after to
+
+-- the units of a run from `from` up to `to` do, where nothing is written
+abbrev pub Passes : ℕ → ℕ → ℕ → Walk → Walk → List BidiClass → Type 0
+Passes from to end before after now =
+    (p : Pass) (run : ℕ) → run < length p.runs → (get_or p.runs run (0, 0)).0 ≤ from
+    → end ≤ (get_or p.runs run (0, 0)).1 → IsUnderWay p now before from → IsUnderWay p now after to
+
+abbrev pub ReadsTo : (ℕ → ℕ) → List (ℕ × ℕ) → ℕ → ℕ → Walk → Walk → List BidiClass → List BidiClass → Type 0
+ReadsTo len runs from to before after old new =
+    (p : Pass) → p.runs ≡ runs → p.len ≡ len → IsUnderWay p old before from → IsUnderWay p new after to
+
+-- a character that begins at u ends at `end` or before, and its units have one class
+pub record IsWhole (len : ℕ → ℕ) (classes : List BidiClass) (end u : ℕ) : Type 0 where
+  pub some : 1 ≤ len u
+  pub within : u + len u ≤ end
+  pub alike : AreAlike classes u (u + len u)
+
+-- what waits, if something does, begins below u, in the run that the walk names or before
+pub record WaitsBelow (runs : List (ℕ × ℕ)) (w : Walk) (u : ℕ) : Type 0 where
+  pub first_run : w.first_run ≤ length runs
+  pub first : waits w.before ≡ true → w.first < u
+  pub run : waits w.before ≡ true → w.first < (get_or runs w.first_run (0, 0)).1
+
+-- the units below this one are settled, where those below u are read
+abbrev pub settled_to : Walk → ℕ → ℕ
+settled_to w u = if waits w.before then w.first else u
+
+-- W2, W4, W5 and W7 are done, but for what W3 and W6 make of what is left
+pub record IsWalked (len : ℕ → ℕ) (runs : List (ℕ × ℕ)) (sos : BidiClass) (old new : List BidiClass) : Type 0 where
+  pub answers : map left_over (at_places L new (seen_units runs old))
+      ≡ walked (class_at old) len sos Other 0 0 (seen_units runs old)
+  pub unseen : (k : ℕ) → is_seen runs old k ≡ false → class_at new k ≡ class_at old k
+  pub long : length new ≡ length old
+
+-- W3 and W6 have changed the units from `start` up to `end`, and no others
+pub record AreChanged (start end : ℕ) (old new : List BidiClass) : Type 0 where
+  pub changed : (u : ℕ) → start ≤ u → u < end → class_at new u ≡ left_over (class_at old u)
+  pub below : (u : ℕ) → u < start → class_at new u ≡ class_at old u
+  pub above : (u : ℕ) → end ≤ u → class_at new u ≡ class_at old u
+
+-- W3 and W6 have changed these units, with one step for each; the count was `before` and is `after`
+pub record AreChangedAndCounted (start end : ℕ) (old new : List BidiClass) (before after : ℕ) : Type 0 where
+  pub changed : AreChanged start end old new
+  pub steps : after ≡ before + (end - start)

@@ -1,0 +1,48 @@
+//! The nonspacing marks after a bracket.
+
+ghost use Rattle.std.specs.Prelude.{◌≡◌, ◌&&◌, not, ℕ, ◌<◌, ◌≤◌, ◌+◌, length, map, IsTrue};
+ghost use Rattle.bidi_base.specs.Classes.{is_kept_in_place, is_nsm};
+ghost use Rattle.bidi_base.specs.Text.{is_boundary, place, text_len};
+ghost use Rattle.bidi_base.specs.Units.{bounds, are_ordered, AreLines};
+ghost use Rattle.bidi_rules.specs.PairWalk.{IsMarksEnd};
+
+use bidi_base::char_data::BidiClass::{self, NSM};
+use bidi_explicit::characters::end_of;
+use bidi_explicit::prepare::LevelRun;
+use bidi_explicit::written::is_kept_in_place;
+use bidi_text::text::TextSource;
+
+/// Whether a character with these classes is neither BN nor a nonspacing mark by its original class.
+pub fn ends_marks(class: BidiClass, original: BidiClass) -> bool
+    ensures { result ≡ (is_kept_in_place class && not (is_nsm original)) }
+{
+    is_kept_in_place(class) && original != NSM
+}
+
+/// Returns where the nonspacing marks in some runs end, from an index on. BN among them is passed over.
+/// This is the index of the first character that is neither, or else the number of code units.
+pub fn marks_end<T: TextSource>(
+    text: T,
+    runs: &[LevelRun],
+    original_classes: &[BidiClass],
+    classes: &[BidiClass],
+    from: usize,
+) -> usize
+    requires lines { AreLines T.units (T.characters text) (map bounds runs.now) }
+    requires ordered { IsTrue (are_ordered (map bounds runs.now)) }
+    requires long { length classes.now ≡ text_len T.units (T.characters text) }
+    requires original { length original_classes.now ≡ length classes.now }
+    requires begins { IsTrue (is_boundary T.units (T.characters text) from) }
+    ensures { IsMarksEnd T.units (T.characters text) (map bounds runs.now) original_classes.now classes.now from result }
+{
+    for run in runs {
+        let mut at = run.start.max(from);
+        while at < run.end {
+            if ends_marks(classes[at], original_classes[at]) {
+                return at;
+            }
+            at = end_of(text, at);
+        }
+    }
+    classes.len()
+}

@@ -1,0 +1,73 @@
+//! Sequences with a single direction: N0 to N2 give it to each character that is not BN.
+
+ghost use Rattle.std.specs.Prelude.{◌≡◌, ℕ, ◌<◌, ◌≤◌, true, false, length, map, All, IsTrue};
+ghost use Rattle.bidi_base.specs.Places.{class_at};
+ghost use Rattle.bidi_base.specs.Units.{bounds, in_runs};
+ghost use Rattle.bidi_rules.specs.NeutralPass.{turns_from};
+
+use super::directions::Directions;
+use bidi_base::char_data::BidiClass::{self, AN, EN, L, R};
+use bidi_base::search::{Among, ClassTest, first_passing};
+use bidi_explicit::prepare::LevelRun;
+
+/// Returns whether sos and eos are the embedding direction, and no class in the runs is a number or the
+/// other direction.
+pub fn stands_alone(directions: Directions, runs: &[LevelRun], classes: &[BidiClass]) -> bool
+    requires { All (λ r. r.1 ≤ length classes.now) (map bounds runs.now) }
+    ensures sos { IsTrue result → directions.sos ≡ directions.embedding }
+    ensures eos { IsTrue result → directions.eos ≡ directions.embedding }
+    ensures classes { IsTrue result → (u : ℕ) → in_runs (map bounds runs.now) u ≡ true
+        → turns_from directions.embedding (class_at classes.now u) ≡ false }
+{
+    let Directions {
+        embedding,
+        sos,
+        eos,
+    } = directions;
+    sos == embedding && eos == embedding && keep_to(embedding, runs, classes)
+}
+
+/// Whether no class in the runs is a number or the direction other than `direction`.
+fn keep_to(direction: BidiClass, runs: &[LevelRun], classes: &[BidiClass]) -> bool
+    requires { All (λ r. r.1 ≤ length classes.now) (map bounds runs.now) }
+    ensures { IsTrue result → (u : ℕ) → in_runs (map bounds runs.now) u ≡ true
+        → turns_from direction (class_at classes.now u) ≡ false }
+{
+    for run in runs {
+        if has_turn(direction, run, classes) {
+            return false;
+        }
+    }
+    true
+}
+
+/// Whether a class in the run is a number or the direction other than `direction`.
+fn has_turn(direction: BidiClass, run: &LevelRun, classes: &[BidiClass]) -> bool
+    requires { run.now.end ≤ length classes.now }
+    ensures { result ≡ false → (u : ℕ) → run.now.start ≤ u → u < run.now.end
+        → turns_from direction (class_at classes.now u) ≡ false }
+{
+    let end = run.end;
+    let start = run.start.min(end);
+    let turning = Among {
+        test: TurningFrom(direction),
+        classes,
+    };
+    first_passing(turning, 1, start, end) < end
+}
+
+/// Numbers, and the direction other than this one. The test has no branch, so that many code units are
+/// tested at once.
+#[derive(Clone, Copy, Debug)]
+struct TurningFrom(BidiClass);
+
+impl ClassTest for TurningFrom {
+    ghost use Rattle.bidi_rules.specs.NeutralPass.{turns_from};
+
+    ghost test = { λ d. turns_from d.0 };
+
+    fn passes(self, class: BidiClass) -> bool {
+        let other = if self.0 == L { R } else { L };
+        (class == other) | (class == EN) | (class == AN)
+    }
+}

@@ -1,6 +1,0 @@
-use Rattle.bidi_base.proofs.Common.{arith}
-use Rattle.bidi_runs.proofs.OpenIsolates.{last-grown}
-use Rattle.bidi_runs.proofs.prepare.waiting.Waiting.push_unwaited.Goals as goal
-
-pub returns-then-times-last : goal.returns-then-times-last
-returns-then-times-last c = grind (arith, last-grown c.self.inside.rows.items c.in-Some.last.now c.args.times)

@@ -1,3 +1,0 @@
-pub mod BlocksLemmas
-pub mod PagesLemmas
-pub mod PlacesLemmas

@@ -1,4 +1,0 @@
-pub mod Analysed
-pub mod ShownLine
-pub mod Turned
-pub mod Written

@@ -1,2 +1,0 @@
-pub mod WeakPass
-pub mod WeakWalk

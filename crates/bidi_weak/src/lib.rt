@@ -1,4 +1,0 @@
-//! The weak types of isolating run sequences, in place over the code units of one paragraph.
-#![tactic(auto)]
-
-pub mod weak;
