@@ -1,7 +1,6 @@
-//! The bidirectional algorithm at a command line. `bidi check` finds direction controls that have no
-//! match on their line: they can make a text, also a program, read otherwise than it is. `bidi show`
-//! gives the lines of a text as a terminal that does not know the algorithm has to be given them.
-//! `bidi explain` shows what each stage of the rules makes of the characters of a text.
+//! The program `bidi`. `bidi check` finds direction controls that have no match on their line: they can make a text, such as
+//! source code, display differently from how it reads. `bidi show` writes the lines of a text for a terminal without
+//! bidirectional support. `bidi explain` writes the result of each rule for the characters of a text.
 #![tactic(auto)]
 
 mod explain;

@@ -1,4 +1,6 @@
-//! What each stage of the rules makes of the characters of a text, as tables and as a page of HTML.
+//! The output of `bidi explain`: the result of each rule for the characters of a text, as tables or as a page of HTML.
+//!
+//! [`stages`] finds the results, [`cells`] writes each as a cell, and [`explain`] writes the tables or the page.
 #![tactic(auto)]
 
 mod blocks;

@@ -1,5 +1,7 @@
-//! A line of a text as it is displayed: the levels of its code units after L1, and their visual
-//! order (L2).
+//! A line of a text as it is displayed.
+//!
+//! [`line_levels`] finds the levels of its code units after L1. [`visual_order`] and [`visual_runs`] find their visual order
+//! (L2), and [`line_text`] the text of the line in that order. [`analysed`] is a text with its classes and levels.
 #![tactic(auto)]
 
 pub mod analysed;

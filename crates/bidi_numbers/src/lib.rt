@@ -1,4 +1,4 @@
-//! What callers in other languages pass: numbers, rows, tables and texts. Tests every condition, and names the
+//! What callers in other languages pass: numbers, structs, tables and texts. Tests every condition, and names the
 //! faults that a call returns.
 #![tactic(auto)]
 

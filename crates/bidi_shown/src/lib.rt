@@ -1,4 +1,4 @@
-//! Paragraphs and texts as a terminal displays them that does not know the algorithm.
+//! The output of `bidi show`: paragraphs and texts, for a terminal without bidirectional support.
 #![tactic(auto)]
 
 pub mod paragraph;

@@ -1,4 +1,4 @@
-//! Lines as a terminal displays them that does not know the algorithm: each character from left to right.
+//! Lines for a terminal without bidirectional support: each character from left to right.
 #![tactic(auto)]
 
 mod characters;
