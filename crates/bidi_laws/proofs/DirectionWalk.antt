@@ -1,13 +1,12 @@
 -- The base direction of a text in one walk, which counts the isolates that are open.
-use Rattle.bidi_base.proofs.Common.{◌≡◌, ◌↔◌, ℕ, ◌+◌, ◌-◌, ◌≤◌, Bool, true, false, ◌&&◌, cond, if◌then◌else◌, List, [], ◌∷◌, drop, map, find, Option, Some, None, is_some, refl, ap, ◌∙◌, ◌⊎◌, inl}
-use Rattle.bidi_base.proofs.Common.{inr, arith, onto_first, option_or, cases_Bool, is_strong, is_initiator, is_pdi, is_paragraph_separator, direction_by, base_direction, deciding_class}
+use Rattle.bidi_base.proofs.Common.{◌≡◌, ◌↔◌, ℕ, Bool, true, false, ◌&&◌, cond, if◌then◌else◌, List, [], ◌∷◌, map, find, Option, Some, None, is_some, refl, ap, ◌∙◌, inl}
+use Rattle.bidi_base.proofs.Common.{inr, arith, onto_first, option_or, cases_Bool, is_strong, is_paragraph_separator, direction_by, base_direction, deciding_class}
 use Rattle.bidi_base.proofs.Common.{paragraph_level, paragraphs_of, each_separator, first_or, Source, option_and_then, full_base_direction}
 use Rattle.bidi_base.specs.declared.char_data.BidiClass.{BidiClass}
 use Rattle.bidi_base.specs.declared.char_data.Direction.{Direction}
 use Rattle.bidi_base.specs.declared.char_data.Direction.TheVariants.{Rtl, Mixed}
-use Rattle.bidi_base.specs.declared.char_data.BidiClass.TheVariants.{B}
 use Rattle.bidi_laws.proofs.IsolatesLemmas.{direction_by-Rtl}
-use Rattle.bidi_laws.proofs.IsolateWalk.{kind_of, initiator-kind, pdi-kind, depth_by, is_zero, deciding_from, deciding_class-from}
+use Rattle.bidi_laws.proofs.IsolateWalk.{kind_of, depth_by, is_zero, deciding_from, deciding_class-from}
 use Rattle.bidi_base.proofs.Lists.{cases_Option}
 
 -- the direction that is found where d isolates are open, and no character has decided
@@ -97,42 +96,3 @@ direction_from-is source chars full = grind (arith, full_direction, found_from, 
 pub base_direction-Rtl : (paragraphs : List (List BidiClass)) → (base_direction paragraphs ≡ Rtl) ↔ (paragraph_level None (first_or [] paragraphs) ≡ 1)
 unfolding base_direction paragraph_level
 base_direction-Rtl paragraphs = direction_by-Rtl (deciding_class (first_or [] paragraphs))
-
--- ---- one character of the walk
-
-separator_weak : (c : BidiClass) → is_paragraph_separator c ≡ true → is_strong c ≡ false
-separator_weak B e = refl
-separator_weak _ e = absurd (cc e)
-
-depth_by-counted : (c : BidiClass) (d : ℕ) → (if is_initiator c then d + 1 else if is_pdi c then d - 1 else d) ≡ depth_by (kind_of c) d
-depth_by-counted c d = grind (arith, initiator-kind c, pdi-kind c)
-
-module _ (f : ℕ → BidiClass) (chars : List ℕ) (n c : ℕ) (class : BidiClass) (next : drop n chars ≡ c ∷ drop (n + 1) chars) (is : class ≡ f c) (d : ℕ) where
-  step : (full : Bool) → direction_from full d (map f (drop n chars))
-      ≡ cond (is_strong class && is_zero d) (direction_by (Some class)) (cond (is_paragraph_separator class) (cond full (direction_from full 0 (map f (drop (n + 1) chars))) Mixed) (direction_from full (depth_by (kind_of class) d) (map f (drop (n + 1) chars))))
-  step full = simp (next, ← is)
-
-  -- it decides
-  pub direction-decided : (full : Bool) → d ≡ 0 → is_strong class ≡ true → direction_by (Some class) ≡ direction_from full d (map f (drop n chars))
-  direction-decided full none strong = simp (step full) (simp (strong, none))
-
-  -- it ends the first paragraph
-  pub direction-ended : (full : Bool) → full ≡ false → is_paragraph_separator class ≡ true → Mixed ≡ direction_from full d (map f (drop n chars))
-  direction-ended full first separator = simp (step full) (simp (separator_weak class separator, separator, first))
-
-  -- it ends another one
-  pub direction-next : (full : Bool) → full ≡ true → is_paragraph_separator class ≡ true → direction_from full d (map f (drop n chars)) ≡ direction_from full 0 (map f (drop (n + 1) chars))
-  direction-next full all separator = simp (step full) (simp (separator_weak class separator, separator, all))
-
-  -- it goes on
-  pub direction-on : (full : Bool) (e : ℕ) → e ≡ (if is_initiator class then d + 1 else if is_pdi class then d - 1 else d)
-      → (is_strong class ≡ false) ⊎ (d ≡ 0 → ⊥) → is_paragraph_separator class ≡ false
-      → direction_from full d (map f (drop n chars)) ≡ direction_from full e (map f (drop (n + 1) chars))
-  direction-on full e counted undecided other = simp (step full, open_or_weak undecided, other, counted, depth_by-counted class d)
-    where
-      open_or_weak : (is_strong class ≡ false) ⊎ (d ≡ 0 → ⊥) → (is_strong class && is_zero d) ≡ false
-      open_or_weak (inl none) = simp none
-      open_or_weak (inr deep) = grind arith
-
-pub depth-le : (class : BidiClass) (d n : ℕ) → d ≤ n → (if is_initiator class then d + 1 else if is_pdi class then d - 1 else d) ≤ n + 1
-depth-le class d n order = grind (arith, cases_Bool (is_initiator class), cases_Bool (is_pdi class))
