@@ -3,7 +3,7 @@
 #![tactic(auto)]
 
 pub mod implicit;
-pub mod neutral;
-pub mod weak;
+mod neutral;
+mod weak;
 
 pub use bidi_explicit::{explicit, leveled_text, prepare};
