@@ -1,1 +1,1 @@
-pub mod Widths
+mod Widths

@@ -1,2 +1,2 @@
-pub mod Mirroring
-pub mod Versions
+mod Mirroring
+mod Versions

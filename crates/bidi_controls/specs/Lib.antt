@@ -3,5 +3,5 @@ pub mod Displayed
 pub mod Findings
 pub mod Lines
 pub mod Matches
-pub mod OpenOpeners
+mod OpenOpeners
 pub mod Quiet

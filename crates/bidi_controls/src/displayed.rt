@@ -20,8 +20,8 @@ use std::alloc::{AllocError, Global};
 use unicode_bidi::ParagraphInfo;
 use unicode_bidi::engine::Analyser;
 
-// Returns the level of the first paragraph.
-fn first_level(paragraphs: &[ParagraphInfo]) -> Level
+/// Returns the level of the first paragraph, or 0 if there is none.
+pub fn first_level(paragraphs: &[ParagraphInfo]) -> Level
     ensures { result ≡ first_or 0 (levels_of paragraphs.now) }
 {
     match paragraphs {

@@ -4,11 +4,11 @@
 #![tactic(auto)]
 
 mod blocks;
-pub mod cells;
+mod cells;
 pub mod explain;
 pub mod frame;
 mod page;
 mod rows;
-pub mod stages;
+mod stages;
 mod table;
 pub mod view;

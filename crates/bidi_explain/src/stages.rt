@@ -5,17 +5,17 @@ ghost use Rattle.bidi_base.specs.Places.{at_places, first_or};
 ghost use Rattle.bidi_base.specs.declared.char_data.BidiClass.TheVariants.{L};
 ghost use Rattle.bidi_base.specs.Sequences.{level_at};
 ghost use Rattle.bidi_explain.specs.Stages.{weak_in, neutral_in, written, row_of, CanResolveIn, HasOneEach, StagesFrom, AreStages};
-ghost use Rattle.unicode_bidi.specs.ParagraphInfo.{levels_of};
 
 use bidi_base::char_data::BidiClass;
 use bidi_base::data_source::{BidiDataSource, BidiMatchedOpeningBracket};
-use bidi_base::level::{LTR_LEVEL, Level};
+use bidi_base::level::Level;
+use bidi_controls::displayed::first_level;
 use bidi_lines::line_levels::levels_of_line;
 use bidi_lines::visual_order::{inverse, reorder_visual};
 use bidi_plain::plain::{self, Explicit, PlainSequence};
 use bidi_text::text::CharsText;
 use std::alloc::{AllocError, Global};
-use unicode_bidi::{ParagraphInfo, engine};
+use unicode_bidi::engine;
 
 /// The result of each stage of the rules for a paragraph.
 ///
@@ -185,16 +185,6 @@ fn resolve(
         weak: weak_row,
         neutral: neutral_row,
     })
-}
-
-/// Returns the level of the first paragraph.
-fn first_level(paragraphs: &[ParagraphInfo]) -> Level
-    ensures { result ≡ first_or 0 (levels_of paragraphs.now) }
-{
-    match paragraphs {
-        [first, ..] => first.level(),
-        [] => LTR_LEVEL,
-    }
 }
 
 /// Returns the classes of characters.

@@ -8,5 +8,5 @@ pub mod Paragraph
 pub mod RunSequence
 pub mod Status
 pub mod Stride
-pub mod Waiting
+mod Waiting
 pub mod Written

@@ -9,4 +9,5 @@ pub mod characters;
 pub mod explicit;
 pub mod leveled_text;
 pub mod prepare;
+pub mod run_search;
 pub mod written;

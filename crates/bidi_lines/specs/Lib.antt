@@ -6,5 +6,5 @@ pub mod Runs
 pub mod ShownLevels
 pub mod ShownLine
 pub mod Stops
-pub mod Turned
+mod Turned
 pub mod Written

@@ -193,7 +193,7 @@ fn starts_removed(classes: &[BidiClass]) -> bool
 ///
 /// `classes` and `levels` are the stored ones of the line's code units, and `level` is the paragraph level. Does
 /// not allocate.
-pub fn line_has_rtl(level: Level, classes: &[BidiClass], levels: &[Level]) -> bool
+pub(crate) fn line_has_rtl(level: Level, classes: &[BidiClass], levels: &[Level]) -> bool
     requires { length levels.now ≡ length classes.now }
     ensures { result ≡ has_rtl (line_levels level classes.now levels.now) }
 {

@@ -1,6 +1,6 @@
 //! Lists of stored classes and levels, as `BidiClass` and `Level` or as numbers.
 
-ghost use Rattle.std.specs.Prelude.{◌≡◌, ℕ, ◌+◌, ◌<◌, IsTrue, ⊤, false, nat_lt, List, length, slice_index};
+ghost use Rattle.std.specs.Prelude.{◌≡◌, ℕ, ◌+◌, ◌<◌, IsTrue, ⊤, nat_lt, List, length, slice_index};
 ghost use Rattle.std.specs.List.{list_all};
 ghost use Rattle.bidi_base.specs.declared.char_data.BidiClass.{BidiClass};
 ghost use Rattle.bidi_base.specs.Levels.{has_rtl};
@@ -43,10 +43,9 @@ pub trait ClassList: Copy {
 
     /// Returns the index of the first stop after an index, or the number of classes if there is none.
     ///
-    /// A stop is a separator or a class that X9 removes. The class at `index` must not be one.
+    /// A stop is a separator or a class that X9 removes.
     fn next_stop(self, index: usize) -> usize
-        requires within { index < length (classes self) }
-        requires other { is_stop (class_at (classes self) index) ≡ false }
+        requires { index < length (classes self) }
         ensures { IsFirst (passing is_stop (classes self)) (index + 1) (length (classes self)) result };
 }
 

@@ -3,7 +3,7 @@
 ghost use Rattle.std.specs.Prelude.{◌≡◌, ℕ, ◌∷◌, ◌+◌, ◌<◌, ◌≤◌, ◌++◌, [], length, IfOk, OnOk, OnErr, All, map};
 ghost use Rattle.bidi_base.specs.Display.{run_of, level_runs, run_level, visual_runs, AreVisualRuns};
 ghost use Rattle.bidi_base.specs.Line.{levels_of_line, levels_with_line};
-ghost use Rattle.bidi_base.specs.Order.{visual_order, IsVisualOrder};
+ghost use Rattle.bidi_base.specs.Order.{visual_order};
 ghost use Rattle.bidi_base.specs.Places.{at_places};
 ghost use Rattle.bidi_lines.specs.Runs.{IsFirstRunEnd, StartsInLine};
 
@@ -22,7 +22,7 @@ const FEW_RUNS: usize = 16;
 ///
 /// `levels` has the level of each code unit after L1, and must not be empty. If the result is the line's length,
 /// the whole line is one run.
-pub fn first_run_end(levels: &[Level]) -> usize
+pub(crate) fn first_run_end(levels: &[Level]) -> usize
     requires { 0 < length levels.now }
     ensures some { 0 < result }
     ensures within { result ≤ length levels.now }
@@ -157,7 +157,7 @@ impl LineRuns {
     ///
     /// [`first_run_end`] returns that end. The line starts at the code unit `start` of a text, and `levels` has the
     /// level of each code unit after L1. If an allocation fails, there are no runs.
-    pub fn find_behind(
+    pub(crate) fn find_behind(
         &mut self,
         levels: &[Level],
         start: usize,
@@ -203,7 +203,7 @@ impl LineRuns {
     }
 
     /// Returns the runs from left to right as a list. Allocates that list if the line has up to 16 runs.
-    pub fn into_vec(self) -> Result<Vec<Range<usize>>, AllocError>
+    fn into_vec(self) -> Result<Vec<Range<usize>>, AllocError>
         ensures { IfOk result (λ v. map run_of v.items ≡ runs self) }
     {
         let LineRuns { ordered, .. } = self;
@@ -254,7 +254,7 @@ pub fn visual_runs_of(
 /// Returns the level of each code unit of a text, and the level runs (BD7) of a line from left to right (L2).
 ///
 /// The levels are those of [`levels_with_line`]. The runs are ranges of code units of the text.
-pub fn levels_and_runs(
+pub(crate) fn levels_and_runs(
     alloc: Global,
     level: Level,
     classes: &[BidiClass],

@@ -16,7 +16,7 @@ use bidi_paragraphs::split_rule::SplitRule;
 const AUTO: u8 = 255;
 
 /// The number of classes.
-const CLASSES: u8 = 23;
+pub(crate) const CLASSES: u8 = 23;
 
 /// Returns the number of a class.
 pub fn number_of(class: BidiClass) -> u8

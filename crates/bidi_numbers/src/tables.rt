@@ -1,13 +1,13 @@
 //! A data source that reads the caller's tables.
-ghost use Rattle.std.specs.Prelude.{◌≡◌, true, map, IsTrue, IfOk, None};
+ghost use Rattle.std.specs.Prelude.{◌≡◌, true, map, IsTrue, IfOk};
 ghost use Rattle.std.specs.List.{list_all};
-ghost use Rattle.bidi_base.specs.Source.{table_fault, table_source};
+ghost use Rattle.bidi_base.specs.Source.{table_source};
 ghost use Rattle.bidi_base.specs.Table.{source_of};
 ghost use Rattle.bidi_numbers.specs.Faults.{FaultsAs};
 ghost use Rattle.bidi_numbers.specs.Tables.{has_scalars, has_brackets, has_class, range_of, bracket_of, rows_fault, order_fault};
 
 use crate::fault::{Fault, check};
-use crate::numbers::class_of;
+use crate::numbers::{CLASSES, class_of};
 use crate::rows::{BracketPair, ClassRange};
 use crate::texts::{char_of, is_scalar};
 use bidi_base::char_data::BidiClass;
@@ -105,7 +105,7 @@ fn all_have_brackets(rows: &[BracketPair]) -> bool
 fn all_have_classes(rows: &[ClassRange]) -> bool
     ensures { result ≡ list_all has_class rows.now }
 {
-    rows.iter().all(|row| row.class < 23)
+    rows.iter().all(|row| row.class < CLASSES)
 }
 
 impl Tables {

@@ -71,14 +71,14 @@ impl ParagraphFlags {
     }
 
     /// Returns whether some character is an isolate initiator.
-    pub fn has_isolates(self) -> bool
+    pub(crate) fn has_isolates(self) -> bool
         ensures { result ≡ any_of self.seen is_initiator }
     {
         self.seen.meets(ClassSet::INITIATORS)
     }
 
     /// Returns whether no character begins an embedding or an isolate.
-    pub fn is_flat(self) -> bool
+    pub(crate) fn is_flat(self) -> bool
         ensures { result ≡ not (any_of self.seen is_opener) }
     {
         !self.seen.meets(ClassSet::OPENERS)
@@ -86,7 +86,7 @@ impl ParagraphFlags {
 
     /// Returns whether no character can give the paragraph a level other than this one, if it is the
     /// paragraph level.
-    pub fn keeps_to(self, level: Level) -> bool
+    pub(crate) fn keeps_to(self, level: Level) -> bool
         ensures { result ≡ not (any_of self.seen (may_leave level)) }
     {
         let turning = if level.is_rtl() {
@@ -98,7 +98,7 @@ impl ParagraphFlags {
     }
 
     /// Returns whether X9 removes some character.
-    pub fn has_removed(self) -> bool
+    pub(crate) fn has_removed(self) -> bool
         ensures { result ≡ any_of self.seen is_removed }
     {
         self.seen.meets(ClassSet::REMOVED)

@@ -14,6 +14,7 @@ ghost use Rattle.bidi_explicit.specs.Links.{linked_runs, linked_sequences, seque
 ghost use Rattle.bidi_paragraphs.specs.Written.{IsWritten};
 ghost use Rattle.bidi_paragraphs.specs.ParagraphFlags.{flags_of};
 
+use crate::paragraph_flags::ParagraphFlags;
 use crate::settled::{is_settled, settle_numbers};
 use bidi_base::char_data::BidiClass;
 use bidi_base::classes::is_removed;
@@ -28,7 +29,6 @@ use bidi_rules::implicit::{
 use bidi_rules::leveled_text::LeveledText;
 use bidi_rules::prepare::{LentSequence, LevelRunVec, RunLinks};
 use bidi_text::text::TextSource;
-use crate::paragraph_flags::ParagraphFlags;
 use smallvec::SmallVec;
 use std::alloc::{AllocError, Global};
 use std::marker::Brand;

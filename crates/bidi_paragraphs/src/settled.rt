@@ -9,8 +9,9 @@ ghost use Rattle.bidi_explicit.specs.Written.{KeepsAround};
 
 use bidi_base::char_data::BidiClass::{self, AL, AN, BN, EN, L, NSM, R};
 use bidi_base::level::Level;
-use bidi_base::search::{Among, ClassTest, first_passing};
-use bidi_rules::prepare::{LentSequence, LevelRun};
+use bidi_base::search::ClassTest;
+use bidi_explicit::prepare::{LentSequence, LevelRun};
+use bidi_explicit::run_search::none_passes;
 
 /// Returns whether I1 and I2 give the classes of a sequence the same levels as those after W1 to N2, as far as a
 /// look at the classes shows.
@@ -135,29 +136,6 @@ fn number_as_l(class: BidiClass) -> BidiClass
     ensures { result ≡ number_as_l class }
 {
     if class == EN { L } else { class }
-}
-
-/// Whether no class of some runs passes a test.
-fn none_passes<C: ClassTest>(test: C, runs: &[LevelRun], classes: &[BidiClass]) -> bool
-    requires { All (λ r. r.1 ≤ length classes.now) (map bounds runs.now) }
-    ensures { IsTrue result → (u : ℕ) → in_runs (map bounds runs.now) u ≡ true → C.test test (class_at classes.now u) ≡ false }
-{
-    for run in runs {
-        if one_passes(test, run, classes) {
-            return false;
-        }
-    }
-    true
-}
-
-/// Whether a class of a run passes a test.
-fn one_passes<C: ClassTest>(test: C, run: &LevelRun, classes: &[BidiClass]) -> bool
-    requires { run.now.end ≤ length classes.now }
-    ensures { result ≡ false → (u : ℕ) → run.now.start ≤ u → u < run.now.end → C.test test (class_at classes.now u) ≡ false }
-{
-    let end = run.end;
-    let start = run.start.min(end);
-    first_passing(Among { test, classes }, 1, start, end) < end
 }
 
 /// The classes that can raise an even level: numbers, R and AL. The test has no branch, so that many code units

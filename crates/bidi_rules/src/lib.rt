@@ -6,8 +6,7 @@
 #![tactic(auto)]
 
 pub mod implicit;
-pub mod neutral;
-pub mod weak;
+mod neutral;
+mod weak;
 
-pub use bidi_explicit::explicit;
-pub use bidi_explicit::{leveled_text, prepare};
+pub use bidi_explicit::{explicit, leveled_text, prepare};

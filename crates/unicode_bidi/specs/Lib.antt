@@ -5,9 +5,7 @@ pub mod Engine
 pub mod InitialInfo
 pub mod KeptOrder
 pub mod LineMap
-pub mod LineOrder
 pub mod Paragraph
 pub mod ParagraphBidiInfo
 pub mod ParagraphInfo
-pub mod ShownLine
 pub mod SplitRule

@@ -1,7 +1,7 @@
 use Rattle.bidi_base.proofs.Common.{arith, get_or-map, length-map, take_all}
 use Rattle.bidi_explicit.proofs.InRuns.{in_runs-more}
 use Rattle.bidi_explicit.proofs.RunOf.{run_end}
-use Rattle.bidi_paragraphs.proofs.settled.none_passes.Goals as goal
+use Rattle.bidi_explicit.proofs.run_search.none_passes.Goals as goal
 
 pub one_passes-requires : goal.one_passes-requires
 one_passes-requires g c = omega (arith, run_end _ c.args.runs.now c.loop-run.run-index c.requires c.loop-run-test.true)
