@@ -1,6 +1,8 @@
 pub mod ExplicitPass
 pub mod Gathered
+pub mod InText
 pub mod Joining
+pub mod LeveledText
 pub mod Links
 pub mod RunSequence
 pub mod Waiting

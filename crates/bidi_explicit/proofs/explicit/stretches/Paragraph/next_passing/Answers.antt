@@ -5,5 +5,5 @@ use Rattle.bidi_explicit.proofs.explicit.stretches.Paragraph.next_passing.Goals 
 
 pub returns-in-CodeUnit-clause-begins : goal.returns-in-CodeUnit-clause-begins
 returns-in-CodeUnit-clause-begins g c =
-    first-is_boundary (paragraph_of g.T.TextSource.units (g.T.TextSource.characters c.args.self.now.text) c.args.self.now.level c.args.self.now.original_classes.now) g.met.T.TextSource.has_units
+    first-is_boundary (paragraph_of (g.T.TextSource.text c.args.self.now.text) c.args.self.now.level c.args.self.now.original_classes.now)
     c.args.self.now.per_char _ _ _ _ c.requires.begins c.requires.ends c.requires.within c.next_passing.ensures.first

@@ -6,8 +6,7 @@ use Rattle.bidi_explicit.proofs.explicit.stretches.Paragraph.read_stretch.Goals 
 -- each of the three walks takes at most one step for each character or code unit
 pub returns : goal.returns
 returns g c =
-    let len_of = g.T.TextSource.units in
-    let chars = g.T.TextSource.characters c.args.self.now.text in
+    let text = g.T.TextSource.text c.args.self.now.text in
     record {
       read =
           λ stack levels written same is runs run h. stretch-met _ _ _ _ _ _ runs run h c.stretch_end-end.ensures.first _ _ _ _ (ap (λ entry. entry.status.level) same) (ap (λ entry. entry.status.override) same)
@@ -17,8 +16,8 @@ returns g c =
       more = grind (arith, count-lt);
       at_least = omega (
         arith,
-        index-count len_of g.met.T.TextSource.has_units chars c.args.self.now.stride c.args.from c.stretch_end-end.result c.requires.begins c.stretch_end-end.ensures.begins (omega arith),
-        count-le len_of g.met.T.TextSource.has_units chars c.args.self.now.stride c.args.from c.next_passing-first_kept.result c.requires.begins c.next_passing-first_kept.ensures.begins (omega arith),
+        index-count text c.args.self.now.stride c.args.from c.stretch_end-end.result c.requires.begins c.stretch_end-end.ensures.begins (omega arith),
+        count-le text c.args.self.now.stride c.args.from c.next_passing-first_kept.result c.requires.begins c.next_passing-first_kept.ensures.begins (omega arith),
         c.stretch_end-end.ensures.steps,
         c.write_override.ensures.at_least,
         c.next_passing-first_kept.ensures.steps,
