@@ -14,4 +14,4 @@ text_of a = a.text
 
 -- the text, as its characters, with `a.original_classes()` and `a.levels()`
 abbrev pub analysed : {T C I L : Type 0} {t : _} {c : _} {i : _} {l : _} → Analysed T C I L t c i l → AnalysedText
-analysed {t} a = with_lists t.units (t.characters a.text) a.original_classes.items a.levels.items
+analysed {t} a = with_lists t.encoding.len_of (t.text a.text).chars a.original_classes.items a.levels.items

@@ -25,8 +25,8 @@ pub struct Analysed<T: TextSource> {
     text: T,
     original_classes: Vec<BidiClass>,
     levels: Vec<Level>,
-    ghost classes_per_char: { HaveClass T.units (T.characters text) original_classes.items },
-    ghost levels_per_char: { HaveLevel T.units (T.characters text) levels.items },
+    ghost classes_per_char: { HaveClass T.encoding.len_of (T.text text).chars original_classes.items },
+    ghost levels_per_char: { HaveLevel T.encoding.len_of (T.text text).chars levels.items },
 }
 
 impl<T: TextSource> Analysed<T> {
@@ -34,8 +34,8 @@ impl<T: TextSource> Analysed<T> {
 
     /// Returns a text with one class and one level for each code unit, which must be equal within each character.
     pub fn new(text: T, original_classes: Vec<BidiClass>, levels: Vec<Level>) -> Analysed<T>
-        requires classes { HaveClass T.units (T.characters text) original_classes.items }
-        requires levels { HaveLevel T.units (T.characters text) levels.items }
+        requires classes { HaveClass T.encoding.len_of (T.text text).chars original_classes.items }
+        requires levels { HaveLevel T.encoding.len_of (T.text text).chars levels.items }
         ensures text { text_of result ≡ text }
         ensures classes { (analysed result).classes ≡ original_classes.items }
         ensures levels { (analysed result).levels ≡ levels.items }

@@ -36,7 +36,7 @@ pub trait LineText: TextSource {
 
     /// Writes the code units of a run unchanged.
     fn copy_run(self, run: Range<usize>, out: &mut [Self::Unit])
-        requires is_line { IsLine Self.units (Self.characters self) run.start run.end }
+        requires is_line { IsLine Self.encoding.len_of (Self.text self).chars run.start run.end }
         requires room { length out.old + run.start ≡ run.end }
         ensures { out.new ≡ slice_range (units_of self) run.start run.end };
 
@@ -44,9 +44,9 @@ pub trait LineText: TextSource {
     ///
     /// The code units of each character keep their order.
     fn reverse_run(self, run: Range<usize>, out: &mut [Self::Unit])
-        requires is_line { IsLine Self.units (Self.characters self) run.start run.end }
+        requires is_line { IsLine Self.encoding.len_of (Self.text self).chars run.start run.end }
         requires room { length out.old + run.start ≡ run.end }
-        ensures { out.new ≡ flat_map encode (reverse (subrange Self.units (Self.characters self) run.start run.end)) };
+        ensures { out.new ≡ flat_map encode (reverse (subrange Self.encoding.len_of (Self.text self).chars run.start run.end)) };
 }
 
 /// Writes the runs of a line to `out`, in the order of `runs`.
@@ -63,9 +63,9 @@ pub fn write_runs<T: LineText>(
 )
     requires room { length out.old ≡ length levels.now }
     requires within { All (StartsInLine start levels.now) runs.now }
-    requires boundaries { All (λ r. IsLine T.units (T.characters text) r.start r.end) runs.now }
+    requires boundaries { All (λ r. IsLine T.encoding.len_of (T.text text).chars r.start r.end) runs.now }
     requires whole { sum_by (λ r. r.end - r.start) runs.now ≡ length levels.now }
-    ensures { out.new ≡ flat_map (run_units T.units T.encode (T.characters text) (T.units_of text) start levels.now) (map run_of runs.now) }
+    ensures { out.new ≡ flat_map (run_units T.encoding.len_of T.encode (T.text text).chars (T.units_of text) start levels.now) (map run_of runs.now) }
 {
     let mut at = 0;
     for run in runs {
@@ -89,11 +89,11 @@ fn write_shown<T: LineText>(
     levels: &[Level],
     out: &mut [T::Unit],
 ) -> Result<(), AllocError>
-    requires is_line { IsLine T.units (T.characters text) line.start line.end }
+    requires is_line { IsLine T.encoding.len_of (T.text text).chars line.start line.end }
     requires levels { length levels.now + line.start ≡ line.end }
     requires room { length out.old ≡ length levels.now }
-    requires runs { AreRunsOfChars T.units (T.characters text) line.start levels.now }
-    ensures text { OnOk result (out.new ≡ shown_units T.units T.encode (T.characters text) (T.units_of text) line.start levels.now) }
+    requires runs { AreRunsOfChars T.encoding.len_of (T.text text).chars line.start levels.now }
+    ensures text { OnOk result (out.new ≡ shown_units T.encoding.len_of T.encode (T.text text).chars (T.units_of text) line.start levels.now) }
     ensures kept { OnErr result (out.new ≡ out.old) }
 {
     let start = line.start;
@@ -133,14 +133,14 @@ pub fn write_line<T: LineText, C: ClassList, L: LevelList>(
     stored: &StoredLine<C, L>,
     out: &mut [T::Unit],
 ) -> Result<(), AllocError>
-    requires is_line { IsLine T.units (T.characters text) line.start line.end }
+    requires is_line { IsLine T.encoding.len_of (T.text text).chars line.start line.end }
     requires valid { L.are_levels stored.now.levels }
     requires levels { length (L.numbers stored.now.levels) + line.start ≡ line.end }
     requires classes { length (C.classes stored.now.classes) ≡ length (L.numbers stored.now.levels) }
     requires room { length out.old ≡ length (L.numbers stored.now.levels) }
-    requires runs { AreRunsOfChars T.units (T.characters text) line.start
+    requires runs { AreRunsOfChars T.encoding.len_of (T.text text).chars line.start
         (line_levels stored.now.level (C.classes stored.now.classes) (L.numbers stored.now.levels)) }
-    ensures text { OnOk result (out.new ≡ shown_units T.units T.encode (T.characters text) (T.units_of text) line.start
+    ensures text { OnOk result (out.new ≡ shown_units T.encoding.len_of T.encode (T.text text).chars (T.units_of text) line.start
         (line_levels stored.now.level (C.classes stored.now.classes) (L.numbers stored.now.levels))) }
     ensures kept { OnErr result (out.new ≡ out.old) }
 {
