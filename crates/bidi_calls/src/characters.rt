@@ -132,8 +132,8 @@ fn write_each<D: BidiDataSource, T: TextSource, N: Numbering>(
     numbering: N,
     out: &mut [N::Number],
 )
-    requires { length out.old ≡ text_len T.units (T.characters text) }
-    ensures { out.new ≡ numbers_of (N.number (D.source data_source.now)) T.units (T.characters text) }
+    requires { length out.old ≡ text_len T.encoding.len_of (T.text text).chars }
+    ensures { out.new ≡ numbers_of (N.number (D.source data_source.now)) T.encoding.len_of (T.text text).chars }
 {
     let mut at = 0;
     for c in text.chars() {
@@ -151,8 +151,8 @@ fn write_numbers<D: BidiDataSource, T: TextSource, N: Numbering>(
     out: &mut [N::Number],
 ) -> Result<usize, Fault>
     ensures fault { result_err result
-        ≡ fault_unless (nat_le (text_len T.units (T.characters text)) (length out.old)) Fault.NoRoom }
-    ensures writes { WritesList (numbers_of (N.number (D.source data_source.now)) T.units (T.characters text))
+        ≡ fault_unless (nat_le (text_len T.encoding.len_of (T.text text).chars) (length out.old)) Fault.NoRoom }
+    ensures writes { WritesList (numbers_of (N.number (D.source data_source.now)) T.encoding.len_of (T.text text).chars)
         result out.old out.new }
 {
     let len = text.len();

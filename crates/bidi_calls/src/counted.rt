@@ -14,7 +14,7 @@ use unicode_bidi::text::{StrText, TextSource, Utf16Text, are_characters};
 pub trait CountedText: LineText {
     /// Returns how many characters the text has.
     fn count_characters(self) -> usize
-        ensures { result ≡ length (Self.characters self) };
+        ensures { result ≡ length (Self.text self).chars };
 }
 
 // Returns whether a byte of UTF-8 begins a character.
@@ -62,8 +62,8 @@ impl<'t> CountedText for StrText<'t> {
 
 // Returns how many characters a text of `units` code units has. Counts them one by one.
 fn count_one_by_one<T: TextSource>(text: T, units: usize) -> usize
-    requires { units ≡ text_len T.units (T.characters text) }
-    ensures { result ≡ length (T.characters text) }
+    requires { units ≡ text_len T.encoding.len_of (T.text text).chars }
+    ensures { result ≡ length (T.text text).chars }
 {
     let mut count = 0;
     for (at, _) in text.indices_lengths() {

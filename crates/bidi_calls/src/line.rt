@@ -16,6 +16,7 @@ ghost use Rattle.bidi_numbers.specs.Rows.{run_row};
 
 use crate::checked::write_levels;
 use crate::run_rows::put_runs;
+use bidi_lines::line_text::{LineText, StoredLine, write_line};
 use bidi_lines::shown_levels::ShownLevels;
 use bidi_lines::visual_order::write_visual_order;
 use bidi_lines::visual_runs::LineRuns;
@@ -23,7 +24,6 @@ use bidi_numbers::class_numbers::ClassNumbers;
 use bidi_numbers::fault::{Fault, check, check_room_or_none};
 use bidi_numbers::numbers::{all_below, check_classes};
 use bidi_numbers::rows::{Paragraph, Run};
-use bidi_lines::line_text::{LineText, StoredLine, write_line};
 use std::alloc::{AllocError, Global};
 use std::ops::Range;
 use unicode_bidi::{Level, TextSource};
@@ -119,10 +119,10 @@ pub fn write_text<T: LineText>(
     out: &mut [T::Unit],
 ) -> Result<(), AllocError>
     requires sound { IsSound line.now }
-    requires even { is_even T.units (T.characters text) line.now ≡ true }
-    requires units { IsAsLongAs T.units (T.characters text) line.now }
-    requires room { length out.old ≡ text_len T.units (T.characters text) }
-    ensures text { OnOk result (out.new ≡ shown_units T.units T.encode (T.characters text) (T.units_of text) 0 (shown_levels line.now)) }
+    requires even { is_even T.encoding.len_of (T.text text).chars line.now ≡ true }
+    requires units { IsAsLongAs T.encoding.len_of (T.text text).chars line.now }
+    requires room { length out.old ≡ text_len T.encoding.len_of (T.text text).chars }
+    ensures text { OnOk result (out.new ≡ shown_units T.encoding.len_of T.encode (T.text text).chars (T.units_of text) 0 (shown_levels line.now)) }
     ensures kept { OnErr result (out.new ≡ out.old) }
 {
     let units = 0..out.len();
@@ -184,9 +184,9 @@ pub fn map_characters<T: TextSource>(
     out: &mut [usize],
 ) -> Result<usize, Fault>
     requires sound { IsSound line.now }
-    requires units { IsAsLongAs T.units (T.characters text) line.now }
-    ensures fault { FaultsAs result (map_fault T.units (T.characters text) line.now (length out.old)) }
-    ensures writes { WritesList (order_of_line T.units (T.characters text) line.now) result out.old out.new }
+    requires units { IsAsLongAs T.encoding.len_of (T.text text).chars line.now }
+    ensures fault { FaultsAs result (map_fault T.encoding.len_of (T.text text).chars line.now (length out.old)) }
+    ensures writes { WritesList (order_of_line T.encoding.len_of (T.text text).chars line.now) result out.old out.new }
 {
     let mut shown = line.shown(alloc)?;
     shown.keep_first_units(text);

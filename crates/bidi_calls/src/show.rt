@@ -20,11 +20,11 @@ use crate::checked::write_levels;
 use crate::counted::CountedText;
 use crate::line::KeptLine;
 use crate::run_rows::put_runs;
+use bidi_lines::line_text::{LineText, write_runs};
 use bidi_lines::shown_levels::ShownLevels;
 use bidi_lines::visual_order::write_visual_order;
 use bidi_lines::visual_runs::LineRuns;
 use bidi_numbers::fault::{Fault, check};
-use bidi_lines::line_text::{LineText, write_runs};
 use std::alloc::Global;
 use std::ops::Range;
 use unicode_bidi::{Level, TextSource};
@@ -43,10 +43,10 @@ fn put_levels(out: &mut [u8], levels: &[Level])
 fn put_text<T: LineText>(text: T, levels: &[Level], runs: &[Range<usize>], out: &mut [T::Unit])
     requires room { HasRoomOrNone levels.now out.old }
     requires visual { AreVisualRuns 0 levels.now (map run_of runs.now) }
-    requires boundaries { AreLines T.units (T.characters text) runs.now }
+    requires boundaries { AreLines T.encoding.len_of (T.text text).chars runs.now }
     ensures { out.new
         ≡ written_if_room
-        (flat_map (run_units T.units T.encode (T.characters text) (T.units_of text) 0 levels.now) (map run_of runs.now))
+        (flat_map (run_units T.encoding.len_of T.encode (T.text text).chars (T.units_of text) 0 levels.now) (map run_of runs.now))
         out.old }
 {
     if !out.is_empty() {
@@ -87,9 +87,9 @@ fn have_room<U>(units: usize, runs: usize, characters: usize, out: &LineBuffers<
 
 // Keeps one level for each of a line's `len` characters. If each character is one unit, there is nothing to do.
 fn keep_characters<T: TextSource>(text: T, len: usize, shown: &mut ShownLevels)
-    requires units { length (levels_of shown.old) ≡ text_len T.units (T.characters text) }
-    requires len { len ≡ length (T.characters text) }
-    ensures { levels_of shown.new ≡ per_char 0 T.units (T.characters text) (levels_of shown.old) }
+    requires units { length (levels_of shown.old) ≡ text_len T.encoding.len_of (T.text text).chars }
+    requires len { len ≡ length (T.text text).chars }
+    ensures { levels_of shown.new ≡ per_char 0 T.encoding.len_of (T.text text).chars (levels_of shown.old) }
 {
     if len < shown.as_slice().len() {
         shown.keep_first_units(text);
@@ -104,10 +104,10 @@ fn write_order<T: CountedText>(
     shown: &mut ShownLevels,
     out: &mut [usize],
 )
-    requires even { IsPerChar T.units (T.characters text) (levels_of shown.old) }
+    requires even { IsPerChar T.encoding.len_of (T.text text).chars (levels_of shown.old) }
     requires runs { map run_of runs.now ≡ visual_runs 0 (levels_of shown.old) }
-    requires room { length out.old ≡ length (T.characters text) }
-    ensures { out.new ≡ visual_order_of (per_char 0 T.units (T.characters text) (levels_of shown.old)) }
+    requires room { length out.old ≡ length (T.text text).chars }
+    ensures { out.new ≡ visual_order_of (per_char 0 T.encoding.len_of (T.text text).chars (levels_of shown.old)) }
 {
     if runs.len() <= COUNTED_RUNS {
         write_char_order(text, shown.as_slice(), runs, out);
@@ -125,12 +125,12 @@ fn put_order_of<T: CountedText>(
     runs: &[Range<usize>],
     shown: &mut ShownLevels,
 )
-    requires even { IsPerChar T.units (T.characters text) (levels_of shown.old) }
+    requires even { IsPerChar T.encoding.len_of (T.text text).chars (levels_of shown.old) }
     requires runs { map run_of runs.now ≡ visual_runs 0 (levels_of shown.old) }
-    requires len { len ≡ length (T.characters text) }
+    requires len { len ≡ length (T.text text).chars }
     requires room { IsTrue (has_room_or_none len (length out.old)) }
     ensures { out.new
-        ≡ written_if_room (visual_order_of (per_char 0 T.units (T.characters text) (levels_of shown.old))) out.old }
+        ≡ written_if_room (visual_order_of (per_char 0 T.encoding.len_of (T.text text).chars (levels_of shown.old))) out.old }
 {
     if !out.is_empty() {
         write_order(text, runs, shown, &mut out[..len]);
@@ -149,15 +149,15 @@ pub fn show_text<T: CountedText>(
     out: &mut LineBuffers<'_, T::Unit>,
 ) -> Result<usize, Fault>
     requires sound { IsSound line.now }
-    requires even { is_even T.units (T.characters text) line.now ≡ true }
-    requires units { IsAsLongAs T.units (T.characters text) line.now }
-    requires one_a_unit { length (T.units_of text) ≡ text_len T.units (T.characters text) }
-    requires encoded { (c : ℕ) → length (T.encode c) ≡ T.units c }
-    ensures fault { let shown = line_shown T.units (T.characters text) line.now
-        (shown_units T.units T.encode (T.characters text) (T.units_of text) 0 (shown_levels line.now)) in
+    requires even { is_even T.encoding.len_of (T.text text).chars line.now ≡ true }
+    requires units { IsAsLongAs T.encoding.len_of (T.text text).chars line.now }
+    requires one_a_unit { length (T.units_of text) ≡ text_len T.encoding.len_of (T.text text).chars }
+    requires encoded { (c : ℕ) → length (T.encode c) ≡ T.encoding.len_of c }
+    ensures fault { let shown = line_shown T.encoding.len_of (T.text text).chars line.now
+        (shown_units T.encoding.len_of T.encode (T.text text).chars (T.units_of text) 0 (shown_levels line.now)) in
         FaultsAs result (room_fault shown out.old) }
-    ensures writes { let shown = line_shown T.units (T.characters text) line.now
-        (shown_units T.units T.encode (T.characters text) (T.units_of text) 0 (shown_levels line.now)) in
+    ensures writes { let shown = line_shown T.encoding.len_of (T.text text).chars line.now
+        (shown_units T.encoding.len_of T.encode (T.text text).chars (T.units_of text) 0 (shown_levels line.now)) in
         WritesLine shown result out.old out.new }
 {
     let mut shown = line.shown(alloc)?;

@@ -11,9 +11,9 @@ mod overrides;
 mod status;
 mod stretches;
 
+use crate::prepare::{LevelRunVec, Steps};
 use bidi_base::char_data::BidiClass;
 use bidi_base::level::Level;
-use crate::prepare::{LevelRunVec, Steps};
 use bidi_text::text::TextSource;
 use status::StatusStack;
 use std::alloc::{AllocError, Global};
@@ -187,12 +187,12 @@ fn compute_with_new_count<T: TextSource, S: Ledger>(
     runs: &mut LevelRunVec,
     blank: Blank,
 ) -> Result<(), AllocError>
-    requires paragraph { CanFindExplicitLevels T.units (T.characters text) para_level original_classes.now levels.old
+    requires paragraph { CanFindExplicitLevels T.encoding.len_of (T.text text).chars para_level original_classes.now levels.old
         processing_classes.old (map bounds runs.old.items) }
     requires name { blank.name ≡ S.name }
     requires parts { blank.parts ≡ S.parts }
     requires one { blank.parts ≡ 1 }
-    ensures { OnOk result (AreExplicitLevels T.units (T.characters text) para_level original_classes.now levels.new
+    ensures { OnOk result (AreExplicitLevels T.encoding.len_of (T.text text).chars para_level original_classes.now levels.new
         processing_classes.new (map bounds runs.new.items)) }
 {
     let mut steps = Steps::<S>::new(blank);

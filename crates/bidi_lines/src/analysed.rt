@@ -7,11 +7,11 @@ ghost use Rattle.bidi_base.specs.Levels.{has_rtl as has_rtl_of};
 ghost use Rattle.bidi_base.specs.PerChar.{HaveClass, HaveLevel};
 
 use crate::level_direction::direction_of;
-use bidi_base::char_data::{BidiClass, Direction};
-use bidi_base::level::{Level, has_rtl};
 use crate::line_levels::{levels_of_line, levels_per_char, levels_with_line};
 use crate::shown_levels::ShownLevels;
 use crate::visual_runs::{levels_and_runs, visual_runs_of};
+use bidi_base::char_data::{BidiClass, Direction};
+use bidi_base::level::{Level, has_rtl};
 use bidi_text::text::TextSource;
 use std::alloc::{AllocError, Global};
 use std::ops::Range;

@@ -8,11 +8,11 @@ ghost use Rattle.bidi_lines.specs.Runs.{StartsInLine};
 ghost use Rattle.bidi_lines.specs.Written.{run_units, shown_units, line_units, AreRunsOfChars};
 
 use crate::analysed::Analysed;
-use bidi_base::level::Level;
 use crate::line_levels::line_has_rtl;
 use crate::shown_levels::ShownLevels;
 use crate::stored::{ClassList, LevelList};
 use crate::visual_runs::{LineRuns, first_run_end};
+use bidi_base::level::Level;
 use bidi_text::text::TextSource;
 use std::alloc::{AllocError, Global};
 use std::ops::Range;

@@ -12,13 +12,13 @@ ghost use Rattle.bidi_lines.specs.ShownLevels.{levels as kept_levels};
 ghost use Rattle.bidi_lines.specs.Written.{shown_units, AreRunsOfChars};
 
 use crate::analysed::Analysed;
-use crate::line_text::{LineText, write_runs};
-use bidi_base::char_data::BidiClass;
-use bidi_base::level::{Level, has_rtl};
 use crate::line_levels::write_first_units;
+use crate::line_text::{LineText, write_runs};
 use crate::shown_levels::ShownLevels;
 use crate::visual_order::write_visual_order;
 use crate::visual_runs::LineRuns;
+use bidi_base::char_data::BidiClass;
+use bidi_base::level::{Level, has_rtl};
 use bidi_text::text::TextSource;
 use std::alloc::{AllocError, Global};
 use std::ops::Range;

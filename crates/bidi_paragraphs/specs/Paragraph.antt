@@ -11,18 +11,18 @@ use Rattle.bidi_paragraphs.specs.declared.paragraph_levels.ClassifiedParagraph.{
 module _ {D T C I L : Type 0} {d : _} {t : _} {c : _} {i : _} {l : _} (paragraph : ClassifiedParagraph D T C I L d t c i l) where
   -- there is one level for each code unit of the paragraph
   abbrev pub IsOneAUnit : List ℕ → Type 0
-  IsOneAUnit levels = length levels ≡ text_len t.units (t.characters paragraph.text)
+  IsOneAUnit levels = length levels ≡ text_len t.encoding.len_of (t.text paragraph.text).chars
 
   -- each of its characters has one level
   abbrev pub HaveCharLevels : List ℕ → Type 0
-  HaveCharLevels levels = HaveLevel t.units (t.characters paragraph.text) levels
+  HaveCharLevels levels = HaveLevel t.encoding.len_of (t.text paragraph.text).chars levels
 
   -- the levels of the characters that X9 keeps are those of the rules
   abbrev pub AreOfRules : List ℕ → Type 0
   AreOfRules levels =
       let source = d.source paragraph.data_source.now in
-      let classes = map source.class_of (t.characters paragraph.text) in
+      let classes = map source.class_of (t.text paragraph.text).chars in
       let stored = stored_classes classes in
       let level = paragraph.level in
-      AreResolved classes (map source.bracket_of (t.characters paragraph.text)) (explicit_levels level stored) (explicit_classes level stored)
-      (per_char 0 t.units (t.characters paragraph.text) levels) (sequences level stored (explicit_levels level stored))
+      AreResolved classes (map source.bracket_of (t.text paragraph.text).chars) (explicit_levels level stored) (explicit_classes level stored)
+      (per_char 0 t.encoding.len_of (t.text paragraph.text).chars levels) (sequences level stored (explicit_levels level stored))

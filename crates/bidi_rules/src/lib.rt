@@ -6,5 +6,4 @@ pub mod implicit;
 pub mod neutral;
 pub mod weak;
 
-pub use bidi_explicit::explicit;
-pub use bidi_explicit::{leveled_text, prepare};
+pub use bidi_explicit::{explicit, leveled_text, prepare};

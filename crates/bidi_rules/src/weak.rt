@@ -47,8 +47,8 @@ pub fn resolve_weak<T: TextSource>(
     sequence: &IsolatingRunSequence,
     processing_classes: &mut [BidiClass],
 )
-    requires { CanResolveWeakTypes T.units (T.characters text) (map bounds (runs_of sequence.now)) processing_classes.old }
-    ensures { AreWeakTypesResolved T.units (T.characters text) (map bounds (runs_of sequence.now))
+    requires { CanResolveWeakTypes T.encoding.len_of (T.text text).chars (map bounds (runs_of sequence.now)) processing_classes.old }
+    ensures { AreWeakTypesResolved T.encoding.len_of (T.text text).chars (map bounds (runs_of sequence.now))
         (sos_of sequence.now) processing_classes.old processing_classes.new }
 {
     resolve_weak_with_new_count::<T, Brand>(text, sequence, processing_classes, Blank::new(1))
@@ -61,11 +61,11 @@ fn resolve_weak_with_new_count<T: TextSource, S: Ledger>(
     processing_classes: &mut [BidiClass],
     blank: Blank,
 )
-    requires sequence { CanResolveWeakTypes T.units (T.characters text) (map bounds (runs_of sequence.now)) processing_classes.old }
+    requires sequence { CanResolveWeakTypes T.encoding.len_of (T.text text).chars (map bounds (runs_of sequence.now)) processing_classes.old }
     requires name { blank.name ≡ S.name }
     requires parts { blank.parts ≡ S.parts }
     requires one { blank.parts ≡ 1 }
-    ensures { AreWeakTypesResolved T.units (T.characters text) (map bounds (runs_of sequence.now))
+    ensures { AreWeakTypesResolved T.encoding.len_of (T.text text).chars (map bounds (runs_of sequence.now))
         (sos_of sequence.now) processing_classes.old processing_classes.new }
 {
     let mut steps = Steps::<S>::new(blank);
@@ -85,11 +85,11 @@ pub fn resolve_weak_counted<T: TextSource, S: Ledger>(
     processing_classes: &mut [BidiClass],
     steps: &mut Steps<S>,
 )
-    requires { CanResolveWeakTypes T.units (T.characters text) (map bounds (runs_of sequence.now)) processing_classes.old }
-    ensures resolved { AreWeakTypesResolved T.units (T.characters text) (map bounds (runs_of sequence.now))
+    requires { CanResolveWeakTypes T.encoding.len_of (T.text text).chars (map bounds (runs_of sequence.now)) processing_classes.old }
+    ensures resolved { AreWeakTypesResolved T.encoding.len_of (T.text text).chars (map bounds (runs_of sequence.now))
         (sos_of sequence.now) processing_classes.old processing_classes.new }
     ensures at_least { steps.old
-        + length (chars_in_runs T.units (T.characters text) (map bounds (runs_of sequence.now)))
+        + length (chars_in_runs T.encoding.len_of (T.text text).chars (map bounds (runs_of sequence.now)))
         ≤ steps.new }
     ensures at_most { steps.new ≤ steps.old + 8 * length (units_in_runs (map bounds (runs_of sequence.now))) }
 {
@@ -103,9 +103,9 @@ pub fn resolve_weak_lent_counted<T: TextSource, S: Ledger>(
     processing_classes: &mut [BidiClass],
     steps: &mut Steps<S>,
 )
-    requires { CanResolveWeak T.units (T.characters text) sequence processing_classes.old }
-    ensures resolved { IsWeakResolved T.units (T.characters text) sequence.entry processing_classes.old processing_classes.new }
-    ensures at_least { steps.old + char_count_of T.units (T.characters text) sequence.entry ≤ steps.new }
+    requires { CanResolveWeak T.encoding.len_of (T.text text).chars sequence processing_classes.old }
+    ensures resolved { IsWeakResolved T.encoding.len_of (T.text text).chars sequence.entry processing_classes.old processing_classes.new }
+    ensures at_least { steps.old + char_count_of T.encoding.len_of (T.text text).chars sequence.entry ≤ steps.new }
     ensures at_most { steps.new ≤ steps.old + 8 * unit_count_of sequence.entry }
 {
     let runs = sequence.runs();
@@ -123,11 +123,11 @@ fn resolve_marks_and_numbers<T: TextSource, S: Ledger>(
     steps: &mut Steps<S>,
 )
     requires ordered { IsTrue (are_ordered (map bounds runs.now)) }
-    requires lines { AreLines T.units (T.characters text) (map bounds runs.now) }
-    requires per_char { IsPerChar T.units (T.characters text) classes.old }
+    requires lines { AreLines T.encoding.len_of (T.text text).chars (map bounds runs.now) }
+    requires per_char { IsPerChar T.encoding.len_of (T.text text).chars classes.old }
     requires sos { IsTrue (is_l_or_r sos) }
     ensures walked { (marked : List BidiClass) × IsMarked (map bounds runs.now) (carried sos) classes.old marked
-        × IsWalked (len_at T.units (T.characters text)) (map bounds runs.now) sos marked classes.new }
+        × IsWalked (len_at T.encoding.len_of (T.text text).chars) (map bounds runs.now) sos marked classes.new }
     ensures at_least { steps.old ≤ steps.new }
     ensures at_most { steps.new ≤ steps.old + 6 * length (units_in_runs (map bounds runs.now)) }
 {

@@ -79,12 +79,12 @@ pub fn search_direction<D: BidiDataSource, T: TextSource>(
     depth: usize,
     full: bool,
 ) -> DirectionSearch
-    requires { depth + text_len T.units (T.characters text) < 2 ^ 64 }
-    ensures search { IsSearched full depth (map (D.source data_source.now).class_of (T.characters text)) result }
+    requires { depth + text_len T.encoding.len_of (T.text text).chars < 2 ^ 64 }
+    ensures search { IsSearched full depth (map (D.source data_source.now).class_of (T.text text).chars) result }
 
     // At the front of a text, this is its base direction.
     ensures direction { let classes = map (map (D.source data_source.now).class_of)
-        (paragraphs_of (each_separator (D.source data_source.now)) (T.characters text)) in
+        (paragraphs_of (each_separator (D.source data_source.now)) (T.text text).chars) in
         depth ≡ 0
         → direction_found result ≡ (if full then full_base_direction classes else base_direction classes) }
 {

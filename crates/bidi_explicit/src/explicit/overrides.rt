@@ -5,9 +5,9 @@ ghost use Rattle.bidi_explicit.specs.ExplicitStretches.{put_over, IsOverridden, 
 
 use super::stretches::{Kept, Paragraph};
 use super::{Stride, write_class};
+use crate::prepare::Steps;
 use bidi_base::char_data::BidiClass;
 use bidi_base::search::ClassTest;
-use crate::prepare::Steps;
 use bidi_text::text::TextSource;
 use std::sync::ledger::Ledger;
 

@@ -15,11 +15,11 @@ ghost use Rattle.bidi_explicit.specs.Status.{entry_count, seen};
 
 use super::status::{StatusEntry, StatusStack};
 use super::{Stride, cut_run, write_control};
+use crate::characters::end_within;
+use crate::prepare::{LevelRunVec, Steps};
 use bidi_base::char_data::BidiClass::{self, B, BN, FSI, LRE, LRI, LRO, PDF, PDI, RLE, RLI, RLO};
 use bidi_base::level::Level;
 use bidi_base::search::{Among, ClassTest, first_passing_counted};
-use crate::characters::end_within;
-use crate::prepare::{LevelRunVec, Steps};
 use bidi_text::text::TextSource;
 use std::alloc::AllocError;
 use std::sync::ledger::Ledger;

@@ -24,8 +24,8 @@ fn skim_each<D: BidiDataSource, T: TextSource>(
     limit: usize,
     sought: ClassSet,
 ) -> Option<Stop>
-    requires { CanSeek T.units (T.characters text) sought progress.old classes.old }
-    ensures { IsReadOn (D.source data_source.now) T.units (T.characters text) (has sought) progress.old
+    requires { CanSeek T.encoding.len_of (T.text text).chars sought progress.old classes.old }
+    ensures { IsReadOn (D.source data_source.now) T.encoding.len_of (T.text text).chars (has sought) progress.old
         result progress.new classes.old classes.new }
 {
     let mut start = progress.at;
@@ -90,9 +90,9 @@ fn skim_blocks<D: BidiDataSource, T: TextSource>(
     progress: &mut Progress,
     stop_classes: ClassSet,
 )
-    requires { CanRead T.units (T.characters text) progress.old.at classes.old }
-    ensures read { IsSkimmed (D.source data_source.now) T.units (has stop_classes)
-        (ahead T.units (T.characters text) progress.old.at) progress.old.at progress.new.at classes.old classes.new
+    requires { CanRead T.encoding.len_of (T.text text).chars progress.old.at classes.old }
+    ensures read { IsSkimmed (D.source data_source.now) T.encoding.len_of (has stop_classes)
+        (ahead T.encoding.len_of (T.text text).chars progress.old.at) progress.old.at progress.new.at classes.old classes.new
         progress.old.flags progress.new.flags }
     ensures order { progress.old.at ≤ progress.new.at }
 {
@@ -128,8 +128,8 @@ pub(super) fn skim<D: BidiDataSource, T: TextSource>(
     progress: &mut Progress,
     stop_classes: ClassSet,
 ) -> Option<Stop>
-    requires { CanRead T.units (T.characters text) progress.old.at classes.old }
-    ensures { IsReadOn (D.source data_source.now) T.units (T.characters text) (has stop_classes) progress.old
+    requires { CanRead T.encoding.len_of (T.text text).chars progress.old.at classes.old }
+    ensures { IsReadOn (D.source data_source.now) T.encoding.len_of (T.text text).chars (has stop_classes) progress.old
         result progress.new classes.old classes.new }
 {
     while progress.at < classes.len() {

@@ -69,10 +69,10 @@ const BLOCK: usize = 256;
 
 // The end of the block of characters that begins at an index.
 fn block_end<T: TextSource>(text: T, from: usize) -> usize
-    requires { from ≤ text_len T.units (T.characters text) }
+    requires { from ≤ text_len T.encoding.len_of (T.text text).chars }
     ensures order { from ≤ result }
-    ensures goes_on { from < text_len T.units (T.characters text) → from < result }
-    ensures boundary { IsTrue (is_boundary_of T.units (T.characters text) result) }
+    ensures goes_on { from < text_len T.encoding.len_of (T.text text).chars → from < result }
+    ensures boundary { IsTrue (is_boundary_of T.encoding.len_of (T.text text).chars result) }
 {
     let len = text.len();
     if len - from <= BLOCK {
@@ -94,11 +94,11 @@ fn read_to_sought<D: BidiDataSource, T: TextSource>(
     classes: &mut [BidiClass],
     sought: ClassSet,
 ) -> Option<Stop>
-    requires { text_len T.units (T.characters block) ≤ length classes.old }
+    requires { text_len T.encoding.len_of (T.text block).chars ≤ length classes.old }
     ensures { (flags : ParagraphFlags) → HasEachChange sought flags → MatchOption result
-        (IsSkimmed (D.source data_source.now) T.units (has sought) (T.characters block) 0
-        (text_len T.units (T.characters block)) classes.old classes.new flags flags)
-        (λ stop. IsStop (D.source data_source.now) T.units (has sought) (T.characters block) 0 stop classes.old classes.new
+        (IsSkimmed (D.source data_source.now) T.encoding.len_of (has sought) (T.text block).chars 0
+        (text_len T.encoding.len_of (T.text block).chars) classes.old classes.new flags flags)
+        (λ stop. IsStop (D.source data_source.now) T.encoding.len_of (has sought) (T.text block).chars 0 stop classes.old classes.new
         flags flags) }
 {
     for (start, c) in block.char_indices() {
@@ -126,8 +126,8 @@ fn read_block<D: BidiDataSource, T: TextSource>(
     progress: &mut Progress,
     sought: ClassSet,
 ) -> Option<Stop>
-    requires { CanSeek T.units (T.characters text) sought progress.old classes.old }
-    ensures { HasReadSome (D.source data_source.now) T.units (T.characters text) (has sought) progress.old result
+    requires { CanSeek T.encoding.len_of (T.text text).chars sought progress.old classes.old }
+    ensures { HasReadSome (D.source data_source.now) T.encoding.len_of (T.text text).chars (has sought) progress.old result
         progress.new classes.old classes.new }
 {
     let start = progress.at;
@@ -152,11 +152,11 @@ pub(super) fn read_next<D: BidiDataSource, T: TextSource>(
     classes: &mut [BidiClass],
     start: usize,
 ) -> Stop
-    requires sized { length classes.old ≡ text_len T.units (T.characters text) }
-    requires begins { IsTrue (is_boundary_of T.units (T.characters text) start) }
+    requires sized { length classes.old ≡ text_len T.encoding.len_of (T.text text).chars }
+    requires begins { IsTrue (is_boundary_of T.encoding.len_of (T.text text).chars start) }
     requires room { start + AT_ONCE ≤ length classes.old }
-    ensures { (stop_classes : BidiClass → Bool) (flags : ParagraphFlags) → IsStop (D.source data_source.now) T.units stop_classes
-        (ahead T.units (T.characters text) start) start result classes.old classes.new flags flags }
+    ensures { (stop_classes : BidiClass → Bool) (flags : ParagraphFlags) → IsStop (D.source data_source.now) T.encoding.len_of stop_classes
+        (ahead T.encoding.len_of (T.text text).chars start) start result classes.old classes.new flags flags }
 {
     let (c, len) = text.next_at(start);
     let class = data_source.bidi_class(c);
@@ -184,9 +184,9 @@ fn read_in_place<D: BidiDataSource, T: TextSource>(
     limit: usize,
     sought: ClassSet,
 ) -> Option<Stop>
-    requires seek { CanSeek T.units (T.characters text) sought progress.old classes.old }
+    requires seek { CanSeek T.encoding.len_of (T.text text).chars sought progress.old classes.old }
     requires room { limit + (AT_ONCE - 1) ≤ length classes.old }
-    ensures stop { IsReadOn (D.source data_source.now) T.units (T.characters text) (has sought) progress.old
+    ensures stop { IsReadOn (D.source data_source.now) T.encoding.len_of (T.text text).chars (has sought) progress.old
         result progress.new classes.old classes.new }
     ensures passed { result ≡ None → limit ≤ progress.new.at }
 {
@@ -219,8 +219,8 @@ fn read_low_blocks<D: BidiDataSource, T: TextSource>(
     progress: &mut Progress,
     sought: ClassSet,
 ) -> Option<Stop>
-    requires { CanSeek T.units (T.characters text) sought progress.old classes.old }
-    ensures stop { IsReadOn (D.source data_source.now) T.units (T.characters text) (has sought) progress.old
+    requires { CanSeek T.encoding.len_of (T.text text).chars sought progress.old classes.old }
+    ensures stop { IsReadOn (D.source data_source.now) T.encoding.len_of (T.text text).chars (has sought) progress.old
         result progress.new classes.old classes.new }
 {
     let mut start = progress.at;
@@ -259,8 +259,8 @@ pub(super) fn read_on<D: BidiDataSource, T: TextSource>(
     progress: &mut Progress,
     stop_classes: ClassSet,
 ) -> Option<Stop>
-    requires { CanRead T.units (T.characters text) progress.old.at classes.old }
-    ensures { HasReadSome (D.source data_source.now) T.units (T.characters text) (has stop_classes) progress.old result
+    requires { CanRead T.encoding.len_of (T.text text).chars progress.old.at classes.old }
+    ensures { HasReadSome (D.source data_source.now) T.encoding.len_of (T.text text).chars (has stop_classes) progress.old result
         progress.new classes.old classes.new }
 {
     let end = progress.at.saturating_add(BLOCK);

@@ -28,12 +28,12 @@ pub fn marks_end<T: TextSource>(
     classes: &[BidiClass],
     from: usize,
 ) -> usize
-    requires lines { AreLines T.units (T.characters text) (map bounds runs.now) }
+    requires lines { AreLines T.encoding.len_of (T.text text).chars (map bounds runs.now) }
     requires ordered { IsTrue (are_ordered (map bounds runs.now)) }
-    requires long { length classes.now ≡ text_len T.units (T.characters text) }
+    requires long { length classes.now ≡ text_len T.encoding.len_of (T.text text).chars }
     requires original { length original_classes.now ≡ length classes.now }
-    requires begins { IsTrue (is_boundary T.units (T.characters text) from) }
-    ensures { IsMarksEnd T.units (T.characters text) (map bounds runs.now) original_classes.now classes.now from result }
+    requires begins { IsTrue (is_boundary T.encoding.len_of (T.text text).chars from) }
+    ensures { IsMarksEnd T.encoding.len_of (T.text text).chars (map bounds runs.now) original_classes.now classes.now from result }
 {
     for run in runs {
         let mut at = run.start.max(from);

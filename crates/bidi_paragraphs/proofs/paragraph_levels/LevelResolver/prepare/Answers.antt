@@ -16,31 +16,31 @@ pub new-stored-requires-clause-per_char : goal.new-stored-requires-clause-per_ch
 new-stored-requires-clause-per_char g c = grind (arith, stored-is_per_char)
 
 -- what was found in the paragraph that was made is found in this one
-found : (g : Over) (c : In_ok-find_levels_counted g) → AreExplicitLevels g.T.TextSource.units (g.T.TextSource.characters c.args.paragraph.now.text) c.args.paragraph.now.level
+found : (g : Over) (c : In_ok-find_levels_counted g) → AreExplicitLevels g.T.TextSource.encoding.len_of (g.T.TextSource.text c.args.paragraph.now.text).chars c.args.paragraph.now.level
     c.args.paragraph.now.original_classes.now c.find_levels_counted.new.levels c.find_levels_counted.new.classes (map bounds c.find_levels_counted.new.runs.items)
 found g c = rw (c.new-stored.ensures.text, c.new-stored.ensures.level, c.new-stored.ensures.classes) at c.in_ok-find_levels_counted.ensures.found
 
 -- the levels, read one a character
-read : (g : Over) (c : In_ok-find_levels_counted g) → let cs = g.T.TextSource.characters c.args.paragraph.now.text in
-    per_char 0 g.T.TextSource.units cs c.find_levels_counted.new.levels ≡ explicit_levels c.args.paragraph.now.level (per_char L g.T.TextSource.units cs c.args.paragraph.now.original_classes.now)
+read : (g : Over) (c : In_ok-find_levels_counted g) → let cs = (g.T.TextSource.text c.args.paragraph.now.text).chars in
+    per_char 0 g.T.TextSource.encoding.len_of cs c.find_levels_counted.new.levels ≡ explicit_levels c.args.paragraph.now.level (per_char L g.T.TextSource.encoding.len_of cs c.args.paragraph.now.original_classes.now)
 read g c =
-    let len_of = g.T.TextSource.units in
-    let cs : List ℕ = g.T.TextSource.characters c.args.paragraph.now.text in
+    let len_of = g.T.TextSource.encoding.len_of in
+    let cs : List ℕ = (g.T.TextSource.text c.args.paragraph.now.text).chars in
     let stored : List BidiClass = per_char L len_of cs c.args.paragraph.now.original_classes.now in
     let levels : List ℕ = explicit_levels c.args.paragraph.now.level stored in
     ap (per_char 0 len_of cs) (found g c).levels
-    ∙ per_char-per_unit len_of g.met.T.TextSource.has_units 0 cs levels (length-explicit_levels c.args.paragraph.now.level stored ∙ length-per_char L len_of cs c.args.paragraph.now.original_classes.now)
+    ∙ per_char-per_unit len_of g.T.TextSource.encoding.positive 0 cs levels (length-explicit_levels c.args.paragraph.now.level stored ∙ length-per_char L len_of cs c.args.paragraph.now.original_classes.now)
 
 pub link-requires : goal.link-requires
 link-requires g c =
     let class_of = (g.D.BidiDataSource.source c.args.paragraph.now.data_source.now).class_of in
-    let cs : List ℕ = g.T.TextSource.characters c.args.paragraph.now.text in
+    let cs : List ℕ = (g.T.TextSource.text c.args.paragraph.now.text).chars in
     record {
       original = grind (arith, stored-is_per_char);
       levels = grind (arith, is_per_char-per_unit, length-explicit_levels, length-per_char);
       runs = rw (read g (goal.at.link-requires g c).In_ok-find_levels_counted) (ap (map bounds) c.as_slice.ensures.value ∙ (found g (goal.at.link-requires g c).In_ok-find_levels_counted).runs);
       isolates = λ some.
-          c.has_isolates.ensures ∙ has_isolates-flags c.args.paragraph.now.flags (map class_of cs) c.args.paragraph.now.own_flags ∙ initiators-stored g.T.TextSource.units cs (map class_of cs) c.args.paragraph.now.original_classes.now c.args.paragraph.now.stored some;
+          c.has_isolates.ensures ∙ has_isolates-flags c.args.paragraph.now.flags (map class_of cs) c.args.paragraph.now.own_flags ∙ initiators-stored g.T.TextSource.encoding.len_of cs (map class_of cs) c.args.paragraph.now.original_classes.now c.args.paragraph.now.stored some;
     }
 
 -- the runs that were linked are all
