@@ -7,6 +7,7 @@ use Rattle.std.proofs.lemmas.Str.{len_utf8_bounds}
 use Rattle.bidi_base.specs.declared.char_data.BidiClass.{BidiClass}
 use Rattle.bidi_base.specs.InPlace as passes
 use Rattle.bidi_base.specs.PerChar as entries
+use Rattle.bidi_base.specs.Source.{Source}
 use Rattle.bidi_base.specs.Text as list
 use Rattle.bidi_base.specs.Text.{one_unit}
 use Rattle.bidi_base.specs.Units as units
@@ -113,6 +114,14 @@ module _ {e : Encoding} (text : Text e) where
   abbrev pub kept_in_runs : List BidiClass → List (ℕ × ℕ) → List ℕ
   kept_in_runs classes runs = units.kept_in_runs e.len_of text.chars classes runs
 
+  -- the indexes of the characters in some ranges of units
+  abbrev pub chars_in_runs : List (ℕ × ℕ) → List ℕ
+  chars_in_runs runs = units.chars_in_runs e.len_of text.chars runs
+
+  -- of these, those that the passes in place take as kept
+  abbrev pub kept_in_place : List BidiClass → List (ℕ × ℕ) → List ℕ
+  kept_in_place classes runs = units.kept_in_place e.len_of text.chars classes runs
+
   abbrev pub CanFindExplicitLevels : ℕ → List BidiClass → List ℕ → List BidiClass → List (ℕ × ℕ) → Type 0
   CanFindExplicitLevels paragraph stored_units level_units class_units found =
       passes.CanFindExplicitLevels e.len_of text.chars paragraph stored_units level_units class_units found
@@ -120,6 +129,24 @@ module _ {e : Encoding} (text : Text e) where
   abbrev pub AreExplicitLevels : ℕ → List BidiClass → List ℕ → List BidiClass → List (ℕ × ℕ) → Type 0
   AreExplicitLevels paragraph stored_units level_units class_units found =
       passes.AreExplicitLevels e.len_of text.chars paragraph stored_units level_units class_units found
+
+  abbrev pub CanResolveWeakTypes : List (ℕ × ℕ) → List BidiClass → Type 0
+  CanResolveWeakTypes runs old = passes.CanResolveWeakTypes e.len_of text.chars runs old
+
+  abbrev pub AreWeakTypesResolved : List (ℕ × ℕ) → BidiClass → List BidiClass → List BidiClass → Type 0
+  AreWeakTypesResolved runs sos old new = passes.AreWeakTypesResolved e.len_of text.chars runs sos old new
+
+  abbrev pub CanResolveNeutrals : List (ℕ × ℕ) → List ℕ → List BidiClass → List BidiClass → Type 0
+  CanResolveNeutrals runs level_units stored_units old =
+      passes.CanResolveNeutrals e.len_of text.chars runs level_units stored_units old
+
+  abbrev pub AreNeutralsResolved : Source → List (ℕ × ℕ) → BidiClass → BidiClass → List ℕ → List BidiClass → List BidiClass → List BidiClass → Type 0
+  AreNeutralsResolved source runs sos eos level_units stored_units old new =
+      passes.AreNeutralsResolved e.len_of text.chars source runs sos eos level_units stored_units old new
+
+  abbrev pub AreNeutralsResolvedUpToN1 : Source → List (ℕ × ℕ) → BidiClass → BidiClass → List ℕ → List BidiClass → List BidiClass → List BidiClass → Type 0
+  AreNeutralsResolvedUpToN1 source runs sos eos level_units stored_units old new =
+      passes.AreNeutralsResolvedUpToN1 e.len_of text.chars source runs sos eos level_units stored_units old new
 
 -- one value a character, from one a unit: the one at the character's place
 abbrev pub per_char : {X : Type 0} {e : Encoding} → X → Text e → List X → List X

@@ -2,7 +2,7 @@
 ghost use Rattle.std.specs.Prelude.{◌≡◌, ◌≤◌, length};
 ghost use Rattle.std.specs.List.{count_by};
 ghost use Rattle.std.specs.Str.{chars};
-ghost use Rattle.bidi_base.specs.Text.{text_len};
+ghost use Rattle.bidi_base.specs.Texts.{text_len};
 ghost use Rattle.bidi_base.specs.Utf16.{utf16_text};
 ghost use Rattle.bidi_calls.specs.Everything.{begins_character};
 ghost use Rattle.bidi_calls.specs.declared.counted.TheConstants.{FEW_BYTES};
@@ -62,7 +62,7 @@ impl<'t> CountedText for StrText<'t> {
 
 // Returns how many characters a text of `units` code units has. Counts them one by one.
 fn count_one_by_one<T: TextSource>(text: T, units: usize) -> usize
-    requires { units ≡ text_len T.encoding.len_of (T.text text).chars }
+    requires { units ≡ text_len (T.text text) }
     ensures { result ≡ length (T.text text).chars }
 {
     let mut count = 0;

@@ -4,7 +4,8 @@ ghost use Rattle.std.specs.List.{list_all};
 ghost use Rattle.std.specs.Result.{result_err};
 ghost use Rattle.bidi_base.specs.Display.{run_of, visual_runs};
 ghost use Rattle.bidi_base.specs.Order.{visual_order as visual_order_of};
-ghost use Rattle.bidi_base.specs.Text.{text_len, place, per_char};
+ghost use Rattle.bidi_base.specs.Text.{place, per_char};
+ghost use Rattle.bidi_base.specs.Texts.{text_len};
 ghost use Rattle.bidi_lines.specs.ShownLevels.{levels as levels_of};
 ghost use Rattle.bidi_numbers.specs.Faults.{FaultsAs, fault_unless, has_room_or_none};
 ghost use Rattle.bidi_calls.specs.Kept.{written, written_if_room, WritesList};
@@ -121,7 +122,7 @@ pub fn write_text<T: LineText>(
     requires sound { IsSound line.now }
     requires even { is_even T.encoding.len_of (T.text text).chars line.now ≡ true }
     requires units { IsAsLongAs T.encoding.len_of (T.text text).chars line.now }
-    requires room { length out.old ≡ text_len T.encoding.len_of (T.text text).chars }
+    requires room { length out.old ≡ text_len (T.text text) }
     ensures text { OnOk result (out.new ≡ shown_units T.encoding.len_of T.encode (T.text text).chars (T.units_of text) 0 (shown_levels line.now)) }
     ensures kept { OnErr result (out.new ≡ out.old) }
 {

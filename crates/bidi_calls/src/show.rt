@@ -4,7 +4,8 @@ ghost use Rattle.std.specs.Prelude.{◌≡◌, ℕ, ◌+◌, ◌-◌, ◌<◌, �
 ghost use Rattle.bidi_base.specs.Display.{run_of, visual_runs, AreVisualRuns};
 ghost use Rattle.bidi_base.specs.Levels.{is_odd};
 ghost use Rattle.bidi_base.specs.Order.{visual_order as visual_order_of};
-ghost use Rattle.bidi_base.specs.Text.{text_len, per_char, one_unit, IsLine, IsPerChar};
+ghost use Rattle.bidi_base.specs.Text.{one_unit, IsLine};
+ghost use Rattle.bidi_base.specs.Texts.{text_len, per_char, IsPerChar};
 ghost use Rattle.bidi_calls.specs.Everything.{everything_of_chars, line_shown, room_fault, WritesLine, AreLines, AreWithin};
 ghost use Rattle.bidi_calls.specs.Kept.{written_if_room, HasRoomOrNone};
 ghost use Rattle.bidi_calls.specs.Lines.{IsSound, IsAsLongAs, shown_levels};
@@ -87,9 +88,9 @@ fn have_room<U>(units: usize, runs: usize, characters: usize, out: &LineBuffers<
 
 // Keeps one level for each of a line's `len` characters. If each character is one unit, there is nothing to do.
 fn keep_characters<T: TextSource>(text: T, len: usize, shown: &mut ShownLevels)
-    requires units { length (levels_of shown.old) ≡ text_len T.encoding.len_of (T.text text).chars }
+    requires units { length (levels_of shown.old) ≡ text_len (T.text text) }
     requires len { len ≡ length (T.text text).chars }
-    ensures { levels_of shown.new ≡ per_char 0 T.encoding.len_of (T.text text).chars (levels_of shown.old) }
+    ensures { levels_of shown.new ≡ per_char 0 (T.text text) (levels_of shown.old) }
 {
     if len < shown.as_slice().len() {
         shown.keep_first_units(text);
@@ -104,10 +105,10 @@ fn write_order<T: CountedText>(
     shown: &mut ShownLevels,
     out: &mut [usize],
 )
-    requires even { IsPerChar T.encoding.len_of (T.text text).chars (levels_of shown.old) }
+    requires even { IsPerChar (T.text text) (levels_of shown.old) }
     requires runs { map run_of runs.now ≡ visual_runs 0 (levels_of shown.old) }
     requires room { length out.old ≡ length (T.text text).chars }
-    ensures { out.new ≡ visual_order_of (per_char 0 T.encoding.len_of (T.text text).chars (levels_of shown.old)) }
+    ensures { out.new ≡ visual_order_of (per_char 0 (T.text text) (levels_of shown.old)) }
 {
     if runs.len() <= COUNTED_RUNS {
         write_char_order(text, shown.as_slice(), runs, out);
@@ -125,12 +126,12 @@ fn put_order_of<T: CountedText>(
     runs: &[Range<usize>],
     shown: &mut ShownLevels,
 )
-    requires even { IsPerChar T.encoding.len_of (T.text text).chars (levels_of shown.old) }
+    requires even { IsPerChar (T.text text) (levels_of shown.old) }
     requires runs { map run_of runs.now ≡ visual_runs 0 (levels_of shown.old) }
     requires len { len ≡ length (T.text text).chars }
     requires room { IsTrue (has_room_or_none len (length out.old)) }
     ensures { out.new
-        ≡ written_if_room (visual_order_of (per_char 0 T.encoding.len_of (T.text text).chars (levels_of shown.old))) out.old }
+        ≡ written_if_room (visual_order_of (per_char 0 (T.text text) (levels_of shown.old))) out.old }
 {
     if !out.is_empty() {
         write_order(text, runs, shown, &mut out[..len]);
@@ -151,7 +152,7 @@ pub fn show_text<T: CountedText>(
     requires sound { IsSound line.now }
     requires even { is_even T.encoding.len_of (T.text text).chars line.now ≡ true }
     requires units { IsAsLongAs T.encoding.len_of (T.text text).chars line.now }
-    requires one_a_unit { length (T.units_of text) ≡ text_len T.encoding.len_of (T.text text).chars }
+    requires one_a_unit { length (T.units_of text) ≡ text_len (T.text text) }
     requires encoded { (c : ℕ) → length (T.encode c) ≡ T.encoding.len_of c }
     ensures fault { let shown = line_shown T.encoding.len_of (T.text text).chars line.now
         (shown_units T.encoding.len_of T.encode (T.text text).chars (T.units_of text) 0 (shown_levels line.now)) in

@@ -58,7 +58,7 @@ module _ {T C I L : Type 0} {t : _} {c : _} {i : _} {l : _} (paragraph : Paragra
 
   -- how many characters, or how many code units, the paragraph has: the paragraph's stride says which
   abbrev pub whole_count : ℕ
-  whole_count = count_of paragraph.stride (length paragraph.original_classes.now) (length (t.text paragraph.text).chars)
+  whole_count = count_of paragraph.stride (length paragraph.original_classes.now) (length text_of.chars)
 
   -- how many characters are before a code unit
   abbrev pub chars_to : ℕ → ℕ

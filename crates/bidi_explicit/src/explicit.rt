@@ -187,12 +187,12 @@ fn compute_with_new_count<T: TextSource, S: Ledger>(
     runs: &mut LevelRunVec,
     blank: Blank,
 ) -> Result<(), AllocError>
-    requires paragraph { CanFindExplicitLevels T.encoding.len_of (T.text text).chars para_level original_classes.now levels.old
+    requires paragraph { CanFindExplicitLevels (T.text text) para_level original_classes.now levels.old
         processing_classes.old (map bounds runs.old.items) }
     requires name { blank.name ≡ S.name }
     requires parts { blank.parts ≡ S.parts }
     requires one { blank.parts ≡ 1 }
-    ensures { OnOk result (AreExplicitLevels T.encoding.len_of (T.text text).chars para_level original_classes.now levels.new
+    ensures { OnOk result (AreExplicitLevels (T.text text) para_level original_classes.now levels.new
         processing_classes.new (map bounds runs.new.items)) }
 {
     let mut steps = Steps::<S>::new(blank);

@@ -2,7 +2,7 @@
 ghost use Rattle.std.specs.Prelude.{◌≡◌, ℕ, ◌+◌, ◌-◌, ◌<◌, ◌≤◌, List, length, slice_range, reverse, flat_map, map, sum_by, IfOk, IfSome, OnOk, OnErr, IsNone, IsTrue, All, ◌↔◌};
 ghost use Rattle.bidi_base.specs.Analysed.{IsLineOf, StaysInOrder};
 ghost use Rattle.bidi_base.specs.Display.{run_of};
-ghost use Rattle.bidi_base.specs.Text.{subrange, IsLine};
+ghost use Rattle.bidi_base.specs.Texts.{subrange, IsLine};
 ghost use Rattle.bidi_base.specs.Line.{line_levels};
 ghost use Rattle.bidi_lines.specs.Runs.{StartsInLine};
 ghost use Rattle.bidi_lines.specs.Written.{run_units, shown_units, line_units, AreRunsOfChars};
@@ -36,7 +36,7 @@ pub trait LineText: TextSource {
 
     /// Writes the code units of a run unchanged.
     fn copy_run(self, run: Range<usize>, out: &mut [Self::Unit])
-        requires is_line { IsLine Self.encoding.len_of (Self.text self).chars run.start run.end }
+        requires is_line { IsLine (Self.text self) run.start run.end }
         requires room { length out.old + run.start ≡ run.end }
         ensures { out.new ≡ slice_range (units_of self) run.start run.end };
 
@@ -44,9 +44,9 @@ pub trait LineText: TextSource {
     ///
     /// The code units of each character keep their order.
     fn reverse_run(self, run: Range<usize>, out: &mut [Self::Unit])
-        requires is_line { IsLine Self.encoding.len_of (Self.text self).chars run.start run.end }
+        requires is_line { IsLine (Self.text self) run.start run.end }
         requires room { length out.old + run.start ≡ run.end }
-        ensures { out.new ≡ flat_map encode (reverse (subrange Self.encoding.len_of (Self.text self).chars run.start run.end)) };
+        ensures { out.new ≡ flat_map encode (reverse (subrange (Self.text self) run.start run.end).chars) };
 }
 
 /// Writes the runs of a line to `out`, in the order of `runs`.
@@ -63,7 +63,7 @@ pub fn write_runs<T: LineText>(
 )
     requires room { length out.old ≡ length levels.now }
     requires within { All (StartsInLine start levels.now) runs.now }
-    requires boundaries { All (λ r. IsLine T.encoding.len_of (T.text text).chars r.start r.end) runs.now }
+    requires boundaries { All (λ r. IsLine (T.text text) r.start r.end) runs.now }
     requires whole { sum_by (λ r. r.end - r.start) runs.now ≡ length levels.now }
     ensures { out.new ≡ flat_map (run_units T.encoding.len_of T.encode (T.text text).chars (T.units_of text) start levels.now) (map run_of runs.now) }
 {
@@ -89,7 +89,7 @@ fn write_shown<T: LineText>(
     levels: &[Level],
     out: &mut [T::Unit],
 ) -> Result<(), AllocError>
-    requires is_line { IsLine T.encoding.len_of (T.text text).chars line.start line.end }
+    requires is_line { IsLine (T.text text) line.start line.end }
     requires levels { length levels.now + line.start ≡ line.end }
     requires room { length out.old ≡ length levels.now }
     requires runs { AreRunsOfChars T.encoding.len_of (T.text text).chars line.start levels.now }
@@ -133,7 +133,7 @@ pub fn write_line<T: LineText, C: ClassList, L: LevelList>(
     stored: &StoredLine<C, L>,
     out: &mut [T::Unit],
 ) -> Result<(), AllocError>
-    requires is_line { IsLine T.encoding.len_of (T.text text).chars line.start line.end }
+    requires is_line { IsLine (T.text text) line.start line.end }
     requires valid { L.are_levels stored.now.levels }
     requires levels { length (L.numbers stored.now.levels) + line.start ≡ line.end }
     requires classes { length (C.classes stored.now.classes) ≡ length (L.numbers stored.now.levels) }

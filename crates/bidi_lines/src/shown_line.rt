@@ -5,8 +5,7 @@ ghost use Rattle.bidi_base.specs.Analysed.{AnalysedText, IsLineOf, AreLevelsOfLi
 ghost use Rattle.bidi_base.specs.Display.{run_of, visual_runs};
 ghost use Rattle.bidi_base.specs.Levels.{has_rtl as has_rtl_of};
 ghost use Rattle.bidi_base.specs.Order.{visual_order};
-ghost use Rattle.bidi_base.specs.PerChar.{HaveClass, HaveLevel};
-ghost use Rattle.bidi_base.specs.Text.{text_len, per_char, IsLine};
+ghost use Rattle.bidi_base.specs.Texts.{per_char, text_len, HaveClass, HaveLevel, IsLine};
 ghost use Rattle.bidi_lines.specs.LineRuns.{runs as kept_runs};
 ghost use Rattle.bidi_lines.specs.ShownLevels.{levels as kept_levels};
 ghost use Rattle.bidi_lines.specs.Written.{shown_units, AreRunsOfChars};
@@ -33,8 +32,8 @@ fn gather_levels<T: TextSource>(
     levels: &[Level],
     of_chars: &mut Vec<Level>,
 ) -> Result<(), AllocError>
-    requires { length levels.now ≡ text_len T.encoding.len_of (T.text text).chars }
-    ensures { OnOk result (of_chars.new.items ≡ per_char 0 T.encoding.len_of (T.text text).chars levels.now) }
+    requires { length levels.now ≡ text_len (T.text text) }
+    ensures { OnOk result (of_chars.new.items ≡ per_char 0 (T.text text) levels.now) }
 {
     of_chars.clear();
     of_chars.extend_from_slice(levels)?;
@@ -69,7 +68,7 @@ pub struct ShownLine<T: TextSource> {
     has_rtl: bool,
     // A buffer for the levels of the line's characters.
     of_chars: Vec<Level>,
-    ghost is_line: { IsLine T.encoding.len_of (T.text text).chars start end },
+    ghost is_line: { IsLine (T.text text) start end },
     ghost one_a_unit: { end - start ≤ length (kept_levels levels) },
     ghost runs_of_levels: { kept_runs runs ≡ visual_runs start (take (end - start) (kept_levels levels)) },
     ghost runs_of_chars: { AreRunsOfChars T.encoding.len_of (T.text text).chars start (take (end - start) (kept_levels levels)) },
@@ -144,9 +143,9 @@ impl<T: TextSource> ShownLine<T> {
         level: Level,
         line: Range<usize>,
     ) -> Result<(), AllocError>
-        requires line { IsLine T.encoding.len_of (T.text text).chars line.start line.end }
-        requires classes { HaveClass T.encoding.len_of (T.text text).chars classes.now }
-        requires levels { HaveLevel T.encoding.len_of (T.text text).chars levels.now }
+        requires line { IsLine (T.text text) line.start line.end }
+        requires classes { HaveClass (T.text text) classes.now }
+        requires levels { HaveLevel (T.text text) levels.now }
         ensures text { text_of self.new ≡ text }
         ensures shows { OnOk result (Shows self.new (with_lists T.encoding.len_of (T.text text).chars classes.now levels.now) level line) }
         ensures empty { OnErr result (Shows self.new (with_lists T.encoding.len_of (T.text text).chars classes.now levels.now) level

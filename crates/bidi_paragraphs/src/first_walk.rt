@@ -4,7 +4,8 @@ ghost use Rattle.std.specs.Prelude.{◌≡◌, ℕ, ◌<◌, ◌≤◌, true, fa
 ghost use Rattle.bidi_base.specs.declared.char_data.BidiClass.{BidiClass};
 ghost use Rattle.bidi_base.specs.Paragraphs.{begins_with_line_feed, ranges_from};
 ghost use Rattle.bidi_base.specs.Stored.{text_classes, paragraph_levels};
-ghost use Rattle.bidi_base.specs.Text.{place as place_of, text_len, per_unit};
+ghost use Rattle.bidi_base.specs.Text.{place as place_of};
+ghost use Rattle.bidi_base.specs.Texts.{text_len, per_unit};
 ghost use Rattle.bidi_paragraphs.specs.ClassSet.{has};
 ghost use Rattle.bidi_paragraphs.specs.FirstWalk.{classes_after, stops_at, waiting, with_flags, AreWithin, CanRead, IsClosed, IsFresh, IsReadBy, IsReadOn, HasReadSome, StopsCounting};
 ghost use Rattle.bidi_paragraphs.specs.declared.first_walk.paragraph_state.ParagraphState.{ParagraphState};
@@ -177,7 +178,7 @@ fn seek_stop<D: BidiDataSource, T: TextSource>(
     requires { CanRead T.encoding.len_of (T.text text).chars progress.old.at classes.old }
     ensures stop { IsReadOn (D.source data_source.now) T.encoding.len_of (T.text text).chars (has stop_classes) progress.old
         result progress.new classes.old classes.new }
-    ensures end { result ≡ None → progress.new.at ≡ text_len T.encoding.len_of (T.text text).chars }
+    ensures end { result ≡ None → progress.new.at ≡ text_len (T.text text) }
 {
     while progress.at < classes.len() {
         if let Some(stop) = read_some(data_source, text, classes, progress, stop_classes) {
@@ -209,7 +210,7 @@ fn next_stop<D: BidiDataSource, T: TextSource>(
     requires { CanRead T.encoding.len_of (T.text text).chars from classes.old }
     ensures stop { IsReadOn (D.source data_source.now) T.encoding.len_of (T.text text).chars (stops_at state.old)
         (record { at = from; flags = state.old.flags }) result
-        (record { at = text_len T.encoding.len_of (T.text text).chars; flags = state.new.flags }) classes.old classes.new }
+        (record { at = text_len (T.text text); flags = state.new.flags }) classes.old classes.new }
     ensures kept { state.new ≡ with_flags state.old state.new.flags }
 {
     if near && T::READS_IN_PLACE && classes.len() - from >= AT_ONCE {
@@ -297,10 +298,10 @@ pub fn walk<D: BidiDataSource, T: TextSource>(
     classes: &mut [BidiClass],
     memory: FoundParagraphs,
 ) -> Result<FoundParagraphs, AllocError>
-    requires { length classes.old ≡ text_len T.encoding.len_of (T.text text).chars }
+    requires { length classes.old ≡ text_len (T.text text) }
     ensures classes { let pieces = pieces_by split (D.source data_source.now) (T.text text).chars in
         OnOk result (classes.new
-        ≡ per_unit T.encoding.len_of (T.text text).chars (text_classes (D.source data_source.now) pieces)) }
+        ≡ per_unit (T.text text) (text_classes (D.source data_source.now) pieces)) }
     ensures ranges { let pieces = pieces_by split (D.source data_source.now) (T.text text).chars in
         IfOk result (λ i. ranges_of i.paragraphs.items ≡ ranges_from T.encoding.len_of 0 pieces) }
     ensures levels { let pieces = pieces_by split (D.source data_source.now) (T.text text).chars in

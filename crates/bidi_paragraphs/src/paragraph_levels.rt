@@ -8,8 +8,7 @@ ghost use Rattle.bidi_base.specs.Classes.{is_removed};
 ghost use Rattle.bidi_base.specs.Isolates.{stored_classes};
 ghost use Rattle.bidi_base.specs.Sequences.{is_kept_at, sequences};
 ghost use Rattle.bidi_base.specs.Stored.{levels_in};
-ghost use Rattle.bidi_base.specs.Text.{text_len, per_unit, per_char};
-ghost use Rattle.bidi_base.specs.Units.{AreLines};
+ghost use Rattle.bidi_base.specs.Texts.{per_char, per_unit, text_len, AreLines};
 ghost use Rattle.bidi_explicit.specs.Links.{linked_runs, linked_sequences, sequences_of, AreLinked};
 ghost use Rattle.bidi_paragraphs.specs.Written.{IsWritten};
 ghost use Rattle.bidi_paragraphs.specs.ParagraphFlags.{flags_of};
@@ -56,7 +55,7 @@ pub struct ClassifiedParagraph<'a, D: BidiDataSource, T: TextSource> {
     ghost low: { level ≤ 125 },
     ghost own_flags: { flags ≡ flags_of (map (D.source data_source.now).class_of (T.text text).chars) },
     ghost stored: { original_classes.now
-        ≡ per_unit T.encoding.len_of (T.text text).chars
+        ≡ per_unit (T.text text)
         (stored_classes (map (D.source data_source.now).class_of (T.text text).chars)) },
 }
 
@@ -93,21 +92,21 @@ impl LevelResolver {
         steps: &mut Steps<S>,
     ) -> Result<(), AllocError>
         requires { length levels.old ≡ length paragraph.now.original_classes.now }
-        ensures levels { let stored = per_char L T.encoding.len_of (T.text paragraph.now.text).chars
+        ensures levels { let stored = per_char L (T.text paragraph.now.text)
             paragraph.now.original_classes.now in
             OnOk result (levels.new
-            ≡ per_unit T.encoding.len_of (T.text paragraph.now.text).chars (explicit_levels paragraph.now.level stored)) }
-        ensures classes { let stored = per_char L T.encoding.len_of (T.text paragraph.now.text).chars
+            ≡ per_unit (T.text paragraph.now.text) (explicit_levels paragraph.now.level stored)) }
+        ensures classes { let stored = per_char L (T.text paragraph.now.text)
             paragraph.now.original_classes.now in
             OnOk result (self.new.classes.items
-            ≡ per_unit T.encoding.len_of (T.text paragraph.now.text).chars
+            ≡ per_unit (T.text paragraph.now.text)
             (processing_classes paragraph.now.level stored)) }
-        ensures sequences { let stored = per_char L T.encoding.len_of (T.text paragraph.now.text).chars
+        ensures sequences { let stored = per_char L (T.text paragraph.now.text)
             paragraph.now.original_classes.now in
             OnOk result (sequences_of T.encoding.len_of (T.text paragraph.now.text).chars stored
             (linked_sequences self.new.links (linked_runs self.new.links self.new.runs.items))
             ≡ sequences paragraph.now.level stored (explicit_levels paragraph.now.level stored)) }
-        ensures fits { OnOk result (All (λ s. AreLines T.encoding.len_of (T.text paragraph.now.text).chars s.runs)
+        ensures fits { OnOk result (All (λ s. AreLines (T.text paragraph.now.text) s.runs)
             (linked_sequences self.new.links (linked_runs self.new.links self.new.runs.items))) }
         ensures linked { OnOk result (AreLinked self.new.links (linked_runs self.new.links self.new.runs.items)) }
     {
@@ -281,9 +280,9 @@ impl LevelResolver {
         paragraph: &ClassifiedParagraph<D, T>,
         levels: &mut [Level],
     ) -> Result<(), AllocError>
-        requires { length levels.old ≡ text_len T.encoding.len_of (T.text paragraph.now.text).chars }
+        requires { length levels.old ≡ text_len (T.text paragraph.now.text) }
         ensures { let source = D.source paragraph.now.data_source.now in let text = paragraph.now.text in
-            OnOk result (levels.new ≡ per_unit T.encoding.len_of (T.text text).chars
+            OnOk result (levels.new ≡ per_unit (T.text text)
             (levels_in paragraph.now.level (map source.class_of (T.text text).chars) (map source.bracket_of (T.text text).chars))) }
     {
         if paragraph.flags.keeps_to(paragraph.level) {

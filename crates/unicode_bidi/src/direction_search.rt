@@ -3,7 +3,7 @@ ghost use Rattle.std.specs.Prelude.{◌≡◌, ◌+◌, ◌-◌, ◌<◌, ◌^�
 ghost use Rattle.bidi_base.specs.Classes.{is_initiator, is_pdi};
 ghost use Rattle.bidi_base.specs.Direction.{direction_by, base_direction, full_base_direction};
 ghost use Rattle.bidi_base.specs.Paragraphs.{paragraphs_of, each_separator};
-ghost use Rattle.bidi_base.specs.Text.{text_len};
+ghost use Rattle.bidi_base.specs.Texts.{text_len};
 ghost use Rattle.unicode_bidi.specs.DirectionSearch.{IsSearched, direction_found};
 
 use bidi_base::char_data::{BidiClass, Direction};
@@ -79,7 +79,7 @@ pub fn search_direction<D: BidiDataSource, T: TextSource>(
     depth: usize,
     full: bool,
 ) -> DirectionSearch
-    requires { depth + text_len T.encoding.len_of (T.text text).chars < 2 ^ 64 }
+    requires { depth + text_len (T.text text) < 2 ^ 64 }
     ensures search { IsSearched full depth (map (D.source data_source.now).class_of (T.text text).chars) result }
 
     // At the front of a text, this is its base direction.

@@ -4,9 +4,9 @@ ghost use Rattle.std.specs.Prelude.{◌≡◌, [], ◌≤◌, ◌++◌, length, 
 ghost use Rattle.bidi_base.specs.Analysed.{IsPerCharText, AreLevelsWithLine};
 ghost use Rattle.bidi_base.specs.Laws.{AreLevelsFrom};
 ghost use Rattle.bidi_base.specs.Line.{levels_with_line as levels_with_line_of};
-ghost use Rattle.bidi_base.specs.PerChar.{HaveClass, HaveLevel};
+ghost use Rattle.bidi_base.specs.Texts.{char_index, per_char, text_len, HaveClass, HaveLevel, IsLine};
 ghost use Rattle.bidi_base.specs.declared.char_data.BidiClass.TheVariants.{L};
-ghost use Rattle.bidi_base.specs.Text.{text_len, is_per_char, per_char, char_index, IsLine};
+ghost use Rattle.bidi_base.specs.Text.{is_per_char};
 ghost use Rattle.bidi_lines.specs.Analysed.{with_lists};
 ghost use Rattle.unicode_bidi.specs.Analysed.{IsAnalysed, IsAnalysedBy};
 ghost use Rattle.unicode_bidi.specs.Engine.{with_analysis, found_paragraphs, found_flags, original_classes as original_classes_of, levels as stored_levels_of, paragraphs as paragraphs_of_analysis, flags as flags_of_analysis, unit_levels, own_flags, CanWrite, Follow};
@@ -74,7 +74,7 @@ struct ClassifiedText<'a, D: BidiDataSource, T: TextSource> {
     text: T,
     // One for each code unit.
     original_classes: &'a [BidiClass],
-    ghost long: { length original_classes.now ≡ text_len T.encoding.len_of (T.text text).chars },
+    ghost long: { length original_classes.now ≡ text_len (T.text text) },
 }
 
 // Writes the stored levels of one paragraph. `levels` has those of the whole text.
@@ -88,7 +88,7 @@ fn write_paragraph<D: BidiDataSource, T: TextSource>(
     requires paragraph { CanWrite (D.source text.now.data_source.now) T.encoding.len_of (T.text text.now.text).chars
         text.now.original_classes.now paragraph.now }
     requires flags { flags ≡ own_flags (D.source text.now.data_source.now) T.encoding.len_of (T.text text.now.text).chars paragraph.now }
-    requires levels { length levels.old ≡ text_len T.encoding.len_of (T.text text.now.text).chars }
+    requires levels { length levels.old ≡ text_len (T.text text.now.text) }
     ensures { OnOk result (levels.new
         ≡ take paragraph.now.range.start levels.old
         ++ (unit_levels (D.source text.now.data_source.now) T.encoding.len_of (T.text text.now.text).chars paragraph.now
@@ -120,8 +120,8 @@ fn write_paragraphs<D: BidiDataSource, T: TextSource>(
         paragraphs.now }
     requires flags { flags.now
         ≡ map (own_flags (D.source text.now.data_source.now) T.encoding.len_of (T.text text.now.text).chars) paragraphs.now }
-    requires follow { Follow 0 (text_len T.encoding.len_of (T.text text.now.text).chars) paragraphs.now }
-    requires levels { length levels.old ≡ text_len T.encoding.len_of (T.text text.now.text).chars }
+    requires follow { Follow 0 (text_len (T.text text.now.text)) paragraphs.now }
+    requires levels { length levels.old ≡ text_len (T.text text.now.text) }
     ensures { OnOk result (levels.new
         ≡ flat_map (unit_levels (D.source text.now.data_source.now) T.encoding.len_of (T.text text.now.text).chars)
         paragraphs.now) }
@@ -190,8 +190,8 @@ impl Analyser {
         levels: &mut [Level],
     ) -> Result<(), AllocError>
         requires low { IfSome base (λ level. level ≤ 125) }
-        requires class_room { length classes.old ≡ text_len T.encoding.len_of (T.text text).chars }
-        requires level_room { length levels.old ≡ text_len T.encoding.len_of (T.text text).chars }
+        requires class_room { length classes.old ≡ text_len (T.text text) }
+        requires level_room { length levels.old ≡ text_len (T.text text) }
         ensures analysis { OnOk result (IsAnalysisBy (D.source data_source.now) base rule
             (with_lists T.encoding.len_of (T.text text).chars classes.new levels.new) (ranges_of (found_paragraphs self.new))
             (levels_of (found_paragraphs self.new))) }
@@ -309,20 +309,19 @@ pub fn line_levels<T: TextSource>(
     level: Level,
     line: Range<usize>,
 ) -> Result<Vec<Level>, AllocError>
-    requires is_line { IsLine T.encoding.len_of (T.text text).chars line.start line.end }
-    requires classes { HaveClass T.encoding.len_of (T.text text).chars (original_classes_of analysis.now) }
-    requires levels { HaveLevel T.encoding.len_of (T.text text).chars (stored_levels_of analysis.now) }
+    requires is_line { IsLine (T.text text) line.start line.end }
+    requires classes { HaveClass (T.text text) (original_classes_of analysis.now) }
+    requires levels { HaveLevel (T.text text) (stored_levels_of analysis.now) }
     ensures levels { IfOk result (λ v. AreLevelsWithLine (with_analysis T.encoding.len_of (T.text text).chars analysis.now)
         level line v.items) }
 
     // The levels of the characters depend only on the classes and levels of the characters, on `level`, and on the line
     // counted in characters. So corresponding lines of two texts with the same characters have the same levels for each
     // character, and the same order.
-    ensures by_characters { let chars = (T.text text).chars in
-        IfOk result (λ v. per_char 0 T.encoding.len_of chars v.items
-        ≡ levels_with_line_of level (per_char L T.encoding.len_of chars (original_classes_of analysis.now))
-        (per_char 0 T.encoding.len_of chars (stored_levels_of analysis.now)) (char_index T.encoding.len_of chars line.start)
-        (char_index T.encoding.len_of chars line.end)) }
+    ensures by_characters { IfOk result (λ v. per_char 0 (T.text text) v.items
+        ≡ levels_with_line_of level (per_char L (T.text text) (original_classes_of analysis.now))
+        (per_char 0 (T.text text) (stored_levels_of analysis.now)) (char_index (T.text text) line.start)
+        (char_index (T.text text) line.end)) }
 {
     levels_with_line(
         alloc,

@@ -3,7 +3,8 @@
 ghost use Rattle.std.specs.Prelude.{◌≡◌, ℕ, ◌+◌, ◌-◌, ◌<◌, ◌≤◌, Bool, true, false, length, get_or, take, MatchOption, IsTrue, None};
 ghost use Rattle.bidi_base.specs.declared.char_data.BidiClass.{BidiClass};
 ghost use Rattle.bidi_base.specs.Places.{class_at};
-ghost use Rattle.bidi_base.specs.Text.{text_len, is_boundary as is_boundary_of};
+ghost use Rattle.bidi_base.specs.Text.{is_boundary as is_boundary_of};
+ghost use Rattle.bidi_base.specs.Texts.{text_len};
 ghost use Rattle.bidi_paragraphs.specs.ClassSet.{has};
 ghost use Rattle.bidi_paragraphs.specs.FirstWalk.{ahead, CanRead, CanSeek, HasEachChange, IsReadOn, IsSkimmed, HasReadSome, IsStop};
 ghost use Rattle.bidi_paragraphs.specs.declared.first_walk.unit_classes.TheConstants.{AT_ONCE};
@@ -69,9 +70,9 @@ const BLOCK: usize = 256;
 
 // The end of the block of characters that begins at an index.
 fn block_end<T: TextSource>(text: T, from: usize) -> usize
-    requires { from ≤ text_len T.encoding.len_of (T.text text).chars }
+    requires { from ≤ text_len (T.text text) }
     ensures order { from ≤ result }
-    ensures goes_on { from < text_len T.encoding.len_of (T.text text).chars → from < result }
+    ensures goes_on { from < text_len (T.text text) → from < result }
     ensures boundary { IsTrue (is_boundary_of T.encoding.len_of (T.text text).chars result) }
 {
     let len = text.len();
@@ -94,10 +95,10 @@ fn read_to_sought<D: BidiDataSource, T: TextSource>(
     classes: &mut [BidiClass],
     sought: ClassSet,
 ) -> Option<Stop>
-    requires { text_len T.encoding.len_of (T.text block).chars ≤ length classes.old }
+    requires { text_len (T.text block) ≤ length classes.old }
     ensures { (flags : ParagraphFlags) → HasEachChange sought flags → MatchOption result
         (IsSkimmed (D.source data_source.now) T.encoding.len_of (has sought) (T.text block).chars 0
-        (text_len T.encoding.len_of (T.text block).chars) classes.old classes.new flags flags)
+        (text_len (T.text block)) classes.old classes.new flags flags)
         (λ stop. IsStop (D.source data_source.now) T.encoding.len_of (has sought) (T.text block).chars 0 stop classes.old classes.new
         flags flags) }
 {
@@ -152,7 +153,7 @@ pub(super) fn read_next<D: BidiDataSource, T: TextSource>(
     classes: &mut [BidiClass],
     start: usize,
 ) -> Stop
-    requires sized { length classes.old ≡ text_len T.encoding.len_of (T.text text).chars }
+    requires sized { length classes.old ≡ text_len (T.text text) }
     requires begins { IsTrue (is_boundary_of T.encoding.len_of (T.text text).chars start) }
     requires room { start + AT_ONCE ≤ length classes.old }
     ensures { (stop_classes : BidiClass → Bool) (flags : ParagraphFlags) → IsStop (D.source data_source.now) T.encoding.len_of stop_classes

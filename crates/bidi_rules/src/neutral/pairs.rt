@@ -4,8 +4,8 @@ ghost use Rattle.std.specs.Prelude.{◌≡◌, ℕ, ◌+◌, ◌<◌, ◌≤◌,
 ghost use Rattle.bidi_base.specs.Brackets.{AreNestedPairs};
 ghost use Rattle.bidi_base.specs.Classes.{is_kept_in_place, is_l_or_r};
 ghost use Rattle.bidi_base.specs.Places.{class_at};
-ghost use Rattle.bidi_base.specs.Text.{is_boundary, place, text_len};
-ghost use Rattle.bidi_base.specs.Units.{bounds, are_ordered, kept_in_place, AreLines};
+ghost use Rattle.bidi_base.specs.Texts.{is_boundary, kept_in_place, place, text_len, AreLines};
+ghost use Rattle.bidi_base.specs.Units.{bounds, are_ordered};
 ghost use Rattle.bidi_rules.specs.NeutralPass.{IsPaired, IsReady};
 ghost use Rattle.bidi_rules.specs.PairWalk.{at_spots, opposite_of, IsAsked, IsBracket, IsBracketAfter, IsMarksEnd};
 ghost use Rattle.bidi_rules.specs.PairWalk.{IsPlace, IsRow, IsRunOf, IsSet};
@@ -48,20 +48,20 @@ pub fn resolve_pairs<T: TextSource>(
 )
     requires ready { IsReady T.encoding.len_of (T.text text).chars sequence.runs.now directions.sos classes.old }
     requires side { IsTrue (is_l_or_r directions.embedding) }
-    requires long { length classes.old ≡ text_len T.encoding.len_of (T.text text).chars }
+    requires long { length classes.old ≡ text_len (T.text text) }
     requires original { length sequence.original_classes.now ≡ length classes.old }
     requires pairs { (found : List (ℕ × ℕ))
         × AreNestedPairs
-        (length (kept_in_place T.encoding.len_of (T.text text).chars classes.old (map bounds sequence.runs.now))) found
+        (length (kept_in_place (T.text text) classes.old (map bounds sequence.runs.now))) found
         × (pairs.now
         ≡ at_spots T.encoding.len_of (T.text text).chars
-        (kept_in_place T.encoding.len_of (T.text text).chars classes.old (map bounds sequence.runs.now)) found) }
+        (kept_in_place (T.text text) classes.old (map bounds sequence.runs.now)) found) }
     ensures { (found : List (ℕ × ℕ))
         → AreNestedPairs
-        (length (kept_in_place T.encoding.len_of (T.text text).chars classes.old (map bounds sequence.entry.runs.now))) found
+        (length (kept_in_place (T.text text) classes.old (map bounds sequence.entry.runs.now))) found
         → pairs.now
         ≡ at_spots T.encoding.len_of (T.text text).chars
-        (kept_in_place T.encoding.len_of (T.text text).chars classes.old (map bounds sequence.entry.runs.now)) found
+        (kept_in_place (T.text text) classes.old (map bounds sequence.entry.runs.now)) found
         → IsPaired T.encoding.len_of (T.text text).chars sequence.entry.original_classes.now classes.old classes.new
         sequence.entry.runs.now directions.embedding directions.sos found }
 {
@@ -106,9 +106,9 @@ struct Place {
 /// Returns the place of the bracket that begins at `unit`, which is likely in the run at the index `near`.
 fn place_of<T: TextSource>(text: T, runs: &[LevelRun], near: usize, unit: usize) -> Place
     requires ordered { IsTrue (are_ordered (map bounds runs.now)) }
-    requires begins { IsTrue (is_boundary T.encoding.len_of (T.text text).chars unit) }
-    requires inside { unit < text_len T.encoding.len_of (T.text text).chars }
-    requires fits { text_len T.encoding.len_of (T.text text).chars ≤ usize.MAX }
+    requires begins { IsTrue (is_boundary (T.text text) unit) }
+    requires inside { unit < text_len (T.text text) }
+    requires fits { text_len (T.text text) ≤ usize.MAX }
     ensures unit { result.unit ≡ unit }
     ensures is { IsPlace T.encoding.len_of (T.text text).chars (map bounds runs.now) result }
 {
@@ -254,7 +254,7 @@ impl Row {
     )
         requires { IsBracketAfter T.encoding.len_of (T.text text).chars (map bounds sequence.runs.now) sequence.original_classes.now
             classes.old self.old bracket }
-        ensures set { (k : ℕ) → k < length (T.text text).chars → bracket.unit ≡ place T.encoding.len_of (T.text text).chars k
+        ensures set { (k : ℕ) → k < length (T.text text).chars → bracket.unit ≡ place (T.text text) k
             → IsSet T.encoding.len_of (T.text text).chars (map bounds sequence.entry.runs.now)
             sequence.entry.original_classes.now direction bracket.unit (k + 1) classes.old classes.new }
         ensures row { IsRow T.encoding.len_of (T.text text).chars (map bounds sequence.entry.runs.now)
@@ -284,7 +284,7 @@ fn set_direction<T: TextSource>(
 ) -> usize
     requires { IsBracket T.encoding.len_of (T.text text).chars (map bounds sequence.runs.now) sequence.original_classes.now
         classes.old bracket }
-    ensures { (k : ℕ) → k < length (T.text text).chars → bracket.unit ≡ place T.encoding.len_of (T.text text).chars k
+    ensures { (k : ℕ) → k < length (T.text text).chars → bracket.unit ≡ place (T.text text) k
         → IsSetUpTo T.encoding.len_of (T.text text).chars (map bounds sequence.entry.runs.now)
         sequence.entry.original_classes.now direction bracket.unit (k + 1) result classes.old classes.new }
 {
@@ -342,11 +342,11 @@ fn set_with_marks<T: TextSource>(
     bracket: Place,
     direction: BidiClass,
 ) -> usize
-    requires lines { AreLines T.encoding.len_of (T.text text).chars (map bounds runs.now) }
+    requires lines { AreLines (T.text text) (map bounds runs.now) }
     requires ordered { IsTrue (are_ordered (map bounds runs.now)) }
-    requires long { length classes.old ≡ text_len T.encoding.len_of (T.text text).chars }
+    requires long { length classes.old ≡ text_len (T.text text) }
     requires original { length original_classes.now ≡ length classes.old }
-    requires ends { IsTrue (is_boundary T.encoding.len_of (T.text text).chars bracket.end) }
+    requires ends { IsTrue (is_boundary (T.text text) bracket.end) }
     ensures marks { IsMarksEnd T.encoding.len_of (T.text text).chars (map bounds runs.now) original_classes.now classes.old
         bracket.end result }
     ensures written { IsWrittenOver (is_seen (map bounds runs.now) classes.old) direction bracket.unit result classes.old

@@ -5,8 +5,9 @@
 ghost use Rattle.std.specs.Prelude.{◌≡◌, ℕ, ◌+◌, ◌-◌, ◌*◌, ◌<◌, ◌≤◌, true, false, not, ◌&&◌, length, map, min, drop, find, get_or, reverse, slice_range, IsTrue};
 ghost use Rattle.bidi_base.specs.Classes.{is_strong};
 ghost use Rattle.bidi_base.specs.Places.{class_at};
-ghost use Rattle.bidi_base.specs.Text.{text_len, IsPerChar};
-ghost use Rattle.bidi_base.specs.Units.{bounds, are_ordered, units_in_runs, AreLines};
+ghost use Rattle.bidi_base.specs.Text.{text_len};
+ghost use Rattle.bidi_base.specs.Texts.{AreLines, IsPerChar};
+ghost use Rattle.bidi_base.specs.Units.{bounds, are_ordered, units_in_runs};
 ghost use Rattle.bidi_explicit.specs.ExplicitPass.{filled};
 ghost use Rattle.bidi_rules.specs.WeakPass.{is_asked, is_number, is_other, next_before, still_to_come, strengthened, waits};
 ghost use Rattle.bidi_rules.specs.WeakWalk.{is_any, is_any_of, len_at, settled_to, AreAlike, IsWalked, IsWhole};
@@ -57,8 +58,8 @@ pub fn resolve_numbers<T: TextSource, S: Ledger>(
     steps: &mut Steps<S>,
 )
     requires ordered { IsTrue (are_ordered (map bounds runs.now)) }
-    requires lines { AreLines T.encoding.len_of (T.text text).chars (map bounds runs.now) }
-    requires per_char { IsPerChar T.encoding.len_of (T.text text).chars classes.old }
+    requires lines { AreLines (T.text text) (map bounds runs.now) }
+    requires per_char { IsPerChar (T.text text) classes.old }
     ensures walked { IsWalked (len_at T.encoding.len_of (T.text text).chars) (map bounds runs.now) sos classes.old classes.new }
     ensures at_least { steps.old ≤ steps.new }
     ensures at_most { steps.new ≤ steps.old + 4 * length (units_in_runs (map bounds runs.now)) }

@@ -6,6 +6,7 @@ use Rattle.bidi_base.proofs.PerUnit.{length-per_unit}
 use Rattle.bidi_laws.proofs.StoredSteps.{length-stored_classes}
 use Rattle.bidi_explicit.specs.Joining.{JoinedRuns, characters_of}
 use Rattle.bidi_explicit.specs.RunSequence.{lent_joined}
+use Rattle.bidi_paragraphs.proofs.FilledUnits.{stored-long}
 use Rattle.bidi_paragraphs.proofs.FlatPasses.{whole, lent-whole, joined-AreLines, joined-IsNext, joined-sequences, levels-whole, whole-AreResolvedTo}
 use Rattle.bidi_paragraphs.proofs.LevelPasses.{AreLevels, AreResolvedTo, AreResolvedTo-per_char, AreResolvedTo-long, AreWeakTo-from, AreWeakTo-resolved, AreResolvedTo-more, AreLevels-all}
 use Rattle.bidi_paragraphs.proofs.SequencesInPlace.{IsNext}
@@ -59,6 +60,14 @@ pub resolve_weak_lent_counted-requires : goal.resolve_weak_lent_counted-requires
 resolve_weak_lent_counted-requires g c =
     let n = (goal.at.resolve_weak_lent_counted-requires g c).After-new-sequence in
     record { per_char = AreResolvedTo-per_char _ _ _ _ _ _ [] _ (fits g n) (begun g n); fits = lines g n }
+
+pub invariant_of-leveled : goal.invariant_of-leveled
+invariant_of-leveled g c =
+    let p = c.args.paragraph.now in
+    record {
+      class_each = stored-long _ _ (g.D.BidiDataSource.source p.data_source.now).class_of p.original_classes.now p.stored;
+      level_each = omega (arith, c.requires.long, c.fill.auto.self);
+    }
 
 pub resolve_up_to_n1-requires : goal.resolve_up_to_n1-requires
 resolve_up_to_n1-requires g c =

@@ -7,6 +7,7 @@ use Rattle.bidi_explicit.specs.Links.{begins, sequence_at, linked_runs, linked_s
 use Rattle.bidi_explicit.specs.declared.prepare.lent.LentSequence.{LentSequence}
 use Rattle.bidi_explicit.specs.declared.prepare.links.RunLinks.{RunLinks}
 use Rattle.bidi_explicit.specs.RunSequence.{lent_joined}
+use Rattle.bidi_paragraphs.proofs.FilledUnits.{stored-long}
 use Rattle.bidi_paragraphs.proofs.LevelPasses.{ArePrepared, AreResolvedTo-same, AreResolvedTo-start, AreResolvedTo-per_char, AreResolvedTo-long, AreWeakTo-from, AreWeakTo-resolved, AreResolvedTo-more, AreResolvedTo-settled, AreResolvedTo-written, kept_of_units}
 use Rattle.bidi_paragraphs.proofs.LevelPasses.{prepared, prepared-next, prepared-lines, prepared-more, prepared-same, prepared-long, prepared-low, AreLevels-from}
 use Rattle.bidi_paragraphs.proofs.SettledSequences.{lines-within, numbers-give, settled-keeps, written-kept, written-per_char, written-removed}
@@ -127,6 +128,14 @@ resolve_weak_lent_counted-requires g c =
     let hand = at_hand g at.After-lend-sequence in record {
       per_char = rw (c.settle_numbers.ensures.unchanged c.if-settle_numbers.false) (AreResolvedTo-per_char _ _ _ _ _ _ _ _ (length-map (g.T.TextSource.text c.args.paragraph.now.text).chars _) c.loop-first.invariant.resolved);
       fits = prepared-lines _ _ _ _ _ _ _ _ _ _ (ready g at.In_ok-prepare) c.loop-first.first (lent_joined c.lend-sequence.result) hand.within hand.here hand.is;
+    }
+
+pub invariant_of-leveled : goal.invariant_of-leveled
+invariant_of-leveled g c =
+    let p = c.args.paragraph.now in
+    record {
+      class_each = stored-long _ _ (g.D.BidiDataSource.source p.data_source.now).class_of p.original_classes.now p.stored;
+      level_each = omega (arith, prepared-long _ _ _ _ _ _ _ _ _ _ (ready g (goal.at.invariant_of-leveled g c).In_ok-prepare));
     }
 
 pub resolve_up_to_n1-requires : goal.resolve_up_to_n1-requires

@@ -1,5 +1,7 @@
 use Rattle.bidi_base.proofs.Common.{◌≡◌, ◌<◌, length, map, find, Some, refl, sym, ap, ◌∙◌, arith, rules, get_or_default, is_kept_in_place, direction_of, class_at, bounds, units_in_runs}
+use Rattle.bidi_base.proofs.UnitsLemmas.{length-from_is_per_char}
 use Rattle.bidi_base.specs.InPlace.{CanResolveNeutrals}
+use Rattle.bidi_text.proofs.PerCharTests.{class_eq, class_test}
 use Rattle.bidi_rules.specs.NeutralPass.{IsReady}
 use Rattle.bidi_explicit.specs.RunSequence.{lent_runs, lent_sos, lent_eos}
 use Rattle.bidi_rules.proofs.NeutralSteps.{IsReady-sequence, IsUpToN1, runs-within, first-is, first-within}
@@ -47,6 +49,12 @@ returns-in_default g c =
           (lent_runs c.lend-lent.result) (lent_sos c.lend-lent.result) (lent_eos c.lend-lent.result) c.requires.per_char (ready g (goal.at.returns-in_default g c).After-runs-runs) none);
       refused = grind arith;
     }
+
+pub invariant_of-leveled : goal.invariant_of-leveled
+invariant_of-leveled g c =
+    let e = g.T.TextSource.encoding in
+    let long = length-from_is_per_char class_eq class_test e.len_of e.positive _ _ c.requires.per_char in
+    record { class_each = c.requires.original ∙ long; level_each = c.requires.levels ∙ long }
 
 pub resolve_up_to_n1-requires : goal.resolve_up_to_n1-requires
 resolve_up_to_n1-requires g c = given g (goal.at.resolve_up_to_n1-requires g c).After-runs-runs

@@ -17,7 +17,7 @@ line g c = search (arith, line_at)
 inside : (g : Over) (c : In-loop-at g) → c.loop-at.at < text_len g.T.TextSource.encoding.len_of (g.T.TextSource.text c.args.text).chars
 inside g c = search (arith, is_boundary-le, line)
 
-begins : (g : Over) (c : In-loop-at g) → Begins g.T.TextSource.encoding.len_of g.T.TextSource.encoding.positive (g.T.TextSource.text c.args.text).chars c.loop-at.at
+begins : (g : Over) (c : In-loop-at g) → Begins (g.T.TextSource.text c.args.text) c.loop-at.at
 begins g c = search (arith, begins_at, inside)
 
 pub loop-at-init : goal.loop-at-init

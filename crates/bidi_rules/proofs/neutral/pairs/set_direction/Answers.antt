@@ -68,7 +68,7 @@ pub set_with_marks-requires-clause-ends : goal.set_with_marks-requires-clause-en
 set_with_marks-requires-clause-ends g c =
     let len_of = g.T.TextSource.encoding.len_of in
     let chars : List ℕ = (g.T.TextSource.text c.args.text).chars in
-    let b = begins_at len_of g.T.TextSource.encoding.positive chars c.args.bracket.unit c.requires.begins c.requires.inside in
+    let b = begins_at (g.T.TextSource.text c.args.text) c.args.bracket.unit c.requires.begins c.requires.inside in
     grind (arith, c.requires.place.ends b.index b.within b.there, is_boundary-place len_of chars (b.index + 1))
 
 pub returns : goal.returns

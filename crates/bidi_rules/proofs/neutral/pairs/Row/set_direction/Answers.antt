@@ -13,6 +13,6 @@ pub returns-clause-row : goal.returns-clause-row
 returns-clause-row g c =
     let len_of = g.T.TextSource.encoding.len_of in
     let chars : List ℕ = (g.T.TextSource.text c.args.text).chars in
-    let b = begins_at len_of g.T.TextSource.encoding.positive chars c.args.bracket.unit c.requires.fits.begins c.requires.fits.inside in
+    let b = begins_at (g.T.TextSource.text c.args.text) c.args.bracket.unit c.requires.fits.begins c.requires.fits.inside in
     IsRow-set len_of chars (map bounds c.args.sequence.runs.now) c.args.sequence.original_classes.now c.args.classes.now c.set_direction-end.new.classes c.args.bracket.unit b.index c.set_direction-end.result c.args.direction b.there
     (c.set_direction-end.ensures b.index b.within b.there)
