@@ -1,5 +1,5 @@
 -- What the pass counts up to an index: characters, or code units.
-use Rattle.bidi_base.proofs.Common.{◌≡◌, ℕ, ◌+◌, ◌<◌, ◌≤◌, true, List, refl, arith}
+use Rattle.bidi_base.proofs.Common.{◌≡◌, ℕ, ◌+◌, ◌<◌, ◌≤◌, true, refl, arith}
 use Rattle.bidi_base.specs.Texts.{Encoding, Text, char_index, is_boundary}
 use Rattle.bidi_explicit.proofs.CharEnds.{index-lt, index-zero}
 use Rattle.bidi_explicit.specs.Stride.{count_to, least_of}

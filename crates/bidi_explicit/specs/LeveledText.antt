@@ -1,11 +1,8 @@
 -- A text with a stored class and a level for each code unit.
-use Rattle.std.specs.Prelude.{◌≡◌, ℕ, List, OnOk, map}
-use Rattle.std.specs.declared.ops.Range.{Range}
+use Rattle.std.specs.Prelude.{◌≡◌, ℕ, List}
 use Rattle.bidi_base.specs.declared.char_data.BidiClass.{BidiClass}
 use Rattle.bidi_base.specs.declared.char_data.BidiClass.TheVariants.{L}
-use Rattle.bidi_base.specs.Sequences.{FlagsInitiators}
 use Rattle.bidi_base.specs.Texts.{Text, per_char, level_run_ranges, HaveClass, HaveLevel}
-use Rattle.bidi_base.specs.Units.{bounds}
 use Rattle.bidi_explicit.specs.declared.leveled_text.LeveledText.{LeveledText}
 
 module _ {T C I L' : Type 0} {t : _} {c : _} {i : _} {l : _} (leveled : LeveledText T C I L' t c i l) where

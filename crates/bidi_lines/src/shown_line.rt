@@ -147,8 +147,8 @@ impl<T: TextSource> ShownLine<T> {
         requires classes { HaveClass (T.text text) classes.now }
         requires levels { HaveLevel (T.text text) levels.now }
         ensures text { text_of self.new ≡ text }
-        ensures shows { OnOk result (Shows self.new (with_lists T.encoding.len_of (T.text text).chars classes.now levels.now) level line) }
-        ensures empty { OnErr result (Shows self.new (with_lists T.encoding.len_of (T.text text).chars classes.now levels.now) level
+        ensures shows { OnOk result (Shows self.new (with_lists (T.text text) classes.now levels.now) level line) }
+        ensures empty { OnErr result (Shows self.new (with_lists (T.text text) classes.now levels.now) level
             (record { start = 0; end = 0 })) }
     {
         let (start, end) = (line.start, line.end);

@@ -193,9 +193,9 @@ impl Analyser {
         requires class_room { length classes.old ≡ text_len (T.text text) }
         requires level_room { length levels.old ≡ text_len (T.text text) }
         ensures analysis { OnOk result (IsAnalysisBy (D.source data_source.now) base rule
-            (with_lists T.encoding.len_of (T.text text).chars classes.new levels.new) (ranges_of (found_paragraphs self.new))
+            (with_lists (T.text text) classes.new levels.new) (ranges_of (found_paragraphs self.new))
             (levels_of (found_paragraphs self.new))) }
-        ensures per_char { OnOk result (IsPerCharText (with_lists T.encoding.len_of (T.text text).chars classes.new levels.new)) }
+        ensures per_char { OnOk result (IsPerCharText (with_lists (T.text text) classes.new levels.new)) }
         ensures bounded { OnOk result (All (λ p. AreLevelsFrom (level_of p)
             (slice_range levels.new (range_of p).start (range_of p).end)) (found_paragraphs self.new)) }
         ensures flags { let pieces = pieces_by rule (D.source data_source.now) (T.text text).chars in
@@ -233,7 +233,7 @@ pub(crate) fn analyse_by<D: BidiDataSource, T: TextSource>(
 ) -> Result<Analysis, AllocError>
     requires { IfSome base (λ level. level ≤ 125) }
     ensures analysed { IfOk result (λ a. IsAnalysedBy (D.source data_source.now) base split
-        (with_analysis T.encoding.len_of (T.text text).chars a) (paragraphs_of_analysis a)) }
+        (with_analysis (T.text text) a) (paragraphs_of_analysis a)) }
     ensures flags { let pieces = pieces_by split (D.source data_source.now) (T.text text).chars in
         IfOk result (λ a. flags_of_analysis a ≡ paragraph_flags (D.source data_source.now) pieces) }
 {
@@ -272,7 +272,7 @@ pub fn analyse<D: BidiDataSource, T: TextSource>(
 ) -> Result<Analysis, AllocError>
     requires { IfSome base (λ level. level ≤ 125) }
     ensures { IfOk result (λ a. IsAnalysed (D.source data_source.now) base split
-        (with_analysis T.encoding.len_of (T.text text).chars a) (paragraphs_of_analysis a)) }
+        (with_analysis (T.text text) a) (paragraphs_of_analysis a)) }
 {
     let split = split.then_some(SplitRule::EachSeparator);
     analyse_by(alloc, data_source, text, base, split)
@@ -293,7 +293,7 @@ pub fn analyse_with_rule<D: BidiDataSource, T: TextSource>(
 ) -> Result<Analysis, AllocError>
     requires { IfSome base (λ level. level ≤ 125) }
     ensures { IfOk result (λ a. IsAnalysedBy (D.source data_source.now) base rule
-        (with_analysis T.encoding.len_of (T.text text).chars a) (paragraphs_of_analysis a)) }
+        (with_analysis (T.text text) a) (paragraphs_of_analysis a)) }
 {
     analyse_by(alloc, data_source, text, base, rule)
 }
@@ -312,7 +312,7 @@ pub fn line_levels<T: TextSource>(
     requires is_line { IsLine (T.text text) line.start line.end }
     requires classes { HaveClass (T.text text) (original_classes_of analysis.now) }
     requires levels { HaveLevel (T.text text) (stored_levels_of analysis.now) }
-    ensures levels { IfOk result (λ v. AreLevelsWithLine (with_analysis T.encoding.len_of (T.text text).chars analysis.now)
+    ensures levels { IfOk result (λ v. AreLevelsWithLine (with_analysis (T.text text) analysis.now)
         level line v.items) }
 
     // The levels of the characters depend only on the classes and levels of the characters, on `level`, and on the line

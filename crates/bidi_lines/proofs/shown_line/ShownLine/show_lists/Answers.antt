@@ -16,13 +16,13 @@ pub slice_bounds-show-end-2 : goal.slice_bounds-show-end-2
 slice_bounds-show-end-2 g c = grind (arith, within)
 
 -- the levels after L1
-is : (g : Over) (c : In_ok-show g) → let a = with_lists g.T.TextSource.encoding.len_of (g.T.TextSource.text c.args.text).chars c.args.classes.now c.args.levels.now in kept_levels c.show.new.self ≡ levels_of_line c.args.level a.classes a.levels c.args.line.start c.args.line.end
+is : (g : Over) (c : In_ok-show g) → let a = with_lists (g.T.TextSource.text c.args.text) c.args.classes.now c.args.levels.now in kept_levels c.show.new.self ≡ levels_of_line c.args.level a.classes a.levels c.args.line.start c.args.line.end
 is g c = grind arith
 
 pub returns-in_err-show-clause-empty : goal.returns-in_err-show-clause-empty
 returns-in_err-show-clause-empty g c =
     let s = c.clear.new.self in
-    let a = with_lists g.T.TextSource.encoding.len_of (g.T.TextSource.text c.args.text).chars c.args.classes.now c.args.levels.now in
+    let a = with_lists (g.T.TextSource.text c.args.text) c.args.classes.now c.args.levels.now in
     on_err c.from_residual.result (record {
       len_of = refl;
       chars = ap (λ t. (g.T.TextSource.text t).chars) (sym (c.clear.ensures.text));
@@ -51,7 +51,7 @@ invariant_of-self-in-Break-branch-2 g c =
 pub returns-in_err-find-clause-empty : goal.returns-in_err-find-clause-empty
 returns-in_err-find-clause-empty g c =
     let s = c.clear.new.self in
-    let a = with_lists g.T.TextSource.encoding.len_of (g.T.TextSource.text c.args.text).chars c.args.classes.now c.args.levels.now in
+    let a = with_lists (g.T.TextSource.text c.args.text) c.args.classes.now c.args.levels.now in
     on_err c.from_residual-in_err-find.result (record {
       len_of = refl;
       chars = ap (λ t. (g.T.TextSource.text t).chars) (sym (c.clear.ensures.text));
@@ -91,5 +91,5 @@ returns-clause-shows g c =
       chars = ap (λ t. (g.T.TextSource.text t).chars) (sym (c.clear.ensures.text));
       start = refl;
       end = refl;
-      levels = subst (AreLevelsOfLine (with_lists len chars c.args.classes.now c.args.levels.now) c.args.level c.args.line) (sym all) each;
+      levels = subst (AreLevelsOfLine (with_lists (g.T.TextSource.text c.args.text) c.args.classes.now c.args.levels.now) c.args.level c.args.line) (sym all) each;
     }
