@@ -10,7 +10,8 @@ ghost use Rattle.bidi_base.specs.Texts.{kept_in_place, text_len, AreLines, AreNe
 ghost use Rattle.bidi_base.specs.PairSearch.{HasRead};
 ghost use Rattle.bidi_base.specs.Units.{bounds};
 ghost use Rattle.bidi_base.specs.declared.brackets.Bracket.{Bracket};
-ghost use Rattle.bidi_rules.specs.NeutralPass.{placed_brackets, HasGatheredNothing};
+ghost use Rattle.bidi_rules.specs.NeutralPass.{HasGatheredNothing};
+ghost use Rattle.bidi_rules.specs.InText.{placed_brackets};
 ghost use Rattle.bidi_explicit.specs.RunSequence.{lent_runs, lent_sos, lent_eos, runs as runs_of, sos as sos_of, eos as eos_of};
 
 mod class_tests;
@@ -95,7 +96,7 @@ impl NeutralResolver {
     ) -> Result<(), AllocError>
         requires lines { AreLines (T.text text) (map bounds runs.now) }
         requires long { length classes.now ≡ text_len (T.text text) }
-        ensures { OnOk result (HasRead self.new.search (placed_brackets T.encoding.len_of (T.text text).chars
+        ensures { OnOk result (HasRead self.new.search (placed_brackets (T.text text)
             (D.source data_source.now) classes.now
             (kept_in_place (T.text text) classes.now (map bounds runs.now)))) }
     {
@@ -119,7 +120,7 @@ impl NeutralResolver {
         requires read { (before : List Bracket) × HasRead self.old.search before }
         ensures { (before : List Bracket) → HasRead self.old.search before
             → OnOk result (HasRead self.new.search (before
-            ++ placed_brackets T.encoding.len_of (T.text text).chars (D.source data_source.now) classes.now
+            ++ placed_brackets (T.text text) (D.source data_source.now) classes.now
             (kept_in_place (T.text text) classes.now (bounds run.now ∷ [])))) }
     {
         let end = run.end;

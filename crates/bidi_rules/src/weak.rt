@@ -9,7 +9,8 @@ ghost use Rattle.bidi_base.specs.Weak.{carried};
 ghost use Rattle.bidi_base.specs.declared.char_data.BidiClass.{BidiClass};
 ghost use Rattle.bidi_explicit.specs.RunSequence.{runs as runs_of, sos as sos_of};
 ghost use Rattle.bidi_rules.specs.WeakPass.{is_mark_or_number};
-ghost use Rattle.bidi_rules.specs.WeakWalk.{char_count_of, is_any_of, is_any_wide, len_at, part_of, unit_count_of, wide_part_of, CanResolveWeak, IsMarked, IsWalked, IsWeakResolved};
+ghost use Rattle.bidi_rules.specs.WeakWalk.{is_any_of, is_any_wide, part_of, unit_count_of, wide_part_of, IsMarked, IsWalked};
+ghost use Rattle.bidi_rules.specs.InText.{char_count_of, len_at, CanResolveWeak, IsWeakResolved};
 
 mod before;
 mod w1;
@@ -102,9 +103,9 @@ pub fn resolve_weak_lent_counted<T: TextSource, S: Ledger>(
     processing_classes: &mut [BidiClass],
     steps: &mut Steps<S>,
 )
-    requires { CanResolveWeak T.encoding.len_of (T.text text).chars sequence processing_classes.old }
-    ensures resolved { IsWeakResolved T.encoding.len_of (T.text text).chars sequence.entry processing_classes.old processing_classes.new }
-    ensures at_least { steps.old + char_count_of T.encoding.len_of (T.text text).chars sequence.entry ≤ steps.new }
+    requires { CanResolveWeak (T.text text) sequence processing_classes.old }
+    ensures resolved { IsWeakResolved (T.text text) sequence.entry processing_classes.old processing_classes.new }
+    ensures at_least { steps.old + char_count_of (T.text text) sequence.entry ≤ steps.new }
     ensures at_most { steps.new ≤ steps.old + 8 * unit_count_of sequence.entry }
 {
     let runs = sequence.runs();
@@ -126,7 +127,7 @@ fn resolve_marks_and_numbers<T: TextSource, S: Ledger>(
     requires per_char { IsPerChar (T.text text) classes.old }
     requires sos { IsTrue (is_l_or_r sos) }
     ensures walked { (marked : List BidiClass) × IsMarked (map bounds runs.now) (carried sos) classes.old marked
-        × IsWalked (len_at T.encoding.len_of (T.text text).chars) (map bounds runs.now) sos marked classes.new }
+        × IsWalked (len_at (T.text text)) (map bounds runs.now) sos marked classes.new }
     ensures at_least { steps.old ≤ steps.new }
     ensures at_most { steps.new ≤ steps.old + 6 * length (units_in_runs (map bounds runs.now)) }
 {

@@ -5,7 +5,7 @@ ghost use Rattle.bidi_base.specs.Classes.{is_kept_in_place, is_nsm};
 ghost use Rattle.bidi_base.specs.Text.{place};
 ghost use Rattle.bidi_base.specs.Texts.{is_boundary, text_len, AreLines};
 ghost use Rattle.bidi_base.specs.Units.{bounds, are_ordered};
-ghost use Rattle.bidi_rules.specs.PairWalk.{IsMarksEnd};
+ghost use Rattle.bidi_rules.specs.InText.{IsMarksEnd};
 
 use bidi_base::char_data::BidiClass::{self, NSM};
 use bidi_explicit::characters::end_of;
@@ -34,7 +34,7 @@ pub fn marks_end<T: TextSource>(
     requires long { length classes.now ≡ text_len (T.text text) }
     requires original { length original_classes.now ≡ length classes.now }
     requires begins { IsTrue (is_boundary (T.text text) from) }
-    ensures { IsMarksEnd T.encoding.len_of (T.text text).chars (map bounds runs.now) original_classes.now classes.now from result }
+    ensures { IsMarksEnd (T.text text) (map bounds runs.now) original_classes.now classes.now from result }
 {
     for run in runs {
         let mut at = run.start.max(from);

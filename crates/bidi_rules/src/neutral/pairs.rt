@@ -6,10 +6,10 @@ ghost use Rattle.bidi_base.specs.Classes.{is_kept_in_place, is_l_or_r};
 ghost use Rattle.bidi_base.specs.Places.{class_at};
 ghost use Rattle.bidi_base.specs.Texts.{is_boundary, kept_in_place, place, text_len, AreLines};
 ghost use Rattle.bidi_base.specs.Units.{bounds, are_ordered};
-ghost use Rattle.bidi_rules.specs.NeutralPass.{IsPaired, IsReady};
-ghost use Rattle.bidi_rules.specs.PairWalk.{at_spots, opposite_of, IsAsked, IsBracket, IsBracketAfter, IsMarksEnd};
-ghost use Rattle.bidi_rules.specs.PairWalk.{IsPlace, IsRow, IsRunOf, IsSet};
-ghost use Rattle.bidi_rules.specs.PairWalk.{IsSetUpTo, IsTaken, IsUnmarked};
+ghost use Rattle.bidi_rules.specs.InText.{at_spots, IsBracket, IsBracketAfter, IsMarksEnd, IsPaired, IsPlace, IsReady, IsRow, IsSet, IsSetUpTo};
+ghost use Rattle.bidi_rules.specs.PairWalk.{opposite_of, IsAsked};
+ghost use Rattle.bidi_rules.specs.PairWalk.{IsRunOf};
+ghost use Rattle.bidi_rules.specs.PairWalk.{IsTaken, IsUnmarked};
 ghost use Rattle.bidi_explicit.specs.Written.{is_seen, IsWrittenOver};
 
 use super::directions::{Directions, opposite_of};
@@ -46,7 +46,7 @@ pub fn resolve_pairs<T: TextSource>(
     pairs: &[(usize, usize)],
     classes: &mut [BidiClass],
 )
-    requires ready { IsReady T.encoding.len_of (T.text text).chars sequence.runs.now directions.sos classes.old }
+    requires ready { IsReady (T.text text) sequence.runs.now directions.sos classes.old }
     requires side { IsTrue (is_l_or_r directions.embedding) }
     requires long { length classes.old ≡ text_len (T.text text) }
     requires original { length sequence.original_classes.now ≡ length classes.old }
@@ -54,15 +54,15 @@ pub fn resolve_pairs<T: TextSource>(
         × AreNestedPairs
         (length (kept_in_place (T.text text) classes.old (map bounds sequence.runs.now))) found
         × (pairs.now
-        ≡ at_spots T.encoding.len_of (T.text text).chars
+        ≡ at_spots (T.text text)
         (kept_in_place (T.text text) classes.old (map bounds sequence.runs.now)) found) }
     ensures { (found : List (ℕ × ℕ))
         → AreNestedPairs
         (length (kept_in_place (T.text text) classes.old (map bounds sequence.entry.runs.now))) found
         → pairs.now
-        ≡ at_spots T.encoding.len_of (T.text text).chars
+        ≡ at_spots (T.text text)
         (kept_in_place (T.text text) classes.old (map bounds sequence.entry.runs.now)) found
-        → IsPaired T.encoding.len_of (T.text text).chars sequence.entry.original_classes.now classes.old classes.new
+        → IsPaired (T.text text) sequence.entry.original_classes.now classes.old classes.new
         sequence.entry.runs.now directions.embedding directions.sos found }
 {
     let StoredRuns {
@@ -110,7 +110,7 @@ fn place_of<T: TextSource>(text: T, runs: &[LevelRun], near: usize, unit: usize)
     requires inside { unit < text_len (T.text text) }
     requires fits { text_len (T.text text) ≤ usize.MAX }
     ensures unit { result.unit ≡ unit }
-    ensures is { IsPlace T.encoding.len_of (T.text text).chars (map bounds runs.now) result }
+    ensures is { IsPlace (T.text text) (map bounds runs.now) result }
 {
     Place {
         unit,
@@ -252,12 +252,12 @@ impl Row {
         bracket: Place,
         direction: BidiClass,
     )
-        requires { IsBracketAfter T.encoding.len_of (T.text text).chars (map bounds sequence.runs.now) sequence.original_classes.now
+        requires { IsBracketAfter (T.text text) (map bounds sequence.runs.now) sequence.original_classes.now
             classes.old self.old bracket }
         ensures set { (k : ℕ) → k < length (T.text text).chars → bracket.unit ≡ place (T.text text) k
-            → IsSet T.encoding.len_of (T.text text).chars (map bounds sequence.entry.runs.now)
+            → IsSet (T.text text) (map bounds sequence.entry.runs.now)
             sequence.entry.original_classes.now direction bracket.unit (k + 1) classes.old classes.new }
-        ensures row { IsRow T.encoding.len_of (T.text text).chars (map bounds sequence.entry.runs.now)
+        ensures row { IsRow (T.text text) (map bounds sequence.entry.runs.now)
             sequence.entry.original_classes.now classes.new self.new }
     {
         if self.from <= bracket.unit && bracket.unit < self.end && self.direction == direction {
@@ -282,10 +282,10 @@ fn set_direction<T: TextSource>(
     bracket: Place,
     direction: BidiClass,
 ) -> usize
-    requires { IsBracket T.encoding.len_of (T.text text).chars (map bounds sequence.runs.now) sequence.original_classes.now
+    requires { IsBracket (T.text text) (map bounds sequence.runs.now) sequence.original_classes.now
         classes.old bracket }
     ensures { (k : ℕ) → k < length (T.text text).chars → bracket.unit ≡ place (T.text text) k
-        → IsSetUpTo T.encoding.len_of (T.text text).chars (map bounds sequence.entry.runs.now)
+        → IsSetUpTo (T.text text) (map bounds sequence.entry.runs.now)
         sequence.entry.original_classes.now direction bracket.unit (k + 1) result classes.old classes.new }
 {
     let StoredRuns {
@@ -347,7 +347,7 @@ fn set_with_marks<T: TextSource>(
     requires long { length classes.old ≡ text_len (T.text text) }
     requires original { length original_classes.now ≡ length classes.old }
     requires ends { IsTrue (is_boundary (T.text text) bracket.end) }
-    ensures marks { IsMarksEnd T.encoding.len_of (T.text text).chars (map bounds runs.now) original_classes.now classes.old
+    ensures marks { IsMarksEnd (T.text text) (map bounds runs.now) original_classes.now classes.old
         bracket.end result }
     ensures written { IsWrittenOver (is_seen (map bounds runs.now) classes.old) direction bracket.unit result classes.old
         classes.new }
