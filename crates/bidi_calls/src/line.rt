@@ -12,7 +12,7 @@ ghost use Rattle.bidi_calls.specs.Kept.{written, written_if_room, WritesList};
 ghost use Rattle.bidi_calls.specs.Lines.{lies_in, IsSound, IsAsLongAs, own_classes, own_levels, line_fault, levels_fault, runs_fault, order_fault, shown_levels};
 ghost use Rattle.bidi_numbers.specs.Numbers.{class_numbered, is_class, is_level};
 ghost use Rattle.bidi_calls.specs.Shown.{is_even, order_of_line, map_fault};
-ghost use Rattle.bidi_lines.specs.Written.{shown_units};
+ghost use Rattle.bidi_lines.specs.InText.{shown_units};
 ghost use Rattle.bidi_numbers.specs.Rows.{run_row};
 
 use crate::checked::write_levels;
@@ -123,7 +123,7 @@ pub fn write_text<T: LineText>(
     requires even { is_even T.encoding.len_of (T.text text).chars line.now ≡ true }
     requires units { IsAsLongAs T.encoding.len_of (T.text text).chars line.now }
     requires room { length out.old ≡ text_len (T.text text) }
-    ensures text { OnOk result (out.new ≡ shown_units T.encoding.len_of T.encode (T.text text).chars (T.units_of text) 0 (shown_levels line.now)) }
+    ensures text { OnOk result (out.new ≡ shown_units (T.text text) T.encode (T.units_of text) 0 (shown_levels line.now)) }
     ensures kept { OnErr result (out.new ≡ out.old) }
 {
     let units = 0..out.len();

@@ -13,7 +13,7 @@ ghost use Rattle.bidi_calls.specs.Shown.{is_even, chars_at};
 ghost use Rattle.bidi_numbers.specs.Faults.{FaultsAs, has_room_or_none};
 ghost use Rattle.bidi_numbers.specs.Rows.{run_row};
 ghost use Rattle.bidi_lines.specs.ShownLevels.{levels as levels_of};
-ghost use Rattle.bidi_lines.specs.Written.{run_units, shown_units};
+ghost use Rattle.bidi_lines.specs.InText.{run_units, shown_units};
 
 use crate::buffers::LineBuffers;
 use crate::char_order::{COUNTED_RUNS, write_char_order};
@@ -47,7 +47,7 @@ fn put_text<T: LineText>(text: T, levels: &[Level], runs: &[Range<usize>], out: 
     requires boundaries { AreLines T.encoding.len_of (T.text text).chars runs.now }
     ensures { out.new
         ≡ written_if_room
-        (flat_map (run_units T.encoding.len_of T.encode (T.text text).chars (T.units_of text) 0 levels.now) (map run_of runs.now))
+        (flat_map (run_units (T.text text) T.encode (T.units_of text) 0 levels.now) (map run_of runs.now))
         out.old }
 {
     if !out.is_empty() {
@@ -155,10 +155,10 @@ pub fn show_text<T: CountedText>(
     requires one_a_unit { length (T.units_of text) ≡ text_len (T.text text) }
     requires encoded { (c : ℕ) → length (T.encode c) ≡ T.encoding.len_of c }
     ensures fault { let shown = line_shown T.encoding.len_of (T.text text).chars line.now
-        (shown_units T.encoding.len_of T.encode (T.text text).chars (T.units_of text) 0 (shown_levels line.now)) in
+        (shown_units (T.text text) T.encode (T.units_of text) 0 (shown_levels line.now)) in
         FaultsAs result (room_fault shown out.old) }
     ensures writes { let shown = line_shown T.encoding.len_of (T.text text).chars line.now
-        (shown_units T.encoding.len_of T.encode (T.text text).chars (T.units_of text) 0 (shown_levels line.now)) in
+        (shown_units (T.text text) T.encode (T.units_of text) 0 (shown_levels line.now)) in
         WritesLine shown result out.old out.new }
 {
     let mut shown = line.shown(alloc)?;

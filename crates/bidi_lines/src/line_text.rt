@@ -5,7 +5,8 @@ ghost use Rattle.bidi_base.specs.Display.{run_of};
 ghost use Rattle.bidi_base.specs.Texts.{subrange, IsLine};
 ghost use Rattle.bidi_base.specs.Line.{line_levels};
 ghost use Rattle.bidi_lines.specs.Runs.{StartsInLine};
-ghost use Rattle.bidi_lines.specs.Written.{run_units, shown_units, line_units, AreRunsOfChars};
+ghost use Rattle.bidi_lines.specs.InText.{run_units, shown_units, AreRunsOfChars};
+ghost use Rattle.bidi_lines.specs.Written.{line_units};
 
 use crate::analysed::Analysed;
 use crate::line_levels::line_has_rtl;
@@ -65,7 +66,7 @@ pub fn write_runs<T: LineText>(
     requires within { All (StartsInLine start levels.now) runs.now }
     requires boundaries { All (λ r. IsLine (T.text text) r.start r.end) runs.now }
     requires whole { sum_by (λ r. r.end - r.start) runs.now ≡ length levels.now }
-    ensures { out.new ≡ flat_map (run_units T.encoding.len_of T.encode (T.text text).chars (T.units_of text) start levels.now) (map run_of runs.now) }
+    ensures { out.new ≡ flat_map (run_units (T.text text) T.encode (T.units_of text) start levels.now) (map run_of runs.now) }
 {
     let mut at = 0;
     for run in runs {
@@ -92,8 +93,8 @@ fn write_shown<T: LineText>(
     requires is_line { IsLine (T.text text) line.start line.end }
     requires levels { length levels.now + line.start ≡ line.end }
     requires room { length out.old ≡ length levels.now }
-    requires runs { AreRunsOfChars T.encoding.len_of (T.text text).chars line.start levels.now }
-    ensures text { OnOk result (out.new ≡ shown_units T.encoding.len_of T.encode (T.text text).chars (T.units_of text) line.start levels.now) }
+    requires runs { AreRunsOfChars (T.text text) line.start levels.now }
+    ensures text { OnOk result (out.new ≡ shown_units (T.text text) T.encode (T.units_of text) line.start levels.now) }
     ensures kept { OnErr result (out.new ≡ out.old) }
 {
     let start = line.start;
@@ -138,9 +139,9 @@ pub fn write_line<T: LineText, C: ClassList, L: LevelList>(
     requires levels { length (L.numbers stored.now.levels) + line.start ≡ line.end }
     requires classes { length (C.classes stored.now.classes) ≡ length (L.numbers stored.now.levels) }
     requires room { length out.old ≡ length (L.numbers stored.now.levels) }
-    requires runs { AreRunsOfChars T.encoding.len_of (T.text text).chars line.start
+    requires runs { AreRunsOfChars (T.text text) line.start
         (line_levels stored.now.level (C.classes stored.now.classes) (L.numbers stored.now.levels)) }
-    ensures text { OnOk result (out.new ≡ shown_units T.encoding.len_of T.encode (T.text text).chars (T.units_of text) line.start
+    ensures text { OnOk result (out.new ≡ shown_units (T.text text) T.encode (T.units_of text) line.start
         (line_levels stored.now.level (C.classes stored.now.classes) (L.numbers stored.now.levels))) }
     ensures kept { OnErr result (out.new ≡ out.old) }
 {

@@ -8,7 +8,7 @@ ghost use Rattle.bidi_base.specs.Order.{visual_order};
 ghost use Rattle.bidi_base.specs.Texts.{per_char, text_len, HaveClass, HaveLevel, IsLine};
 ghost use Rattle.bidi_lines.specs.LineRuns.{runs as kept_runs};
 ghost use Rattle.bidi_lines.specs.ShownLevels.{levels as kept_levels};
-ghost use Rattle.bidi_lines.specs.Written.{shown_units, AreRunsOfChars};
+ghost use Rattle.bidi_lines.specs.InText.{shown_units, AreRunsOfChars};
 
 use crate::analysed::Analysed;
 use crate::line_levels::write_first_units;
@@ -71,7 +71,7 @@ pub struct ShownLine<T: TextSource> {
     ghost is_line: { IsLine (T.text text) start end },
     ghost one_a_unit: { end - start ≤ length (kept_levels levels) },
     ghost runs_of_levels: { kept_runs runs ≡ visual_runs start (take (end - start) (kept_levels levels)) },
-    ghost runs_of_chars: { AreRunsOfChars T.encoding.len_of (T.text text).chars start (take (end - start) (kept_levels levels)) },
+    ghost runs_of_chars: { AreRunsOfChars (T.text text) start (take (end - start) (kept_levels levels)) },
     ghost of_levels: { has_rtl ≡ has_rtl_of (take (end - start) (kept_levels levels)) },
 }
 
@@ -218,7 +218,7 @@ impl<T: LineText> ShownLine<T> {
     // Writes the line's code units from left to right.
     fn write_units(&self, out: &mut [T::Unit])
         requires { length out.old ≡ length (levels_of self.now) }
-        ensures { out.new ≡ shown_units T.encoding.len_of T.encode (T.text (text_of self.now)).chars (T.units_of (text_of self.now))
+        ensures { out.new ≡ shown_units (T.text (text_of self.now)) T.encode (T.units_of (text_of self.now))
             self.now.start (levels_of self.now) }
     {
         if self.has_rtl {
@@ -232,7 +232,7 @@ impl<T: LineText> ShownLine<T> {
     // Appends the line's code units from left to right. `blank` may be any code unit.
     fn push_units(&self, out: &mut Vec<T::Unit>, blank: T::Unit) -> Result<(), AllocError>
         ensures text { OnOk result (out.new.items ≡ out.old.items
-            ++ shown_units T.encoding.len_of T.encode (T.text (text_of self.now)).chars (T.units_of (text_of self.now))
+            ++ shown_units (T.text (text_of self.now)) T.encode (T.units_of (text_of self.now))
             self.now.start (levels_of self.now)) }
         ensures unchanged { OnErr result (out.new.items ≡ out.old.items) }
     {

@@ -4,10 +4,10 @@ ghost use Rattle.std.specs.Prelude.{◌≡◌, ℕ, ◌<◌, ◌≤◌, true, fa
 ghost use Rattle.bidi_base.specs.declared.char_data.BidiClass.{BidiClass};
 ghost use Rattle.bidi_base.specs.Paragraphs.{begins_with_line_feed, ranges_from};
 ghost use Rattle.bidi_base.specs.Stored.{text_classes, paragraph_levels};
-ghost use Rattle.bidi_base.specs.Text.{place as place_of};
-ghost use Rattle.bidi_base.specs.Texts.{text_len, per_unit};
+ghost use Rattle.bidi_base.specs.Texts.{place as place_of, per_unit, text_len};
 ghost use Rattle.bidi_paragraphs.specs.ClassSet.{has};
-ghost use Rattle.bidi_paragraphs.specs.FirstWalk.{classes_after, stops_at, waiting, with_flags, AreWithin, CanRead, IsClosed, IsFresh, IsReadBy, IsReadOn, HasReadSome, StopsCounting};
+ghost use Rattle.bidi_paragraphs.specs.FirstWalk.{classes_after, stops_at, waiting, with_flags, AreWithin, IsClosed, IsFresh, IsReadBy, StopsCounting};
+ghost use Rattle.bidi_paragraphs.specs.InText.{CanRead, IsReadOn, HasReadSome};
 ghost use Rattle.bidi_paragraphs.specs.declared.first_walk.paragraph_state.ParagraphState.{ParagraphState};
 ghost use Rattle.bidi_paragraphs.specs.ParagraphInfo.{ranges_of, levels_of};
 ghost use Rattle.bidi_paragraphs.specs.ParagraphFlags.{paragraph_flags};
@@ -156,8 +156,8 @@ fn read_some<D: BidiDataSource, T: TextSource>(
     progress: &mut Progress,
     stop_classes: ClassSet,
 ) -> Option<Stop>
-    requires { CanRead T.encoding.len_of (T.text text).chars progress.old.at classes.old }
-    ensures { HasReadSome (D.source data_source.now) T.encoding.len_of (T.text text).chars (has stop_classes) progress.old result
+    requires { CanRead (T.text text) progress.old.at classes.old }
+    ensures { HasReadSome (T.text text) (D.source data_source.now) (has stop_classes) progress.old result
         progress.new classes.old classes.new }
 {
     if let Some(stop) = skim(data_source, text, classes, progress, stop_classes) {
@@ -175,8 +175,8 @@ fn seek_stop<D: BidiDataSource, T: TextSource>(
     progress: &mut Progress,
     stop_classes: ClassSet,
 ) -> Option<Stop>
-    requires { CanRead T.encoding.len_of (T.text text).chars progress.old.at classes.old }
-    ensures stop { IsReadOn (D.source data_source.now) T.encoding.len_of (T.text text).chars (has stop_classes) progress.old
+    requires { CanRead (T.text text) progress.old.at classes.old }
+    ensures stop { IsReadOn (T.text text) (D.source data_source.now) (has stop_classes) progress.old
         result progress.new classes.old classes.new }
     ensures end { result ≡ None → progress.new.at ≡ text_len (T.text text) }
 {
@@ -207,8 +207,8 @@ fn next_stop<D: BidiDataSource, T: TextSource>(
     state: &mut ParagraphState,
     near: bool,
 ) -> Option<Stop>
-    requires { CanRead T.encoding.len_of (T.text text).chars from classes.old }
-    ensures stop { IsReadOn (D.source data_source.now) T.encoding.len_of (T.text text).chars (stops_at state.old)
+    requires { CanRead (T.text text) from classes.old }
+    ensures stop { IsReadOn (T.text text) (D.source data_source.now) (stops_at state.old)
         (record { at = from; flags = state.old.flags }) result
         (record { at = text_len (T.text text); flags = state.new.flags }) classes.old classes.new }
     ensures kept { state.new ≡ with_flags state.old state.new.flags }
@@ -249,7 +249,7 @@ fn goes_on_with_line_feed<D: BidiDataSource, T: TextSource>(
     text: T,
     place: usize,
 ) -> bool
-    ensures { (n : ℕ) → place ≡ place_of T.encoding.len_of (T.text text).chars n
+    ensures { (n : ℕ) → place ≡ place_of (T.text text) n
         → result ≡ begins_with_line_feed (D.source data_source.now) (drop n (T.text text).chars) }
 {
     match text.char_at(place) {
@@ -268,7 +268,7 @@ fn ends_paragraph<D: BidiDataSource, T: TextSource>(
     end: usize,
 ) -> bool
     requires { class ≡ (D.source data_source.now).class_of c }
-    ensures { (n : ℕ) → end ≡ place_of T.encoding.len_of (T.text text).chars n
+    ensures { (n : ℕ) → end ≡ place_of (T.text text) n
         → result ≡ ends_after split (D.source data_source.now) c (drop n (T.text text).chars) }
 {
     match split {

@@ -9,7 +9,8 @@ ghost use Rattle.bidi_base.specs.Isolates.{stored_classes};
 ghost use Rattle.bidi_base.specs.Sequences.{is_kept_at, sequences};
 ghost use Rattle.bidi_base.specs.Stored.{levels_in};
 ghost use Rattle.bidi_base.specs.Texts.{per_char, per_unit, text_len, AreLines};
-ghost use Rattle.bidi_explicit.specs.Links.{linked_runs, linked_sequences, sequences_of, AreLinked};
+ghost use Rattle.bidi_explicit.specs.InText.{sequences_of};
+ghost use Rattle.bidi_explicit.specs.Links.{linked_runs, linked_sequences, AreLinked};
 ghost use Rattle.bidi_paragraphs.specs.Written.{IsWritten};
 ghost use Rattle.bidi_paragraphs.specs.ParagraphFlags.{flags_of};
 
@@ -103,7 +104,7 @@ impl LevelResolver {
             (processing_classes paragraph.now.level stored)) }
         ensures sequences { let stored = per_char L (T.text paragraph.now.text)
             paragraph.now.original_classes.now in
-            OnOk result (sequences_of T.encoding.len_of (T.text paragraph.now.text).chars stored
+            OnOk result (sequences_of (T.text paragraph.now.text) stored
             (linked_sequences self.new.links (linked_runs self.new.links self.new.runs.items))
             ≡ sequences paragraph.now.level stored (explicit_levels paragraph.now.level stored)) }
         ensures fits { OnOk result (All (λ s. AreLines (T.text paragraph.now.text) s.runs)
