@@ -17,4 +17,5 @@ pub mod PlacesLemmas
 pub mod SearchLanes
 pub mod TableLemmas
 pub mod TextLemmas
+pub mod TextPlaces
 pub mod UnitsLemmas

@@ -35,6 +35,7 @@ pub mod StatusMachine
 pub mod Stored
 pub mod Table
 pub mod Text
+pub mod Texts
 pub mod Units
 pub mod Utf16
 pub mod Weak

@@ -3,7 +3,8 @@ ghost use Rattle.std.specs.Prelude.{◌≡◌, ◌+◌, ◌≤◌, if◌then◌e
 ghost use Rattle.bidi_base.specs.Display.{run_of, visual_runs};
 ghost use Rattle.bidi_base.specs.Order.{visual_order};
 ghost use Rattle.bidi_base.specs.Places.{between};
-ghost use Rattle.bidi_base.specs.Text.{text_len, char_index, is_boundary, subrange, per_char, IsLine, IsPerChar};
+ghost use Rattle.bidi_base.specs.Text.{text_len};
+ghost use Rattle.bidi_base.specs.Texts.{char_index, is_boundary, per_char, subrange, IsLine, IsPerChar};
 ghost use Rattle.bidi_calls.specs.Everything.{AreCharsIf};
 
 use crate::counted::CountedText;
@@ -48,9 +49,9 @@ fn write_indexes(first: usize, is_rtl: bool, out: &mut [usize])
 
 // Returns how many characters a range of units has. If each unit of the text is a character, this does not count.
 fn count_in<T: CountedText>(text: T, units: Range<usize>, are_chars: bool) -> usize
-    requires is_line { IsLine T.units (T.characters text) units.start units.end }
-    requires are_chars { AreCharsIf are_chars T.units (T.characters text) }
-    ensures { result ≡ length (subrange T.units (T.characters text) units.start units.end) }
+    requires is_line { IsLine (T.text text) units.start units.end }
+    requires are_chars { AreCharsIf are_chars T.encoding.len_of (T.text text).chars }
+    ensures { result ≡ length (subrange (T.text text) units.start units.end).chars }
 {
     if are_chars {
         return units.end - units.start;
@@ -66,11 +67,11 @@ fn index_at<T: CountedText>(
     before: usize,
     are_chars: bool,
 ) -> usize
-    requires at { IsTrue (is_boundary T.units (T.characters text) at) }
-    requires near { IsTrue (is_boundary T.units (T.characters text) near) }
-    requires before { before ≡ char_index T.units (T.characters text) near }
-    requires are_chars { AreCharsIf are_chars T.units (T.characters text) }
-    ensures { result ≡ char_index T.units (T.characters text) at }
+    requires at { IsTrue (is_boundary (T.text text) at) }
+    requires near { IsTrue (is_boundary (T.text text) near) }
+    requires before { before ≡ char_index (T.text text) near }
+    requires are_chars { AreCharsIf are_chars T.encoding.len_of (T.text text).chars }
+    ensures { result ≡ char_index (T.text text) at }
 {
     if near <= at {
         before + count_in(text, near..at, are_chars)
@@ -89,13 +90,13 @@ fn first_index<T: CountedText>(
     indexes: &Range<usize>,
     are_chars: bool,
 ) -> usize
-    requires is_line { IsLine T.units (T.characters text) run.now.start run.now.end }
-    requires count { count ≡ length (subrange T.units (T.characters text) run.now.start run.now.end) }
-    requires left { IsTrue (is_boundary T.units (T.characters text) left.now.end) }
-    requires begins { indexes.now.start ≡ char_index T.units (T.characters text) left.now.start }
-    requires ends { indexes.now.end ≡ char_index T.units (T.characters text) left.now.end }
-    requires are_chars { AreCharsIf are_chars T.units (T.characters text) }
-    ensures { result ≡ char_index T.units (T.characters text) run.now.start }
+    requires is_line { IsLine (T.text text) run.now.start run.now.end }
+    requires count { count ≡ length (subrange (T.text text) run.now.start run.now.end).chars }
+    requires left { IsTrue (is_boundary (T.text text) left.now.end) }
+    requires begins { indexes.now.start ≡ char_index (T.text text) left.now.start }
+    requires ends { indexes.now.end ≡ char_index (T.text text) left.now.end }
+    requires are_chars { AreCharsIf are_chars T.encoding.len_of (T.text text).chars }
+    ensures { result ≡ char_index (T.text text) run.now.start }
 {
     if run.end == left.start {
         return indexes.start - count;
@@ -114,10 +115,10 @@ pub fn write_char_order<T: CountedText>(
     runs: &[Range<usize>],
     out: &mut [usize],
 )
-    requires even { IsPerChar T.units (T.characters text) levels.now }
+    requires even { IsPerChar (T.text text) levels.now }
     requires runs { map run_of runs.now ≡ visual_runs 0 levels.now }
-    requires room { length out.old ≡ length (T.characters text) }
-    ensures { out.new ≡ visual_order (per_char 0 T.units (T.characters text) levels.now) }
+    requires room { length out.old ≡ length (T.text text).chars }
+    ensures { out.new ≡ visual_order (per_char 0 (T.text text) levels.now) }
 {
     let are_chars = out.len() == levels.len();
     let mut left = 0..0;

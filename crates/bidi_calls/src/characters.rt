@@ -9,7 +9,7 @@ ghost use Rattle.std.specs.Option.{option_or};
 ghost use Rattle.std.specs.Result.{result_err};
 ghost use Rattle.std.specs.Str.{chars};
 ghost use Rattle.bidi_base.specs.Source.{Source};
-ghost use Rattle.bidi_base.specs.Text.{text_len};
+ghost use Rattle.bidi_base.specs.Texts.{text_len};
 ghost use Rattle.bidi_base.specs.Utf16.{utf16_text, utf16_len};
 ghost use Rattle.bidi_calls.specs.Characters.{bracket_number, class_number_in, bracket_number_in, if_scalar, numbers_of, numbered_source};
 ghost use Rattle.bidi_calls.specs.Kept.{WritesList};
@@ -132,8 +132,8 @@ fn write_each<D: BidiDataSource, T: TextSource, N: Numbering>(
     numbering: N,
     out: &mut [N::Number],
 )
-    requires { length out.old ≡ text_len T.units (T.characters text) }
-    ensures { out.new ≡ numbers_of (N.number (D.source data_source.now)) T.units (T.characters text) }
+    requires { length out.old ≡ text_len (T.text text) }
+    ensures { out.new ≡ numbers_of (N.number (D.source data_source.now)) T.encoding.len_of (T.text text).chars }
 {
     let mut at = 0;
     for c in text.chars() {
@@ -151,8 +151,8 @@ fn write_numbers<D: BidiDataSource, T: TextSource, N: Numbering>(
     out: &mut [N::Number],
 ) -> Result<usize, Fault>
     ensures fault { result_err result
-        ≡ fault_unless (nat_le (text_len T.units (T.characters text)) (length out.old)) Fault.NoRoom }
-    ensures writes { WritesList (numbers_of (N.number (D.source data_source.now)) T.units (T.characters text))
+        ≡ fault_unless (nat_le (text_len (T.text text)) (length out.old)) Fault.NoRoom }
+    ensures writes { WritesList (numbers_of (N.number (D.source data_source.now)) T.encoding.len_of (T.text text).chars)
         result out.old out.new }
 {
     let len = text.len();

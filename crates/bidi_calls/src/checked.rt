@@ -1,7 +1,7 @@
 //! The calls over a whole text in any encoding. They test every condition.
 ghost use Rattle.std.specs.Prelude.{◌≡◌, ◌<◌, ◌≤◌, ◌&&◌, nat_le, length, map, slice_index, IsTrue, OnOk, OnErr, IfOk, IfSome};
 ghost use Rattle.bidi_base.specs.Classes.{class_number};
-ghost use Rattle.bidi_base.specs.Text.{text_len};
+ghost use Rattle.bidi_base.specs.Texts.{text_len};
 ghost use Rattle.std.specs.Result.{result_err};
 ghost use Rattle.bidi_numbers.specs.Faults.{FaultsAs, fault_unless, has_room_or_none};
 ghost use Rattle.bidi_calls.specs.Kept.{written, written_if_room, HasRoomOrNone, analysis_of, analysis_by, analysis_fault, paragraphs_fault, WritesAnalysis};
@@ -125,15 +125,15 @@ fn write_analysis<D: BidiDataSource, T: TextSource>(
     out: &mut AnalysisBuffers<'_>,
 ) -> Result<usize, Fault>
     requires low { IfSome asked.now.base (λ level. level ≤ 125) }
-    requires own_classes { length own_classes.old ≡ text_len T.units (T.characters asked.now.text) }
-    requires own_levels { length own_levels.old ≡ text_len T.units (T.characters asked.now.text) }
-    requires class_room { text_len T.units (T.characters asked.now.text) ≤ length out.old.classes.now }
-    requires level_room { text_len T.units (T.characters asked.now.text) ≤ length out.old.levels.now }
-    ensures fault { let found = analysis_of (D.source asked.now.data_source.now) asked.now.base asked.now.split T.units
-        (T.characters asked.now.text) in
+    requires own_classes { length own_classes.old ≡ text_len (T.text asked.now.text) }
+    requires own_levels { length own_levels.old ≡ text_len (T.text asked.now.text) }
+    requires class_room { text_len (T.text asked.now.text) ≤ length out.old.classes.now }
+    requires level_room { text_len (T.text asked.now.text) ≤ length out.old.levels.now }
+    ensures fault { let found = analysis_of (D.source asked.now.data_source.now) asked.now.base asked.now.split T.encoding.len_of
+        (T.text asked.now.text).chars in
         FaultsAs result (paragraphs_fault found out.old) }
-    ensures writes { let found = analysis_of (D.source asked.now.data_source.now) asked.now.base asked.now.split T.units
-        (T.characters asked.now.text) in
+    ensures writes { let found = analysis_of (D.source asked.now.data_source.now) asked.now.base asked.now.split T.encoding.len_of
+        (T.text asked.now.text).chars in
         WritesAnalysis found result out.old out.new }
 {
     let mut analyser = Analyser::new(alloc);
@@ -165,9 +165,9 @@ pub fn analyse<D: BidiDataSource, T: TextSource>(
     settings: Settings,
     out: &mut AnalysisBuffers<'_>,
 ) -> Result<usize, Fault>
-    ensures fault { let found = analysis_by (D.source data_source.now) settings T.units (T.characters text) in
-        FaultsAs result (analysis_fault settings (text_len T.units (T.characters text)) found out.old) }
-    ensures writes { WritesAnalysis (analysis_by (D.source data_source.now) settings T.units (T.characters text))
+    ensures fault { let found = analysis_by (D.source data_source.now) settings T.encoding.len_of (T.text text).chars in
+        FaultsAs result (analysis_fault settings (text_len (T.text text)) found out.old) }
+    ensures writes { WritesAnalysis (analysis_by (D.source data_source.now) settings T.encoding.len_of (T.text text).chars)
         result out.old out.new }
 {
     let base = base_level(settings.base)?;
@@ -223,7 +223,7 @@ pub fn base_direction<D: BidiDataSource, T: TextSource>(
     text: T,
     full: bool,
 ) -> usize
-    ensures { result ≡ direction_in (D.source data_source.now) full (T.characters text) }
+    ensures { result ≡ direction_in (D.source data_source.now) full (T.text text).chars }
 {
     if full {
         number_of_direction(get_base_direction_full_with_data_source(data_source, text))

@@ -4,14 +4,15 @@ ghost use Rattle.std.specs.List.{list_all};
 ghost use Rattle.std.specs.Result.{result_err};
 ghost use Rattle.bidi_base.specs.Display.{run_of, visual_runs};
 ghost use Rattle.bidi_base.specs.Order.{visual_order as visual_order_of};
-ghost use Rattle.bidi_base.specs.Text.{text_len, place, per_char};
+ghost use Rattle.bidi_base.specs.Text.{place, per_char};
+ghost use Rattle.bidi_base.specs.Texts.{text_len};
 ghost use Rattle.bidi_lines.specs.ShownLevels.{levels as levels_of};
 ghost use Rattle.bidi_numbers.specs.Faults.{FaultsAs, fault_unless, has_room_or_none};
 ghost use Rattle.bidi_calls.specs.Kept.{written, written_if_room, WritesList};
 ghost use Rattle.bidi_calls.specs.Lines.{lies_in, IsSound, IsAsLongAs, own_classes, own_levels, line_fault, levels_fault, runs_fault, order_fault, shown_levels};
 ghost use Rattle.bidi_numbers.specs.Numbers.{class_numbered, is_class, is_level};
 ghost use Rattle.bidi_calls.specs.Shown.{is_even, order_of_line, map_fault};
-ghost use Rattle.bidi_lines.specs.Written.{shown_units};
+ghost use Rattle.bidi_lines.specs.InText.{shown_units};
 ghost use Rattle.bidi_numbers.specs.Rows.{run_row};
 
 use crate::checked::write_levels;
@@ -119,10 +120,10 @@ pub fn write_text<T: LineText>(
     out: &mut [T::Unit],
 ) -> Result<(), AllocError>
     requires sound { IsSound line.now }
-    requires even { is_even T.units (T.characters text) line.now ≡ true }
-    requires units { IsAsLongAs T.units (T.characters text) line.now }
-    requires room { length out.old ≡ text_len T.units (T.characters text) }
-    ensures text { OnOk result (out.new ≡ shown_units T.units T.encode (T.characters text) (T.units_of text) 0 (shown_levels line.now)) }
+    requires even { is_even T.encoding.len_of (T.text text).chars line.now ≡ true }
+    requires units { IsAsLongAs T.encoding.len_of (T.text text).chars line.now }
+    requires room { length out.old ≡ text_len (T.text text) }
+    ensures text { OnOk result (out.new ≡ shown_units (T.text text) T.encode (T.units_of text) 0 (shown_levels line.now)) }
     ensures kept { OnErr result (out.new ≡ out.old) }
 {
     let units = 0..out.len();
@@ -184,9 +185,9 @@ pub fn map_characters<T: TextSource>(
     out: &mut [usize],
 ) -> Result<usize, Fault>
     requires sound { IsSound line.now }
-    requires units { IsAsLongAs T.units (T.characters text) line.now }
-    ensures fault { FaultsAs result (map_fault T.units (T.characters text) line.now (length out.old)) }
-    ensures writes { WritesList (order_of_line T.units (T.characters text) line.now) result out.old out.new }
+    requires units { IsAsLongAs T.encoding.len_of (T.text text).chars line.now }
+    ensures fault { FaultsAs result (map_fault T.encoding.len_of (T.text text).chars line.now (length out.old)) }
+    ensures writes { WritesList (order_of_line T.encoding.len_of (T.text text).chars line.now) result out.old out.new }
 {
     let mut shown = line.shown(alloc)?;
     shown.keep_first_units(text);

@@ -4,7 +4,8 @@ ghost use Rattle.std.specs.Prelude.{◌≡◌, ℕ, ◌+◌, ◌-◌, ◌<◌, �
 ghost use Rattle.bidi_base.specs.Display.{run_of, visual_runs, AreVisualRuns};
 ghost use Rattle.bidi_base.specs.Levels.{is_odd};
 ghost use Rattle.bidi_base.specs.Order.{visual_order as visual_order_of};
-ghost use Rattle.bidi_base.specs.Text.{text_len, per_char, one_unit, IsLine, IsPerChar};
+ghost use Rattle.bidi_base.specs.Text.{one_unit, IsLine};
+ghost use Rattle.bidi_base.specs.Texts.{text_len, per_char, IsPerChar};
 ghost use Rattle.bidi_calls.specs.Everything.{everything_of_chars, line_shown, room_fault, WritesLine, AreLines, AreWithin};
 ghost use Rattle.bidi_calls.specs.Kept.{written_if_room, HasRoomOrNone};
 ghost use Rattle.bidi_calls.specs.Lines.{IsSound, IsAsLongAs, shown_levels};
@@ -12,7 +13,7 @@ ghost use Rattle.bidi_calls.specs.Shown.{is_even, chars_at};
 ghost use Rattle.bidi_numbers.specs.Faults.{FaultsAs, has_room_or_none};
 ghost use Rattle.bidi_numbers.specs.Rows.{run_row};
 ghost use Rattle.bidi_lines.specs.ShownLevels.{levels as levels_of};
-ghost use Rattle.bidi_lines.specs.Written.{run_units, shown_units};
+ghost use Rattle.bidi_lines.specs.InText.{run_units, shown_units};
 
 use crate::buffers::LineBuffers;
 use crate::char_order::{COUNTED_RUNS, write_char_order};
@@ -43,10 +44,10 @@ fn put_levels(out: &mut [u8], levels: &[Level])
 fn put_text<T: LineText>(text: T, levels: &[Level], runs: &[Range<usize>], out: &mut [T::Unit])
     requires room { HasRoomOrNone levels.now out.old }
     requires visual { AreVisualRuns 0 levels.now (map run_of runs.now) }
-    requires boundaries { AreLines T.units (T.characters text) runs.now }
+    requires boundaries { AreLines T.encoding.len_of (T.text text).chars runs.now }
     ensures { out.new
         ≡ written_if_room
-        (flat_map (run_units T.units T.encode (T.characters text) (T.units_of text) 0 levels.now) (map run_of runs.now))
+        (flat_map (run_units (T.text text) T.encode (T.units_of text) 0 levels.now) (map run_of runs.now))
         out.old }
 {
     if !out.is_empty() {
@@ -87,9 +88,9 @@ fn have_room<U>(units: usize, runs: usize, characters: usize, out: &LineBuffers<
 
 // Keeps one level for each of a line's `len` characters. If each character is one unit, there is nothing to do.
 fn keep_characters<T: TextSource>(text: T, len: usize, shown: &mut ShownLevels)
-    requires units { length (levels_of shown.old) ≡ text_len T.units (T.characters text) }
-    requires len { len ≡ length (T.characters text) }
-    ensures { levels_of shown.new ≡ per_char 0 T.units (T.characters text) (levels_of shown.old) }
+    requires units { length (levels_of shown.old) ≡ text_len (T.text text) }
+    requires len { len ≡ length (T.text text).chars }
+    ensures { levels_of shown.new ≡ per_char 0 (T.text text) (levels_of shown.old) }
 {
     if len < shown.as_slice().len() {
         shown.keep_first_units(text);
@@ -104,10 +105,10 @@ fn write_order<T: CountedText>(
     shown: &mut ShownLevels,
     out: &mut [usize],
 )
-    requires even { IsPerChar T.units (T.characters text) (levels_of shown.old) }
+    requires even { IsPerChar (T.text text) (levels_of shown.old) }
     requires runs { map run_of runs.now ≡ visual_runs 0 (levels_of shown.old) }
-    requires room { length out.old ≡ length (T.characters text) }
-    ensures { out.new ≡ visual_order_of (per_char 0 T.units (T.characters text) (levels_of shown.old)) }
+    requires room { length out.old ≡ length (T.text text).chars }
+    ensures { out.new ≡ visual_order_of (per_char 0 (T.text text) (levels_of shown.old)) }
 {
     if runs.len() <= COUNTED_RUNS {
         write_char_order(text, shown.as_slice(), runs, out);
@@ -125,12 +126,12 @@ fn put_order_of<T: CountedText>(
     runs: &[Range<usize>],
     shown: &mut ShownLevels,
 )
-    requires even { IsPerChar T.units (T.characters text) (levels_of shown.old) }
+    requires even { IsPerChar (T.text text) (levels_of shown.old) }
     requires runs { map run_of runs.now ≡ visual_runs 0 (levels_of shown.old) }
-    requires len { len ≡ length (T.characters text) }
+    requires len { len ≡ length (T.text text).chars }
     requires room { IsTrue (has_room_or_none len (length out.old)) }
     ensures { out.new
-        ≡ written_if_room (visual_order_of (per_char 0 T.units (T.characters text) (levels_of shown.old))) out.old }
+        ≡ written_if_room (visual_order_of (per_char 0 (T.text text) (levels_of shown.old))) out.old }
 {
     if !out.is_empty() {
         write_order(text, runs, shown, &mut out[..len]);
@@ -149,15 +150,15 @@ pub fn show_text<T: CountedText>(
     out: &mut LineBuffers<'_, T::Unit>,
 ) -> Result<usize, Fault>
     requires sound { IsSound line.now }
-    requires even { is_even T.units (T.characters text) line.now ≡ true }
-    requires units { IsAsLongAs T.units (T.characters text) line.now }
-    requires one_a_unit { length (T.units_of text) ≡ text_len T.units (T.characters text) }
-    requires encoded { (c : ℕ) → length (T.encode c) ≡ T.units c }
-    ensures fault { let shown = line_shown T.units (T.characters text) line.now
-        (shown_units T.units T.encode (T.characters text) (T.units_of text) 0 (shown_levels line.now)) in
+    requires even { is_even T.encoding.len_of (T.text text).chars line.now ≡ true }
+    requires units { IsAsLongAs T.encoding.len_of (T.text text).chars line.now }
+    requires one_a_unit { length (T.units_of text) ≡ text_len (T.text text) }
+    requires encoded { (c : ℕ) → length (T.encode c) ≡ T.encoding.len_of c }
+    ensures fault { let shown = line_shown T.encoding.len_of (T.text text).chars line.now
+        (shown_units (T.text text) T.encode (T.units_of text) 0 (shown_levels line.now)) in
         FaultsAs result (room_fault shown out.old) }
-    ensures writes { let shown = line_shown T.units (T.characters text) line.now
-        (shown_units T.units T.encode (T.characters text) (T.units_of text) 0 (shown_levels line.now)) in
+    ensures writes { let shown = line_shown T.encoding.len_of (T.text text).chars line.now
+        (shown_units (T.text text) T.encode (T.units_of text) 0 (shown_levels line.now)) in
         WritesLine shown result out.old out.new }
 {
     let mut shown = line.shown(alloc)?;

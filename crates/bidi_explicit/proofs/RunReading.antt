@@ -1,17 +1,16 @@
 -- The characters of a run that open or close an isolate, read one by one.
 use Rattle.bidi_base.proofs.Common.{◌≡◌, ℕ, zero, suc, ◌+◌, ◌-◌, ◌<◌, ◌≤◌, Bool, ◌||◌, true, false, cond, eqb, eq-eqb, List, [], ◌∷◌, ◌++◌, length, get_or, take, replicate, Option, Some, None}
 use Rattle.bidi_base.proofs.Common.{refl, sym, ap, ◌∙◌, arith, append-nil, append_assoc, is_initiator, is_pdi, ne_eqb, inl, inr, then_some, cases_eq, cases_lt, fold_push, class_at, IsFirst, passing}
-use Rattle.bidi_base.proofs.Common.{read_class, place, text_len, per_char, is_per_char, is_boundary, char_index, IsLine, IsPerChar, replicate-append-replicate}
+use Rattle.bidi_base.proofs.Common.{read_class, replicate-append-replicate}
+use Rattle.bidi_base.proofs.TextPlaces.{is_boundary-place, line_places, place-char_index, char_index-place, place-le, place-more, place-mono, length-per_char, get_or-per_unit-place, per_unit-from_is_per_char, IsPerChar-from_is_per_char}
+use Rattle.bidi_base.specs.Texts.{Encoding, Text, place, text_len, per_char, is_per_char, is_boundary, char_index, IsLine, IsPerChar}
 use Rattle.bidi_base.specs.declared.char_data.BidiClass.{BidiClass}
 use Rattle.bidi_base.specs.declared.char_data.BidiClass.TheVariants.{L}
 use Rattle.bidi_base.specs.contracts.char_data.BidiClassPartialEq.TheImpl.{ghosts}
-use Rattle.bidi_base.proofs.TextLemmas.{HasUnits}
-use Rattle.bidi_base.proofs.PlaceLemmas.{is_boundary-place, line_places, place-char_index, char_index-place, place-le, place-more, place-mono}
 use Rattle.bidi_base.proofs.PlacesLemmas.{range_with_len-more}
-use Rattle.bidi_base.proofs.PerUnit.{length-per_char, get_or-per_unit-place}
-use Rattle.bidi_base.proofs.UnitsLemmas.{per_unit-from_is_per_char, IsPerChar-from_is_per_char}
 use Rattle.bidi_text.proofs.PerCharTests.{class_eq, class_test}
-use Rattle.bidi_explicit.specs.Joining.{is_isolate_control, read_range, read_units}
+use Rattle.bidi_explicit.specs.Joining.{is_isolate_control, read_range}
+use Rattle.bidi_explicit.specs.InText.{read_units}
 use Rattle.bidi_explicit.proofs.OpenIsolates.{take-pushed}
 use Rattle.bidi_explicit.proofs.PassOverText.{alike_class}
 
@@ -54,67 +53,67 @@ read-closed : (c : BidiClass) (wait : Option ℕ) (waits now : List (Option ℕ)
 read-closed c wait waits now n pdi none is = grind (arith, pdi-apart c, append-nil)
 
 -- the characters of a run before the one with an index are read, which stands at a unit
-pub record IsReadTo (len_of : ℕ → ℕ) (chars : List ℕ) (units : List BidiClass) (start end last s : ℕ) (old waits : List (Option ℕ)) (at : ℕ) : Type 0 where
+pub record IsReadTo {encoding : Encoding} (text : Text encoding) (units : List BidiClass) (start end last s : ℕ) (old waits : List (Option ℕ)) (at : ℕ) : Type 0 where
   pub index : ℕ
-  pub there : at ≡ place len_of chars index
-  pub low : char_index len_of chars start ≤ index
-  pub high : index ≤ char_index len_of chars end
-  pub is : waits ≡ read_range (per_char L len_of chars units) (char_index len_of chars last) s (char_index len_of chars start) index old
+  pub there : at ≡ place text index
+  pub low : char_index text start ≤ index
+  pub high : index ≤ char_index text end
+  pub is : waits ≡ read_range (per_char L text units) (char_index text last) s (char_index text start) index old
 
 -- the same, where so many of the open isolates are counted, for which nothing waits
-pub record IsCountedTo (len_of : ℕ → ℕ) (chars : List ℕ) (units : List BidiClass) (start end last s : ℕ) (old waits : List (Option ℕ)) (n at : ℕ) : Type 0 where
-  pub read : IsReadTo len_of chars units start end last s old (waits ++ replicate n None) at
+pub record IsCountedTo {encoding : Encoding} (text : Text encoding) (units : List BidiClass) (start end last s : ℕ) (old waits : List (Option ℕ)) (n at : ℕ) : Type 0 where
+  pub read : IsReadTo text units start end last s old (waits ++ replicate n None) at
   pub few : n ≤ at
 
-module _ (len_of : ℕ → ℕ) (h : HasUnits len_of) (chars : List ℕ) (units : List BidiClass) (whole : is_per_char ghosts.eq len_of chars units ≡ true)
-    (start end last s : ℕ) (line : IsLine len_of chars start end) (boundary : is_boundary len_of chars last ≡ true) where
+module _ {encoding : Encoding} (text : Text encoding) (units : List BidiClass) (whole : is_per_char ghosts.eq text units ≡ true)
+    (start end last s : ℕ) (line : IsLine text start end) (boundary : is_boundary text last ≡ true) where
   abbrev first : ℕ
-  first = char_index len_of chars start
+  first = char_index text start
 
   abbrev final : ℕ
-  final = char_index len_of chars end
+  final = char_index text end
 
   abbrev stored : List BidiClass
-  stored = per_char L len_of chars units
+  stored = per_char L text units
 
   abbrev ReadTo : List (Option ℕ) → List (Option ℕ) → ℕ → Type 0
-  ReadTo old waits at = IsReadTo len_of chars units start end last s old waits at
+  ReadTo old waits at = IsReadTo text units start end last s old waits at
 
   abbrev read_to : ℕ → List (Option ℕ) → List (Option ℕ)
-  read_to m old = read_range stored (char_index len_of chars last) s first m old
+  read_to m old = read_range stored (char_index text last) s first m old
 
-  per : IsPerChar len_of chars units
-  per = IsPerChar-from_is_per_char class_eq class_test len_of h chars units whole
+  per : IsPerChar text units
+  per = IsPerChar-from_is_per_char text class_eq class_test units whole
 
   pub IsReadTo-start : (old : List (Option ℕ)) → ReadTo old old start
   IsReadTo-start old = grind (arith, line_places)
 
-  stored_class : (m : ℕ) → m < length chars → class_at units (place len_of chars m) ≡ class_at stored m
+  stored_class : (m : ℕ) → m < length text.chars → class_at units (place text m) ≡ class_at stored m
   stored_class m fits =
       grind (
         arith,
-        per_unit-from_is_per_char ghosts.eq class_test L len_of h chars units whole,
-        get_or-per_unit-place len_of h chars stored m L,
-        length-per_char L len_of chars units,
+        per_unit-from_is_per_char text ghosts.eq class_test L units whole,
+        get_or-per_unit-place text stored m L,
+        length-per_char text L units,
       )
 
   -- up to the next control
-  jump : (n m next : ℕ) (old waits : List (Option ℕ)) → m + n ≡ final → first ≤ m → waits ≡ read_to m old → IsFirst (passing is_isolate_control units) (place len_of chars m) end next → ReadTo old waits next
+  jump : (n m next : ℕ) (old waits : List (Option ℕ)) → m + n ≡ final → first ≤ m → waits ≡ read_to m old → IsFirst (passing is_isolate_control units) (place text m) end next → ReadTo old waits next
   jump zero m next old waits count low is f = grind (arith, line_places)
   jump (suc k) m next old waits count low is f =
-      let w = line_places len_of h chars start end line in
-      let fits : m < length chars = omega (arith, w.within) in
-      let more = place-more len_of chars m 0 fits in
-      let some = h (get_or chars m 0) in
-      let upto : place len_of chars (m + 1) ≤ end = omega (arith, w.ends, place-mono len_of chars (m + 1) final (omega arith)) in
+      let w = line_places text start end line in
+      let fits : m < length text.chars = omega (arith, w.within) in
+      let more = place-more text m 0 fits in
+      let some = encoding.positive (get_or text.chars m 0) in
+      let upto : place text (m + 1) ≤ end = omega (arith, w.ends, place-mono text (m + 1) final (omega arith)) in
       grind (
         arith,
-        cases_lt next (place len_of chars (m + 1)),
-        alike_class len_of h chars units per m next fits f.begins,
-        f.before (place len_of chars m),
+        cases_lt next (place text (m + 1)),
+        alike_class encoding.len_of encoding.positive text.chars units per m next fits f.begins,
+        f.before (place text m),
         jump k (m + 1) next old waits,
         stored_class m fits,
-        read_range-more stored (char_index len_of chars last) s first m old low,
+        read_range-more stored (char_index text last) s first m old low,
         read_class-plain (class_at stored m),
       )
 
@@ -123,27 +122,27 @@ module _ (len_of : ℕ → ℕ) (h : HasUnits len_of) (chars : List ℕ) (units 
 
   -- what the code asks of the character at hand
   pub record IsAsked (at : ℕ) : Type 0 where
-    pub begins : is_boundary len_of chars at ≡ true
-    pub inside : at < text_len len_of chars
+    pub begins : is_boundary text at ≡ true
+    pub inside : at < text_len text
 
   pub IsReadTo-asked : (old waits : List (Option ℕ)) (at : ℕ) → at < end → ReadTo old waits at → IsAsked at
   IsReadTo-asked old waits at below r = grind (arith, line_places, is_boundary-place, place-le)
 
   -- one character
-  pub IsReadTo-more : (old waits now : List (Option ℕ)) (at behind : ℕ) (wait : Option ℕ) → at < end → ((k : ℕ) → k < length chars → at ≡ place len_of chars k → behind ≡ place len_of chars (k + 1))
+  pub IsReadTo-more : (old waits now : List (Option ℕ)) (at behind : ℕ) (wait : Option ℕ) → at < end → ((k : ℕ) → k < length text.chars → at ≡ place text k → behind ≡ place text (k + 1))
       → wait ≡ then_some (eqb behind last) s → now ≡ read_class (class_at units at) wait waits → ReadTo old waits at → ReadTo old now behind
   IsReadTo-more old waits now at behind wait below ends wait_as read r =
-      let w = line_places len_of h chars start end line in
+      let w = line_places text start end line in
       let m = r.index in
-      let e = char_index len_of chars last in
+      let e = char_index text last in
       let more : m < final = grind arith in
-      let fits : m < length chars = omega (arith, w.within) in
-      let after : behind ≡ place len_of chars (m + 1) = ends m fits r.there in
+      let fits : m < length text.chars = omega (arith, w.within) in
+      let after : behind ≡ place text (m + 1) = ends m fits r.there in
       let same_end : cond (eqb behind last) (Some s) None ≡ cond (eqb (m + 1) e) (Some s) None =
       elim (cases_eq (m + 1) e) [
         | inl same ↦ grind (arith, place-char_index)
         | inr other ↦
-            simp (ne_eqb behind last (λ f. other (sym (char_index-place len_of chars h (m + 1) (omega arith)) ∙ ap (char_index len_of chars) (sym after ∙ f))), ne_eqb (m + 1) e other)
+            simp (ne_eqb behind last (λ f. other (sym (char_index-place text (m + 1) (omega arith)) ∙ ap (char_index text) (sym after ∙ f))), ne_eqb (m + 1) e other)
       ] in
       record {
         index = m + 1;
@@ -154,30 +153,30 @@ module _ (len_of : ℕ → ℕ) (h : HasUnits len_of) (chars : List ℕ) (units 
       }
 
   pub IsReadTo-past : (old waits : List (Option ℕ)) (at behind : ℕ) → at < end
-      → ((k : ℕ) → k < length chars → at ≡ place len_of chars k → behind ≡ place len_of chars (k + 1)) → ReadTo old waits at → at < behind
+      → ((k : ℕ) → k < length text.chars → at ≡ place text k → behind ≡ place text (k + 1)) → ReadTo old waits at → at < behind
   IsReadTo-past old waits at behind below ends r =
-      grind (arith, line_places, ends r.index, place-more len_of chars r.index 0, h (get_or chars r.index 0))
+      grind (arith, line_places, ends r.index, place-more text r.index 0, encoding.positive (get_or text.chars r.index 0))
 
   pub IsReadTo-within : (old waits : List (Option ℕ)) (at : ℕ) → ReadTo old waits at → at ≤ end
   IsReadTo-within old waits at r = grind (arith, line_places, place-mono) steps 400000
 
   -- all characters of the run
-  pub IsReadTo-end : (old waits : List (Option ℕ)) → ReadTo old waits end → waits ≡ read_units len_of chars units last s start end old
+  pub IsReadTo-end : (old waits : List (Option ℕ)) → ReadTo old waits end → waits ≡ read_units text units last s start end old
   IsReadTo-end old waits r =
-      let same : r.index ≡ final = grind (arith, line_places, char_index-place len_of chars h r.index) in
+      let same : r.index ≡ final = grind (arith, line_places, char_index-place text r.index) in
       r.is ∙ ap (λ m. read_to m old) same
 
   -- ---- the isolates of the run for which nothing waits are counted
 
   abbrev CountedTo : List (Option ℕ) → List (Option ℕ) → ℕ → ℕ → Type 0
-  CountedTo old waits n at = IsCountedTo len_of chars units start end last s old waits n at
+  CountedTo old waits n at = IsCountedTo text units start end last s old waits n at
 
   pub IsCountedTo-start : (old : List (Option ℕ)) → CountedTo old old 0 start
   IsCountedTo-start old = record { read = rw append-nil (IsReadTo-start old); few = omega arith }
 
   -- one control more, the next from the unit at hand on
   module _ (old waits : List (Option ℕ)) (n at control behind : ℕ) (f : IsFirst (passing is_isolate_control units) at end control) (other : control ≡ end → ⊥)
-      (ends : (k : ℕ) → k < length chars → control ≡ place len_of chars k → behind ≡ place len_of chars (k + 1)) (r : CountedTo old waits n at) where
+      (ends : (k : ℕ) → k < length text.chars → control ≡ place text k → behind ≡ place text (k + 1)) (r : CountedTo old waits n at) where
     abbrev waits_there : List (Option ℕ)
     waits_there = waits ++ replicate n None
 
@@ -228,11 +227,11 @@ module _ (len_of : ℕ → ℕ) (h : HasUnits len_of) (chars : List ℕ) (units 
 
   -- no control is left
   pub counted-end : (old waits : List (Option ℕ)) (n at control : ℕ) → IsFirst (passing is_isolate_control units) at end control → control ≡ end → CountedTo old waits n at
-      → waits ++ replicate n None ≡ read_units len_of chars units last s start end old
+      → waits ++ replicate n None ≡ read_units text units last s start end old
   counted-end old waits n at control f same r =
       IsReadTo-end old (waits ++ replicate n None) (simp same at (IsReadTo-jump at control old (waits ++ replicate n None) r.read f))
 
-  pub counted-all : (old waits : List (Option ℕ)) (n at : ℕ) → end ≤ at → CountedTo old waits n at → waits ++ replicate n None ≡ read_units len_of chars units last s start end old
+  pub counted-all : (old waits : List (Option ℕ)) (n at : ℕ) → end ≤ at → CountedTo old waits n at → waits ++ replicate n None ≡ read_units text units last s start end old
   counted-all old waits n at over r =
       let all : at ≡ end = omega (arith, IsReadTo-within old (waits ++ replicate n None) at r.read) in
       IsReadTo-end old (waits ++ replicate n None) (simp all at r.read)

@@ -6,7 +6,7 @@ use Rattle.bidi_base.specs.Classes.{is_kept_in_place}
 use Rattle.bidi_base.specs.Explicit.{explicit_levels, processing_classes}
 use Rattle.bidi_base.specs.Places.{class_at}
 use Rattle.bidi_base.specs.StatusMachine.{State, state_at}
-use Rattle.bidi_base.specs.Text.{place, text_len, per_char, per_unit, IsPerChar}
+use Rattle.bidi_base.specs.Texts.{Encoding, Text, place, text_len, per_char, per_unit, IsPerChar}
 use Rattle.bidi_explicit.specs.ExplicitPass.{runs_before, run_start, IsCutTo}
 use Rattle.bidi_explicit.specs.declared.explicit.stretches.OpenRun.{OpenRun}
 use Rattle.bidi_explicit.specs.declared.explicit.stretches.Progress.{Progress}
@@ -32,41 +32,39 @@ pub record IsOverridden (override : Option BidiClass) (from to : ℕ) (old new :
   pub long : length new ≡ length old
 
 -- a paragraph, with the stored class of each unit
-pub record Paragraph : Type 0 where
-  pub len_of : ℕ → ℕ
-  pub chars : List ℕ
+pub record Paragraph (encoding : Encoding) : Type 0 where
+  pub text : Text encoding
   pub level : ℕ
   pub original : List BidiClass
 
-abbrev pub paragraph_of : (ℕ → ℕ) → List ℕ → ℕ → List BidiClass → Paragraph
-paragraph_of len_of chars level original = record { len_of = len_of; chars = chars; level = level; original = original }
+abbrev pub paragraph_of : {encoding : Encoding} → Text encoding → ℕ → List BidiClass → Paragraph encoding
+paragraph_of text level original = record { text = text; level = level; original = original }
 
 -- the stored class of each character
-abbrev pub stored : Paragraph → List BidiClass
-stored p = per_char L p.len_of p.chars p.original
+abbrev pub stored : {encoding : Encoding} → Paragraph encoding → List BidiClass
+stored p = per_char L p.text p.original
 
 -- its explicit levels and processing classes, one a character
-abbrev pub levels_of : Paragraph → List ℕ
+abbrev pub levels_of : {encoding : Encoding} → Paragraph encoding → List ℕ
 levels_of p = explicit_levels p.level (stored p)
 
-abbrev pub classes_of : Paragraph → List BidiClass
+abbrev pub classes_of : {encoding : Encoding} → Paragraph encoding → List BidiClass
 classes_of p = processing_classes p.level (stored p)
 
 -- the units below u are read, and u is a boundary
-pub record IsReadTo (p : Paragraph) (u : ℕ) (stack : State) (levels : List ℕ) (classes : List BidiClass)
+pub record IsReadTo {encoding : Encoding} (p : Paragraph encoding) (u : ℕ) (stack : State) (levels : List ℕ) (classes : List BidiClass)
     (runs : List (ℕ × ℕ)) (run : OpenRun) : Type 0 where
-  pub has_units : (c : ℕ) → 1 ≤ p.len_of c
-  pub per_char : IsPerChar p.len_of p.chars p.original
+  pub per_char : IsPerChar p.text p.original
   pub index : ℕ
-  pub begins : u ≡ place p.len_of p.chars index
-  pub within : index ≤ length p.chars
+  pub begins : u ≡ place p.text index
+  pub within : index ≤ length p.text.chars
   pub machine : stack ≡ state_at p.level (stored p) index
-  pub levels_long : length levels ≡ text_len p.len_of p.chars
-  pub classes_long : length classes ≡ text_len p.len_of p.chars
-  pub levels_written : (v : ℕ) → v < u → get_or levels v 0 ≡ get_or (per_unit p.len_of p.chars (levels_of p)) v 0
-  pub classes_written : (v : ℕ) → v < u → class_at classes v ≡ class_at (per_unit p.len_of p.chars (classes_of p)) v
+  pub levels_long : length levels ≡ text_len p.text
+  pub classes_long : length classes ≡ text_len p.text
+  pub levels_written : (v : ℕ) → v < u → get_or levels v 0 ≡ get_or (per_unit p.text (levels_of p)) v 0
+  pub classes_written : (v : ℕ) → v < u → class_at classes v ≡ class_at (per_unit p.text (classes_of p)) v
   pub unread : IsUnread p.original classes u
-  pub cut : IsCutTo p.len_of p.chars (stored p) (levels_of p) index runs run.start run.last_level
+  pub cut : IsCutTo encoding.len_of p.text.chars (stored p) (levels_of p) index runs run.start run.last_level
 
 -- the level runs that have ended once the first kept unit of what was read, if there is one, met the run that
 -- is open, and that one then
@@ -79,7 +77,7 @@ run_met None level run = run
 run_met (Some unit) level run = record { start = run_start run.last_level level run.start unit; last_level = Some level }
 
 -- from a unit on a stretch or a control is read, whatever runs came before
-abbrev pub ReadsOn : Paragraph → ℕ → State → List ℕ → List BidiClass → Progress → State → List ℕ → List BidiClass → Type 0
+abbrev pub ReadsOn : {encoding : Encoding} → Paragraph encoding → ℕ → State → List ℕ → List BidiClass → Progress → State → List ℕ → List BidiClass → Type 0
 ReadsOn p from stack levels classes read stack_now levels_now classes_now =
     (runs : List (ℕ × ℕ)) (run : OpenRun) → IsReadTo p from stack levels classes runs run
     → IsReadTo p read.end stack_now levels_now classes_now (runs_met read.first_kept read.level run runs)

@@ -1,13 +1,13 @@
 -- What the pass counts: characters, or code units.
-use Rattle.std.specs.Prelude.{ℕ, List}
-use Rattle.bidi_base.specs.Text.{char_index}
+use Rattle.std.specs.Prelude.{ℕ}
+use Rattle.bidi_base.specs.Texts.{Encoding, Text, char_index}
 use Rattle.bidi_explicit.specs.declared.explicit.Stride.{Stride}
 use Rattle.bidi_explicit.specs.declared.explicit.Stride.TheVariants.{Character, CodeUnit}
 
 -- up to an index of a text
-abbrev pub count_to : Stride → (ℕ → ℕ) → List ℕ → ℕ → ℕ
-count_to Character len_of chars u = char_index len_of chars u
-count_to CodeUnit len_of chars u = u
+abbrev pub count_to : {encoding : Encoding} → Stride → Text encoding → ℕ → ℕ
+count_to Character text u = char_index text u
+count_to CodeUnit text u = u
 
 -- in a text of so many code units and characters
 abbrev pub count_of : Stride → ℕ → ℕ → ℕ

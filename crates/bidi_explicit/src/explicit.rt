@@ -2,7 +2,7 @@
 //! paragraph.
 
 ghost use Rattle.std.specs.Prelude.{◌≡◌, ℕ, ◌+◌, ◌*◌, ◌-◌, ◌≤◌, length, map, OnOk, IfOk};
-ghost use Rattle.bidi_base.specs.InPlace.{AreExplicitLevels, CanFindExplicitLevels};
+ghost use Rattle.bidi_base.specs.Texts.{AreExplicitLevels, CanFindExplicitLevels};
 ghost use Rattle.bidi_base.specs.Units.{bounds};
 ghost use Rattle.bidi_explicit.specs.Paragraph.{AreLevelsOf, CanFindLevels, least_count, whole_count};
 ghost use Rattle.bidi_explicit.specs.ExplicitPass.{filled, runs_before, run_start as run_start_after};
@@ -159,9 +159,9 @@ pub fn compute<T: TextSource>(
     processing_classes: &mut [BidiClass],
     runs: &mut LevelRunVec,
 ) -> Result<(), AllocError>
-    requires { CanFindExplicitLevels T.units (T.characters text) para_level original_classes.now levels.old
+    requires { CanFindExplicitLevels (T.text text) para_level original_classes.now levels.old
         processing_classes.old (map bounds runs.old.items) }
-    ensures { OnOk result (AreExplicitLevels T.units (T.characters text) para_level original_classes.now levels.new
+    ensures { OnOk result (AreExplicitLevels (T.text text) para_level original_classes.now levels.new
         processing_classes.new (map bounds runs.new.items)) }
 {
     compute_with_new_count::<T, Brand>(
@@ -187,12 +187,12 @@ fn compute_with_new_count<T: TextSource, S: Ledger>(
     runs: &mut LevelRunVec,
     blank: Blank,
 ) -> Result<(), AllocError>
-    requires paragraph { CanFindExplicitLevels T.units (T.characters text) para_level original_classes.now levels.old
+    requires paragraph { CanFindExplicitLevels (T.text text) para_level original_classes.now levels.old
         processing_classes.old (map bounds runs.old.items) }
     requires name { blank.name ≡ S.name }
     requires parts { blank.parts ≡ S.parts }
     requires one { blank.parts ≡ 1 }
-    ensures { OnOk result (AreExplicitLevels T.units (T.characters text) para_level original_classes.now levels.new
+    ensures { OnOk result (AreExplicitLevels (T.text text) para_level original_classes.now levels.new
         processing_classes.new (map bounds runs.new.items)) }
 {
     let mut steps = Steps::<S>::new(blank);
@@ -223,12 +223,12 @@ pub fn compute_counted<T: TextSource, S: Ledger>(
     runs: &mut LevelRunVec,
     steps: &mut Steps<S>,
 ) -> Result<(), AllocError>
-    requires { CanFindExplicitLevels T.units (T.characters text) para_level original_classes.now levels.old
+    requires { CanFindExplicitLevels (T.text text) para_level original_classes.now levels.old
         processing_classes.old (map bounds runs.old.items) }
-    ensures found { OnOk result (AreExplicitLevels T.units (T.characters text) para_level original_classes.now levels.new
+    ensures found { OnOk result (AreExplicitLevels (T.text text) para_level original_classes.now levels.new
         processing_classes.new (map bounds runs.new.items)) }
-    ensures at_least { OnOk result (steps.old + length (T.characters text) ≤ steps.new) }
-    ensures at_most { OnOk result (steps.new ≤ steps.old + 4 * length (T.characters text)) }
+    ensures at_least { OnOk result (steps.old + length (T.text text).chars ≤ steps.new) }
+    ensures at_most { OnOk result (steps.new ≤ steps.old + 4 * length (T.text text).chars) }
 {
     let paragraph = Paragraph::new(text, para_level, Stride::Character, original_classes);
     find_levels_counted(&paragraph, levels, processing_classes, runs, steps)

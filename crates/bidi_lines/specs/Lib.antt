@@ -1,5 +1,6 @@
 pub mod Analysed
 pub mod Arranged
+pub mod InText
 pub mod LineOrder
 pub mod LineRuns
 pub mod Runs

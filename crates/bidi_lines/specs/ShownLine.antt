@@ -21,8 +21,8 @@ module _ {T C I L : Type 0} {t : _} {c : _} {i : _} {l : _} (shown : ShownLine T
 
   -- the value shows this line of an analysed text, whose paragraph has this level
   pub record Shows (a : AnalysedText) (level : ℕ) (line : Range ℕ) : Type 0 where
-    pub len_of : a.len_of ≡ t.units
-    pub chars : a.chars ≡ t.characters text_of
+    pub len_of : a.len_of ≡ t.encoding.len_of
+    pub chars : a.chars ≡ (t.text text_of).chars
     pub start : shown.start ≡ line.start
     pub end : shown.end ≡ line.end
     pub levels : AreLevelsOfLine a level line levels

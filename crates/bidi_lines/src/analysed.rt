@@ -4,14 +4,14 @@ ghost use Rattle.bidi_base.specs.Analysed.{IsLineOf, AreLevelsWithLine, AreLevel
 ghost use Rattle.bidi_base.specs.Direction.{direction_of_levels};
 ghost use Rattle.bidi_base.specs.Display.{run_of};
 ghost use Rattle.bidi_base.specs.Levels.{has_rtl as has_rtl_of};
-ghost use Rattle.bidi_base.specs.PerChar.{HaveClass, HaveLevel};
+ghost use Rattle.bidi_base.specs.Texts.{HaveClass, HaveLevel};
 
 use crate::level_direction::direction_of;
-use bidi_base::char_data::{BidiClass, Direction};
-use bidi_base::level::{Level, has_rtl};
 use crate::line_levels::{levels_of_line, levels_per_char, levels_with_line};
 use crate::shown_levels::ShownLevels;
 use crate::visual_runs::{levels_and_runs, visual_runs_of};
+use bidi_base::char_data::{BidiClass, Direction};
+use bidi_base::level::{Level, has_rtl};
 use bidi_text::text::TextSource;
 use std::alloc::{AllocError, Global};
 use std::ops::Range;
@@ -25,8 +25,8 @@ pub struct Analysed<T: TextSource> {
     text: T,
     original_classes: Vec<BidiClass>,
     levels: Vec<Level>,
-    ghost classes_per_char: { HaveClass T.units (T.characters text) original_classes.items },
-    ghost levels_per_char: { HaveLevel T.units (T.characters text) levels.items },
+    ghost classes_per_char: { HaveClass (T.text text) original_classes.items },
+    ghost levels_per_char: { HaveLevel (T.text text) levels.items },
 }
 
 impl<T: TextSource> Analysed<T> {
@@ -34,8 +34,8 @@ impl<T: TextSource> Analysed<T> {
 
     /// Returns a text with one class and one level for each code unit, which must be equal within each character.
     pub fn new(text: T, original_classes: Vec<BidiClass>, levels: Vec<Level>) -> Analysed<T>
-        requires classes { HaveClass T.units (T.characters text) original_classes.items }
-        requires levels { HaveLevel T.units (T.characters text) levels.items }
+        requires classes { HaveClass (T.text text) original_classes.items }
+        requires levels { HaveLevel (T.text text) levels.items }
         ensures text { text_of result ≡ text }
         ensures classes { (analysed result).classes ≡ original_classes.items }
         ensures levels { (analysed result).levels ≡ levels.items }
@@ -57,7 +57,7 @@ impl<T: TextSource> Analysed<T> {
     /// Returns the stored class of each code unit.
     pub fn original_classes(&self) -> &[BidiClass]
         ensures classes { result.now ≡ (analysed self.now).classes }
-        ensures per_char { let a = analysed self.now in HaveClass a.len_of a.chars result.now }
+        ensures per_char { HaveClass (T.text (text_of self.now)) result.now }
     {
         self.original_classes.as_slice()
     }
@@ -65,7 +65,7 @@ impl<T: TextSource> Analysed<T> {
     /// Returns the stored level of each code unit.
     pub fn levels(&self) -> &[Level]
         ensures levels { result.now ≡ (analysed self.now).levels }
-        ensures per_char { let a = analysed self.now in HaveLevel a.len_of a.chars result.now }
+        ensures per_char { HaveLevel (T.text (text_of self.now)) result.now }
     {
         self.levels.as_slice()
     }

@@ -6,7 +6,7 @@ ghost use Rattle.bidi_base.specs.Levels.{is_odd, has_rtl};
 ghost use Rattle.bidi_base.specs.Line.{is_blank, line_levels, levels_of_line, levels_with_line};
 ghost use Rattle.bidi_base.specs.Places.{class_at};
 ghost use Rattle.bidi_base.specs.Search.{IsFirst};
-ghost use Rattle.bidi_base.specs.Text.{text_len, per_char};
+ghost use Rattle.bidi_base.specs.Texts.{text_len, per_char};
 ghost use Rattle.bidi_lines.specs.Arranged.{SameBelow, SameFrom};
 ghost use Rattle.bidi_lines.specs.Stops.{is_break, is_break_at};
 
@@ -275,9 +275,9 @@ pub fn levels_with_line(
 // hard to predict. That loop ends at the text's own length, so that `is_boundary` need not compare the index with it.
 // In any other text, steps from character to character by their lengths.
 pub(crate) fn gather<T: TextSource>(text: T, levels: &mut [Level]) -> usize
-    requires { length levels.old ≡ text_len T.units (T.characters text) }
-    ensures count { result ≡ length (T.characters text) }
-    ensures gathered { take result levels.new ≡ per_char 0 T.units (T.characters text) levels.old }
+    requires { length levels.old ≡ text_len (T.text text) }
+    ensures count { result ≡ length (T.text text).chars }
+    ensures gathered { take result levels.new ≡ per_char 0 (T.text text) levels.old }
 {
     if T::READS_IN_PLACE {
         let mut count = 0;
@@ -300,10 +300,10 @@ pub(crate) fn gather<T: TextSource>(text: T, levels: &mut [Level]) -> usize
 /// A character has the level of its first code unit. `levels` has one level for each code unit, and `out` is as
 /// long. After the last character, the entries of `out` hold any levels. Does not allocate.
 pub fn write_first_units<T: TextSource>(text: T, levels: &[Level], out: &mut [Level]) -> usize
-    requires one_a_unit { length levels.now ≡ text_len T.units (T.characters text) }
+    requires one_a_unit { length levels.now ≡ text_len (T.text text) }
     requires room { length out.old ≡ length levels.now }
-    ensures count { result ≡ length (T.characters text) }
-    ensures written { take result out.new ≡ per_char 0 T.units (T.characters text) levels.now }
+    ensures count { result ≡ length (T.text text).chars }
+    ensures written { take result out.new ≡ per_char 0 (T.text text) levels.now }
 {
     if !T::READS_IN_PLACE {
         out.copy_from_slice(levels);
@@ -321,8 +321,8 @@ pub fn write_first_units<T: TextSource>(text: T, levels: &[Level], out: &mut [Le
 ///
 /// A character has the level of its first code unit. `levels` has one level for each code unit. Does not allocate.
 pub fn first_units<T: TextSource>(text: T, mut levels: Vec<Level>) -> Vec<Level>
-    requires { length levels.items ≡ text_len T.units (T.characters text) }
-    ensures { result.items ≡ per_char 0 T.units (T.characters text) levels.items }
+    requires { length levels.items ≡ text_len (T.text text) }
+    ensures { result.items ≡ per_char 0 (T.text text) levels.items }
 {
     let count = gather(text, levels.as_mut_slice());
     levels.truncate(count);
@@ -341,12 +341,12 @@ pub fn levels_per_char<T: TextSource>(
     levels: &[Level],
     line: Range<usize>,
 ) -> Result<Vec<Level>, AllocError>
-    requires one_a_unit { length levels.now ≡ text_len T.units (T.characters text) }
+    requires one_a_unit { length levels.now ≡ text_len (T.text text) }
     requires same_len { length levels.now ≡ length classes.now }
     requires ordered { line.start ≤ line.end }
     requires within { line.end ≤ length levels.now }
     ensures { IfOk result (λ v. v.items
-        ≡ per_char 0 T.units (T.characters text) (levels_with_line level classes.now levels.now line.start line.end)) }
+        ≡ per_char 0 (T.text text) (levels_with_line level classes.now levels.now line.start line.end)) }
 {
     let shown = levels_with_line(alloc, level, classes, levels, line)?;
     Ok(first_units(text, shown))

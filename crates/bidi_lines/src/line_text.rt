@@ -2,17 +2,18 @@
 ghost use Rattle.std.specs.Prelude.{◌≡◌, ℕ, ◌+◌, ◌-◌, ◌<◌, ◌≤◌, List, length, slice_range, reverse, flat_map, map, sum_by, IfOk, IfSome, OnOk, OnErr, IsNone, IsTrue, All, ◌↔◌};
 ghost use Rattle.bidi_base.specs.Analysed.{IsLineOf, StaysInOrder};
 ghost use Rattle.bidi_base.specs.Display.{run_of};
-ghost use Rattle.bidi_base.specs.Text.{subrange, IsLine};
+ghost use Rattle.bidi_base.specs.Texts.{subrange, IsLine};
 ghost use Rattle.bidi_base.specs.Line.{line_levels};
 ghost use Rattle.bidi_lines.specs.Runs.{StartsInLine};
-ghost use Rattle.bidi_lines.specs.Written.{run_units, shown_units, line_units, AreRunsOfChars};
+ghost use Rattle.bidi_lines.specs.InText.{run_units, shown_units, AreRunsOfChars};
+ghost use Rattle.bidi_lines.specs.Written.{line_units};
 
 use crate::analysed::Analysed;
-use bidi_base::level::Level;
 use crate::line_levels::line_has_rtl;
 use crate::shown_levels::ShownLevels;
 use crate::stored::{ClassList, LevelList};
 use crate::visual_runs::{LineRuns, first_run_end};
+use bidi_base::level::Level;
 use bidi_text::text::TextSource;
 use std::alloc::{AllocError, Global};
 use std::ops::Range;
@@ -36,7 +37,7 @@ pub trait LineText: TextSource {
 
     /// Writes the code units of a run unchanged.
     fn copy_run(self, run: Range<usize>, out: &mut [Self::Unit])
-        requires is_line { IsLine Self.units (Self.characters self) run.start run.end }
+        requires is_line { IsLine (Self.text self) run.start run.end }
         requires room { length out.old + run.start ≡ run.end }
         ensures { out.new ≡ slice_range (units_of self) run.start run.end };
 
@@ -44,9 +45,9 @@ pub trait LineText: TextSource {
     ///
     /// The code units of each character keep their order.
     fn reverse_run(self, run: Range<usize>, out: &mut [Self::Unit])
-        requires is_line { IsLine Self.units (Self.characters self) run.start run.end }
+        requires is_line { IsLine (Self.text self) run.start run.end }
         requires room { length out.old + run.start ≡ run.end }
-        ensures { out.new ≡ flat_map encode (reverse (subrange Self.units (Self.characters self) run.start run.end)) };
+        ensures { out.new ≡ flat_map encode (reverse (subrange (Self.text self) run.start run.end).chars) };
 }
 
 /// Writes the runs of a line to `out`, in the order of `runs`.
@@ -63,9 +64,9 @@ pub fn write_runs<T: LineText>(
 )
     requires room { length out.old ≡ length levels.now }
     requires within { All (StartsInLine start levels.now) runs.now }
-    requires boundaries { All (λ r. IsLine T.units (T.characters text) r.start r.end) runs.now }
+    requires boundaries { All (λ r. IsLine (T.text text) r.start r.end) runs.now }
     requires whole { sum_by (λ r. r.end - r.start) runs.now ≡ length levels.now }
-    ensures { out.new ≡ flat_map (run_units T.units T.encode (T.characters text) (T.units_of text) start levels.now) (map run_of runs.now) }
+    ensures { out.new ≡ flat_map (run_units (T.text text) T.encode (T.units_of text) start levels.now) (map run_of runs.now) }
 {
     let mut at = 0;
     for run in runs {
@@ -89,11 +90,11 @@ fn write_shown<T: LineText>(
     levels: &[Level],
     out: &mut [T::Unit],
 ) -> Result<(), AllocError>
-    requires is_line { IsLine T.units (T.characters text) line.start line.end }
+    requires is_line { IsLine (T.text text) line.start line.end }
     requires levels { length levels.now + line.start ≡ line.end }
     requires room { length out.old ≡ length levels.now }
-    requires runs { AreRunsOfChars T.units (T.characters text) line.start levels.now }
-    ensures text { OnOk result (out.new ≡ shown_units T.units T.encode (T.characters text) (T.units_of text) line.start levels.now) }
+    requires runs { AreRunsOfChars (T.text text) line.start levels.now }
+    ensures text { OnOk result (out.new ≡ shown_units (T.text text) T.encode (T.units_of text) line.start levels.now) }
     ensures kept { OnErr result (out.new ≡ out.old) }
 {
     let start = line.start;
@@ -133,14 +134,14 @@ pub fn write_line<T: LineText, C: ClassList, L: LevelList>(
     stored: &StoredLine<C, L>,
     out: &mut [T::Unit],
 ) -> Result<(), AllocError>
-    requires is_line { IsLine T.units (T.characters text) line.start line.end }
+    requires is_line { IsLine (T.text text) line.start line.end }
     requires valid { L.are_levels stored.now.levels }
     requires levels { length (L.numbers stored.now.levels) + line.start ≡ line.end }
     requires classes { length (C.classes stored.now.classes) ≡ length (L.numbers stored.now.levels) }
     requires room { length out.old ≡ length (L.numbers stored.now.levels) }
-    requires runs { AreRunsOfChars T.units (T.characters text) line.start
+    requires runs { AreRunsOfChars (T.text text) line.start
         (line_levels stored.now.level (C.classes stored.now.classes) (L.numbers stored.now.levels)) }
-    ensures text { OnOk result (out.new ≡ shown_units T.units T.encode (T.characters text) (T.units_of text) line.start
+    ensures text { OnOk result (out.new ≡ shown_units (T.text text) T.encode (T.units_of text) line.start
         (line_levels stored.now.level (C.classes stored.now.classes) (L.numbers stored.now.levels))) }
     ensures kept { OnErr result (out.new ≡ out.old) }
 {

@@ -1,7 +1,7 @@
 //! The levels of a line after L1, in memory that is reused for the next line.
 
 ghost use Rattle.std.specs.Prelude.{◌≡◌, ◌<◌, ◌≤◌, true, false, take, length, [], OnOk, OnErr, vec_len};
-ghost use Rattle.bidi_base.specs.Text.{text_len, per_char};
+ghost use Rattle.bidi_base.specs.Texts.{text_len, per_char};
 ghost use Rattle.bidi_base.specs.Line.{line_levels};
 ghost use Rattle.bidi_lines.specs.declared.shown_levels.TheConstants.{FEW_UNITS};
 
@@ -51,9 +51,9 @@ fn grow(levels: &mut Vec<Level>, len: usize) -> Result<(), AllocError>
 // The first `len` levels are those of the text's units.
 fn gather_front<T: TextSource>(text: T, levels: &mut [Level], len: usize) -> usize
     requires within { len ≤ length levels.old }
-    requires one_a_unit { len ≡ text_len T.units (T.characters text) }
+    requires one_a_unit { len ≡ text_len (T.text text) }
     ensures within { result ≤ len }
-    ensures gathered { take result levels.new ≡ per_char 0 T.units (T.characters text) (take len levels.old) }
+    ensures gathered { take result levels.new ≡ per_char 0 (T.text text) (take len levels.old) }
 {
     gather(text, &mut levels[..len])
 }
@@ -118,8 +118,8 @@ impl ShownLevels {
 
     /// Keeps one level for each character of the line: that of its first code unit. `text` is the line's text.
     pub fn keep_first_units<T: TextSource>(&mut self, text: T)
-        requires { length (levels_of self.old) ≡ text_len T.units (T.characters text) }
-        ensures { levels_of self.new ≡ per_char 0 T.units (T.characters text) (levels_of self.old) }
+        requires { length (levels_of self.old) ≡ text_len (T.text text) }
+        ensures { levels_of self.new ≡ per_char 0 (T.text text) (levels_of self.old) }
     {
         if self.are_many {
             self.len = gather_front(text, self.many.as_mut_slice(), self.len);

@@ -5,20 +5,19 @@ ghost use Rattle.bidi_base.specs.Analysed.{AnalysedText, IsLineOf, AreLevelsOfLi
 ghost use Rattle.bidi_base.specs.Display.{run_of, visual_runs};
 ghost use Rattle.bidi_base.specs.Levels.{has_rtl as has_rtl_of};
 ghost use Rattle.bidi_base.specs.Order.{visual_order};
-ghost use Rattle.bidi_base.specs.PerChar.{HaveClass, HaveLevel};
-ghost use Rattle.bidi_base.specs.Text.{text_len, per_char, IsLine};
+ghost use Rattle.bidi_base.specs.Texts.{per_char, text_len, HaveClass, HaveLevel, IsLine};
 ghost use Rattle.bidi_lines.specs.LineRuns.{runs as kept_runs};
 ghost use Rattle.bidi_lines.specs.ShownLevels.{levels as kept_levels};
-ghost use Rattle.bidi_lines.specs.Written.{shown_units, AreRunsOfChars};
+ghost use Rattle.bidi_lines.specs.InText.{shown_units, AreRunsOfChars};
 
 use crate::analysed::Analysed;
-use crate::line_text::{LineText, write_runs};
-use bidi_base::char_data::BidiClass;
-use bidi_base::level::{Level, has_rtl};
 use crate::line_levels::write_first_units;
+use crate::line_text::{LineText, write_runs};
 use crate::shown_levels::ShownLevels;
 use crate::visual_order::write_visual_order;
 use crate::visual_runs::LineRuns;
+use bidi_base::char_data::BidiClass;
+use bidi_base::level::{Level, has_rtl};
 use bidi_text::text::TextSource;
 use std::alloc::{AllocError, Global};
 use std::ops::Range;
@@ -33,8 +32,8 @@ fn gather_levels<T: TextSource>(
     levels: &[Level],
     of_chars: &mut Vec<Level>,
 ) -> Result<(), AllocError>
-    requires { length levels.now ≡ text_len T.units (T.characters text) }
-    ensures { OnOk result (of_chars.new.items ≡ per_char 0 T.units (T.characters text) levels.now) }
+    requires { length levels.now ≡ text_len (T.text text) }
+    ensures { OnOk result (of_chars.new.items ≡ per_char 0 (T.text text) levels.now) }
 {
     of_chars.clear();
     of_chars.extend_from_slice(levels)?;
@@ -69,10 +68,10 @@ pub struct ShownLine<T: TextSource> {
     has_rtl: bool,
     // A buffer for the levels of the line's characters.
     of_chars: Vec<Level>,
-    ghost is_line: { IsLine T.units (T.characters text) start end },
+    ghost is_line: { IsLine (T.text text) start end },
     ghost one_a_unit: { end - start ≤ length (kept_levels levels) },
     ghost runs_of_levels: { kept_runs runs ≡ visual_runs start (take (end - start) (kept_levels levels)) },
-    ghost runs_of_chars: { AreRunsOfChars T.units (T.characters text) start (take (end - start) (kept_levels levels)) },
+    ghost runs_of_chars: { AreRunsOfChars (T.text text) start (take (end - start) (kept_levels levels)) },
     ghost of_levels: { has_rtl ≡ has_rtl_of (take (end - start) (kept_levels levels)) },
 }
 
@@ -83,7 +82,7 @@ impl<T: TextSource> ShownLine<T> {
     /// Returns a value that shows the empty line at the start of a text. Does not allocate.
     pub fn of_text(alloc: Global, text: T) -> ShownLine<T>
         ensures text { text_of result ≡ text }
-        ensures shows { (a : AnalysedText) → (level : ℕ) → a.len_of ≡ T.units → a.chars ≡ T.characters text
+        ensures shows { (a : AnalysedText) → (level : ℕ) → a.len_of ≡ T.encoding.len_of → a.chars ≡ (T.text text).chars
             → Shows result a level (record { start = 0; end = 0 }) }
     {
         ShownLine {
@@ -144,12 +143,12 @@ impl<T: TextSource> ShownLine<T> {
         level: Level,
         line: Range<usize>,
     ) -> Result<(), AllocError>
-        requires line { IsLine T.units (T.characters text) line.start line.end }
-        requires classes { HaveClass T.units (T.characters text) classes.now }
-        requires levels { HaveLevel T.units (T.characters text) levels.now }
+        requires line { IsLine (T.text text) line.start line.end }
+        requires classes { HaveClass (T.text text) classes.now }
+        requires levels { HaveLevel (T.text text) levels.now }
         ensures text { text_of self.new ≡ text }
-        ensures shows { OnOk result (Shows self.new (with_lists T.units (T.characters text) classes.now levels.now) level line) }
-        ensures empty { OnErr result (Shows self.new (with_lists T.units (T.characters text) classes.now levels.now) level
+        ensures shows { OnOk result (Shows self.new (with_lists (T.text text) classes.now levels.now) level line) }
+        ensures empty { OnErr result (Shows self.new (with_lists (T.text text) classes.now levels.now) level
             (record { start = 0; end = 0 })) }
     {
         let (start, end) = (line.start, line.end);
@@ -219,7 +218,7 @@ impl<T: LineText> ShownLine<T> {
     // Writes the line's code units from left to right.
     fn write_units(&self, out: &mut [T::Unit])
         requires { length out.old ≡ length (levels_of self.now) }
-        ensures { out.new ≡ shown_units T.units T.encode (T.characters (text_of self.now)) (T.units_of (text_of self.now))
+        ensures { out.new ≡ shown_units (T.text (text_of self.now)) T.encode (T.units_of (text_of self.now))
             self.now.start (levels_of self.now) }
     {
         if self.has_rtl {
@@ -233,7 +232,7 @@ impl<T: LineText> ShownLine<T> {
     // Appends the line's code units from left to right. `blank` may be any code unit.
     fn push_units(&self, out: &mut Vec<T::Unit>, blank: T::Unit) -> Result<(), AllocError>
         ensures text { OnOk result (out.new.items ≡ out.old.items
-            ++ shown_units T.units T.encode (T.characters (text_of self.now)) (T.units_of (text_of self.now))
+            ++ shown_units (T.text (text_of self.now)) T.encode (T.units_of (text_of self.now))
             self.now.start (levels_of self.now)) }
         ensures unchanged { OnErr result (out.new.items ≡ out.old.items) }
     {

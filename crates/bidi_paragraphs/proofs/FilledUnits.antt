@@ -24,6 +24,13 @@ pub stored-is_per_char : (len_of : ℕ → ℕ) (chars : List ℕ) (class_of : �
     → IsTrue (is_per_char class_eq len_of chars classes)
 stored-is_per_char len_of chars class_of classes e = grind (arith, is_per_char-per_unit, class_test, length-stored_classes, length-map)
 
+-- there is one for each unit
+pub stored-long : (len_of : ℕ → ℕ) (chars : List ℕ) (class_of : ℕ → BidiClass) (classes : List BidiClass) → classes ≡ per_unit len_of chars (stored_classes (map class_of chars))
+    → length classes ≡ text_len len_of chars
+stored-long len_of chars class_of classes e =
+    let long = length-stored_classes (map class_of chars) ∙ length-map chars class_of in
+    ap length e ∙ length-per_unit len_of chars (stored_classes (map class_of chars)) long
+
 -- ---- what X9 removed
 
 -- of the first i units those of removed characters have their levels

@@ -1,5 +1,6 @@
 pub mod ClassSet
 pub mod FirstWalk
+pub mod InText
 pub mod Paragraph
 pub mod ParagraphFlags
 pub mod ParagraphInfo

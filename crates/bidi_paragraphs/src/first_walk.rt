@@ -4,9 +4,10 @@ ghost use Rattle.std.specs.Prelude.{◌≡◌, ℕ, ◌<◌, ◌≤◌, true, fa
 ghost use Rattle.bidi_base.specs.declared.char_data.BidiClass.{BidiClass};
 ghost use Rattle.bidi_base.specs.Paragraphs.{begins_with_line_feed, ranges_from};
 ghost use Rattle.bidi_base.specs.Stored.{text_classes, paragraph_levels};
-ghost use Rattle.bidi_base.specs.Text.{place as place_of, text_len, per_unit};
+ghost use Rattle.bidi_base.specs.Texts.{place as place_of, per_unit, text_len};
 ghost use Rattle.bidi_paragraphs.specs.ClassSet.{has};
-ghost use Rattle.bidi_paragraphs.specs.FirstWalk.{classes_after, stops_at, waiting, with_flags, AreWithin, CanRead, IsClosed, IsFresh, IsReadBy, IsReadOn, HasReadSome, StopsCounting};
+ghost use Rattle.bidi_paragraphs.specs.FirstWalk.{classes_after, stops_at, waiting, with_flags, AreWithin, IsClosed, IsFresh, IsReadBy, StopsCounting};
+ghost use Rattle.bidi_paragraphs.specs.InText.{CanRead, IsReadOn, HasReadSome};
 ghost use Rattle.bidi_paragraphs.specs.declared.first_walk.paragraph_state.ParagraphState.{ParagraphState};
 ghost use Rattle.bidi_paragraphs.specs.ParagraphInfo.{ranges_of, levels_of};
 ghost use Rattle.bidi_paragraphs.specs.ParagraphFlags.{paragraph_flags};
@@ -155,8 +156,8 @@ fn read_some<D: BidiDataSource, T: TextSource>(
     progress: &mut Progress,
     stop_classes: ClassSet,
 ) -> Option<Stop>
-    requires { CanRead T.units (T.characters text) progress.old.at classes.old }
-    ensures { HasReadSome (D.source data_source.now) T.units (T.characters text) (has stop_classes) progress.old result
+    requires { CanRead (T.text text) progress.old.at classes.old }
+    ensures { HasReadSome (T.text text) (D.source data_source.now) (has stop_classes) progress.old result
         progress.new classes.old classes.new }
 {
     if let Some(stop) = skim(data_source, text, classes, progress, stop_classes) {
@@ -174,10 +175,10 @@ fn seek_stop<D: BidiDataSource, T: TextSource>(
     progress: &mut Progress,
     stop_classes: ClassSet,
 ) -> Option<Stop>
-    requires { CanRead T.units (T.characters text) progress.old.at classes.old }
-    ensures stop { IsReadOn (D.source data_source.now) T.units (T.characters text) (has stop_classes) progress.old
+    requires { CanRead (T.text text) progress.old.at classes.old }
+    ensures stop { IsReadOn (T.text text) (D.source data_source.now) (has stop_classes) progress.old
         result progress.new classes.old classes.new }
-    ensures end { result ≡ None → progress.new.at ≡ text_len T.units (T.characters text) }
+    ensures end { result ≡ None → progress.new.at ≡ text_len (T.text text) }
 {
     while progress.at < classes.len() {
         if let Some(stop) = read_some(data_source, text, classes, progress, stop_classes) {
@@ -206,10 +207,10 @@ fn next_stop<D: BidiDataSource, T: TextSource>(
     state: &mut ParagraphState,
     near: bool,
 ) -> Option<Stop>
-    requires { CanRead T.units (T.characters text) from classes.old }
-    ensures stop { IsReadOn (D.source data_source.now) T.units (T.characters text) (stops_at state.old)
+    requires { CanRead (T.text text) from classes.old }
+    ensures stop { IsReadOn (T.text text) (D.source data_source.now) (stops_at state.old)
         (record { at = from; flags = state.old.flags }) result
-        (record { at = text_len T.units (T.characters text); flags = state.new.flags }) classes.old classes.new }
+        (record { at = text_len (T.text text); flags = state.new.flags }) classes.old classes.new }
     ensures kept { state.new ≡ with_flags state.old state.new.flags }
 {
     if near && T::READS_IN_PLACE && classes.len() - from >= AT_ONCE {
@@ -248,8 +249,8 @@ fn goes_on_with_line_feed<D: BidiDataSource, T: TextSource>(
     text: T,
     place: usize,
 ) -> bool
-    ensures { (n : ℕ) → place ≡ place_of T.units (T.characters text) n
-        → result ≡ begins_with_line_feed (D.source data_source.now) (drop n (T.characters text)) }
+    ensures { (n : ℕ) → place ≡ place_of (T.text text) n
+        → result ≡ begins_with_line_feed (D.source data_source.now) (drop n (T.text text).chars) }
 {
     match text.char_at(place) {
         Some((c, _)) => c == '\n' && is_paragraph_separator(data_source.bidi_class(c)),
@@ -267,8 +268,8 @@ fn ends_paragraph<D: BidiDataSource, T: TextSource>(
     end: usize,
 ) -> bool
     requires { class ≡ (D.source data_source.now).class_of c }
-    ensures { (n : ℕ) → end ≡ place_of T.units (T.characters text) n
-        → result ≡ ends_after split (D.source data_source.now) c (drop n (T.characters text)) }
+    ensures { (n : ℕ) → end ≡ place_of (T.text text) n
+        → result ≡ ends_after split (D.source data_source.now) c (drop n (T.text text).chars) }
 {
     match split {
         None => false,
@@ -297,15 +298,15 @@ pub fn walk<D: BidiDataSource, T: TextSource>(
     classes: &mut [BidiClass],
     memory: FoundParagraphs,
 ) -> Result<FoundParagraphs, AllocError>
-    requires { length classes.old ≡ text_len T.units (T.characters text) }
-    ensures classes { let pieces = pieces_by split (D.source data_source.now) (T.characters text) in
+    requires { length classes.old ≡ text_len (T.text text) }
+    ensures classes { let pieces = pieces_by split (D.source data_source.now) (T.text text).chars in
         OnOk result (classes.new
-        ≡ per_unit T.units (T.characters text) (text_classes (D.source data_source.now) pieces)) }
-    ensures ranges { let pieces = pieces_by split (D.source data_source.now) (T.characters text) in
-        IfOk result (λ i. ranges_of i.paragraphs.items ≡ ranges_from T.units 0 pieces) }
-    ensures levels { let pieces = pieces_by split (D.source data_source.now) (T.characters text) in
+        ≡ per_unit (T.text text) (text_classes (D.source data_source.now) pieces)) }
+    ensures ranges { let pieces = pieces_by split (D.source data_source.now) (T.text text).chars in
+        IfOk result (λ i. ranges_of i.paragraphs.items ≡ ranges_from T.encoding.len_of 0 pieces) }
+    ensures levels { let pieces = pieces_by split (D.source data_source.now) (T.text text).chars in
         IfOk result (λ i. levels_of i.paragraphs.items ≡ paragraph_levels (D.source data_source.now) base pieces) }
-    ensures flags { let pieces = pieces_by split (D.source data_source.now) (T.characters text) in
+    ensures flags { let pieces = pieces_by split (D.source data_source.now) (T.text text).chars in
         IfOk result (λ i. i.flags.items ≡ paragraph_flags (D.source data_source.now) pieces) }
 {
     let mut walk = TextState::new(base, memory);

@@ -8,9 +8,9 @@ ghost use Rattle.bidi_base.specs.Classes.{is_removed};
 ghost use Rattle.bidi_base.specs.Isolates.{stored_classes};
 ghost use Rattle.bidi_base.specs.Sequences.{is_kept_at, sequences};
 ghost use Rattle.bidi_base.specs.Stored.{levels_in};
-ghost use Rattle.bidi_base.specs.Text.{text_len, per_unit, per_char};
-ghost use Rattle.bidi_base.specs.Units.{AreLines};
-ghost use Rattle.bidi_explicit.specs.Links.{linked_runs, linked_sequences, sequences_of, AreLinked};
+ghost use Rattle.bidi_base.specs.Texts.{per_char, per_unit, text_len, AreLines};
+ghost use Rattle.bidi_explicit.specs.InText.{sequences_of};
+ghost use Rattle.bidi_explicit.specs.Links.{linked_runs, linked_sequences, AreLinked};
 ghost use Rattle.bidi_paragraphs.specs.Written.{IsWritten};
 ghost use Rattle.bidi_paragraphs.specs.ParagraphFlags.{flags_of};
 
@@ -54,10 +54,10 @@ pub struct ClassifiedParagraph<'a, D: BidiDataSource, T: TextSource> {
     /// The stored classes (X5c) of its text, one for each code unit.
     pub original_classes: &'a [BidiClass],
     ghost low: { level ≤ 125 },
-    ghost own_flags: { flags ≡ flags_of (map (D.source data_source.now).class_of (T.characters text)) },
+    ghost own_flags: { flags ≡ flags_of (map (D.source data_source.now).class_of (T.text text).chars) },
     ghost stored: { original_classes.now
-        ≡ per_unit T.units (T.characters text)
-        (stored_classes (map (D.source data_source.now).class_of (T.characters text))) },
+        ≡ per_unit (T.text text)
+        (stored_classes (map (D.source data_source.now).class_of (T.text text).chars)) },
 }
 
 /// Finds the levels (X1 to I2) of one paragraph after another, and reuses the memory of its lists for each.
@@ -93,21 +93,21 @@ impl LevelResolver {
         steps: &mut Steps<S>,
     ) -> Result<(), AllocError>
         requires { length levels.old ≡ length paragraph.now.original_classes.now }
-        ensures levels { let stored = per_char L T.units (T.characters paragraph.now.text)
+        ensures levels { let stored = per_char L (T.text paragraph.now.text)
             paragraph.now.original_classes.now in
             OnOk result (levels.new
-            ≡ per_unit T.units (T.characters paragraph.now.text) (explicit_levels paragraph.now.level stored)) }
-        ensures classes { let stored = per_char L T.units (T.characters paragraph.now.text)
+            ≡ per_unit (T.text paragraph.now.text) (explicit_levels paragraph.now.level stored)) }
+        ensures classes { let stored = per_char L (T.text paragraph.now.text)
             paragraph.now.original_classes.now in
             OnOk result (self.new.classes.items
-            ≡ per_unit T.units (T.characters paragraph.now.text)
+            ≡ per_unit (T.text paragraph.now.text)
             (processing_classes paragraph.now.level stored)) }
-        ensures sequences { let stored = per_char L T.units (T.characters paragraph.now.text)
+        ensures sequences { let stored = per_char L (T.text paragraph.now.text)
             paragraph.now.original_classes.now in
-            OnOk result (sequences_of T.units (T.characters paragraph.now.text) stored
+            OnOk result (sequences_of (T.text paragraph.now.text) stored
             (linked_sequences self.new.links (linked_runs self.new.links self.new.runs.items))
             ≡ sequences paragraph.now.level stored (explicit_levels paragraph.now.level stored)) }
-        ensures fits { OnOk result (All (λ s. AreLines T.units (T.characters paragraph.now.text) s.runs)
+        ensures fits { OnOk result (All (λ s. AreLines (T.text paragraph.now.text) s.runs)
             (linked_sequences self.new.links (linked_runs self.new.links self.new.runs.items))) }
         ensures linked { OnOk result (AreLinked self.new.links (linked_runs self.new.links self.new.runs.items)) }
     {
@@ -165,7 +165,7 @@ impl LevelResolver {
     ) -> Result<(), AllocError>
         requires long { IsOneAUnit paragraph.now levels.old }
         requires some { 0 < length levels.old }
-        requires flat { is_flat (map (D.source paragraph.now.data_source.now).class_of (T.characters paragraph.now.text)) ≡ true }
+        requires flat { is_flat (map (D.source paragraph.now.data_source.now).class_of (T.text paragraph.now.text).chars) ≡ true }
         ensures per_char { OnOk result (HaveCharLevels paragraph.now levels.new) }
         ensures resolved { OnOk result (AreOfRules paragraph.now levels.new) }
     {
@@ -281,10 +281,10 @@ impl LevelResolver {
         paragraph: &ClassifiedParagraph<D, T>,
         levels: &mut [Level],
     ) -> Result<(), AllocError>
-        requires { length levels.old ≡ text_len T.units (T.characters paragraph.now.text) }
+        requires { length levels.old ≡ text_len (T.text paragraph.now.text) }
         ensures { let source = D.source paragraph.now.data_source.now in let text = paragraph.now.text in
-            OnOk result (levels.new ≡ per_unit T.units (T.characters text)
-            (levels_in paragraph.now.level (map source.class_of (T.characters text)) (map source.bracket_of (T.characters text)))) }
+            OnOk result (levels.new ≡ per_unit (T.text text)
+            (levels_in paragraph.now.level (map source.class_of (T.text text).chars) (map source.bracket_of (T.text text).chars))) }
     {
         if paragraph.flags.keeps_to(paragraph.level) {
             levels.fill(paragraph.level);

@@ -1,3 +1,4 @@
+pub mod InText
 pub mod JoinPass
 pub mod NeutralPass
 pub mod PairWalk

@@ -5,12 +5,13 @@
 
 ghost use Rattle.std.specs.Prelude.{◌≡◌, List, ◌∷◌, ◌++◌, [], length, map, OnOk};
 ghost use Rattle.bidi_base.specs.FoundBrackets.{brackets_from};
-ghost use Rattle.bidi_base.specs.InPlace.{AreNeutralsResolved, AreNeutralsResolvedUpToN1, CanResolveNeutrals, IsDoneOrUnchanged};
+ghost use Rattle.bidi_base.specs.InPlace.{IsDoneOrUnchanged};
+ghost use Rattle.bidi_base.specs.Texts.{kept_in_place, text_len, AreLines, AreNeutralsResolved, AreNeutralsResolvedUpToN1, CanResolveNeutrals, IsLine};
 ghost use Rattle.bidi_base.specs.PairSearch.{HasRead};
-ghost use Rattle.bidi_base.specs.Text.{text_len, IsLine};
-ghost use Rattle.bidi_base.specs.Units.{bounds, kept_in_place, AreLines};
+ghost use Rattle.bidi_base.specs.Units.{bounds};
 ghost use Rattle.bidi_base.specs.declared.brackets.Bracket.{Bracket};
-ghost use Rattle.bidi_rules.specs.NeutralPass.{placed_brackets, HasGatheredNothing};
+ghost use Rattle.bidi_rules.specs.NeutralPass.{HasGatheredNothing};
+ghost use Rattle.bidi_rules.specs.InText.{placed_brackets};
 ghost use Rattle.bidi_explicit.specs.RunSequence.{lent_runs, lent_sos, lent_eos, runs as runs_of, sos as sos_of, eos as eos_of};
 
 mod class_tests;
@@ -62,9 +63,9 @@ impl NeutralResolver {
         original_classes: &[BidiClass],
         processing_classes: &mut [BidiClass],
     ) -> Result<(), AllocError>
-        requires { CanResolveNeutrals T.units (T.characters text) (map bounds (runs_of sequence.now)) levels.now
+        requires { CanResolveNeutrals (T.text text) (map bounds (runs_of sequence.now)) levels.now
             original_classes.now processing_classes.old }
-        ensures { IsDoneOrUnchanged result (AreNeutralsResolved T.units (T.characters text) (D.source data_source.now)
+        ensures { IsDoneOrUnchanged result (AreNeutralsResolved (T.text text) (D.source data_source.now)
             (map bounds (runs_of sequence.now)) (sos_of sequence.now) (eos_of sequence.now) levels.now
             original_classes.now processing_classes.old processing_classes.new)
             processing_classes.old processing_classes.new }
@@ -93,11 +94,11 @@ impl NeutralResolver {
         runs: &[LevelRun],
         classes: &[BidiClass],
     ) -> Result<(), AllocError>
-        requires lines { AreLines T.units (T.characters text) (map bounds runs.now) }
-        requires long { length classes.now ≡ text_len T.units (T.characters text) }
-        ensures { OnOk result (HasRead self.new.search (placed_brackets T.units (T.characters text)
+        requires lines { AreLines (T.text text) (map bounds runs.now) }
+        requires long { length classes.now ≡ text_len (T.text text) }
+        ensures { OnOk result (HasRead self.new.search (placed_brackets (T.text text)
             (D.source data_source.now) classes.now
-            (kept_in_place T.units (T.characters text) classes.now (map bounds runs.now)))) }
+            (kept_in_place (T.text text) classes.now (map bounds runs.now)))) }
     {
         self.search.clear();
         for run in runs {
@@ -114,13 +115,13 @@ impl NeutralResolver {
         run: &LevelRun,
         classes: &[BidiClass],
     ) -> Result<(), AllocError>
-        requires line { IsLine T.units (T.characters text) run.now.start run.now.end }
-        requires long { length classes.now ≡ text_len T.units (T.characters text) }
+        requires line { IsLine (T.text text) run.now.start run.now.end }
+        requires long { length classes.now ≡ text_len (T.text text) }
         requires read { (before : List Bracket) × HasRead self.old.search before }
         ensures { (before : List Bracket) → HasRead self.old.search before
             → OnOk result (HasRead self.new.search (before
-            ++ placed_brackets T.units (T.characters text) (D.source data_source.now) classes.now
-            (kept_in_place T.units (T.characters text) classes.now (bounds run.now ∷ [])))) }
+            ++ placed_brackets (T.text text) (D.source data_source.now) classes.now
+            (kept_in_place (T.text text) classes.now (bounds run.now ∷ [])))) }
     {
         let end = run.end;
         let neutrals = Among {
@@ -174,9 +175,9 @@ pub fn resolve_up_to_n1<D: BidiDataSource, T: TextSource>(
     sequence: LentSequence<'_>,
     processing_classes: &mut [BidiClass],
 ) -> Result<(), AllocError>
-    requires { CanResolveNeutrals T.units (T.characters leveled.now.text) (map bounds (lent_runs sequence))
+    requires { CanResolveNeutrals (T.text leveled.now.text) (map bounds (lent_runs sequence))
         leveled.now.levels.now leveled.now.original_classes.now processing_classes.old }
-    ensures { IsDoneOrUnchanged result (AreNeutralsResolvedUpToN1 T.units (T.characters leveled.now.text)
+    ensures { IsDoneOrUnchanged result (AreNeutralsResolvedUpToN1 (T.text leveled.now.text)
         (D.source data_source.now) (map bounds (lent_runs sequence.entry)) (lent_sos sequence.entry)
         (lent_eos sequence.entry) leveled.now.levels.now leveled.now.original_classes.now processing_classes.old
         processing_classes.new)
@@ -235,9 +236,9 @@ pub fn resolve_neutral<D: BidiDataSource, T: TextSource>(
     original_classes: &[BidiClass],
     processing_classes: &mut [BidiClass],
 ) -> Result<(), AllocError>
-    requires { CanResolveNeutrals T.units (T.characters text) (map bounds (runs_of sequence.now)) levels.now
+    requires { CanResolveNeutrals (T.text text) (map bounds (runs_of sequence.now)) levels.now
         original_classes.now processing_classes.old }
-    ensures { IsDoneOrUnchanged result (AreNeutralsResolved T.units (T.characters text) (D.source data_source.now)
+    ensures { IsDoneOrUnchanged result (AreNeutralsResolved (T.text text) (D.source data_source.now)
         (map bounds (runs_of sequence.now)) (sos_of sequence.now) (eos_of sequence.now) levels.now
         original_classes.now processing_classes.old processing_classes.new)
         processing_classes.old processing_classes.new }

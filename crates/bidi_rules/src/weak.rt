@@ -3,14 +3,14 @@
 ghost use Rattle.std.specs.Prelude.{◌≡◌, ◌+◌, ◌*◌, ◌≤◌, List, length, map, IsTrue};
 ghost use Rattle.std.specs.List.{list_any};
 ghost use Rattle.bidi_base.specs.Classes.{is_l_or_r};
-ghost use Rattle.bidi_base.specs.InPlace.{AreWeakTypesResolved, CanResolveWeakTypes};
-ghost use Rattle.bidi_base.specs.Text.{IsPerChar};
-ghost use Rattle.bidi_base.specs.Units.{bounds, are_ordered, chars_in_runs, units_in_runs, AreLines};
+ghost use Rattle.bidi_base.specs.Texts.{chars_in_runs, AreLines, AreWeakTypesResolved, CanResolveWeakTypes, IsPerChar};
+ghost use Rattle.bidi_base.specs.Units.{bounds, are_ordered, units_in_runs};
 ghost use Rattle.bidi_base.specs.Weak.{carried};
 ghost use Rattle.bidi_base.specs.declared.char_data.BidiClass.{BidiClass};
 ghost use Rattle.bidi_explicit.specs.RunSequence.{runs as runs_of, sos as sos_of};
 ghost use Rattle.bidi_rules.specs.WeakPass.{is_mark_or_number};
-ghost use Rattle.bidi_rules.specs.WeakWalk.{char_count_of, is_any_of, is_any_wide, len_at, part_of, unit_count_of, wide_part_of, CanResolveWeak, IsMarked, IsWalked, IsWeakResolved};
+ghost use Rattle.bidi_rules.specs.WeakWalk.{is_any_of, is_any_wide, part_of, unit_count_of, wide_part_of, IsMarked, IsWalked};
+ghost use Rattle.bidi_rules.specs.InText.{char_count_of, len_at, CanResolveWeak, IsWeakResolved};
 
 mod before;
 mod w1;
@@ -47,8 +47,8 @@ pub fn resolve_weak<T: TextSource>(
     sequence: &IsolatingRunSequence,
     processing_classes: &mut [BidiClass],
 )
-    requires { CanResolveWeakTypes T.units (T.characters text) (map bounds (runs_of sequence.now)) processing_classes.old }
-    ensures { AreWeakTypesResolved T.units (T.characters text) (map bounds (runs_of sequence.now))
+    requires { CanResolveWeakTypes (T.text text) (map bounds (runs_of sequence.now)) processing_classes.old }
+    ensures { AreWeakTypesResolved (T.text text) (map bounds (runs_of sequence.now))
         (sos_of sequence.now) processing_classes.old processing_classes.new }
 {
     resolve_weak_with_new_count::<T, Brand>(text, sequence, processing_classes, Blank::new(1))
@@ -61,11 +61,11 @@ fn resolve_weak_with_new_count<T: TextSource, S: Ledger>(
     processing_classes: &mut [BidiClass],
     blank: Blank,
 )
-    requires sequence { CanResolveWeakTypes T.units (T.characters text) (map bounds (runs_of sequence.now)) processing_classes.old }
+    requires sequence { CanResolveWeakTypes (T.text text) (map bounds (runs_of sequence.now)) processing_classes.old }
     requires name { blank.name ≡ S.name }
     requires parts { blank.parts ≡ S.parts }
     requires one { blank.parts ≡ 1 }
-    ensures { AreWeakTypesResolved T.units (T.characters text) (map bounds (runs_of sequence.now))
+    ensures { AreWeakTypesResolved (T.text text) (map bounds (runs_of sequence.now))
         (sos_of sequence.now) processing_classes.old processing_classes.new }
 {
     let mut steps = Steps::<S>::new(blank);
@@ -85,11 +85,11 @@ pub fn resolve_weak_counted<T: TextSource, S: Ledger>(
     processing_classes: &mut [BidiClass],
     steps: &mut Steps<S>,
 )
-    requires { CanResolveWeakTypes T.units (T.characters text) (map bounds (runs_of sequence.now)) processing_classes.old }
-    ensures resolved { AreWeakTypesResolved T.units (T.characters text) (map bounds (runs_of sequence.now))
+    requires { CanResolveWeakTypes (T.text text) (map bounds (runs_of sequence.now)) processing_classes.old }
+    ensures resolved { AreWeakTypesResolved (T.text text) (map bounds (runs_of sequence.now))
         (sos_of sequence.now) processing_classes.old processing_classes.new }
     ensures at_least { steps.old
-        + length (chars_in_runs T.units (T.characters text) (map bounds (runs_of sequence.now)))
+        + length (chars_in_runs (T.text text) (map bounds (runs_of sequence.now)))
         ≤ steps.new }
     ensures at_most { steps.new ≤ steps.old + 8 * length (units_in_runs (map bounds (runs_of sequence.now))) }
 {
@@ -103,9 +103,9 @@ pub fn resolve_weak_lent_counted<T: TextSource, S: Ledger>(
     processing_classes: &mut [BidiClass],
     steps: &mut Steps<S>,
 )
-    requires { CanResolveWeak T.units (T.characters text) sequence processing_classes.old }
-    ensures resolved { IsWeakResolved T.units (T.characters text) sequence.entry processing_classes.old processing_classes.new }
-    ensures at_least { steps.old + char_count_of T.units (T.characters text) sequence.entry ≤ steps.new }
+    requires { CanResolveWeak (T.text text) sequence processing_classes.old }
+    ensures resolved { IsWeakResolved (T.text text) sequence.entry processing_classes.old processing_classes.new }
+    ensures at_least { steps.old + char_count_of (T.text text) sequence.entry ≤ steps.new }
     ensures at_most { steps.new ≤ steps.old + 8 * unit_count_of sequence.entry }
 {
     let runs = sequence.runs();
@@ -123,11 +123,11 @@ fn resolve_marks_and_numbers<T: TextSource, S: Ledger>(
     steps: &mut Steps<S>,
 )
     requires ordered { IsTrue (are_ordered (map bounds runs.now)) }
-    requires lines { AreLines T.units (T.characters text) (map bounds runs.now) }
-    requires per_char { IsPerChar T.units (T.characters text) classes.old }
+    requires lines { AreLines (T.text text) (map bounds runs.now) }
+    requires per_char { IsPerChar (T.text text) classes.old }
     requires sos { IsTrue (is_l_or_r sos) }
     ensures walked { (marked : List BidiClass) × IsMarked (map bounds runs.now) (carried sos) classes.old marked
-        × IsWalked (len_at T.units (T.characters text)) (map bounds runs.now) sos marked classes.new }
+        × IsWalked (len_at (T.text text)) (map bounds runs.now) sos marked classes.new }
     ensures at_least { steps.old ≤ steps.new }
     ensures at_most { steps.new ≤ steps.old + 6 * length (units_in_runs (map bounds runs.now)) }
 {

@@ -6,6 +6,7 @@ use Rattle.bidi_base.specs.Isolates.{stored_classes}
 use Rattle.bidi_base.specs.Source.{Source}
 use Rattle.bidi_base.specs.Stored.{levels_in}
 use Rattle.bidi_base.specs.Text.{subrange, per_unit, IsLine}
+use Rattle.bidi_base.specs.Texts.{Encoding, Text}
 use Rattle.bidi_lines.specs.Analysed.{with_lists}
 use Rattle.bidi_paragraphs.specs.ParagraphFlags.{flags_of}
 use Rattle.unicode_bidi.specs.declared.engine.Analyser.{Analyser}
@@ -35,9 +36,9 @@ found_paragraphs a = a.found.paragraphs.items
 abbrev pub found_flags : Analyser → List ParagraphFlags
 found_flags a = a.found.flags.items
 
--- a text of these characters, with what was found
-abbrev pub with_analysis : (ℕ → ℕ) → List ℕ → Analysis → AnalysedText
-with_analysis len_of chars a = with_lists len_of chars (original_classes a) (levels a)
+-- a text with what was found
+abbrev pub with_analysis : {e : Encoding} → Text e → Analysis → AnalysedText
+with_analysis text a = with_lists text (original_classes a) (levels a)
 
 -- the characters of a paragraph
 abbrev pub chars_of : (ℕ → ℕ) → List ℕ → ParagraphInfo → List ℕ

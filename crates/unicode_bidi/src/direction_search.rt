@@ -3,7 +3,7 @@ ghost use Rattle.std.specs.Prelude.{◌≡◌, ◌+◌, ◌-◌, ◌<◌, ◌^�
 ghost use Rattle.bidi_base.specs.Classes.{is_initiator, is_pdi};
 ghost use Rattle.bidi_base.specs.Direction.{direction_by, base_direction, full_base_direction};
 ghost use Rattle.bidi_base.specs.Paragraphs.{paragraphs_of, each_separator};
-ghost use Rattle.bidi_base.specs.Text.{text_len};
+ghost use Rattle.bidi_base.specs.Texts.{text_len};
 ghost use Rattle.unicode_bidi.specs.DirectionSearch.{IsSearched, direction_found};
 
 use bidi_base::char_data::{BidiClass, Direction};
@@ -79,12 +79,12 @@ pub fn search_direction<D: BidiDataSource, T: TextSource>(
     depth: usize,
     full: bool,
 ) -> DirectionSearch
-    requires { depth + text_len T.units (T.characters text) < 2 ^ 64 }
-    ensures search { IsSearched full depth (map (D.source data_source.now).class_of (T.characters text)) result }
+    requires { depth + text_len (T.text text) < 2 ^ 64 }
+    ensures search { IsSearched full depth (map (D.source data_source.now).class_of (T.text text).chars) result }
 
     // At the front of a text, this is its base direction.
     ensures direction { let classes = map (map (D.source data_source.now).class_of)
-        (paragraphs_of (each_separator (D.source data_source.now)) (T.characters text)) in
+        (paragraphs_of (each_separator (D.source data_source.now)) (T.text text).chars) in
         depth ≡ 0
         → direction_found result ≡ (if full then full_base_direction classes else base_direction classes) }
 {

@@ -4,9 +4,9 @@ ghost use Rattle.std.specs.Prelude.{◌≡◌, [], ◌≤◌, ◌++◌, length, 
 ghost use Rattle.bidi_base.specs.Analysed.{IsPerCharText, AreLevelsWithLine};
 ghost use Rattle.bidi_base.specs.Laws.{AreLevelsFrom};
 ghost use Rattle.bidi_base.specs.Line.{levels_with_line as levels_with_line_of};
-ghost use Rattle.bidi_base.specs.PerChar.{HaveClass, HaveLevel};
+ghost use Rattle.bidi_base.specs.Texts.{char_index, per_char, text_len, HaveClass, HaveLevel, IsLine};
 ghost use Rattle.bidi_base.specs.declared.char_data.BidiClass.TheVariants.{L};
-ghost use Rattle.bidi_base.specs.Text.{text_len, is_per_char, per_char, char_index, IsLine};
+ghost use Rattle.bidi_base.specs.Text.{is_per_char};
 ghost use Rattle.bidi_lines.specs.Analysed.{with_lists};
 ghost use Rattle.unicode_bidi.specs.Analysed.{IsAnalysed, IsAnalysedBy};
 ghost use Rattle.unicode_bidi.specs.Engine.{with_analysis, found_paragraphs, found_flags, original_classes as original_classes_of, levels as stored_levels_of, paragraphs as paragraphs_of_analysis, flags as flags_of_analysis, unit_levels, own_flags, CanWrite, Follow};
@@ -74,7 +74,7 @@ struct ClassifiedText<'a, D: BidiDataSource, T: TextSource> {
     text: T,
     // One for each code unit.
     original_classes: &'a [BidiClass],
-    ghost long: { length original_classes.now ≡ text_len T.units (T.characters text) },
+    ghost long: { length original_classes.now ≡ text_len (T.text text) },
 }
 
 // Writes the stored levels of one paragraph. `levels` has those of the whole text.
@@ -85,13 +85,13 @@ fn write_paragraph<D: BidiDataSource, T: TextSource>(
     flags: ParagraphFlags,
     levels: &mut [Level],
 ) -> Result<(), AllocError>
-    requires paragraph { CanWrite (D.source text.now.data_source.now) T.units (T.characters text.now.text)
+    requires paragraph { CanWrite (D.source text.now.data_source.now) T.encoding.len_of (T.text text.now.text).chars
         text.now.original_classes.now paragraph.now }
-    requires flags { flags ≡ own_flags (D.source text.now.data_source.now) T.units (T.characters text.now.text) paragraph.now }
-    requires levels { length levels.old ≡ text_len T.units (T.characters text.now.text) }
+    requires flags { flags ≡ own_flags (D.source text.now.data_source.now) T.encoding.len_of (T.text text.now.text).chars paragraph.now }
+    requires levels { length levels.old ≡ text_len (T.text text.now.text) }
     ensures { OnOk result (levels.new
         ≡ take paragraph.now.range.start levels.old
-        ++ (unit_levels (D.source text.now.data_source.now) T.units (T.characters text.now.text) paragraph.now
+        ++ (unit_levels (D.source text.now.data_source.now) T.encoding.len_of (T.text text.now.text).chars paragraph.now
         ++ drop paragraph.now.range.end levels.old)) }
 {
     let units = paragraph.range();
@@ -115,15 +115,15 @@ fn write_paragraphs<D: BidiDataSource, T: TextSource>(
     levels: &mut [Level],
 ) -> Result<(), AllocError>
     requires paragraphs { All
-        (CanWrite (D.source text.now.data_source.now) T.units (T.characters text.now.text)
+        (CanWrite (D.source text.now.data_source.now) T.encoding.len_of (T.text text.now.text).chars
         text.now.original_classes.now)
         paragraphs.now }
     requires flags { flags.now
-        ≡ map (own_flags (D.source text.now.data_source.now) T.units (T.characters text.now.text)) paragraphs.now }
-    requires follow { Follow 0 (text_len T.units (T.characters text.now.text)) paragraphs.now }
-    requires levels { length levels.old ≡ text_len T.units (T.characters text.now.text) }
+        ≡ map (own_flags (D.source text.now.data_source.now) T.encoding.len_of (T.text text.now.text).chars) paragraphs.now }
+    requires follow { Follow 0 (text_len (T.text text.now.text)) paragraphs.now }
+    requires levels { length levels.old ≡ text_len (T.text text.now.text) }
     ensures { OnOk result (levels.new
-        ≡ flat_map (unit_levels (D.source text.now.data_source.now) T.units (T.characters text.now.text))
+        ≡ flat_map (unit_levels (D.source text.now.data_source.now) T.encoding.len_of (T.text text.now.text).chars)
         paragraphs.now) }
 {
     for (index, paragraph) in paragraphs.iter().enumerate() {
@@ -190,15 +190,15 @@ impl Analyser {
         levels: &mut [Level],
     ) -> Result<(), AllocError>
         requires low { IfSome base (λ level. level ≤ 125) }
-        requires class_room { length classes.old ≡ text_len T.units (T.characters text) }
-        requires level_room { length levels.old ≡ text_len T.units (T.characters text) }
+        requires class_room { length classes.old ≡ text_len (T.text text) }
+        requires level_room { length levels.old ≡ text_len (T.text text) }
         ensures analysis { OnOk result (IsAnalysisBy (D.source data_source.now) base rule
-            (with_lists T.units (T.characters text) classes.new levels.new) (ranges_of (found_paragraphs self.new))
+            (with_lists (T.text text) classes.new levels.new) (ranges_of (found_paragraphs self.new))
             (levels_of (found_paragraphs self.new))) }
-        ensures per_char { OnOk result (IsPerCharText (with_lists T.units (T.characters text) classes.new levels.new)) }
+        ensures per_char { OnOk result (IsPerCharText (with_lists (T.text text) classes.new levels.new)) }
         ensures bounded { OnOk result (All (λ p. AreLevelsFrom (level_of p)
             (slice_range levels.new (range_of p).start (range_of p).end)) (found_paragraphs self.new)) }
-        ensures flags { let pieces = pieces_by rule (D.source data_source.now) (T.characters text) in
+        ensures flags { let pieces = pieces_by rule (D.source data_source.now) (T.text text).chars in
             OnOk result (found_flags self.new ≡ paragraph_flags (D.source data_source.now) pieces) }
         ensures none { OnErr result (found_paragraphs self.new ≡ []) }
         ensures no_flags { OnErr result (found_flags self.new ≡ []) }
@@ -233,8 +233,8 @@ pub(crate) fn analyse_by<D: BidiDataSource, T: TextSource>(
 ) -> Result<Analysis, AllocError>
     requires { IfSome base (λ level. level ≤ 125) }
     ensures analysed { IfOk result (λ a. IsAnalysedBy (D.source data_source.now) base split
-        (with_analysis T.units (T.characters text) a) (paragraphs_of_analysis a)) }
-    ensures flags { let pieces = pieces_by split (D.source data_source.now) (T.characters text) in
+        (with_analysis (T.text text) a) (paragraphs_of_analysis a)) }
+    ensures flags { let pieces = pieces_by split (D.source data_source.now) (T.text text).chars in
         IfOk result (λ a. flags_of_analysis a ≡ paragraph_flags (D.source data_source.now) pieces) }
 {
     let mut original_classes = vec![in alloc; BidiClass::L; text.len()]?;
@@ -272,7 +272,7 @@ pub fn analyse<D: BidiDataSource, T: TextSource>(
 ) -> Result<Analysis, AllocError>
     requires { IfSome base (λ level. level ≤ 125) }
     ensures { IfOk result (λ a. IsAnalysed (D.source data_source.now) base split
-        (with_analysis T.units (T.characters text) a) (paragraphs_of_analysis a)) }
+        (with_analysis (T.text text) a) (paragraphs_of_analysis a)) }
 {
     let split = split.then_some(SplitRule::EachSeparator);
     analyse_by(alloc, data_source, text, base, split)
@@ -293,7 +293,7 @@ pub fn analyse_with_rule<D: BidiDataSource, T: TextSource>(
 ) -> Result<Analysis, AllocError>
     requires { IfSome base (λ level. level ≤ 125) }
     ensures { IfOk result (λ a. IsAnalysedBy (D.source data_source.now) base rule
-        (with_analysis T.units (T.characters text) a) (paragraphs_of_analysis a)) }
+        (with_analysis (T.text text) a) (paragraphs_of_analysis a)) }
 {
     analyse_by(alloc, data_source, text, base, rule)
 }
@@ -309,20 +309,19 @@ pub fn line_levels<T: TextSource>(
     level: Level,
     line: Range<usize>,
 ) -> Result<Vec<Level>, AllocError>
-    requires is_line { IsLine T.units (T.characters text) line.start line.end }
-    requires classes { HaveClass T.units (T.characters text) (original_classes_of analysis.now) }
-    requires levels { HaveLevel T.units (T.characters text) (stored_levels_of analysis.now) }
-    ensures levels { IfOk result (λ v. AreLevelsWithLine (with_analysis T.units (T.characters text) analysis.now)
+    requires is_line { IsLine (T.text text) line.start line.end }
+    requires classes { HaveClass (T.text text) (original_classes_of analysis.now) }
+    requires levels { HaveLevel (T.text text) (stored_levels_of analysis.now) }
+    ensures levels { IfOk result (λ v. AreLevelsWithLine (with_analysis (T.text text) analysis.now)
         level line v.items) }
 
     // The levels of the characters depend only on the classes and levels of the characters, on `level`, and on the line
     // counted in characters. So corresponding lines of two texts with the same characters have the same levels for each
     // character, and the same order.
-    ensures by_characters { let chars = T.characters text in
-        IfOk result (λ v. per_char 0 T.units chars v.items
-        ≡ levels_with_line_of level (per_char L T.units chars (original_classes_of analysis.now))
-        (per_char 0 T.units chars (stored_levels_of analysis.now)) (char_index T.units chars line.start)
-        (char_index T.units chars line.end)) }
+    ensures by_characters { IfOk result (λ v. per_char 0 (T.text text) v.items
+        ≡ levels_with_line_of level (per_char L (T.text text) (original_classes_of analysis.now))
+        (per_char 0 (T.text text) (stored_levels_of analysis.now)) (char_index (T.text text) line.start)
+        (char_index (T.text text) line.end)) }
 {
     levels_with_line(
         alloc,

@@ -3,7 +3,7 @@ ghost use Rattle.std.specs.Prelude.{◌≡◌, ◌<◌, ◌≤◌, IfOk, IfSome,
 ghost use Rattle.bidi_base.specs.Analysed.{IsLineOf, AreLevelsWithLine, AreLevelsOfLine, AreRunsOfLine, levels_with_line_per_char};
 ghost use Rattle.bidi_base.specs.Display.{run_of};
 ghost use Rattle.bidi_base.specs.Levels.{has_rtl as has_rtl_of};
-ghost use Rattle.bidi_base.specs.Text.{IsLine};
+ghost use Rattle.bidi_base.specs.Texts.{IsLine};
 ghost use Rattle.bidi_paragraphs.specs.ParagraphInfo.{level_of, range_of};
 ghost use Rattle.bidi_lines.specs.LineOrder.{IsLineOrder};
 ghost use Rattle.bidi_base.specs.PerChar.{HaveClass, HaveLevel};
@@ -13,12 +13,12 @@ use crate::engine;
 use bidi_base::char_data::BidiClass;
 use bidi_base::data_source::BidiDataSource;
 use bidi_base::level::Level;
+use bidi_lines::analysed::Analysed;
+use bidi_lines::shown_line::ShownLine;
 use bidi_lines::visual_order;
 use bidi_paragraphs::paragraph_info::ParagraphInfo;
 use bidi_paragraphs::split_rule::SplitRule;
 use bidi_text::text::TextSource;
-use bidi_lines::analysed::Analysed;
-use bidi_lines::shown_line::ShownLine;
 use smallvec::SmallVec;
 use std::alloc::{AllocError, Global};
 use std::fmt;
@@ -33,7 +33,7 @@ pub struct BidiInfo<T: TextSource> {
     pub(crate) analysed: Analysed<T>,
     paragraphs: SmallVec<ParagraphInfo, 1>,
     ghost paragraphs_are_lines: { All
-        (λ p. IsLine T.units (T.characters analysed.text) (range_of p).start (range_of p).end) paragraphs.items },
+        (λ p. IsLine (T.text analysed.text) (range_of p).start (range_of p).end) paragraphs.items },
 }
 
 // Prints the fields that this type has in the ported crate.

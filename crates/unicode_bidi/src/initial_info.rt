@@ -19,7 +19,7 @@ pub struct InitialInfo<T: TextSource> {
     pub(crate) text: T,
     original_classes: Vec<BidiClass>,
     paragraphs: SmallVec<ParagraphInfo, 1>,
-    ghost classes_per_char: { HaveClass T.units (T.characters text) original_classes.items },
+    ghost classes_per_char: { HaveClass T.encoding.len_of (T.text text).chars original_classes.items },
 }
 
 impl<T: TextSource> InitialInfo<T> {

@@ -13,8 +13,8 @@ ghost use Rattle.bidi_base.specs.Utf16.{utf16_text, utf16_len};
 
 use bidi_base::char_data::BidiClass;
 use bidi_base::level::Level;
-use bidi_text::text::{StrText, Utf16Text};
 use bidi_lines::analysed::Analysed;
+use bidi_text::text::{StrText, Utf16Text};
 use std::alloc::{AllocError, Global};
 use std::borrow::{CowSlice, CowStr};
 

@@ -8,7 +8,8 @@ ghost use Rattle.bidi_base.specs.Layout.{line_length, line_ranges, visual_places
 ghost use Rattle.bidi_base.specs.Order.{visual_order};
 ghost use Rattle.bidi_base.specs.Places.{indexes};
 ghost use Rattle.bidi_base.specs.Paragraphs.{IsPartition};
-ghost use Rattle.bidi_base.specs.Text.{place, per_char, text_len, IsLine};
+ghost use Rattle.bidi_base.specs.Text.{per_char, text_len};
+ghost use Rattle.bidi_base.specs.Texts.{place, IsLine};
 ghost use Rattle.bidi_lines.specs.ShownLevels.{levels as kept_levels};
 ghost use Rattle.unicode_bidi.specs.BidiInfo.{analysed as analysed_of};
 ghost use Rattle.unicode_bidi.specs.KeptOrder.{entries};
@@ -36,8 +37,7 @@ pub trait CharWidth {
 
 // Returns how many code units the first line of a text takes: as many characters as fit, and at least one.
 fn first_line_len<T: TextSource, W: CharWidth>(text: T, widths: &W, limit: usize) -> usize
-    ensures { let chars = T.characters text in
-        result ≡ place T.units chars (line_length (W.width_of widths.now) limit chars) }
+    ensures { result ≡ place (T.text text) (line_length (W.width_of widths.now) limit (T.text text).chars) }
 {
     let mut left = limit;
     for (at, c) in text.char_indices() {
@@ -58,11 +58,11 @@ fn lines_of<T: TextSource, W: CharWidth>(
     widths: &W,
     limit: usize,
 ) -> Result<Vec<LevelRun>, AllocError>
-    requires { IsLine T.units (T.characters text) range.start range.end }
+    requires { IsLine (T.text text) range.start range.end }
     ensures lines { IfOk result (λ v. map run_of v.items
-        ≡ line_ranges T.units (T.characters text) (W.width_of widths.now) limit range.start range.end) }
+        ≡ line_ranges T.encoding.len_of (T.text text).chars (W.width_of widths.now) limit range.start range.end) }
     ensures parted { IfOk result (λ v. IsPartition range.start range.end (map run_of v.items)) }
-    ensures each_is_line { IfOk result (λ v. All (λ r. IsLine T.units (T.characters text) r.start r.end) v.items) }
+    ensures each_is_line { IfOk result (λ v. All (λ r. IsLine (T.text text) r.start r.end) v.items) }
 {
     let mut lines = Vec::new(alloc);
     let mut start = range.start;

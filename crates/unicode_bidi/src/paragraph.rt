@@ -7,9 +7,9 @@ ghost use Rattle.bidi_paragraphs.specs.ParagraphInfo.{range_of};
 use crate::info::BidiInfo;
 use bidi_base::char_data::Direction;
 use bidi_base::level::Level;
+use bidi_lines::level_direction::direction_of;
 use bidi_paragraphs::paragraph_info::ParagraphInfo;
 use bidi_text::text::TextSource;
-use bidi_lines::level_direction::direction_of;
 
 /// A paragraph, and the result of the algorithm for its text.
 #[derive(Debug, Drop)]

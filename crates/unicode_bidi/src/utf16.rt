@@ -13,11 +13,11 @@ ghost use Rattle.unicode_bidi.specs.Analysed.{Constructs, HasParagraphs, IsAnaly
 use crate::{info, initial_info, paragraph, paragraph_bidi_info};
 use bidi_base::data_source::BidiDataSource;
 use bidi_base::level::Level;
+use bidi_lines::shown_line;
 use bidi_paragraphs::paragraph_info::ParagraphInfo;
 use bidi_paragraphs::split_rule::SplitRule;
 use bidi_text::text::Utf16Text;
 pub use bidi_text::text::{Utf16CharIndexIter, Utf16CharIter, Utf16IndexLenIter};
-use bidi_lines::shown_line;
 use std::alloc::{AllocError, Global};
 use std::borrow::CowSlice;
 use std::ops::Range;

@@ -9,10 +9,10 @@ ghost use Rattle.unicode_bidi.specs.Analysed.{Constructs, HasParagraphs, IsAnaly
 use crate::{info, initial_info, paragraph, paragraph_bidi_info};
 use bidi_base::data_source::BidiDataSource;
 use bidi_base::level::Level;
+use bidi_lines::shown_line;
 use bidi_paragraphs::paragraph_info::ParagraphInfo;
 use bidi_paragraphs::split_rule::SplitRule;
 use bidi_text::text::StrText;
-use bidi_lines::shown_line;
 use std::alloc::{AllocError, Global};
 use std::borrow::CowStr;
 use std::ops::Range;

@@ -4,10 +4,9 @@
 //! The pass goes through a stretch from character to character, or from code unit to code unit.
 
 ghost use Rattle.std.specs.Prelude.{◌≡◌, ℕ, ◌+◌, ◌*◌, ◌-◌, ◌<◌, ◌≤◌, true, List, None, Some, length, map, OnOk};
-ghost use Rattle.bidi_base.specs.PerChar.{HaveClass};
 ghost use Rattle.bidi_base.specs.Places.{class_at};
 ghost use Rattle.bidi_base.specs.StatusMachine.{State};
-ghost use Rattle.bidi_base.specs.Text.{text_len};
+ghost use Rattle.bidi_base.specs.Texts.{text_len, HaveClass};
 ghost use Rattle.bidi_base.specs.Units.{bounds};
 ghost use Rattle.bidi_explicit.specs.ExplicitPass.{filled};
 ghost use Rattle.bidi_explicit.specs.Control.{is_control};
@@ -122,8 +121,8 @@ pub struct Paragraph<'p, T: TextSource> {
     /// Its stored classes, one for each code unit. They are equal within each character.
     pub original_classes: &'p [BidiClass],
     ghost low: { level ≤ 125 },
-    ghost per_char: { HaveClass T.units (T.characters text) original_classes.now },
-    ghost long: { length original_classes.now ≡ text_len T.units (T.characters text) },
+    ghost per_char: { HaveClass (T.text text) original_classes.now },
+    ghost long: { length original_classes.now ≡ text_len (T.text text) },
 }
 
 impl<'p, T: TextSource> Paragraph<'p, T> {
@@ -138,7 +137,7 @@ impl<'p, T: TextSource> Paragraph<'p, T> {
         original_classes: &'p [BidiClass],
     ) -> Paragraph<'p, T>
         requires low { level ≤ 125 }
-        requires per_char { HaveClass T.units (T.characters text) original_classes.now }
+        requires per_char { HaveClass (T.text text) original_classes.now }
         ensures text { result.text ≡ text }
         ensures level { result.level ≡ level }
         ensures stride { result.stride ≡ stride }

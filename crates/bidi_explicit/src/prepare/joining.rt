@@ -1,16 +1,16 @@
 //! Joins level runs into isolating run sequences (BD13, X10).
 
 ghost use Rattle.std.specs.Prelude.{◌≡◌, ◌≤◌, max, [], length, map, flat_map, All, IsPermutation, IsTrue, OnOk};
-ghost use Rattle.bidi_base.specs.PerChar.{HaveClass, HaveLevel};
+ghost use Rattle.bidi_base.specs.Texts.{IsLine, is_boundary, per_char, HaveClass, HaveLevel, level_run_ranges, AreLines};
 ghost use Rattle.bidi_base.specs.declared.char_data.BidiClass.TheVariants.{L};
 ghost use Rattle.bidi_base.specs.Explicit.{explicit_levels};
 ghost use Rattle.bidi_base.specs.Levels.{direction_of};
 ghost use Rattle.bidi_base.specs.Search.{IsEndOfLast, IsFirst, passing};
 ghost use Rattle.bidi_base.specs.Sequences.{is_kept_at, sequences, HasExplicitLevels, FlagsInitiators};
-ghost use Rattle.bidi_base.specs.Text.{IsLine, is_boundary, per_char};
-ghost use Rattle.bidi_base.specs.Units.{bounds, level_run_ranges, AreLines};
-ghost use Rattle.bidi_explicit.specs.Joining.{level_after_run, is_isolate_control, read_units};
-ghost use Rattle.bidi_explicit.specs.RunSequence.{run_bounds, sequences_in};
+ghost use Rattle.bidi_base.specs.Units.{bounds};
+ghost use Rattle.bidi_explicit.specs.InText.{read_units, sequences_in};
+ghost use Rattle.bidi_explicit.specs.Joining.{level_after_run, is_isolate_control};
+ghost use Rattle.bidi_explicit.specs.RunSequence.{run_bounds};
 
 use super::waiting::Waiting;
 use super::{
@@ -92,11 +92,11 @@ pub(super) fn read_run<T: TextSource>(
     kept_end: usize,
     s: usize,
 ) -> Result<(), AllocError>
-    requires per_char { HaveClass T.units (T.characters text) classes.now }
-    requires line { IsLine T.units (T.characters text) run.now.start run.now.end }
-    requires kept_end { IsTrue (is_boundary T.units (T.characters text) kept_end) }
+    requires per_char { HaveClass (T.text text) classes.now }
+    requires line { IsLine (T.text text) run.now.start run.now.end }
+    requires kept_end { IsTrue (is_boundary (T.text text) kept_end) }
     ensures { OnOk result (waiting.new
-        ≡ read_units T.units (T.characters text) classes.now kept_end s run.now.start run.now.end
+        ≡ read_units (T.text text) classes.now kept_end s run.now.start run.now.end
         waiting.old) }
 {
     let end = run.end;
@@ -181,23 +181,23 @@ pub fn isolating_run_sequences<T: TextSource>(
     has_isolate_controls: bool,
     out: &mut IsolatingRunSequenceVec,
 ) -> Result<(), AllocError>
-    requires original { HaveClass T.units (T.characters text) original_classes.now }
-    requires levels { HaveLevel T.units (T.characters text) levels.now }
-    requires runs { let stored = per_char L T.units (T.characters text) original_classes.now in
+    requires original { HaveClass (T.text text) original_classes.now }
+    requires levels { HaveLevel (T.text text) levels.now }
+    requires runs { let stored = per_char L (T.text text) original_classes.now in
         map bounds runs.items
-        ≡ level_run_ranges T.units (T.characters text) stored (per_char 0 T.units (T.characters text) levels.now) }
+        ≡ level_run_ranges (T.text text) stored (per_char 0 (T.text text) levels.now) }
     requires isolates { FlagsInitiators original_classes.now has_isolate_controls }
     requires out { out.old.items ≡ [] }
-    ensures sequences { let stored = per_char L T.units (T.characters text) original_classes.now in
-        OnOk result (sequences_in T.units (T.characters text) stored out.new.items
-        ≡ sequences para_level stored (per_char 0 T.units (T.characters text) levels.now)) }
+    ensures sequences { let stored = per_char L (T.text text) original_classes.now in
+        OnOk result (sequences_in (T.text text) stored out.new.items
+        ≡ sequences para_level stored (per_char 0 (T.text text) levels.now)) }
     // Only the levels of characters that X9 keeps need be the explicit ones.
-    ensures explicit { let stored = per_char L T.units (T.characters text) original_classes.now in
-        OnOk result (HasExplicitLevels para_level stored (per_char 0 T.units (T.characters text) levels.now)
-        → sequences_in T.units (T.characters text) stored out.new.items
+    ensures explicit { let stored = per_char L (T.text text) original_classes.now in
+        OnOk result (HasExplicitLevels para_level stored (per_char 0 (T.text text) levels.now)
+        → sequences_in (T.text text) stored out.new.items
         ≡ sequences para_level stored (explicit_levels para_level stored)) }
     ensures runs { OnOk result (IsPermutation (map bounds runs.items) (flat_map run_bounds out.new.items)) }
-    ensures fits { OnOk result (All (λ s. AreLines T.units (T.characters text) (run_bounds s)) out.new.items) }
+    ensures fits { OnOk result (All (λ s. AreLines (T.text text) (run_bounds s)) out.new.items) }
 {
     let mut runs = runs;
     let mut links = RunLinks::new(alloc);

@@ -2,14 +2,13 @@
 
 ghost use Rattle.std.specs.Prelude.{◌≡◌, ℕ, ◌<◌, [], ◌∷◌, ◌++◌, length, map, drop, flat_map, get_or, All, IsPermutation, IsTrue, OnOk, IfOk, IfSome, is_some, if◌then◌else◌};
 ghost use Rattle.std.specs.declared.ops.Range.{Range};
-ghost use Rattle.bidi_base.specs.PerChar.{HaveClass, HaveLevel};
-ghost use Rattle.bidi_base.specs.declared.char_data.BidiClass.TheVariants.{L};
+ghost use Rattle.bidi_base.specs.Texts.{IsLine, is_boundary, HaveClass, AreLines};
 ghost use Rattle.bidi_base.specs.Explicit.{explicit_levels};
 ghost use Rattle.bidi_base.specs.Places.{last_or};
 ghost use Rattle.bidi_base.specs.Sequences.{sequences, HasExplicitLevels, FlagsInitiators};
-ghost use Rattle.bidi_base.specs.Text.{IsLine, is_boundary, per_char};
-ghost use Rattle.bidi_base.specs.Units.{bounds, level_run_ranges, AreLines};
-ghost use Rattle.bidi_explicit.specs.Joining.{read_units};
+ghost use Rattle.bidi_base.specs.Units.{bounds};
+ghost use Rattle.bidi_explicit.specs.InText.{read_units, sequences_of};
+ghost use Rattle.bidi_explicit.specs.LeveledText.{text_of, classes_of, levels_of, IsLeveled, AreLevelRuns};
 
 use super::joining::{kept_end, level_after, read_run, side};
 use super::waiting::Waiting;
@@ -45,8 +44,9 @@ pub struct RunLinks {
 }
 
 impl RunLinks {
+    ghost use Rattle.bidi_explicit.specs.LeveledText.{text_of, classes_of, levels_of, IsLeveled, AreLevelRuns};
     ghost use Rattle.bidi_explicit.specs.Gathered.{IsGatheredIn};
-    ghost use Rattle.bidi_explicit.specs.Links.{with_link, with_sides, begins, next_run, run_chain, sequence_at, linked_runs, linked_sequences, sequences_of, AreLinked, KeepsLinked};
+    ghost use Rattle.bidi_explicit.specs.Links.{with_link, with_sides, begins, next_run, run_chain, sequence_at, linked_runs, linked_sequences, AreLinked, KeepsLinked};
 
     /// Creates links between no runs. Does not allocate.
     pub fn new(alloc: Global) -> RunLinks {
@@ -80,13 +80,13 @@ impl RunLinks {
         kept_end: usize,
         has_isolate_controls: bool,
     ) -> Result<(), AllocError>
-        requires per_char { HaveClass T.units (T.characters text) classes.now }
-        requires line { IsLine T.units (T.characters text) run.now.start run.now.end }
-        requires kept_end { IsTrue (is_boundary T.units (T.characters text) kept_end) }
+        requires per_char { HaveClass (T.text text) classes.now }
+        requires line { IsLine (T.text text) run.now.start run.now.end }
+        requires kept_end { IsTrue (is_boundary (T.text text) kept_end) }
         ensures next { self.new.next.items ≡ self.old.next.items }
         ensures sides { self.new.sides.items ≡ self.old.sides.items }
         ensures waiting { OnOk result (self.new.waiting ≡ (if has_isolate_controls
-            then read_units T.units (T.characters text) classes.now kept_end (length self.old.next.items)
+            then read_units (T.text text) classes.now kept_end (length self.old.next.items)
             run.now.start run.now.end self.old.waiting
             else self.old.waiting)) }
     {
@@ -131,28 +131,21 @@ impl RunLinks {
         runs: &[LevelRun],
         has_isolate_controls: bool,
     ) -> Result<(), AllocError>
-        requires original { HaveClass T.units (T.characters leveled.now.text) leveled.now.original_classes.now }
-        requires levels { HaveLevel T.units (T.characters leveled.now.text) leveled.now.levels.now }
-        requires runs { let stored = per_char L T.units (T.characters leveled.now.text) leveled.now.original_classes.now in
-            map bounds runs.now
-            ≡ level_run_ranges T.units (T.characters leveled.now.text) stored
-            (per_char 0 T.units (T.characters leveled.now.text) leveled.now.levels.now) }
+        requires leveled { IsLeveled leveled.now }
+        requires runs { AreLevelRuns leveled.now (map bounds runs.now) }
         requires isolates { FlagsInitiators leveled.now.original_classes.now has_isolate_controls }
-        ensures sequences { let stored = per_char L T.units (T.characters leveled.now.text) leveled.now.original_classes.now in
-            OnOk result (sequences_of T.units (T.characters leveled.now.text) stored
-            (linked_sequences self.new (map bounds runs.now))
-            ≡ sequences para_level stored (per_char 0 T.units (T.characters leveled.now.text) leveled.now.levels.now)) }
+        ensures sequences { let stored = classes_of leveled.now in
+            OnOk result (sequences_of (text_of leveled.now) stored (linked_sequences self.new (map bounds runs.now))
+            ≡ sequences para_level stored (levels_of leveled.now)) }
         // Only the levels of characters that X9 keeps need be the explicit ones.
-        ensures explicit { let stored = per_char L T.units (T.characters leveled.now.text) leveled.now.original_classes.now in
-            OnOk result (HasExplicitLevels para_level stored
-            (per_char 0 T.units (T.characters leveled.now.text) leveled.now.levels.now)
-            → sequences_of T.units (T.characters leveled.now.text) stored (linked_sequences self.new (map bounds runs.now))
+        ensures explicit { let stored = classes_of leveled.now in
+            OnOk result (HasExplicitLevels para_level stored (levels_of leveled.now)
+            → sequences_of (text_of leveled.now) stored (linked_sequences self.new (map bounds runs.now))
             ≡ sequences para_level stored (explicit_levels para_level stored)) }
         ensures runs { OnOk result
             (IsPermutation (map bounds runs.now) (flat_map (λ s. s.runs) (linked_sequences self.new (map bounds runs.now)))) }
         ensures fits { OnOk result
-            (All (λ s. AreLines T.units (T.characters leveled.now.text) s.runs)
-            (linked_sequences self.new (map bounds runs.now))) }
+            (All (λ s. AreLines (text_of leveled.now) s.runs) (linked_sequences self.new (map bounds runs.now))) }
         ensures linked { OnOk result (AreLinked self.new (map bounds runs.now)) }
     {
         let LeveledText {

@@ -23,7 +23,8 @@ pub struct IsolatingRunSequence {
 
 impl IsolatingRunSequence {
     ghost use Rattle.bidi_explicit.specs.RunSequence.{runs as runs_of, run_bounds, joined, lent_joined, sos as sos_of, eos as eos_of, forwards_left, backwards_left};
-    ghost use Rattle.bidi_base.specs.Units.{AreLines, units_from, units_below};
+    ghost use Rattle.bidi_base.specs.Texts.{AreLines};
+    ghost use Rattle.bidi_base.specs.Units.{units_from, units_below};
 
     /// Creates a sequence of these runs.
     ///
@@ -83,7 +84,7 @@ impl IsolatingRunSequence {
 
     /// Returns whether each run is in the text and splits no character, see [`is_line`].
     pub fn fits<T: TextSource>(&self, text: T) -> bool
-        ensures { IsTrue result ↔ AreLines T.units (T.characters text) (map bounds (runs_of self.now)) }
+        ensures { IsTrue result ↔ AreLines (T.text text) (map bounds (runs_of self.now)) }
     {
         for run in self.runs() {
             if !is_line(text, run) {

@@ -2,7 +2,8 @@
 ghost use Rattle.std.specs.Prelude.{◌≡◌, ℕ, ◌+◌, ◌<◌, ◌≤◌, length, get_or, take};
 ghost use Rattle.bidi_base.specs.Places.{class_at};
 ghost use Rattle.bidi_paragraphs.specs.ClassSet.{has};
-ghost use Rattle.bidi_paragraphs.specs.FirstWalk.{ahead, set_of_first, CanRead, CanSeek, IsReadOn, IsSkimmed};
+ghost use Rattle.bidi_paragraphs.specs.FirstWalk.{set_of_first, IsSkimmed};
+ghost use Rattle.bidi_paragraphs.specs.InText.{ahead, CanRead, CanSeek, IsReadOn};
 ghost use Rattle.bidi_paragraphs.specs.declared.first_walk.ascii_characters.TheConstants.{ASCII_BLOCK};
 
 use super::progress::Progress;
@@ -24,8 +25,8 @@ fn skim_each<D: BidiDataSource, T: TextSource>(
     limit: usize,
     sought: ClassSet,
 ) -> Option<Stop>
-    requires { CanSeek T.units (T.characters text) sought progress.old classes.old }
-    ensures { IsReadOn (D.source data_source.now) T.units (T.characters text) (has sought) progress.old
+    requires { CanSeek (T.text text) sought progress.old classes.old }
+    ensures { IsReadOn (T.text text) (D.source data_source.now) (has sought) progress.old
         result progress.new classes.old classes.new }
 {
     let mut start = progress.at;
@@ -90,9 +91,9 @@ fn skim_blocks<D: BidiDataSource, T: TextSource>(
     progress: &mut Progress,
     stop_classes: ClassSet,
 )
-    requires { CanRead T.units (T.characters text) progress.old.at classes.old }
-    ensures read { IsSkimmed (D.source data_source.now) T.units (has stop_classes)
-        (ahead T.units (T.characters text) progress.old.at) progress.old.at progress.new.at classes.old classes.new
+    requires { CanRead (T.text text) progress.old.at classes.old }
+    ensures read { IsSkimmed (D.source data_source.now) T.encoding.len_of (has stop_classes)
+        (ahead (T.text text) progress.old.at) progress.old.at progress.new.at classes.old classes.new
         progress.old.flags progress.new.flags }
     ensures order { progress.old.at ≤ progress.new.at }
 {
@@ -128,8 +129,8 @@ pub(super) fn skim<D: BidiDataSource, T: TextSource>(
     progress: &mut Progress,
     stop_classes: ClassSet,
 ) -> Option<Stop>
-    requires { CanRead T.units (T.characters text) progress.old.at classes.old }
-    ensures { IsReadOn (D.source data_source.now) T.units (T.characters text) (has stop_classes) progress.old
+    requires { CanRead (T.text text) progress.old.at classes.old }
+    ensures { IsReadOn (T.text text) (D.source data_source.now) (has stop_classes) progress.old
         result progress.new classes.old classes.new }
 {
     while progress.at < classes.len() {

@@ -3,9 +3,10 @@
 ghost use Rattle.std.specs.Prelude.{◌≡◌, ℕ, ◌+◌, ◌-◌, ◌<◌, ◌≤◌, Bool, true, false, length, get_or, take, MatchOption, IsTrue, None};
 ghost use Rattle.bidi_base.specs.declared.char_data.BidiClass.{BidiClass};
 ghost use Rattle.bidi_base.specs.Places.{class_at};
-ghost use Rattle.bidi_base.specs.Text.{text_len, is_boundary as is_boundary_of};
+ghost use Rattle.bidi_base.specs.Texts.{is_boundary as is_boundary_of, text_len};
 ghost use Rattle.bidi_paragraphs.specs.ClassSet.{has};
-ghost use Rattle.bidi_paragraphs.specs.FirstWalk.{ahead, CanRead, CanSeek, HasEachChange, IsReadOn, IsSkimmed, HasReadSome, IsStop};
+ghost use Rattle.bidi_paragraphs.specs.FirstWalk.{HasEachChange, IsSkimmed, IsStop};
+ghost use Rattle.bidi_paragraphs.specs.InText.{ahead, CanRead, CanSeek, IsReadOn, HasReadSome};
 ghost use Rattle.bidi_paragraphs.specs.declared.first_walk.unit_classes.TheConstants.{AT_ONCE};
 ghost use Rattle.bidi_paragraphs.specs.declared.paragraph_flags.ParagraphFlags.{ParagraphFlags};
 ghost use Rattle.bidi_paragraphs.specs.declared.first_walk.other_characters.TheConstants.{LOW_BLOCK, LOW_LIMIT};
@@ -69,10 +70,10 @@ const BLOCK: usize = 256;
 
 // The end of the block of characters that begins at an index.
 fn block_end<T: TextSource>(text: T, from: usize) -> usize
-    requires { from ≤ text_len T.units (T.characters text) }
+    requires { from ≤ text_len (T.text text) }
     ensures order { from ≤ result }
-    ensures goes_on { from < text_len T.units (T.characters text) → from < result }
-    ensures boundary { IsTrue (is_boundary_of T.units (T.characters text) result) }
+    ensures goes_on { from < text_len (T.text text) → from < result }
+    ensures boundary { IsTrue (is_boundary_of (T.text text) result) }
 {
     let len = text.len();
     if len - from <= BLOCK {
@@ -94,11 +95,11 @@ fn read_to_sought<D: BidiDataSource, T: TextSource>(
     classes: &mut [BidiClass],
     sought: ClassSet,
 ) -> Option<Stop>
-    requires { text_len T.units (T.characters block) ≤ length classes.old }
+    requires { text_len (T.text block) ≤ length classes.old }
     ensures { (flags : ParagraphFlags) → HasEachChange sought flags → MatchOption result
-        (IsSkimmed (D.source data_source.now) T.units (has sought) (T.characters block) 0
-        (text_len T.units (T.characters block)) classes.old classes.new flags flags)
-        (λ stop. IsStop (D.source data_source.now) T.units (has sought) (T.characters block) 0 stop classes.old classes.new
+        (IsSkimmed (D.source data_source.now) T.encoding.len_of (has sought) (T.text block).chars 0
+        (text_len (T.text block)) classes.old classes.new flags flags)
+        (λ stop. IsStop (D.source data_source.now) T.encoding.len_of (has sought) (T.text block).chars 0 stop classes.old classes.new
         flags flags) }
 {
     for (start, c) in block.char_indices() {
@@ -126,8 +127,8 @@ fn read_block<D: BidiDataSource, T: TextSource>(
     progress: &mut Progress,
     sought: ClassSet,
 ) -> Option<Stop>
-    requires { CanSeek T.units (T.characters text) sought progress.old classes.old }
-    ensures { HasReadSome (D.source data_source.now) T.units (T.characters text) (has sought) progress.old result
+    requires { CanSeek (T.text text) sought progress.old classes.old }
+    ensures { HasReadSome (T.text text) (D.source data_source.now) (has sought) progress.old result
         progress.new classes.old classes.new }
 {
     let start = progress.at;
@@ -152,11 +153,11 @@ pub(super) fn read_next<D: BidiDataSource, T: TextSource>(
     classes: &mut [BidiClass],
     start: usize,
 ) -> Stop
-    requires sized { length classes.old ≡ text_len T.units (T.characters text) }
-    requires begins { IsTrue (is_boundary_of T.units (T.characters text) start) }
+    requires sized { length classes.old ≡ text_len (T.text text) }
+    requires begins { IsTrue (is_boundary_of (T.text text) start) }
     requires room { start + AT_ONCE ≤ length classes.old }
-    ensures { (stop_classes : BidiClass → Bool) (flags : ParagraphFlags) → IsStop (D.source data_source.now) T.units stop_classes
-        (ahead T.units (T.characters text) start) start result classes.old classes.new flags flags }
+    ensures { (stop_classes : BidiClass → Bool) (flags : ParagraphFlags) → IsStop (D.source data_source.now) T.encoding.len_of stop_classes
+        (ahead (T.text text) start) start result classes.old classes.new flags flags }
 {
     let (c, len) = text.next_at(start);
     let class = data_source.bidi_class(c);
@@ -184,9 +185,9 @@ fn read_in_place<D: BidiDataSource, T: TextSource>(
     limit: usize,
     sought: ClassSet,
 ) -> Option<Stop>
-    requires seek { CanSeek T.units (T.characters text) sought progress.old classes.old }
+    requires seek { CanSeek (T.text text) sought progress.old classes.old }
     requires room { limit + (AT_ONCE - 1) ≤ length classes.old }
-    ensures stop { IsReadOn (D.source data_source.now) T.units (T.characters text) (has sought) progress.old
+    ensures stop { IsReadOn (T.text text) (D.source data_source.now) (has sought) progress.old
         result progress.new classes.old classes.new }
     ensures passed { result ≡ None → limit ≤ progress.new.at }
 {
@@ -219,8 +220,8 @@ fn read_low_blocks<D: BidiDataSource, T: TextSource>(
     progress: &mut Progress,
     sought: ClassSet,
 ) -> Option<Stop>
-    requires { CanSeek T.units (T.characters text) sought progress.old classes.old }
-    ensures stop { IsReadOn (D.source data_source.now) T.units (T.characters text) (has sought) progress.old
+    requires { CanSeek (T.text text) sought progress.old classes.old }
+    ensures stop { IsReadOn (T.text text) (D.source data_source.now) (has sought) progress.old
         result progress.new classes.old classes.new }
 {
     let mut start = progress.at;
@@ -259,8 +260,8 @@ pub(super) fn read_on<D: BidiDataSource, T: TextSource>(
     progress: &mut Progress,
     stop_classes: ClassSet,
 ) -> Option<Stop>
-    requires { CanRead T.units (T.characters text) progress.old.at classes.old }
-    ensures { HasReadSome (D.source data_source.now) T.units (T.characters text) (has stop_classes) progress.old result
+    requires { CanRead (T.text text) progress.old.at classes.old }
+    ensures { HasReadSome (T.text text) (D.source data_source.now) (has stop_classes) progress.old result
         progress.new classes.old classes.new }
 {
     let end = progress.at.saturating_add(BLOCK);

@@ -8,8 +8,8 @@ use bidi_text::text::TextSource;
 
 // Writes a character's class to each of its code units, from `start` on.
 fn write_each<T: TextSource>(classes: &mut [BidiClass], start: usize, c: char, class: BidiClass)
-    requires { start + T.units c ≤ length classes.old }
-    ensures { IsPut T.units c class start classes.old classes.new }
+    requires { start + T.encoding.len_of c ≤ length classes.old }
+    ensures { IsPut T.encoding.len_of c class start classes.old classes.new }
 {
     classes[start..start + T::char_len(c)].fill(class);
 }
@@ -25,9 +25,9 @@ pub(super) fn write_at_once<T: TextSource>(
     c: char,
     class: BidiClass,
 )
-    requires fits { start + T.units c ≤ length classes.old }
+    requires fits { start + T.encoding.len_of c ≤ length classes.old }
     requires room { start + AT_ONCE ≤ length classes.old }
-    ensures { IsPut T.units c class start classes.old classes.new }
+    ensures { IsPut T.encoding.len_of c class start classes.old classes.new }
 {
     if T::char_len(c) <= AT_ONCE {
         classes[start] = class;
@@ -46,8 +46,8 @@ pub(super) fn write<T: TextSource>(
     c: char,
     class: BidiClass,
 )
-    requires { start + T.units c ≤ length classes.old }
-    ensures { IsPut T.units c class start classes.old classes.new }
+    requires { start + T.encoding.len_of c ≤ length classes.old }
+    ensures { IsPut T.encoding.len_of c class start classes.old classes.new }
 {
     if classes.len() - start >= AT_ONCE {
         write_at_once::<T>(classes, start, c, class);

@@ -4,12 +4,12 @@ ghost use Rattle.std.specs.Prelude.{◌≡◌, ℕ, ◌+◌, ◌<◌, ◌≤◌,
 ghost use Rattle.bidi_base.specs.Brackets.{AreNestedPairs};
 ghost use Rattle.bidi_base.specs.Classes.{is_kept_in_place, is_l_or_r};
 ghost use Rattle.bidi_base.specs.Places.{class_at};
-ghost use Rattle.bidi_base.specs.Text.{is_boundary, place, text_len};
-ghost use Rattle.bidi_base.specs.Units.{bounds, are_ordered, kept_in_place, AreLines};
-ghost use Rattle.bidi_rules.specs.NeutralPass.{IsPaired, IsReady};
-ghost use Rattle.bidi_rules.specs.PairWalk.{at_spots, opposite_of, IsAsked, IsBracket, IsBracketAfter, IsMarksEnd};
-ghost use Rattle.bidi_rules.specs.PairWalk.{IsPlace, IsRow, IsRunOf, IsSet};
-ghost use Rattle.bidi_rules.specs.PairWalk.{IsSetUpTo, IsTaken, IsUnmarked};
+ghost use Rattle.bidi_base.specs.Texts.{is_boundary, kept_in_place, place, text_len, AreLines};
+ghost use Rattle.bidi_base.specs.Units.{bounds, are_ordered};
+ghost use Rattle.bidi_rules.specs.InText.{at_spots, IsBracket, IsBracketAfter, IsMarksEnd, IsPaired, IsPlace, IsReady, IsRow, IsSet, IsSetUpTo};
+ghost use Rattle.bidi_rules.specs.PairWalk.{opposite_of, IsAsked};
+ghost use Rattle.bidi_rules.specs.PairWalk.{IsRunOf};
+ghost use Rattle.bidi_rules.specs.PairWalk.{IsTaken, IsUnmarked};
 ghost use Rattle.bidi_explicit.specs.Written.{is_seen, IsWrittenOver};
 
 use super::directions::{Directions, opposite_of};
@@ -46,23 +46,23 @@ pub fn resolve_pairs<T: TextSource>(
     pairs: &[(usize, usize)],
     classes: &mut [BidiClass],
 )
-    requires ready { IsReady T.units (T.characters text) sequence.runs.now directions.sos classes.old }
+    requires ready { IsReady (T.text text) sequence.runs.now directions.sos classes.old }
     requires side { IsTrue (is_l_or_r directions.embedding) }
-    requires long { length classes.old ≡ text_len T.units (T.characters text) }
+    requires long { length classes.old ≡ text_len (T.text text) }
     requires original { length sequence.original_classes.now ≡ length classes.old }
     requires pairs { (found : List (ℕ × ℕ))
         × AreNestedPairs
-        (length (kept_in_place T.units (T.characters text) classes.old (map bounds sequence.runs.now))) found
+        (length (kept_in_place (T.text text) classes.old (map bounds sequence.runs.now))) found
         × (pairs.now
-        ≡ at_spots T.units (T.characters text)
-        (kept_in_place T.units (T.characters text) classes.old (map bounds sequence.runs.now)) found) }
+        ≡ at_spots (T.text text)
+        (kept_in_place (T.text text) classes.old (map bounds sequence.runs.now)) found) }
     ensures { (found : List (ℕ × ℕ))
         → AreNestedPairs
-        (length (kept_in_place T.units (T.characters text) classes.old (map bounds sequence.entry.runs.now))) found
+        (length (kept_in_place (T.text text) classes.old (map bounds sequence.entry.runs.now))) found
         → pairs.now
-        ≡ at_spots T.units (T.characters text)
-        (kept_in_place T.units (T.characters text) classes.old (map bounds sequence.entry.runs.now)) found
-        → IsPaired T.units (T.characters text) sequence.entry.original_classes.now classes.old classes.new
+        ≡ at_spots (T.text text)
+        (kept_in_place (T.text text) classes.old (map bounds sequence.entry.runs.now)) found
+        → IsPaired (T.text text) sequence.entry.original_classes.now classes.old classes.new
         sequence.entry.runs.now directions.embedding directions.sos found }
 {
     let StoredRuns {
@@ -106,11 +106,11 @@ struct Place {
 /// Returns the place of the bracket that begins at `unit`, which is likely in the run at the index `near`.
 fn place_of<T: TextSource>(text: T, runs: &[LevelRun], near: usize, unit: usize) -> Place
     requires ordered { IsTrue (are_ordered (map bounds runs.now)) }
-    requires begins { IsTrue (is_boundary T.units (T.characters text) unit) }
-    requires inside { unit < text_len T.units (T.characters text) }
-    requires fits { text_len T.units (T.characters text) ≤ usize.MAX }
+    requires begins { IsTrue (is_boundary (T.text text) unit) }
+    requires inside { unit < text_len (T.text text) }
+    requires fits { text_len (T.text text) ≤ usize.MAX }
     ensures unit { result.unit ≡ unit }
-    ensures is { IsPlace T.units (T.characters text) (map bounds runs.now) result }
+    ensures is { IsPlace (T.text text) (map bounds runs.now) result }
 {
     Place {
         unit,
@@ -252,12 +252,12 @@ impl Row {
         bracket: Place,
         direction: BidiClass,
     )
-        requires { IsBracketAfter T.units (T.characters text) (map bounds sequence.runs.now) sequence.original_classes.now
+        requires { IsBracketAfter (T.text text) (map bounds sequence.runs.now) sequence.original_classes.now
             classes.old self.old bracket }
-        ensures set { (k : ℕ) → k < length (T.characters text) → bracket.unit ≡ place T.units (T.characters text) k
-            → IsSet T.units (T.characters text) (map bounds sequence.entry.runs.now)
+        ensures set { (k : ℕ) → k < length (T.text text).chars → bracket.unit ≡ place (T.text text) k
+            → IsSet (T.text text) (map bounds sequence.entry.runs.now)
             sequence.entry.original_classes.now direction bracket.unit (k + 1) classes.old classes.new }
-        ensures row { IsRow T.units (T.characters text) (map bounds sequence.entry.runs.now)
+        ensures row { IsRow (T.text text) (map bounds sequence.entry.runs.now)
             sequence.entry.original_classes.now classes.new self.new }
     {
         if self.from <= bracket.unit && bracket.unit < self.end && self.direction == direction {
@@ -282,10 +282,10 @@ fn set_direction<T: TextSource>(
     bracket: Place,
     direction: BidiClass,
 ) -> usize
-    requires { IsBracket T.units (T.characters text) (map bounds sequence.runs.now) sequence.original_classes.now
+    requires { IsBracket (T.text text) (map bounds sequence.runs.now) sequence.original_classes.now
         classes.old bracket }
-    ensures { (k : ℕ) → k < length (T.characters text) → bracket.unit ≡ place T.units (T.characters text) k
-        → IsSetUpTo T.units (T.characters text) (map bounds sequence.entry.runs.now)
+    ensures { (k : ℕ) → k < length (T.text text).chars → bracket.unit ≡ place (T.text text) k
+        → IsSetUpTo (T.text text) (map bounds sequence.entry.runs.now)
         sequence.entry.original_classes.now direction bracket.unit (k + 1) result classes.old classes.new }
 {
     let StoredRuns {
@@ -342,12 +342,12 @@ fn set_with_marks<T: TextSource>(
     bracket: Place,
     direction: BidiClass,
 ) -> usize
-    requires lines { AreLines T.units (T.characters text) (map bounds runs.now) }
+    requires lines { AreLines (T.text text) (map bounds runs.now) }
     requires ordered { IsTrue (are_ordered (map bounds runs.now)) }
-    requires long { length classes.old ≡ text_len T.units (T.characters text) }
+    requires long { length classes.old ≡ text_len (T.text text) }
     requires original { length original_classes.now ≡ length classes.old }
-    requires ends { IsTrue (is_boundary T.units (T.characters text) bracket.end) }
-    ensures marks { IsMarksEnd T.units (T.characters text) (map bounds runs.now) original_classes.now classes.old
+    requires ends { IsTrue (is_boundary (T.text text) bracket.end) }
+    ensures marks { IsMarksEnd (T.text text) (map bounds runs.now) original_classes.now classes.old
         bracket.end result }
     ensures written { IsWrittenOver (is_seen (map bounds runs.now) classes.old) direction bracket.unit result classes.old
         classes.new }

@@ -5,11 +5,13 @@
 ghost use Rattle.std.specs.Prelude.{◌≡◌, ℕ, ◌+◌, ◌-◌, ◌*◌, ◌<◌, ◌≤◌, true, false, not, ◌&&◌, length, map, min, drop, find, get_or, reverse, slice_range, IsTrue};
 ghost use Rattle.bidi_base.specs.Classes.{is_strong};
 ghost use Rattle.bidi_base.specs.Places.{class_at};
-ghost use Rattle.bidi_base.specs.Text.{text_len, IsPerChar};
-ghost use Rattle.bidi_base.specs.Units.{bounds, are_ordered, units_in_runs, AreLines};
+ghost use Rattle.bidi_base.specs.Text.{text_len};
+ghost use Rattle.bidi_base.specs.Texts.{AreLines, IsPerChar};
+ghost use Rattle.bidi_base.specs.Units.{bounds, are_ordered, units_in_runs};
 ghost use Rattle.bidi_explicit.specs.ExplicitPass.{filled};
 ghost use Rattle.bidi_rules.specs.WeakPass.{is_asked, is_number, is_other, next_before, still_to_come, strengthened, waits};
-ghost use Rattle.bidi_rules.specs.WeakWalk.{is_any, is_any_of, len_at, settled_to, AreAlike, IsWalked, IsWhole};
+ghost use Rattle.bidi_rules.specs.WeakWalk.{is_any, is_any_of, settled_to, AreAlike, IsWalked, IsWhole};
+ghost use Rattle.bidi_rules.specs.InText.{len_at};
 ghost use Rattle.bidi_rules.specs.WeakWalk.{Passes, Reads, ReadsTo, WaitsBelow};
 ghost use Rattle.bidi_explicit.specs.Written.{count_below, is_seen, IsWrittenOver};
 
@@ -57,9 +59,9 @@ pub fn resolve_numbers<T: TextSource, S: Ledger>(
     steps: &mut Steps<S>,
 )
     requires ordered { IsTrue (are_ordered (map bounds runs.now)) }
-    requires lines { AreLines T.units (T.characters text) (map bounds runs.now) }
-    requires per_char { IsPerChar T.units (T.characters text) classes.old }
-    ensures walked { IsWalked (len_at T.units (T.characters text)) (map bounds runs.now) sos classes.old classes.new }
+    requires lines { AreLines (T.text text) (map bounds runs.now) }
+    requires per_char { IsPerChar (T.text text) classes.old }
+    ensures walked { IsWalked (len_at (T.text text)) (map bounds runs.now) sos classes.old classes.new }
     ensures at_least { steps.old ≤ steps.new }
     ensures at_most { steps.new ≤ steps.old + 4 * length (units_in_runs (map bounds runs.now)) }
 {
@@ -120,10 +122,10 @@ impl Walk {
         requires run { run < length sequence.now.runs.now }
         requires inside { (get_or (map bounds sequence.now.runs.now) run (0, 0)).1 ≤ length classes.old }
         requires whole { let r = get_or (map bounds sequence.now.runs.now) run (0, 0) in
-            (u : ℕ) → r.0 ≤ u → u < r.1 → IsWhole (len_at T.units (T.characters sequence.now.text)) classes.old r.1 u }
+            (u : ℕ) → r.0 ≤ u → u < r.1 → IsWhole (len_at (T.text sequence.now.text)) classes.old r.1 u }
         ensures waiting { WaitsBelow (map bounds sequence.now.runs.now) self.new (get_or (map bounds sequence.now.runs.now) run (0, 0)).1 }
         ensures reads { let r = get_or (map bounds sequence.now.runs.now) run (0, 0) in
-            ReadsTo (len_at T.units (T.characters sequence.now.text)) (map bounds sequence.now.runs.now) r.0 r.1 self.old self.new classes.old
+            ReadsTo (len_at (T.text sequence.now.text)) (map bounds sequence.now.runs.now) r.0 r.1 self.old self.new classes.old
             classes.new }
         ensures at_least { steps.old ≤ steps.new }
         ensures at_most { let r = get_or (map bounds sequence.now.runs.now) run (0, 0) in
@@ -198,13 +200,13 @@ impl Walk {
     ) -> usize
         requires some { at < end }
         requires inside { end ≤ length classes.now }
-        requires whole { IsWhole (len_at T.units (T.characters text)) classes.now end at }
+        requires whole { IsWhole (len_at (T.text text)) classes.now end at }
         ensures some { at < result }
         ensures within { result ≤ end }
         ensures alike { AreAlike classes.now at result }
         ensures single { let next = next_before (strengthened self.now.strong (class_at classes.now at))
             self.now.before in
-            still_to_come next (len_at T.units (T.characters text) at) ≡ still_to_come next (result - at) }
+            still_to_come next (len_at (T.text text) at) ≡ still_to_come next (result - at) }
         ensures at_least { steps.old ≤ steps.new }
         ensures at_most { steps.new ≤ steps.old + min (result - at) (end - (at + 1)) }
     {
@@ -386,7 +388,7 @@ fn alike_end<S: Ledger>(classes: &[BidiClass], at: usize, end: usize, steps: &mu
 
 /// The length of the character that begins at a code unit, or 1 if none begins there.
 fn len_at<T: TextSource>(text: T, unit: usize) -> usize
-    ensures { result ≡ len_at T.units (T.characters text) unit }
+    ensures { result ≡ len_at (T.text text) unit }
 {
     match text.char_at(unit) {
         Some((_, len)) => len,

@@ -5,6 +5,7 @@ ghost use Rattle.std.specs.Char.{len_utf8};
 ghost use Rattle.std.specs.Str.{chars, IsUtf8};
 ghost use Rattle.std.specs.Str.Iter.{char_indices_rest, char_indices_offset};
 ghost use Rattle.std.specs.Iterator.{YieldsFirst, item_count};
+ghost use Rattle.bidi_base.specs.Texts.{utf8};
 ghost use Rattle.bidi_base.specs.Text.{indices_lengths_from};
 ghost use lib.Utf8.{scalar};
 
@@ -142,9 +143,9 @@ impl<'t> TextSource for StrText<'t> {
 
     const READS_IN_PLACE: bool = true;
 
-    ghost characters = { λ t. chars t.text.now };
+    ghost encoding = { utf8 };
 
-    ghost units = { len_utf8 };
+    ghost text = { λ t. record { chars = chars t.text.now } };
 
     fn len(&self) -> usize {
         self.as_str().len()
@@ -237,8 +238,4 @@ impl<'t> TextSource for StrText<'t> {
     {
         c.len_utf8()
     }
-
-    ghost use Rattle.std.proofs.lemmas.Str.{len_utf8_bounds};
-
-    ghost has_units = { λ c. (len_utf8_bounds c).0 };
 }

@@ -3,6 +3,7 @@
 ghost use Rattle.std.specs.Prelude.{◌≡◌, ℕ, ◌+◌, ◌-◌, ◌<◌, ◌≤◌, ◌^◌, length, get_or, [], true, IsTrue, ◌↔◌, MatchOption, IfSome};
 ghost use Rattle.std.specs.List.{list_all};
 ghost use Rattle.std.specs.Iterator.{YieldsFirst, YieldsLast, item_count};
+ghost use Rattle.bidi_base.specs.Texts.{utf16};
 ghost use Rattle.bidi_base.specs.Text.{char_indices_from, indices_lengths_from};
 ghost use Rattle.bidi_base.specs.Utf16.{is_character, is_pair as is_pair_of, splits_pair as splits_pair_of, pair_char, lone_char, utf16_text, utf16_len, IsFirst, IsLast};
 
@@ -258,9 +259,9 @@ impl<'t> TextSource for Utf16Text<'t> {
 
     const READS_IN_PLACE: bool = true;
 
-    ghost characters = { λ t. utf16_text t.units.now };
+    ghost encoding = { utf16 };
 
-    ghost units = { utf16_len };
+    ghost text = { λ t. record { chars = utf16_text t.units.now } };
 
     fn len(&self) -> usize {
         self.units.len()
@@ -325,9 +326,4 @@ impl<'t> TextSource for Utf16Text<'t> {
     {
         c.len_utf16()
     }
-
-    ghost use Rattle.std.proofs.Common.{arith};
-    ghost use Rattle.std.proofs.lemmas.Bool.Decides.{nat_tests};
-
-    ghost has_units = { λ c. Prim.grind (arith, nat_tests) };
 }

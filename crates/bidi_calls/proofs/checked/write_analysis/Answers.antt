@@ -7,7 +7,7 @@ use Rattle.bidi_calls.proofs.checked.write_analysis.Goals as goal
 pub returns-in_err-check_room_or_none-clause-fault : goal.returns-in_err-check_room_or_none-clause-fault
 returns-in_err-check_room_or_none-clause-fault g c =
     let asked = c.args.asked.now in
-    let a = with_lists g.T.TextSource.units (g.T.TextSource.characters asked.text) c.analyse.new.classes c.analyse.new.levels in
+    let a = with_lists (g.T.TextSource.text asked.text) c.analyse.new.classes c.analyse.new.levels in
     let count = ap length c.paragraphs-found.ensures
     ∙ count-found (g.D.BidiDataSource.source asked.data_source.now) asked.base asked.split a (found_paragraphs c.analyse.new.self) c.in_ok-analyse.ensures.analysis in
     rw (← count) (search rules)
@@ -15,7 +15,7 @@ returns-in_err-check_room_or_none-clause-fault g c =
 pub returns-clause-fault : goal.returns-clause-fault
 returns-clause-fault g c =
     let asked = c.args.asked.now in
-    let a = with_lists g.T.TextSource.units (g.T.TextSource.characters asked.text) c.analyse.new.classes c.analyse.new.levels in
+    let a = with_lists (g.T.TextSource.text asked.text) c.analyse.new.classes c.analyse.new.levels in
     let count = ap length c.paragraphs-found.ensures
     ∙ count-found (g.D.BidiDataSource.source asked.data_source.now) asked.base asked.split a (found_paragraphs c.analyse.new.self) c.in_ok-analyse.ensures.analysis in
     rw (← count) (search rules)
@@ -26,7 +26,7 @@ put_paragraphs-requires g c = grind arith
 pub returns-clause-writes : goal.returns-clause-writes
 returns-clause-writes g c =
     let asked = c.args.asked.now in
-    let a = with_lists g.T.TextSource.units (g.T.TextSource.characters asked.text) c.analyse.new.classes c.analyse.new.levels in
+    let a = with_lists (g.T.TextSource.text asked.text) c.analyse.new.classes c.analyse.new.levels in
     let source = g.D.BidiDataSource.source asked.data_source.now in
     let count = ap length c.paragraphs-found.ensures
     ∙ count-found source asked.base asked.split a (found_paragraphs c.analyse.new.self) c.in_ok-analyse.ensures.analysis in

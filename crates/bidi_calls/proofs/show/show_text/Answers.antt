@@ -12,14 +12,14 @@ use Rattle.bidi_calls.proofs.show.show_text.Goals as goal
 
 pub returns-in_err-check-clause-fault : goal.returns-in_err-check-clause-fault
 returns-in_err-check-clause-fault g c =
-    let len = g.T.TextSource.units in
-    let cs : List ℕ = g.T.TextSource.characters c.args.text in
+    let len = g.T.TextSource.encoding.len_of in
+    let cs : List ℕ = (g.T.TextSource.text c.args.text).chars in
     let l = c.args.line.now in
     let levels = c.as_slice-units.ensures ∙ c.in_ok-shown.ensures.levels in
     let runs = c.as_slice-count.ensures ∙ c.in_ok-find.ensures.runs ∙ ap (visual_runs 0) (c.as_slice.ensures ∙ c.in_ok-shown.ensures.levels) in
     let count = length-rows l.start (shown_levels l) c.as_slice-count.result.now runs in
     let text = shown_units len g.T.LineText.encode cs (g.T.LineText.units_of c.args.text) 0 (shown_levels l) in
-    let long = length-shown len g.met.T.TextSource.has_units cs l c.requires.sound c.requires.even c.requires.units g.T.LineText.encode (g.T.LineText.units_of c.args.text) c.requires.one_a_unit c.requires.encoded in
+    let long = length-shown len g.T.TextSource.encoding.positive cs l c.requires.sound c.requires.even c.requires.units g.T.LineText.encode (g.T.LineText.units_of c.args.text) c.requires.one_a_unit c.requires.encoded in
     rw (told-room len cs l text c.args.out.now (length c.as_slice-units.result.now) (length c.as_slice-count.result.now) c.count_characters-len.result c.have_room-fits.result
     (ap length (sym levels)) count (long ∙ ap length (sym levels)) c.count_characters-len.ensures c.have_room-fits.ensures)
     (grind arith)
@@ -32,28 +32,28 @@ put_runs-requires-clause-room g c =
 
 pub put_text-requires-clause-boundaries : goal.put_text-requires-clause-boundaries
 put_text-requires-clause-boundaries g c =
-    let len = g.T.TextSource.units in
-    let cs : List ℕ = g.T.TextSource.characters c.args.text in
+    let len = g.T.TextSource.encoding.len_of in
+    let cs : List ℕ = (g.T.TextSource.text c.args.text).chars in
     let l = c.args.line.now in
     let runs = c.as_slice-6.ensures ∙ c.in_ok-find.ensures.runs ∙ ap (visual_runs 0) (c.as_slice.ensures ∙ c.in_ok-shown.ensures.levels) in
-    ranges_at_boundaries len cs c.as_slice-6.result.now _ runs (kept-runs len g.met.T.TextSource.has_units cs l c.requires.sound c.requires.even c.requires.units)
+    ranges_at_boundaries len cs c.as_slice-6.result.now _ runs (kept-runs len g.T.TextSource.encoding.positive cs l c.requires.sound c.requires.even c.requires.units)
 
 pub put_order_of-requires-clause-even : goal.put_order_of-requires-clause-even
 put_order_of-requires-clause-even g c =
-    let len = g.T.TextSource.units in
-    let cs : List ℕ = g.T.TextSource.characters c.args.text in
-    subst (IsPerChar len cs) (sym c.in_ok-shown.ensures.levels) (kept-even len g.met.T.TextSource.has_units cs c.args.line.now c.requires.sound c.requires.even c.requires.units)
+    let len = g.T.TextSource.encoding.len_of in
+    let cs : List ℕ = (g.T.TextSource.text c.args.text).chars in
+    subst (IsPerChar len cs) (sym c.in_ok-shown.ensures.levels) (kept-even len g.T.TextSource.encoding.positive cs c.args.line.now c.requires.sound c.requires.even c.requires.units)
 
 pub returns-clause-fault : goal.returns-clause-fault
 returns-clause-fault g c =
-    let len = g.T.TextSource.units in
-    let cs : List ℕ = g.T.TextSource.characters c.args.text in
+    let len = g.T.TextSource.encoding.len_of in
+    let cs : List ℕ = (g.T.TextSource.text c.args.text).chars in
     let l = c.args.line.now in
     let levels = c.as_slice-units.ensures ∙ c.in_ok-shown.ensures.levels in
     let runs = c.as_slice-count.ensures ∙ c.in_ok-find.ensures.runs ∙ ap (visual_runs 0) (c.as_slice.ensures ∙ c.in_ok-shown.ensures.levels) in
     let count = length-rows l.start (shown_levels l) c.as_slice-count.result.now runs in
     let text = shown_units len g.T.LineText.encode cs (g.T.LineText.units_of c.args.text) 0 (shown_levels l) in
-    let long = length-shown len g.met.T.TextSource.has_units cs l c.requires.sound c.requires.even c.requires.units g.T.LineText.encode (g.T.LineText.units_of c.args.text) c.requires.one_a_unit c.requires.encoded in
+    let long = length-shown len g.T.TextSource.encoding.positive cs l c.requires.sound c.requires.even c.requires.units g.T.LineText.encode (g.T.LineText.units_of c.args.text) c.requires.one_a_unit c.requires.encoded in
     rw (told-room len cs l text c.args.out.now (length c.as_slice-units.result.now) (length c.as_slice-count.result.now) c.count_characters-len.result c.have_room-fits.result
     (ap length (sym levels)) count (long ∙ ap length (sym levels)) c.count_characters-len.ensures c.have_room-fits.ensures)
     (grind arith)
@@ -61,8 +61,8 @@ returns-clause-fault g c =
 pub returns-clause-writes : goal.returns-clause-writes
 unfolding order_of_line
 returns-clause-writes g c =
-    let len = g.T.TextSource.units in
-    let cs : List ℕ = g.T.TextSource.characters c.args.text in
+    let len = g.T.TextSource.encoding.len_of in
+    let cs : List ℕ = (g.T.TextSource.text c.args.text).chars in
     let l = c.args.line.now in
     let order = ap (per_char 0 len cs) c.in_ok-shown.ensures.levels in
     let runs = c.as_slice-6.ensures ∙ c.in_ok-find.ensures.runs ∙ ap (visual_runs 0) (c.as_slice.ensures ∙ c.in_ok-shown.ensures.levels) in

@@ -31,4 +31,4 @@ returns-then-not-has_rtl-clause-text g c =
     omega (arith, c.requires.levels, c.requires.classes, length-line_levels c.args.stored.now.level classes levels (sym c.requires.classes)) in
     c.copy_run.ensures ∙ ap (slice_range (g.T.LineText.units_of c.args.text) c.args.line.start) end
     ∙ sym (shown_units-still c.args.line.start (line_levels c.args.stored.now.level classes levels) (has_rtl-even c.args.stored.now.level classes levels (sym c.requires.classes) level_even even)
-    g.T.TextSource.units g.T.LineText.encode (g.T.TextSource.characters c.args.text) (g.T.LineText.units_of c.args.text))
+    g.T.TextSource.encoding.len_of g.T.LineText.encode (g.T.TextSource.text c.args.text).chars (g.T.LineText.units_of c.args.text))

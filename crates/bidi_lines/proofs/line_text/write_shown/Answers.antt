@@ -26,7 +26,7 @@ write_runs-requires-clause-whole g c =
 
 pub write_runs-requires-clause-boundaries : goal.write_runs-requires-clause-boundaries
 write_runs-requires-clause-boundaries g c =
-    ranges_at_boundaries g.T.TextSource.units (g.T.TextSource.characters c.args.text) (c.args.line ∷ []) _ (one g (goal.at.write_runs-requires-clause-boundaries g c).Then-first-levels) c.requires.runs
+    ranges_at_boundaries g.T.TextSource.encoding.len_of (g.T.TextSource.text c.args.text).chars (c.args.line ∷ []) _ (one g (goal.at.write_runs-requires-clause-boundaries g c).Then-first-levels) c.requires.runs
 
 pub write_runs-requires-2-clause-within : goal.write_runs-requires-2-clause-within
 write_runs-requires-2-clause-within g c =
@@ -38,11 +38,11 @@ write_runs-requires-2-clause-whole g c =
 
 pub write_runs-requires-2-clause-boundaries : goal.write_runs-requires-2-clause-boundaries
 write_runs-requires-2-clause-boundaries g c =
-    ranges_at_boundaries g.T.TextSource.units (g.T.TextSource.characters c.args.text) c.as_slice.result.now _ (c.as_slice.ensures ∙ c.in_ok-find_behind.ensures.runs) c.requires.runs
+    ranges_at_boundaries g.T.TextSource.encoding.len_of (g.T.TextSource.text c.args.text).chars c.as_slice.result.now _ (c.as_slice.ensures ∙ c.in_ok-find_behind.ensures.runs) c.requires.runs
 
 pub returns-then-first-levels-clause-text : goal.returns-then-first-levels-clause-text
 returns-then-first-levels-clause-text g c =
-    let units = run_units g.T.TextSource.units g.T.LineText.encode (g.T.TextSource.characters c.args.text) (g.T.LineText.units_of c.args.text) c.args.line.start c.args.levels.now in
+    let units = run_units g.T.TextSource.encoding.len_of g.T.LineText.encode (g.T.TextSource.text c.args.text).chars (g.T.LineText.units_of c.args.text) c.args.line.start c.args.levels.now in
     c.write_runs.ensures ∙ ap (flat_map units) (one g (goal.at.returns-then-first-levels-clause-text g c).Then-first-levels)
 
 pub returns-clause-text : goal.returns-clause-text

@@ -6,8 +6,8 @@ use Rattle.bidi_paragraphs.proofs.first_walk.goes_on_with_line_feed.Goals.{In-So
 use Rattle.bidi_paragraphs.proofs.first_walk.goes_on_with_line_feed.Given.{Over}
 
 -- the character that begins there is the first of those that follow
-stop : (g : Over) (c : In-Some g) (n : ℕ) → c.args.place ≡ place_of g.T.TextSource.units (g.T.TextSource.characters c.args.text) n
-    → begins_with_line_feed (g.D.BidiDataSource.source c.args.data_source.now) (drop n (g.T.TextSource.characters c.args.text)) ≡ (c.in-Some.c == 0x0A && is_paragraph_separator ((g.D.BidiDataSource.source c.args.data_source.now).class_of c.in-Some.c))
+stop : (g : Over) (c : In-Some g) (n : ℕ) → c.args.place ≡ place_of g.T.TextSource.encoding.len_of (g.T.TextSource.text c.args.text).chars n
+    → begins_with_line_feed (g.D.BidiDataSource.source c.args.data_source.now) (drop n (g.T.TextSource.text c.args.text).chars) ≡ (c.in-Some.c == 0x0A && is_paragraph_separator ((g.D.BidiDataSource.source c.args.data_source.now).class_of c.in-Some.c))
 stop g c n here = grind (arith, next-at)
 
 pub returns-then-c-eq10 : goal.returns-then-c-eq10

@@ -5,12 +5,12 @@ use Rattle.bidi_paragraphs.proofs.first_walk.read_some.Goals as goal
 pub read_on-requires : goal.read_on-requires
 read_on-requires g c = record {
   sized = grind arith;
-  begins = is_boundary-skimmed _ _ _ _ _ _ _ _ _ _ c.in_default.ensures g.met.T.TextSource.has_units (g.T.TextSource.characters c.args.text) c.requires.begins refl;
+  begins = is_boundary-skimmed _ _ _ _ _ _ _ _ _ _ c.in_default.ensures g.T.TextSource.encoding.positive (g.T.TextSource.text c.args.text).chars c.requires.begins refl;
 }
 
 pub returns : goal.returns
 returns g c = record {
-  stop = stop-on _ _ _ _ _ _ _ _ _ _ c.in_default.ensures g.met.T.TextSource.has_units (g.T.TextSource.characters c.args.text) c.requires.begins refl
+  stop = stop-on _ _ _ _ _ _ _ _ _ _ c.in_default.ensures g.T.TextSource.encoding.positive (g.T.TextSource.text c.args.text).chars c.requires.begins refl
       c.read_on.result c.read_on.new.progress.at c.read_on.new.classes c.read_on.new.progress.flags c.read_on.ensures.stop;
   passed = grind arith;
 }

@@ -5,7 +5,7 @@ use Rattle.bidi_paragraphs.proofs.first_walk.seek_stop.Given as goal
 
 abbrev pub invariant-loop-progress : goal.invariant-loop-progress
 invariant-loop-progress g l =
-    IsSkimmed (g.D.BidiDataSource.source l.data_source) g.T.TextSource.units (has l.stop_classes) (ahead g.T.TextSource.units (g.T.TextSource.characters l.text) l.fn.progress.at) l.fn.progress.at l.progress.at l.fn.classes l.classes l.fn.progress.flags l.progress.flags
+    IsSkimmed (g.D.BidiDataSource.source l.data_source) g.T.TextSource.encoding.len_of (has l.stop_classes) (ahead g.T.TextSource.encoding.len_of (g.T.TextSource.text l.text).chars l.fn.progress.at) l.fn.progress.at l.progress.at l.fn.classes l.classes l.fn.progress.flags l.progress.flags
 
 abbrev pub decreases-loop-progress : goal.decreases-loop-progress
 decreases-loop-progress g l = length l.initial.classes - l.progress.at

@@ -27,17 +27,17 @@ next_stop-requires g c = record {
 
 -- the character at which the search stopped
 met_at : (g : Over) (c : In-Some g)
-    → IsAt (g.D.BidiDataSource.source c.args.data_source.now) g.T.TextSource.units (g.T.TextSource.characters c.args.text) c.args.split c.args.base c.in-Some.stop (seen c.next_stop.new.classes c.loop-stop.walk) c.next_stop.new.state
+    → IsAt (g.D.BidiDataSource.source c.args.data_source.now) g.T.TextSource.encoding.len_of (g.T.TextSource.text c.args.text).chars c.args.split c.args.base c.in-Some.stop (seen c.next_stop.new.classes c.loop-stop.walk) c.next_stop.new.state
 met_at g c =
-    subst (λ (r : ParagraphState). IsAt (g.D.BidiDataSource.source c.args.data_source.now) g.T.TextSource.units (g.T.TextSource.characters c.args.text) c.args.split c.args.base c.in-Some.stop (seen c.next_stop.new.classes c.loop-stop.walk) r) (sym c.next_stop.ensures.kept)
-    (IsAt-stop _ _ _ g.met.T.TextSource.has_units _ _ _ _ _ _ c.loop-stop.invariant.0 c.next_stop.auto.classes c.in-Some.stop c.next_stop.new.state.flags c.in-Some.ensures.stop)
+    subst (λ (r : ParagraphState). IsAt (g.D.BidiDataSource.source c.args.data_source.now) g.T.TextSource.encoding.len_of (g.T.TextSource.text c.args.text).chars c.args.split c.args.base c.in-Some.stop (seen c.next_stop.new.classes c.loop-stop.walk) r) (sym c.next_stop.ensures.kept)
+    (IsAt-stop _ _ _ g.T.TextSource.encoding.positive _ _ _ _ _ _ c.loop-stop.invariant.0 c.next_stop.auto.classes c.in-Some.stop c.next_stop.new.state.flags c.in-Some.ensures.stop)
 
 pub overflow_add-at : goal.overflow_add-at
 overflow_add-at g c = omega (arith, (met_at g (goal.at.overflow_add-at g c).In-Some).turn.fits, c.well_formed, c.requires, c.in-Some.ensures.stop.long)
 
 pub read_stop-requires : goal.read_stop-requires
 read_stop-requires g c =
-    let units = g.met.T.TextSource.has_units in
+    let units = g.T.TextSource.encoding.positive in
     let m = met_at g (goal.at.read_stop-requires g c).In-Some in
     record {
       within = open_within _ _ _ units _ _ _ _ _ _ m.turn.within m.read.read;
@@ -48,7 +48,7 @@ read_stop-requires g c =
 pub loop-stop-smaller : goal.loop-stop-smaller
 loop-stop-smaller g c =
     let w = (met_at g (goal.at.loop-stop-smaller g c).In-Some).turn in
-    omega (arith, w.fits, g.met.T.TextSource.has_units c.in-Some.stop.c, c.in-Some.ensures.stop.long, c.in-Some.ensures.stop.begins, c.loop-stop.invariant.0.read.read.sized, c.loop-stop.auto.classes)
+    omega (arith, w.fits, g.T.TextSource.encoding.positive c.in-Some.stop.c, c.in-Some.ensures.stop.long, c.in-Some.ensures.stop.begins, c.loop-stop.invariant.0.read.read.sized, c.loop-stop.auto.classes)
 
 pub loop-stop-preserved : goal.loop-stop-preserved
 loop-stop-preserved g c =
@@ -57,9 +57,9 @@ loop-stop-preserved g c =
     let n : ℕ = m.index in
     let start = c.in-Some.stop.start in
     let to : ℕ = start + c.in-Some.stop.len in
-    let end : to ≡ place g.T.TextSource.units (g.T.TextSource.characters c.args.text) (n + 1) = omega (arith, w.after, c.in-Some.ensures.stop.long) in
-    let drawn = drawn-is _ _ _ g.met.T.TextSource.has_units _ n _ _ _ _ w.within m.read.read _ w.is_char _ m.class _ start w.at_place m.written in
-    let more = IsTextRead-more _ _ _ g.met.T.TextSource.has_units _ n _ _ _ _ w.within m.read.read _ w.is_char _ m.class _ drawn refl (record { start = start; end = to }) in
+    let end : to ≡ place g.T.TextSource.encoding.len_of (g.T.TextSource.text c.args.text).chars (n + 1) = omega (arith, w.after, c.in-Some.ensures.stop.long) in
+    let drawn = drawn-is _ _ _ g.T.TextSource.encoding.positive _ n _ _ _ _ w.within m.read.read _ w.is_char _ m.class _ start w.at_place m.written in
+    let more = IsTextRead-more _ _ _ g.T.TextSource.encoding.positive _ n _ _ _ _ w.within m.read.read _ w.is_char _ m.class _ drawn refl (record { start = start; end = to }) in
     let range_is = same_range start _ to _ w.at_place end in
     let ends_is = c.ends_paragraph-ends.ensures (n + 1) end in
     let longer = seen c.read_stop.new.classes c.loop-stop.walk in
@@ -85,26 +85,26 @@ pub close-requires : goal.close-requires
 close-requires g c = grind arith
 
 answered : (g : Over) (c : goal.After-drop-walk-2 g)
-    → IsAnswer (g.D.BidiDataSource.source c.args.data_source.now) g.T.TextSource.units (g.T.TextSource.characters c.args.text) c.args.split c.args.base (seen c.next_stop.new.classes c.if-is_none.walk)
+    → IsAnswer (g.D.BidiDataSource.source c.args.data_source.now) g.T.TextSource.encoding.len_of (g.T.TextSource.text c.args.text).chars c.args.split c.args.base (seen c.next_stop.new.classes c.if-is_none.walk)
 answered g c =
     let split = c.args.split in
     let old = seen c.next_stop.new.classes c.loop-stop.walk in
-    let cs : List ℕ = g.T.TextSource.characters c.args.text in
+    let cs : List ℕ = (g.T.TextSource.text c.args.text).chars in
     let n : ℕ = length cs in
-    let kept = IsRead-end _ _ _ g.met.T.TextSource.has_units _ _ _ _ _ _ c.loop-stop.invariant.0 c.next_stop.auto.classes c.next_stop.new.state.flags c.in_default.ensures.stop in
-    let h = subst (λ (r : ParagraphState). IsRead (g.D.BidiDataSource.source c.args.data_source.now) g.T.TextSource.units cs split c.args.base n old r) (sym c.next_stop.ensures.kept) kept in
-    let end : c.len-end.result ≡ place g.T.TextSource.units cs n = c.len-end.ensures ∙ sym (place-end _ cs n (omega arith)) in
+    let kept = IsRead-end _ _ _ g.T.TextSource.encoding.positive _ _ _ _ _ _ c.loop-stop.invariant.0 c.next_stop.auto.classes c.next_stop.new.state.flags c.in_default.ensures.stop in
+    let h = subst (λ (r : ParagraphState). IsRead (g.D.BidiDataSource.source c.args.data_source.now) g.T.TextSource.encoding.len_of cs split c.args.base n old r) (sym c.next_stop.ensures.kept) kept in
+    let end : c.len-end.result ≡ place g.T.TextSource.encoding.len_of cs n = c.len-end.ensures ∙ sym (place-end _ cs n (omega arith)) in
     elim c.if-is_none.branch [
       | then-is_none+in_ok-close w ↦
-          let rest : (is_none split ≡ true) ⊎ (c.next_stop.new.state.start < place g.T.TextSource.units cs n) = elim w.then-is_none.branch [
+          let rest : (is_none split ≡ true) ⊎ (c.next_stop.new.state.start < place g.T.TextSource.encoding.len_of cs n) = elim w.then-is_none.branch [
             | then-is_none-via-then-is_none v ↦ inl (ap not (c.is_none.ensures ∙ ap not v.if-is_none.true))
             | then-is_none-via-else-is_none+then-walk-end v ↦ inr (omega (arith, v.if-walk-end.true, end))
           ] in
           let new = seen c.next_stop.new.classes w.close.new.self in
-          rw w.walk-is (IsTextDone-answer _ _ _ split _ n _ new refl (IsRead-last _ _ _ g.met.T.TextSource.has_units _ n old _ refl split h rest)
+          rw w.walk-is (IsTextDone-answer _ _ _ split _ n _ new refl (IsRead-last _ _ _ g.T.TextSource.encoding.positive _ n old _ refl split h rest)
           (IsTextDone-close _ _ _ _ n _ _ old _ h.read new c.len-end.result end refl (rw c.loop-stop.invariant.1 at w.in_ok-close.ensures.closed)))
       | else-is_none+else-walk-end w ↦
-          let none = IsRead-none _ _ _ g.met.T.TextSource.has_units _ n old _ refl split h (ap not (c.is_none.ensures ∙ ap not w.if-is_none.false)) (omega (arith, w.if-walk-end.false, end)) in
+          let none = IsRead-none _ _ _ g.T.TextSource.encoding.positive _ n old _ refl split h (ap not (c.is_none.ensures ∙ ap not w.if-is_none.false)) (omega (arith, w.if-walk-end.false, end)) in
           rw w.walk-is (IsTextDone-answer _ _ _ split _ n _ old refl none.1 (IsTextDone-none _ _ _ _ n _ _ old _ none.0 h.read))
     ]
 

@@ -6,6 +6,6 @@ use Rattle.unicode_bidi.proofs.engine.analyse.Goals as goal
 pub returns : goal.returns
 returns g c =
     IfOk-weaker c.analyse_by.result _ _
-    (λ a. split-IsAnalysed (g.D.BidiDataSource.source c.args.data_source.now) c.args.base (with_analysis g.T.TextSource.units (g.T.TextSource.characters c.args.text) a) (paragraphs a)
+    (λ a. split-IsAnalysed (g.D.BidiDataSource.source c.args.data_source.now) c.args.base (with_analysis (g.T.TextSource.text c.args.text) a) (paragraphs a)
     c.args.split c.then_some-split.result c.then_some-split.ensures)
     c.analyse_by.ensures.analysed

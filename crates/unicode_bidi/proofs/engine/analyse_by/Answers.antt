@@ -12,4 +12,4 @@ returns-clause-analysed g c =
       front c.in_ok-original_classes.original_classes.len c.analyse.new.classes _ (omega (arith, c.analyse.auto.classes, c.as_mut_slice.ensures.len)),
       front c.in_ok-levels.levels.len c.analyse.new.levels _ (omega (arith, c.analyse.auto.levels, c.as_mut_slice-2.ensures.len)),
     )
-    (rule-IsAnalysedBy (g.D.BidiDataSource.source c.args.data_source.now) c.args.base _ _ c.args.split g.met.T.TextSource.has_units c.requires c.in_ok-analyse.ensures.analysis)
+    (rule-IsAnalysedBy (g.D.BidiDataSource.source c.args.data_source.now) c.args.base _ _ c.args.split g.T.TextSource.encoding.positive c.requires c.in_ok-analyse.ensures.analysis)

@@ -5,4 +5,4 @@ use Rattle.unicode_bidi.proofs.layout.first_line_len.Given as goal
 abbrev pub invariant-loop-at : goal.invariant-loop-at
 invariant-loop-at g l =
     (goal.iterator-loop-at g).can_next l.at-iterator × (goal.iterator-loop-at g).is_finite l.at-iterator
-    × (l.left + place (g.W.CharWidth.width_of l.widths) (g.T.TextSource.characters l.fn.text) (length l.yielded) ≡ l.fn.limit)
+    × (l.left + place (g.W.CharWidth.width_of l.widths) (g.T.TextSource.text l.fn.text).chars (length l.yielded) ≡ l.fn.limit)

@@ -1,5 +1,7 @@
 -- Each sequence is copied.
 use Rattle.bidi_base.proofs.Common.{◌≡◌, ◌∙◌, true, false, is_some, List, ℕ, Range, length, map, length-map, sym, ap, arith, bounds}
+use Rattle.bidi_base.proofs.UnitsLemmas.{length-from_is_per_char}
+use Rattle.bidi_text.proofs.PerCharTests.{class_eq, class_test, level_eq, level_test}
 use Rattle.bidi_explicit.specs.Gathered.{gathered_in}
 use Rattle.bidi_explicit.specs.Links.{begins, sequence_at, linked_sequences}
 use Rattle.bidi_explicit.specs.RunSequence.{joined, lent_joined}
@@ -7,6 +9,14 @@ use Rattle.bidi_explicit.proofs.JoinedSequences.{copied-more, copied-all, sequen
 use Rattle.bidi_explicit.proofs.LinkedSequences.{sequences_before-same}
 use Rattle.bidi_explicit.proofs.prepare.joining.isolating_run_sequences.Goals as goal
 use Rattle.bidi_explicit.proofs.prepare.joining.isolating_run_sequences.Goals.{in-Some+in_ok-copied+in_ok-push, in_default}
+
+pub invariant_of-leveled : goal.invariant_of-leveled
+invariant_of-leveled g c =
+    let e = g.T.TextSource.encoding in
+    record {
+      class_each = length-from_is_per_char class_eq class_test e.len_of e.positive _ _ c.requires.original;
+      level_each = length-from_is_per_char level_eq level_test e.len_of e.positive _ _ c.requires.levels;
+    }
 
 pub loop-first-preserved : goal.loop-first-preserved
 loop-first-preserved g c =
@@ -32,8 +42,8 @@ loop-first-preserved g c =
 
 pub returns : goal.returns
 returns g c =
-    let len = g.T.TextSource.units in
-    let cs = g.T.TextSource.characters c.args.text in
+    let len = g.T.TextSource.encoding.len_of in
+    let cs = (g.T.TextSource.text c.args.text).chars in
     let links = c.link.new.self in
     let runs : List (Range ℕ) = c.args.runs.items in
     let out = c.loop-first.out.items in

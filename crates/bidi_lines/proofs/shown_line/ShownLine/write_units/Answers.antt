@@ -16,7 +16,7 @@ write_runs-requires-clause-within g c =
 pub write_runs-requires-clause-boundaries : goal.write_runs-requires-clause-boundaries
 write_runs-requires-clause-boundaries g c =
     let s = c.args.self.now in
-    ranges_at_boundaries g.T.TextSource.units (g.T.TextSource.characters (text_of s)) c.as_slice-runs.result.now _ (c.as_slice-runs.ensures ∙ s.runs_of_levels) s.runs_of_chars
+    ranges_at_boundaries g.T.TextSource.encoding.len_of (g.T.TextSource.text (text_of s)).chars c.as_slice-runs.result.now _ (c.as_slice-runs.ensures ∙ s.runs_of_levels) s.runs_of_chars
 
 pub write_runs-requires-clause-whole : goal.write_runs-requires-clause-whole
 write_runs-requires-clause-whole g c =

@@ -10,13 +10,13 @@ pub loop-next-init : goal.loop-next-init
 loop-next-init g c = (omega arith, c.ascii_block_at-next.ensures, c.sought_with-sought.ensures, IsSkimmed-start _ _ _ _ _ _ _)
 
 -- the block that is written
-bytes : (g : Over) (c : In-Some g) (k : ℕ) → k < 16 → Some (get_or c.in-Some.block k 0) ≡ ascii_at g.T.TextSource.units (g.T.TextSource.characters c.args.text) (c.loop-next.start + k)
+bytes : (g : Over) (c : In-Some g) (k : ℕ) → k < 16 → Some (get_or c.in-Some.block k 0) ≡ ascii_at g.T.TextSource.encoding.len_of (g.T.TextSource.text c.args.text).chars (c.loop-next.start + k)
 bytes g c = rw c.in-Some.is at c.loop-next.invariant.1
 
 -- a block is within the text
 room : (g : Over) (c : In-Some g) → c.loop-next.start + 16 ≤ length c.loop-next.classes
 room g c =
-    let last = ascii-inside g.T.TextSource.units g.met.T.TextSource.has_units (g.T.TextSource.characters c.args.text) (c.loop-next.start + 15) (get_or c.in-Some.block 15 0) (bytes g c 15 (omega arith)) in
+    let last = ascii-inside g.T.TextSource.encoding.len_of g.T.TextSource.encoding.positive (g.T.TextSource.text c.args.text).chars (c.loop-next.start + 15) (get_or c.in-Some.block 15 0) (bytes g c 15 (omega arith)) in
     omega (arith, last, c.loop-next.auto.classes, c.requires.sized)
 
 pub write_block-found-requires : goal.write_block-found-requires
@@ -59,7 +59,7 @@ loop-next-preserved g c =
       omega (arith, c.loop-next.invariant.0),
       c.ascii_block_at-next-in-Some.ensures,
       w.are,
-      IsSkimmed-ascii_block (g.D.BidiDataSource.source c.args.data_source.now) g.T.TextSource.units (has c.args.stop_classes) g.met.T.TextSource.has_units (g.T.TextSource.characters c.args.text) c.args.progress.now.at c.loop-next.start c.requires.begins
+      IsSkimmed-ascii_block (g.D.BidiDataSource.source c.args.data_source.now) g.T.TextSource.encoding.len_of (has c.args.stop_classes) g.T.TextSource.encoding.positive (g.T.TextSource.text c.args.text).chars c.args.progress.now.at c.loop-next.start c.requires.begins
           c.args.classes.now c.write_block-found.new.classes _ _ kept c.in-Some.block (omega (arith, fits, c.write_block-found.auto.classes)) (bytes g (goal.at.loop-next-preserved g c).In-Some) written
           (λ k below. ap (has c.args.stop_classes) (written k below) ∙ w.idle k below) _ w.turns,
     )

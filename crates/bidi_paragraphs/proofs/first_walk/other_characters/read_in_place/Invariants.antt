@@ -5,7 +5,7 @@ use Rattle.bidi_paragraphs.proofs.first_walk.other_characters.read_in_place.Give
 
 abbrev pub invariant-loop-start : goal.invariant-loop-start
 invariant-loop-start g l =
-    IsSkimmed (g.D.BidiDataSource.source l.data_source) g.T.TextSource.units (has l.sought) (ahead g.T.TextSource.units (g.T.TextSource.characters l.text) l.progress.at) l.progress.at l.start l.fn.classes l.classes l.progress.flags l.progress.flags
+    IsSkimmed (g.D.BidiDataSource.source l.data_source) g.T.TextSource.encoding.len_of (has l.sought) (ahead g.T.TextSource.encoding.len_of (g.T.TextSource.text l.text).chars l.progress.at) l.progress.at l.start l.fn.classes l.classes l.progress.flags l.progress.flags
 
 abbrev pub decreases-loop-start : goal.decreases-loop-start
 decreases-loop-start g l = l.limit - l.start

@@ -12,7 +12,7 @@ loop-start-init g c = IsSkimmed-start _ _ _ _ _ _ _
 -- a block is within the text
 room : (g : Over) (c : In-Some g) → c.loop-start.start + 16 ≤ length c.loop-start.classes
 room g c =
-    let last = char-inside g.T.TextSource.units g.met.T.TextSource.has_units (g.T.TextSource.characters c.args.text) (c.loop-start.start + 15) (get_or c.in-Some.block 15 0) 1 (c.in-Some.ensures.characters 15 (omega arith)) in
+    let last = char-inside g.T.TextSource.encoding.len_of g.T.TextSource.encoding.positive (g.T.TextSource.text c.args.text).chars (c.loop-start.start + 15) (get_or c.in-Some.block 15 0) 1 (c.in-Some.ensures.characters 15 (omega arith)) in
     omega (arith, last, c.loop-start.auto.classes, c.requires.place.sized)
 
 pub write_low_block-idle-requires-clause-room : goal.write_low_block-idle-requires-clause-room
@@ -36,7 +36,7 @@ returns-then-idle-lt-LOW_BLOCK g c =
     let at = goal.at.returns-then-idle-lt-LOW_BLOCK g c in
     let fits = room g at.In-Some in
     let kept = IsSkimmed-kept _ _ _ _ _ _ _ _ _ _ c.loop-start.invariant c.write_low_block-idle.new.classes c.write_low_block-idle.ensures.kept in
-    let stop = IsStop-part (g.D.BidiDataSource.source c.args.data_source.now) g.T.TextSource.units (has c.args.sought) g.met.T.TextSource.has_units (g.T.TextSource.characters c.args.text) c.args.progress.now.at c.loop-start.start c.requires.place.begins
+    let stop = IsStop-part (g.D.BidiDataSource.source c.args.data_source.now) g.T.TextSource.encoding.len_of (has c.args.sought) g.T.TextSource.encoding.positive (g.T.TextSource.text c.args.text).chars c.args.progress.now.at c.loop-start.start c.requires.place.begins
     c.args.classes.now c.write_low_block-idle.new.classes _ _ kept c.in-Some.block (omega (arith, fits, c.write_low_block-idle.auto.classes)) c.in-Some.ensures.characters c.write_low_block-idle.result c.if-idle-lt-LOW_BLOCK.true c.write_low_block-idle.ensures.written c.write_low_block-idle.ensures.idle in
     record { stop = rw c.char_of_low-c.ensures (rw (same g at.After-write_low_block-idle) at stop) }
 
@@ -48,6 +48,6 @@ loop-start-preserved g c =
     let at = goal.at.loop-start-preserved g c in
     let fits = room g at.In-Some in
     let kept = IsSkimmed-kept _ _ _ _ _ _ _ _ _ _ c.loop-start.invariant c.write_low_block-idle.new.classes c.write_low_block-idle.ensures.kept in
-    let part = IsSkimmed-part (g.D.BidiDataSource.source c.args.data_source.now) g.T.TextSource.units (has c.args.sought) g.met.T.TextSource.has_units (g.T.TextSource.characters c.args.text) c.args.progress.now.at c.loop-start.start c.requires.place.begins
+    let part = IsSkimmed-part (g.D.BidiDataSource.source c.args.data_source.now) g.T.TextSource.encoding.len_of (has c.args.sought) g.T.TextSource.encoding.positive (g.T.TextSource.text c.args.text).chars c.args.progress.now.at c.loop-start.start c.requires.place.begins
     c.args.classes.now c.write_low_block-idle.new.classes _ _ kept c.in-Some.block (omega (arith, fits, c.write_low_block-idle.auto.classes)) c.in-Some.ensures.characters c.write_low_block-idle.result c.write_low_block-idle.ensures.few c.write_low_block-idle.ensures.written c.write_low_block-idle.ensures.idle in
     rw (same g at.After-write_low_block-idle) at part

@@ -5,12 +5,12 @@ use Rattle.bidi_paragraphs.proofs.first_walk.other_characters.read_next.Goals as
 
 pub write_at_once-requires-clause-fits : goal.write_at_once-requires-clause-fits
 write_at_once-requires-clause-fits g c =
-    let none = IsSkimmed-start (g.D.BidiDataSource.source c.args.data_source.now) g.T.TextSource.units (λ class. false) (ahead g.T.TextSource.units (g.T.TextSource.characters c.args.text) c.args.start) c.args.start c.args.classes.now (record { seen = record { bits = 0 } }) in
-    let room = char-room _ _ _ _ _ _ _ _ _ _ none g.met.T.TextSource.has_units (g.T.TextSource.characters c.args.text) c.requires.begins refl _ _ c.next_at-c.ensures in
+    let none = IsSkimmed-start (g.D.BidiDataSource.source c.args.data_source.now) g.T.TextSource.encoding.len_of (λ class. false) (ahead g.T.TextSource.encoding.len_of (g.T.TextSource.text c.args.text).chars c.args.start) c.args.start c.args.classes.now (record { seen = record { bits = 0 } }) in
+    let room = char-room _ _ _ _ _ _ _ _ _ _ none g.T.TextSource.encoding.positive (g.T.TextSource.text c.args.text).chars c.requires.begins refl _ _ c.next_at-c.ensures in
     omega (arith, room.long, room.fits, c.requires.sized)
 
 pub returns : goal.returns
 returns g c = λ stop_classes flags.
-    let none = IsSkimmed-start (g.D.BidiDataSource.source c.args.data_source.now) g.T.TextSource.units stop_classes (ahead g.T.TextSource.units (g.T.TextSource.characters c.args.text) c.args.start) c.args.start c.args.classes.now flags in
-    IsStop-char _ _ _ _ _ _ _ _ _ _ none g.met.T.TextSource.has_units (g.T.TextSource.characters c.args.text) c.requires.begins refl
+    let none = IsSkimmed-start (g.D.BidiDataSource.source c.args.data_source.now) g.T.TextSource.encoding.len_of stop_classes (ahead g.T.TextSource.encoding.len_of (g.T.TextSource.text c.args.text).chars c.args.start) c.args.start c.args.classes.now flags in
+    IsStop-char _ _ _ _ _ _ _ _ _ _ none g.T.TextSource.encoding.positive (g.T.TextSource.text c.args.text).chars c.requires.begins refl
     _ _ c.next_at-c.ensures _ c.bidi_class-class.ensures _ c.write_at_once.ensures

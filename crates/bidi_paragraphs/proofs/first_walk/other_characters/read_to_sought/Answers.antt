@@ -14,7 +14,7 @@ loop-start-init g c = (
 )
 
 -- the character that comes
-turn_of : (g : Over) (c : In-Some g) → CharTurn g.T.TextSource.units (g.T.TextSource.characters c.args.block) (length c.loop-start.yielded) c.in-Some.start c.in-Some.c
+turn_of : (g : Over) (c : In-Some g) → CharTurn g.T.TextSource.encoding.len_of (g.T.TextSource.text c.args.block).chars (length c.loop-start.yielded) c.in-Some.start c.in-Some.c
 turn_of g c = search (rules, index_turn)
 
 pub write-requires : goal.write-requires
@@ -24,12 +24,12 @@ pub returns-then-has : goal.returns-then-has
 returns-then-has g c flags each =
     let w = turn_of g (goal.at.returns-then-has g c).In-Some in
     let h = c.loop-start.invariant.2 flags each in
-    IsStop-next _ _ _ _ _ _ _ _ _ _ h.0 _ (drop (length c.loop-start.yielded + 1) (g.T.TextSource.characters c.args.block)) c.write.new.classes (h.1 ∙ w.next) w.at_place c.bidi_class-class.ensures c.char_len-len.ensures c.write.ensures
+    IsStop-next _ _ _ _ _ _ _ _ _ _ h.0 _ (drop (length c.loop-start.yielded + 1) (g.T.TextSource.text c.args.block).chars) c.write.new.classes (h.1 ∙ w.next) w.at_place c.bidi_class-class.ensures c.char_len-len.ensures c.write.ensures
 
 pub loop-start-preserved : goal.loop-start-preserved
 unfolding IsSkimmed-more
 loop-start-preserved g c =
-    let cs : List ℕ = g.T.TextSource.characters c.args.block in
+    let cs : List ℕ = (g.T.TextSource.text c.args.block).chars in
     let n : ℕ = length c.loop-start.yielded in
     let w = turn_of g (goal.at.loop-start-preserved g c).In-Some in
     let class = c.bidi_class-class.ensures in
@@ -38,13 +38,13 @@ loop-start-preserved g c =
       (c.in-Some.ensures.goes.on c.loop-start.invariant.1).1,
       λ flags each.
           let h = c.loop-start.invariant.2 flags each in
-          let more = IsSkimmed-more _ _ _ _ _ _ _ _ _ _ h.0 c.in-Some.c (drop (n + 1) cs) (place g.T.TextSource.units cs (n + 1)) c.write.new.classes flags (h.1 ∙ w.next)
+          let more = IsSkimmed-more _ _ _ _ _ _ _ _ _ _ h.0 c.in-Some.c (drop (n + 1) cs) (place g.T.TextSource.encoding.len_of cs (n + 1)) c.write.new.classes flags (h.1 ∙ w.next)
           (rw class at other) (omega (arith, w.after, w.at_place)) (cc (w.after, c.write.ensures, w.at_place, class)) (rw class at (each _ other)) in
           rw (length_push c.loop-start.yielded (c.in-Some.start, c.in-Some.c)) (more, refl),
     )
 
 pub returns : goal.returns
 returns g c flags each =
-    let cs : List ℕ = g.T.TextSource.characters c.args.block in
+    let cs : List ℕ = (g.T.TextSource.text c.args.block).chars in
     let all : length c.loop-start.yielded ≡ length cs = search (rules, index_end) in
-    rw (place-end g.T.TextSource.units cs (length c.loop-start.yielded) (omega (arith, all))) at (c.loop-start.invariant.2 flags each).0
+    rw (place-end g.T.TextSource.encoding.len_of cs (length c.loop-start.yielded) (omega (arith, all))) at (c.loop-start.invariant.2 flags each).0

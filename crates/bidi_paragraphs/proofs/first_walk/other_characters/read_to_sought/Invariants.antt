@@ -7,5 +7,5 @@ use Rattle.bidi_paragraphs.proofs.first_walk.other_characters.read_to_sought.Giv
 abbrev pub invariant-loop-start : goal.invariant-loop-start
 invariant-loop-start g l =
     (goal.iterator-loop-start g).can_next l.start-iterator × (goal.iterator-loop-start g).is_finite l.start-iterator
-    × ((flags : ParagraphFlags) → HasEachChange l.sought flags → (h : IsSkimmed (g.D.BidiDataSource.source l.data_source) g.T.TextSource.units (has l.sought) (g.T.TextSource.characters l.fn.block) 0 (place g.T.TextSource.units (g.T.TextSource.characters l.fn.block) (length l.yielded)) l.initial.classes l.classes flags flags)
-    × (h.rest ≡ drop (length l.yielded) (g.T.TextSource.characters l.fn.block)))
+    × ((flags : ParagraphFlags) → HasEachChange l.sought flags → (h : IsSkimmed (g.D.BidiDataSource.source l.data_source) g.T.TextSource.encoding.len_of (has l.sought) (g.T.TextSource.text l.fn.block).chars 0 (place g.T.TextSource.encoding.len_of (g.T.TextSource.text l.fn.block).chars (length l.yielded)) l.initial.classes l.classes flags flags)
+    × (h.rest ≡ drop (length l.yielded) (g.T.TextSource.text l.fn.block).chars))

@@ -7,6 +7,7 @@ use Rattle.bidi_explicit.specs.Links.{begins, sequence_at, linked_runs, linked_s
 use Rattle.bidi_explicit.specs.declared.prepare.lent.LentSequence.{LentSequence}
 use Rattle.bidi_explicit.specs.declared.prepare.links.RunLinks.{RunLinks}
 use Rattle.bidi_explicit.specs.RunSequence.{lent_joined}
+use Rattle.bidi_paragraphs.proofs.FilledUnits.{stored-long}
 use Rattle.bidi_paragraphs.proofs.LevelPasses.{ArePrepared, AreResolvedTo-same, AreResolvedTo-start, AreResolvedTo-per_char, AreResolvedTo-long, AreWeakTo-from, AreWeakTo-resolved, AreResolvedTo-more, AreResolvedTo-settled, AreResolvedTo-written, kept_of_units}
 use Rattle.bidi_paragraphs.proofs.LevelPasses.{prepared, prepared-next, prepared-lines, prepared-more, prepared-same, prepared-long, prepared-low, AreLevels-from}
 use Rattle.bidi_paragraphs.proofs.SettledSequences.{lines-within, numbers-give, settled-keeps, written-kept, written-per_char, written-removed}
@@ -21,19 +22,19 @@ pub loop-first-init : goal.loop-first-init
 loop-first-init g c =
     record {
       kept = refl;
-      resolved = AreResolvedTo-start _ g.met.T.TextSource.has_units _ _ _ c.args.paragraph.now.level c.args.paragraph.now.original_classes.now _ (length-map (g.T.TextSource.characters c.args.paragraph.now.text) _) c.args.paragraph.now.stored
+      resolved = AreResolvedTo-start _ g.T.TextSource.encoding.positive _ _ _ c.args.paragraph.now.level c.args.paragraph.now.original_classes.now _ (length-map (g.T.TextSource.text c.args.paragraph.now.text).chars _) c.args.paragraph.now.stored
           (c.as_mut_slice-classes.ensures.value ∙ c.in_ok-prepare.ensures.classes);
     }
 
 -- the sequences are those of the paragraph
 ready : (g : Over) (c : In_ok-prepare g)
-    → ArePrepared g.T.TextSource.units g.met.T.TextSource.has_units (g.T.TextSource.characters c.args.paragraph.now.text)
-    (map (g.D.BidiDataSource.source c.args.paragraph.now.data_source.now).class_of (g.T.TextSource.characters c.args.paragraph.now.text))
+    → ArePrepared g.T.TextSource.encoding.len_of g.T.TextSource.encoding.positive (g.T.TextSource.text c.args.paragraph.now.text).chars
+    (map (g.D.BidiDataSource.source c.args.paragraph.now.data_source.now).class_of (g.T.TextSource.text c.args.paragraph.now.text).chars)
     (g.D.BidiDataSource.source c.args.paragraph.now.data_source.now).bracket_of c.args.paragraph.now.level c.args.paragraph.now.original_classes.now c.prepare.new.levels
     (linked_sequences c.prepare.new.self.links (linked_runs c.prepare.new.self.links c.prepare.new.self.runs.items))
 ready g c =
-    let len = g.T.TextSource.units in
-    let cs : List ℕ = g.T.TextSource.characters c.args.paragraph.now.text in
+    let len = g.T.TextSource.encoding.len_of in
+    let cs : List ℕ = (g.T.TextSource.text c.args.paragraph.now.text).chars in
     let given = g.D.BidiDataSource.source c.args.paragraph.now.data_source.now in
     prepared len _ cs _ given.bracket_of _ c.args.paragraph.now.original_classes.now _ _ (length-map cs given.class_of) c.args.paragraph.now.stored c.in_ok-prepare.ensures.levels c.in_ok-prepare.ensures.sequences c.in_ok-prepare.ensures.fits
 
@@ -65,8 +66,8 @@ pub is_settled-requires-clause-inside : goal.is_settled-requires-clause-inside
 is_settled-requires-clause-inside g c =
     let at = goal.at.is_settled-requires-clause-inside g c in
     let hand = at_hand g at.After-lend-sequence in
-    lines-within g.T.TextSource.units (g.T.TextSource.characters c.args.paragraph.now.text) c.loop-first.classes (lent_joined c.lend-sequence.result).runs
-    (AreResolvedTo-long _ _ _ _ _ _ _ _ (length-map (g.T.TextSource.characters c.args.paragraph.now.text) _) c.loop-first.invariant.resolved)
+    lines-within g.T.TextSource.encoding.len_of (g.T.TextSource.text c.args.paragraph.now.text).chars c.loop-first.classes (lent_joined c.lend-sequence.result).runs
+    (AreResolvedTo-long _ _ _ _ _ _ _ _ (length-map (g.T.TextSource.text c.args.paragraph.now.text).chars _) c.loop-first.invariant.resolved)
     (prepared-lines _ _ _ _ _ _ _ _ _ _ (ready g at.In_ok-prepare) c.loop-first.first (lent_joined c.lend-sequence.result) hand.within hand.here hand.is)
 
 pub is_settled-requires-clause-levels : goal.is_settled-requires-clause-levels
@@ -78,8 +79,8 @@ pub settle_numbers-requires-clause-inside : goal.settle_numbers-requires-clause-
 settle_numbers-requires-clause-inside g c =
     let at = goal.at.settle_numbers-requires-clause-inside g c in
     let hand = at_hand g at.After-lend-sequence in
-    lines-within g.T.TextSource.units (g.T.TextSource.characters c.args.paragraph.now.text) c.loop-first.classes (lent_joined c.lend-sequence.result).runs
-    (AreResolvedTo-long _ _ _ _ _ _ _ _ (length-map (g.T.TextSource.characters c.args.paragraph.now.text) _) c.loop-first.invariant.resolved)
+    lines-within g.T.TextSource.encoding.len_of (g.T.TextSource.text c.args.paragraph.now.text).chars c.loop-first.classes (lent_joined c.lend-sequence.result).runs
+    (AreResolvedTo-long _ _ _ _ _ _ _ _ (length-map (g.T.TextSource.text c.args.paragraph.now.text).chars _) c.loop-first.invariant.resolved)
     (prepared-lines _ _ _ _ _ _ _ _ _ _ (ready g at.In_ok-prepare) c.loop-first.first (lent_joined c.lend-sequence.result) hand.within hand.here hand.is)
 
 pub settle_numbers-requires-clause-levels : goal.settle_numbers-requires-clause-levels
@@ -93,12 +94,12 @@ loop-first-preserved-then-is_settled g c =
     let is_ready = ready g at.In_ok-prepare in
     let hand = at_hand g at.After-lend-sequence in
     let s = lent_joined c.lend-sequence.result in
-    let chars : List ℕ = g.T.TextSource.characters c.args.paragraph.now.text in
+    let chars : List ℕ = (g.T.TextSource.text c.args.paragraph.now.text).chars in
     let next = prepared-next _ _ _ _ _ _ _ _ _ _ is_ready c.loop-first.first s hand.within hand.here hand.is (side c.lend-sequence.result) in
     let line = prepared-lines _ _ _ _ _ _ _ _ _ _ is_ready c.loop-first.first s hand.within hand.here hand.is in
     let per = AreResolvedTo-per_char _ _ _ _ _ _ _ _ (length-map chars _) c.loop-first.invariant.resolved in
-    let len = g.T.TextSource.units in
-    let units = g.met.T.TextSource.has_units in
+    let len = g.T.TextSource.encoding.len_of in
+    let units = g.T.TextSource.encoding.positive in
     let kept = kept_of_units len units chars _ _ _ is_ready.fits _ s line next c.loop-first.classes c.loop-first.invariant.resolved in
     let h = c.loop-first.invariant.resolved in
     let more = prepared-more _ _ _ _ _ _ _ _ _ _ is_ready c.loop-first.first s hand.within hand.here hand.is in
@@ -125,8 +126,16 @@ pub resolve_weak_lent_counted-requires : goal.resolve_weak_lent_counted-requires
 resolve_weak_lent_counted-requires g c =
     let at = goal.at.resolve_weak_lent_counted-requires g c in
     let hand = at_hand g at.After-lend-sequence in record {
-      per_char = rw (c.settle_numbers.ensures.unchanged c.if-settle_numbers.false) (AreResolvedTo-per_char _ _ _ _ _ _ _ _ (length-map (g.T.TextSource.characters c.args.paragraph.now.text) _) c.loop-first.invariant.resolved);
+      per_char = rw (c.settle_numbers.ensures.unchanged c.if-settle_numbers.false) (AreResolvedTo-per_char _ _ _ _ _ _ _ _ (length-map (g.T.TextSource.text c.args.paragraph.now.text).chars _) c.loop-first.invariant.resolved);
       fits = prepared-lines _ _ _ _ _ _ _ _ _ _ (ready g at.In_ok-prepare) c.loop-first.first (lent_joined c.lend-sequence.result) hand.within hand.here hand.is;
+    }
+
+pub invariant_of-leveled : goal.invariant_of-leveled
+invariant_of-leveled g c =
+    let p = c.args.paragraph.now in
+    record {
+      class_each = stored-long _ _ (g.D.BidiDataSource.source p.data_source.now).class_of p.original_classes.now p.stored;
+      level_each = omega (arith, prepared-long _ _ _ _ _ _ _ _ _ _ (ready g (goal.at.invariant_of-leveled g c).In_ok-prepare));
     }
 
 pub resolve_up_to_n1-requires : goal.resolve_up_to_n1-requires

@@ -12,8 +12,8 @@ gather_run-requires-clause-line g c = search (rules, line_at)
 
 pub loop-run-preserved : goal.loop-run-preserved
 loop-run-preserved g c =
-    let len_of = g.T.TextSource.units in
-    let chars : List ℕ = g.T.TextSource.characters c.args.text in
+    let len_of = g.T.TextSource.encoding.len_of in
+    let chars : List ℕ = (g.T.TextSource.text c.args.text).chars in
     let source : Source = g.D.BidiDataSource.source c.args.data_source.now in
     let units = c.args.classes.now in
     let i = c.loop-run.run-index in

@@ -8,8 +8,8 @@ use Rattle.bidi_rules.proofs.neutral.pairs.resolve_pairs.Given as goal
 
 abbrev pub invariant-loop-pair : goal.invariant-loop-pair
 invariant-loop-pair g l =
-    let len_of = g.T.TextSource.units in
-    let chars = g.T.TextSource.characters l.fn.text in
+    let len_of = g.T.TextSource.encoding.len_of in
+    let chars = (g.T.TextSource.text l.fn.text).chars in
     let d = l.directions in
     let ks = kept_in_place len_of chars l.fn.classes (map bounds l.runs) in
     ((h : HasUnits len_of) (ready : IsReady len_of chars l.runs d.sos l.fn.classes) (side : is_l_or_r d.embedding ≡ true) (long : length l.original_classes ≡ length l.fn.classes) (found : List (ℕ × ℕ)) (nested : AreNestedPairs (length ks) found)

@@ -41,15 +41,15 @@ pub no_mark_follows-requires-clause-inside : goal.no_mark_follows-requires-claus
 no_mark_follows-requires-clause-inside g c =
     let a = c.args in
     subst (λ (rs : List (ℕ × ℕ)). All (λ (r : ℕ × ℕ). r.1 ≤ length a.classes.now) rs) (sym (part_after a.sequence.runs.now a.sequence.runs.now a.bracket.run refl))
-    (All-drop (λ (r : ℕ × ℕ). r.1 ≤ length a.classes.now) a.bracket.run (map bounds a.sequence.runs.now) (ends-within g.T.TextSource.units (g.T.TextSource.characters a.text) (map bounds a.sequence.runs.now) (length a.classes.now) c.requires.long c.requires.lines))
+    (All-drop (λ (r : ℕ × ℕ). r.1 ≤ length a.classes.now) a.bracket.run (map bounds a.sequence.runs.now) (ends-within g.T.TextSource.encoding.len_of (g.T.TextSource.text a.text).chars (map bounds a.sequence.runs.now) (length a.classes.now) c.requires.long c.requires.lines))
 
 pub write_bracket-requires : goal.write_bracket-requires
 write_bracket-requires g c = omega (arith, (c.no_mark_follows.ensures c.if-no_mark_follows.true).inside)
 
 pub returns-then-no_mark_follows : goal.returns-then-no_mark_follows
 returns-then-no_mark_follows g c = λ k within there.
-    let len_of = g.T.TextSource.units in
-    let chars : List ℕ = g.T.TextSource.characters c.args.text in
+    let len_of = g.T.TextSource.encoding.len_of in
+    let chars : List ℕ = (g.T.TextSource.text c.args.text).chars in
     let rs = map bounds c.args.sequence.runs.now in
     let same = part_after c.args.sequence.runs.now c.args.sequence.runs.now c.args.bracket.run refl in
     let p = c.requires.place in
@@ -66,9 +66,9 @@ set_with_marks-requires-clause-ordered g c = grind (arith, forwards-in_order) st
 
 pub set_with_marks-requires-clause-ends : goal.set_with_marks-requires-clause-ends
 set_with_marks-requires-clause-ends g c =
-    let len_of = g.T.TextSource.units in
-    let chars : List ℕ = g.T.TextSource.characters c.args.text in
-    let b = begins_at len_of g.met.T.TextSource.has_units chars c.args.bracket.unit c.requires.begins c.requires.inside in
+    let len_of = g.T.TextSource.encoding.len_of in
+    let chars : List ℕ = (g.T.TextSource.text c.args.text).chars in
+    let b = begins_at (g.T.TextSource.text c.args.text) c.args.bracket.unit c.requires.begins c.requires.inside in
     grind (arith, c.requires.place.ends b.index b.within b.there, is_boundary-place len_of chars (b.index + 1))
 
 pub returns : goal.returns
@@ -77,5 +77,5 @@ returns g c = λ k within there.
     let same = part_after c.args.sequence.runs.now c.args.sequence.runs.now c.args.bracket.run refl in
     let p = c.requires.place in
     let inside = p.ends k within there in
-    IsSet-later _ _ (drop c.args.bracket.run rs) rs _ _ c.args.bracket.unit _ _ _ _ p.run.later (omega (arith, there, place-mono g.T.TextSource.units (g.T.TextSource.characters c.args.text) k (k + 1) (omega arith)))
+    IsSet-later _ _ (drop c.args.bracket.run rs) rs _ _ c.args.bracket.unit _ _ _ _ p.run.later (omega (arith, there, place-mono g.T.TextSource.encoding.len_of (g.T.TextSource.text c.args.text).chars k (k + 1) (omega arith)))
     (simp (inside, same) at c.set_with_marks.ensures.marks) (simp same at c.set_with_marks.ensures.written)

@@ -14,31 +14,31 @@ use Rattle.bidi_rules.proofs.weak.w2_w4_w5_w7.resolve_numbers.Goals as goal
 
 pub loop-run-init : goal.loop-run-init
 loop-run-init g c =
-    let len_of = g.T.TextSource.units in
-    let chars : List ℕ = g.T.TextSource.characters c.args.text in
+    let len_of = g.T.TextSource.encoding.len_of in
+    let chars : List ℕ = (g.T.TextSource.text c.args.text).chars in
     let runs = map bounds c.args.runs.now in
     let old = c.args.classes.now in
     let p : Pass = record { runs = runs; sos = c.args.sos; old = old; len = len_at len_of chars } in
-    let under_way = IsUnderWay-first_run p c.requires.ordered (lines-within len_of g.met.T.TextSource.has_units chars runs c.requires.lines c.requires.ordered c.args.sos old c.requires.per_char) in
+    let under_way = IsUnderWay-first_run p c.requires.ordered (lines-within len_of g.T.TextSource.encoding.positive chars runs c.requires.lines c.requires.ordered c.args.sos old c.requires.per_char) in
     grind (arith, WaitsBelow-idle, under_way)
 
 pub read_run-requires-clause-inside : goal.read_run-requires-clause-inside
 read_run-requires-clause-inside g c =
-    omega (arith, lines-within _ g.met.T.TextSource.has_units _ (map bounds c.args.runs.now) c.requires.lines c.requires.ordered c.args.sos _ c.requires.per_char c.loop-run.run (0, 0) (omega (arith, c.loop-run-test.true, length-map c.args.runs.now bounds)), c.loop-run.invariant.under_way.long)
+    omega (arith, lines-within _ g.T.TextSource.encoding.positive _ (map bounds c.args.runs.now) c.requires.lines c.requires.ordered c.args.sos _ c.requires.per_char c.loop-run.run (0, 0) (omega (arith, c.loop-run-test.true, length-map c.args.runs.now bounds)), c.loop-run.invariant.under_way.long)
 
 pub read_run-requires-clause-whole : goal.read_run-requires-clause-whole
 read_run-requires-clause-whole g c =
     grind (
       arith,
       length-map c.args.runs.now bounds,
-      IsWhole-line g.T.TextSource.units g.met.T.TextSource.has_units (g.T.TextSource.characters c.args.text) c.args.classes.now c.requires.per_char (get_or (map bounds c.args.runs.now) c.loop-run.run (0, 0)).0 (get_or (map bounds c.args.runs.now) c.loop-run.run (0, 0)).1,
+      IsWhole-line g.T.TextSource.encoding.len_of g.T.TextSource.encoding.positive (g.T.TextSource.text c.args.text).chars c.args.classes.now c.requires.per_char (get_or (map bounds c.args.runs.now) c.loop-run.run (0, 0)).0 (get_or (map bounds c.args.runs.now) c.loop-run.run (0, 0)).1,
       start_or-at (map bounds c.args.runs.now) c.loop-run.run (length c.args.classes.now),
     )
 
 pub loop-run-preserved : goal.loop-run-preserved
 loop-run-preserved g c =
-    let len_of = g.T.TextSource.units in
-    let chars : List ℕ = g.T.TextSource.characters c.args.text in
+    let len_of = g.T.TextSource.encoding.len_of in
+    let chars : List ℕ = (g.T.TextSource.text c.args.text).chars in
     let runs = map bounds c.args.runs.now in
     let old = c.args.classes.now in
     let index = c.loop-run.run in
@@ -46,7 +46,7 @@ loop-run-preserved g c =
     let p : Pass = record { runs = runs; sos = c.args.sos; old = old; len = len_at len_of chars } in
     let start = start_or-at runs index (length old) fits in
     let begin = simp start at c.loop-run.invariant.under_way in
-    let inside = lines-within len_of g.met.T.TextSource.has_units chars runs c.requires.lines c.requires.ordered c.args.sos old c.requires.per_char in
+    let inside = lines-within len_of g.T.TextSource.encoding.positive chars runs c.requires.lines c.requires.ordered c.args.sos old c.requires.per_char in
     let next = next_start 0 index runs (length old) c.requires.ordered fits (inside index (0, 0) fits) in
     let end = (get_or runs index (0, 0)).1 in
     let some = run_some 0 index runs c.requires.ordered fits in
@@ -60,12 +60,12 @@ loop-run-preserved g c =
 
 pub returns-clause-walked : goal.returns-clause-walked
 returns-clause-walked g c =
-    let chars : List ℕ = g.T.TextSource.characters c.args.text in
+    let chars : List ℕ = (g.T.TextSource.text c.args.text).chars in
     let runs = map bounds c.args.runs.now in
     let old = c.args.classes.now in
     let now = c.loop-run.classes in
     let w = c.loop-run.walk in
-    let p : Pass = record { runs = runs; sos = c.args.sos; old = old; len = len_at g.T.TextSource.units chars } in
+    let p : Pass = record { runs = runs; sos = c.args.sos; old = old; len = len_at g.T.TextSource.encoding.len_of chars } in
     let top : start_or runs c.loop-run.run (length old) ≡ length old = grind (arith, start_or-past, length-map) in
     let h = simp top at c.loop-run.invariant.under_way in
     IsWalked-settled p now w (length old) h c.settle.new.classes (omega arith)
@@ -74,7 +74,7 @@ returns-clause-walked g c =
 pub returns-then-not-has_numbers-clause-walked : goal.returns-then-not-has_numbers-clause-walked
 returns-then-not-has_numbers-clause-walked g c =
     IsWalked-none _ c.args.runs.now _ c.args.classes.now
-    (is_any-none is_number c.args.runs.now c.args.classes.now (lines-within _ g.met.T.TextSource.has_units _ _ c.requires.lines c.requires.ordered c.args.sos _ c.requires.per_char) (sym c.has_numbers.ensures ∙ c.if-not-has_numbers.true))
+    (is_any-none is_number c.args.runs.now c.args.classes.now (lines-within _ g.T.TextSource.encoding.positive _ _ c.requires.lines c.requires.ordered c.args.sos _ c.requires.per_char) (sym c.has_numbers.ensures ∙ c.if-not-has_numbers.true))
 
 -- all runs are read
 record AreRead (runs : List (ℕ × ℕ)) (w : Walk) (n steps first : ℕ) : Type 0 where
@@ -97,4 +97,4 @@ returns-clause-at_most g c =
     let runs = map bounds c.args.runs.now in
     let long : length c.loop-run.classes ≡ length c.args.classes.now = omega (arith, c.loop-run.auto.classes) in
     let all = read runs c.loop-run.walk c.loop-run.run (length c.args.classes.now) c.loop-run.steps c.args.steps.now (omega (arith, c.loop-run-test.false, length-map c.args.runs.now bounds)) c.loop-run.invariant.waiting c.loop-run.invariant.at_most in
-    omega (arith, all.at_most, simp long at c.settle.ensures.at_most, count_below-all 0 runs (length c.args.classes.now) c.requires.ordered (lines-within _ g.met.T.TextSource.has_units _ runs c.requires.lines c.requires.ordered c.args.sos _ c.requires.per_char))
+    omega (arith, all.at_most, simp long at c.settle.ensures.at_most, count_below-all 0 runs (length c.args.classes.now) c.requires.ordered (lines-within _ g.T.TextSource.encoding.positive _ runs c.requires.lines c.requires.ordered c.args.sos _ c.requires.per_char))

@@ -11,7 +11,7 @@ invariant-loop-run g l =
     let next = start_or runs l.run (length l.fn.classes) in
     record {
       waiting : WaitsBelow runs l.walk next;
-      under_way : IsUnderWay (record { runs = runs; sos = l.fn.sos; old = l.fn.classes; len = len_at g.T.TextSource.units (g.T.TextSource.characters l.fn.text) }) l.classes l.walk next;
+      under_way : IsUnderWay (record { runs = runs; sos = l.fn.sos; old = l.fn.classes; len = len_at g.T.TextSource.encoding.len_of (g.T.TextSource.text l.fn.text).chars }) l.classes l.walk next;
       at_least : l.fn.steps ≤ l.steps;
       at_most : l.steps ≤ l.fn.steps + 2 * count_below runs next + 2 * count_below runs (settled_to l.walk next);
     }

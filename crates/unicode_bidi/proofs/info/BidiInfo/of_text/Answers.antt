@@ -9,7 +9,7 @@ pub invariant_of-result : goal.invariant_of-result
 invariant_of-result g c = record {
   paragraphs_are_lines =
       rw c.new.ensures.text
-      (lines-found (g.D.BidiDataSource.source c.args.data_source.now) g.T.TextSource.units g.met.T.TextSource.has_units (g.T.TextSource.characters c.args.text) c.args.rule c.in_ok-found.found.paragraphs.items
+      (lines-found (g.D.BidiDataSource.source c.args.data_source.now) g.T.TextSource.encoding.len_of g.T.TextSource.encoding.positive (g.T.TextSource.text c.args.text).chars c.args.rule c.in_ok-found.found.paragraphs.items
       c.in_ok-found.ensures.analysed.analysis.ranges);
 }
 

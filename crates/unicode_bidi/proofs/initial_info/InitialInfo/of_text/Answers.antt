@@ -14,6 +14,6 @@ returns-clause-paragraphs g c = record {
   levels = c.in_ok-found.ensures.levels;
   parted =
       rw c.in_ok-found.ensures.ranges
-      (paragraphs-AreParagraphRanges (g.D.BidiDataSource.source c.args.data_source.now) g.T.TextSource.units g.met.T.TextSource.has_units (g.T.TextSource.characters c.args.text));
+      (paragraphs-AreParagraphRanges (g.D.BidiDataSource.source c.args.data_source.now) g.T.TextSource.encoding.len_of g.T.TextSource.encoding.positive (g.T.TextSource.text c.args.text).chars);
   per_char = grind (arith, with_items_is, is_per_char-per_unit, class_test, length-paragraph_classes);
 }

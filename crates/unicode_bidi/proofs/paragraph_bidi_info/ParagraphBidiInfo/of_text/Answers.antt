@@ -17,8 +17,8 @@ pub returns : goal.returns
 returns g c =
     let source = g.D.BidiDataSource.source c.args.data_source.now in
     let base = c.args.default_para_level in
-    let cs : List ℕ = g.T.TextSource.characters c.args.text in
-    let found = with_analysis g.T.TextSource.units cs c.in_ok-found.found in
+    let cs : List ℕ = (g.T.TextSource.text c.args.text).chars in
+    let found = with_analysis (g.T.TextSource.text c.args.text) c.in_ok-found.found in
     let analysis = c.in_ok-found.ensures.analysed.analysis in
     let one : c.in_ok-found.found.flags.items ≡ flags_of (map source.class_of cs) ∷ [] = rw (← flags-one) c.in_ok-found.ensures.flags in
     let level : c.level-paragraph_level.result ≡ paragraph_level base (map source.class_of cs) =

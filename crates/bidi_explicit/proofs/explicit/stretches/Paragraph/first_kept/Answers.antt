@@ -7,7 +7,7 @@ pub returns-in-Character-clause-at_least : goal.returns-in-Character-clause-at_l
 returns-in-Character-clause-at_least g c =
     omega (
       arith,
-      index-le g.T.TextSource.units g.met.T.TextSource.has_units (g.T.TextSource.characters c.args.self.now.text) c.args.from c.next_character.result
+      index-le (g.T.TextSource.text c.args.self.now.text) c.args.from c.next_character.result
           c.requires.begins c.next_character.ensures.begins c.next_character.ensures.first.begins,
       c.next_character.ensures.steps,
     )

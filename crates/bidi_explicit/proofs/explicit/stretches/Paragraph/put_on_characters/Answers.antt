@@ -7,9 +7,9 @@ use Rattle.bidi_explicit.proofs.explicit.stretches.Paragraph.put_on_characters.G
 use Rattle.bidi_explicit.proofs.explicit.stretches.Paragraph.put_on_characters.Goals.{After-end_of-next}
 
 next : (g : Over) (c : After-end_of-next g)
-    → Goes g.T.TextSource.units g.met.T.TextSource.has_units (g.T.TextSource.characters c.args.self.now.text) c.args.self.now.original_classes.now c.loop-at.at c.end_of-next.result c.args.to
+    → Goes (g.T.TextSource.text c.args.self.now.text) c.args.self.now.original_classes.now c.loop-at.at c.end_of-next.result c.args.to
 next g c =
-    goes g.T.TextSource.units g.met.T.TextSource.has_units (g.T.TextSource.characters c.args.self.now.text) c.args.self.now.original_classes.now c.loop-at.at c.end_of-next.result c.args.to
+    goes (g.T.TextSource.text c.args.self.now.text) c.args.self.now.original_classes.now c.loop-at.at c.end_of-next.result c.args.to
     c.args.self.now.per_char c.loop-at.invariant.3 c.requires.ends c.loop-at-test.true (omega (arith, c.requires.within, c.args.self.now.long)) c.end_of-next.ensures
 
 -- the class of its units before the override
@@ -58,4 +58,4 @@ loop-at-preserved g c =
 pub returns-clause-steps : goal.returns-clause-steps
 returns-clause-steps g c =
     let same : c.loop-at.at ≡ c.args.to = omega (arith, c.loop-at.invariant.1) in
-    c.loop-at.invariant.4 ∙ ap (λ u. c.args.steps.now + char_index g.T.TextSource.units (g.T.TextSource.characters c.args.self.now.text) u) same
+    c.loop-at.invariant.4 ∙ ap (λ u. c.args.steps.now + char_index g.T.TextSource.encoding.len_of (g.T.TextSource.text c.args.self.now.text).chars u) same

@@ -6,10 +6,9 @@ use Rattle.bidi_explicit.proofs.explicit.stretches.Paragraph.read_stretch.Goals 
 -- each of the three walks takes at most one step for each character or code unit
 pub returns : goal.returns
 returns g c =
-    let len_of = g.T.TextSource.units in
-    let chars = g.T.TextSource.characters c.args.self.now.text in
+    let text = g.T.TextSource.text c.args.self.now.text in
     let some : c.args.from < c.stretch_end-end.result = IsFirst-advances _ _ _ _ c.requires.plain c.requires.inside c.stretch_end-end.ensures.first in
-    let more = count-lt len_of g.met.T.TextSource.has_units chars c.args.self.now.stride c.args.from c.stretch_end-end.result c.requires.begins c.stretch_end-end.ensures.begins some in
+    let more = count-lt text c.args.self.now.stride c.args.from c.stretch_end-end.result c.requires.begins c.stretch_end-end.ensures.begins some in
     record {
       read =
           λ stack levels written same is runs run h. stretch-met _ _ _ _ _ _ runs run h c.stretch_end-end.ensures.first _ _ _ _ (ap (λ entry. entry.status.level) same) (ap (λ entry. entry.status.override) same)

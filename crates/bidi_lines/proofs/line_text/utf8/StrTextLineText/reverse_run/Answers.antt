@@ -18,6 +18,6 @@ write_chars_reversed-requires c = grind (arith, as_long)
 pub returns-then-are_short : goal.returns-then-are_short
 returns-then-are_short c =
     let text = c.as_str-text.result.now in
-    let is : chars text ≡ subrange len_utf8 (chars c.args.self.text.now) c.args.run.start c.args.run.end = ap chars c.as_str-text.ensures ∙ c.subrange.ensures in
+    let is : chars text ≡ subrange len_utf8 (chars c.args.self.text.now) c.args.run.start c.args.run.end = ap chars c.as_str-text.ensures ∙ ap (λ t. t.chars) c.subrange.ensures in
     let same : length c.turn_round.new.out ≡ length text = grind (arith, as_long) in
     turned-chars text c.turn_round.new.out c.as_str-text.utf8 (grind arith) same (λ j fits. grind arith) ∙ ap (λ cs. flat_map encode_utf8 (reverse cs)) is

@@ -1,0 +1,18 @@
+-- The units of a line of a text, written from left to right.
+use Rattle.std.specs.Prelude.{ℕ, List}
+use Rattle.bidi_base.specs.Display.{Run}
+use Rattle.bidi_base.specs.Texts.{Encoding, Text}
+use Rattle.bidi_lines.specs.Written as list
+
+module _ {e : Encoding} (text : Text e) where
+  -- a level run of a line, read in the whole text: an even run as its units, an odd one as its characters, last first
+  abbrev pub run_units : {X : Type 0} → (ℕ → List X) → List X → ℕ → List ℕ → Run → List X
+  run_units encode units from levels = list.run_units e.len_of encode text.chars units from levels
+
+  -- the runs of a line from left to right (L2), one after the other, from the levels of its units after L1
+  abbrev pub shown_units : {X : Type 0} → (ℕ → List X) → List X → ℕ → List ℕ → List X
+  shown_units encode units start shown = list.shown_units e.len_of encode text.chars units start shown
+
+  -- the visual runs of a line cut no character
+  abbrev pub AreRunsOfChars : ℕ → List ℕ → Type 0
+  AreRunsOfChars start shown = list.AreRunsOfChars e.len_of text.chars start shown
