@@ -5,8 +5,8 @@ use crate::files::{
 use bidi_arguments::operands::{Operands, STANDARD_INPUT_NAME};
 use bidi_inputs::input::{explain_input, explain_text};
 use bidi_inputs::status::Status;
-use bidi_stages::frame;
-use bidi_stages::view::{Form, StageView};
+use bidi_explain::frame;
+use bidi_explain::view::{Form, StageView};
 use std::fs;
 use std::rt::Files;
 

@@ -8,8 +8,8 @@ use Rattle.bidi_terminal.specs.Numbers.{number_of}
 use Rattle.bidi_terminal.specs.declared.base.Base.{Base}
 use Rattle.bidi_arguments.specs.Checks.{flag_named, setting_named, with_flag, with_setting}
 use Rattle.bidi_arguments.specs.Commands.{by_options, check_of, check_over, explain_of, file_words, show_of}
-use Rattle.bidi_stages.specs.declared.view.Form.TheVariants.{Page}
-use Rattle.bidi_stages.specs.declared.view.StageView.{StageView}
+use Rattle.bidi_explain.specs.declared.view.Form.TheVariants.{Page}
+use Rattle.bidi_explain.specs.declared.view.StageView.{StageView}
 use Rattle.bidi_arguments.specs.declared.check_options.CheckOptions.{CheckOptions}
 use Rattle.bidi_arguments.specs.declared.check_options.Flag.{Flag}
 use Rattle.bidi_arguments.specs.declared.check_options.Setting.{Setting}

@@ -3,9 +3,9 @@ use Rattle.std.specs.Prelude.{ℕ, Bool, true, false, ◌||◌, is_some, if◌th
 use Rattle.std.specs.Str.{bytes_eq}
 use Rattle.bidi_terminal.specs.Bases.{base_named}
 use Rattle.bidi_terminal.specs.Numbers.{number_of}
-use Rattle.bidi_stages.specs.Explained.{first_stage_view}
-use Rattle.bidi_stages.specs.declared.view.Form.TheVariants.{Page}
-use Rattle.bidi_stages.specs.declared.view.StageView.{StageView}
+use Rattle.bidi_explain.specs.Explained.{first_stage_view}
+use Rattle.bidi_explain.specs.declared.view.Form.TheVariants.{Page}
+use Rattle.bidi_explain.specs.declared.view.StageView.{StageView}
 use Rattle.bidi_arguments.specs.Checks.{first_check, flag_named, reads_input_twice, setting_named, with_flag, with_setting}
 use Rattle.bidi_arguments.specs.Options.{is_option, is_help, is_version}
 use Rattle.bidi_arguments.specs.declared.check_options.CheckOptions.{CheckOptions}

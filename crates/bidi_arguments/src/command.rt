@@ -6,7 +6,7 @@ ghost use Rattle.bidi_arguments.specs.Options.{is_option};
 use crate::check_options::{CheckOptions, Flag, Setting};
 use crate::operands::Operands;
 use crate::refusal::{Refusal, Subcommand, Word};
-use bidi_stages::view::{Form, StageView};
+use bidi_explain::view::{Form, StageView};
 use bidi_terminal::{Base, parse_number};
 use bidi_visual::view::View;
 use std::marker::Model;

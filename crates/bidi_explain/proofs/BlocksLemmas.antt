@@ -4,8 +4,8 @@ use Rattle.bidi_base.proofs.Common.{add-one, drop-take, flat_map_more, map-appen
 use Rattle.bidi_base.proofs.Common.{get_or-range_with_len, All-drop, All-take}
 use Rattle.std.proofs.Math.Nat.{mul_comm}
 use Rattle.bidi_controls.proofs.IndexLemmas.{next_index}
-use Rattle.bidi_stages.specs.Blocks.{block_at, block_count, blocks_of, part_of}
-use Rattle.bidi_stages.specs.declared.blocks.Block.{Block}
+use Rattle.bidi_explain.specs.Blocks.{block_at, block_count, blocks_of, part_of}
+use Rattle.bidi_explain.specs.declared.blocks.Block.{Block}
 
 -- a part of a row, cell by cell
 pub map-part : {A B : Type 0} (f : A → B) (block : Block) (items : List A) → map f (part_of block items) ≡ part_of block (map f items)

@@ -2,7 +2,7 @@
 use Rattle.bidi_base.proofs.Common.{◌≡◌, ℕ, ◌≤◌, true, false, arith, list_all, ◌==◌}
 use Rattle.std.proofs.Math.Utf8.{encode}
 use Rattle.bidi_base.specs.declared.char_data.BidiClass.{BidiClass}
-use Rattle.bidi_stages.specs.Pages.{escaped, is_text_byte}
+use Rattle.bidi_explain.specs.Pages.{escaped, is_text_byte}
 
 high : (b : ℕ) → 128 ≤ b → is_text_byte b ≡ true
 high b h = grind arith

@@ -1,8 +1,8 @@
 -- The visual places of a paragraph.
 use Rattle.bidi_base.proofs.Common.{◌≡◌, ℕ, List, length, arith, length-map, length-range_with_len, visual_places, Source}
-use Rattle.bidi_stages.proofs.StagesLemmas.{line_levels-long}
-use Rattle.bidi_stages.specs.Stages.{StagesFrom}
-use Rattle.bidi_stages.specs.declared.stages.Stages.{Stages}
+use Rattle.bidi_explain.proofs.StagesLemmas.{line_levels-long}
+use Rattle.bidi_explain.specs.Stages.{StagesFrom}
+use Rattle.bidi_explain.specs.declared.stages.Stages.{Stages}
 
 length-visual_places : (levels : List ℕ) → length (visual_places levels) ≡ length levels
 unfolding visual_places

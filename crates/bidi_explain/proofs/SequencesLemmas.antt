@@ -10,7 +10,7 @@ use Rattle.bidi_laws.proofs.StoredSteps.{length-stored_classes}
 use Rattle.bidi_laws.proofs.ResolvedLemmas.{sequence-level}
 use Rattle.bidi_laws.proofs.SequencePlaces.{sequence-kept, sequence-begun, sequence-not_empty}
 use Rattle.bidi_laws.proofs.StoredLemmas.{is_kept_at-stored_classes, times_in-at, explicit_classes-kept, list_all-at_places}
-use Rattle.bidi_stages.specs.Stages.{CanResolve}
+use Rattle.bidi_explain.specs.Stages.{CanResolve}
 
 pub can_resolve : (paragraph : ℕ) (source : List BidiClass) (brackets : List (Option BidiMatchedOpeningBracket)) (k : ℕ) (d : RunSequence) → paragraph ≤ 125 → length brackets ≡ length source
     → k < length (sequences paragraph (stored_classes source) (explicit_levels paragraph (stored_classes source)))

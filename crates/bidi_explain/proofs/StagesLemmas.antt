@@ -10,8 +10,8 @@ use Rattle.bidi_laws.proofs.StoredSteps.{length-stored_classes}
 use Rattle.bidi_laws.proofs.VisualOrderLemmas.{all_below}
 use Rattle.bidi_lines.proofs.LineInText.{length-line}
 use Rattle.bidi_lines.proofs.Ordered.{visual_order-is}
-use Rattle.bidi_stages.specs.Stages.{written, weak_in, StagesFrom}
-use Rattle.bidi_stages.specs.declared.stages.Stages.{Stages}
+use Rattle.bidi_explain.specs.Stages.{written, weak_in, StagesFrom}
+use Rattle.bidi_explain.specs.declared.stages.Stages.{Stages}
 
 pub written-append : (row : List (Option BidiClass)) (xs ys : List (ℕ × BidiClass)) → written row (xs ++ ys) ≡ written (written row xs) ys
 written-append row [] ys = refl

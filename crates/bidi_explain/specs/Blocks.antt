@@ -1,7 +1,7 @@
 -- Wide tables, in blocks of columns.
 use Rattle.std.specs.Prelude.{ℕ, ◌+◌, ◌-◌, ◌*◌, ◌/◌, max, List, map, take, drop, Option, Some, None}
 use Rattle.std.specs.List.{range_with_len}
-use Rattle.bidi_stages.specs.declared.blocks.Block.{Block}
+use Rattle.bidi_explain.specs.declared.blocks.Block.{Block}
 
 -- how many columns a block of a table may have, for a terminal of this width: the labels take 16 columns of the terminal,
 -- and each cell takes 8. It is one column at least, and all of them without a width

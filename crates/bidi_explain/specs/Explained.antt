@@ -4,13 +4,13 @@ use Rattle.bidi_base.specs.Source.{Source}
 use Rattle.bidi_terminal.specs.Bases.{level_of_base}
 use Rattle.bidi_terminal.specs.declared.base.Base.TheVariants.{Auto}
 use Rattle.bidi_controls.specs.Lines.{lines_of, own_chars}
-use Rattle.bidi_stages.specs.Pages.{section_text}
-use Rattle.bidi_stages.specs.Stages.{AreStages}
-use Rattle.bidi_stages.specs.Tables.{table_text}
-use Rattle.bidi_stages.specs.declared.stages.Stages.{Stages}
-use Rattle.bidi_stages.specs.declared.view.Form.{Form}
-use Rattle.bidi_stages.specs.declared.view.Form.TheVariants.{Table, Page}
-use Rattle.bidi_stages.specs.declared.view.StageView.{StageView}
+use Rattle.bidi_explain.specs.Pages.{section_text}
+use Rattle.bidi_explain.specs.Stages.{AreStages}
+use Rattle.bidi_explain.specs.Tables.{table_text}
+use Rattle.bidi_explain.specs.declared.stages.Stages.{Stages}
+use Rattle.bidi_explain.specs.declared.view.Form.{Form}
+use Rattle.bidi_explain.specs.declared.view.Form.TheVariants.{Table, Page}
+use Rattle.bidi_explain.specs.declared.view.StageView.{StageView}
 
 -- the stages of a paragraph in a form, tables for a terminal of this width
 abbrev pub stages_text : Form → Option ℕ → List ℕ → Stages → List ℕ

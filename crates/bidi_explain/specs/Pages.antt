@@ -5,12 +5,12 @@ use Rattle.bidi_base.specs.declared.char_data.BidiClass.{BidiClass}
 use Rattle.bidi_base.specs.Levels.{is_odd}
 use Rattle.bidi_base.specs.Places.{class_at}
 use Rattle.bidi_base.specs.Sequences.{RunSequence, level_at}
-use Rattle.bidi_stages.specs.Cells.{glyph}
-use Rattle.bidi_stages.specs.Blocks.{blocks_of, part_of}
-use Rattle.bidi_stages.specs.Rows.{stage_rows}
-use Rattle.bidi_stages.specs.Tables.{level_text, sequence_text}
-use Rattle.bidi_stages.specs.declared.blocks.Block.{Block}
-use Rattle.bidi_stages.specs.declared.stages.Stages.{Stages}
+use Rattle.bidi_explain.specs.Cells.{glyph}
+use Rattle.bidi_explain.specs.Blocks.{blocks_of, part_of}
+use Rattle.bidi_explain.specs.Rows.{stage_rows}
+use Rattle.bidi_explain.specs.Tables.{level_text, sequence_text}
+use Rattle.bidi_explain.specs.declared.blocks.Block.{Block}
+use Rattle.bidi_explain.specs.declared.stages.Stages.{Stages}
 
 -- what stands for a character between tags: what could begin or end one is written as its reference
 abbrev pub escaped : BidiClass → ℕ → List ℕ

@@ -1,8 +1,8 @@
 -- The rows of a paragraph's stages, each as what it shows and a cell for each character.
 use Rattle.std.specs.Prelude.{ℕ, List, [], ◌∷◌, length, map, zip, codes, decimal}
 use Rattle.std.specs.List.{range_with_len}
-use Rattle.bidi_stages.specs.Cells.{class_name, option_name, glyph, hex}
-use Rattle.bidi_stages.specs.declared.stages.Stages.{Stages}
+use Rattle.bidi_explain.specs.Cells.{class_name, option_name, glyph, hex}
+use Rattle.bidi_explain.specs.declared.stages.Stages.{Stages}
 
 -- those of the stages
 abbrev pub stage_rows : List ℕ → Stages → List (List ℕ × List (List ℕ))

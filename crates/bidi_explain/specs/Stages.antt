@@ -16,8 +16,8 @@ use Rattle.bidi_base.specs.Sequences.{RunSequence, level_at, sequences}
 use Rattle.bidi_base.specs.Source.{Source}
 use Rattle.bidi_base.specs.Stored.{stored_levels}
 use Rattle.bidi_base.specs.Weak.{weak_classes}
-use Rattle.bidi_stages.specs.declared.stages.Characters.{Characters}
-use Rattle.bidi_stages.specs.declared.stages.Stages.{Stages}
+use Rattle.bidi_explain.specs.declared.stages.Characters.{Characters}
+use Rattle.bidi_explain.specs.declared.stages.Stages.{Stages}
 
 -- the classes of a sequence after W7, from the classes under overrides of the paragraph
 unfoldable pub weak_in : List BidiClass → RunSequence → List BidiClass

@@ -2,11 +2,11 @@
 use Rattle.std.specs.Prelude.{ℕ, ◌==◌, if◌then◌else◌, List, [], ◌++◌, length, flat_map, codes, decimal, Option}
 use Rattle.bidi_base.specs.declared.char_data.BidiClass.{BidiClass}
 use Rattle.bidi_base.specs.Sequences.{RunSequence}
-use Rattle.bidi_stages.specs.Cells.{class_name}
-use Rattle.bidi_stages.specs.Blocks.{blocks_of, columns_in, part_of}
-use Rattle.bidi_stages.specs.Rows.{rows_from}
-use Rattle.bidi_stages.specs.declared.blocks.Block.{Block}
-use Rattle.bidi_stages.specs.declared.stages.Stages.{Stages}
+use Rattle.bidi_explain.specs.Cells.{class_name}
+use Rattle.bidi_explain.specs.Blocks.{blocks_of, columns_in, part_of}
+use Rattle.bidi_explain.specs.Rows.{rows_from}
+use Rattle.bidi_explain.specs.declared.blocks.Block.{Block}
+use Rattle.bidi_explain.specs.declared.stages.Stages.{Stages}
 
 -- a cell stands behind a tab
 abbrev pub cell_text : List ℕ → List ℕ

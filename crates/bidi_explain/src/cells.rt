@@ -1,7 +1,7 @@
 //! The cells of the tables that show what each stage does with a text.
 ghost use Rattle.std.specs.Prelude.{◌≡◌, ◌<◌, ◌++◌, length, map, zip, decimal, IfOk, OnOk, string_bytes};
 ghost use Rattle.std.specs.List.{range_with_len};
-ghost use Rattle.bidi_stages.specs.Cells.{class_name, option_name, is_unseen, plain_glyph, glyph, leading_digit, hex};
+ghost use Rattle.bidi_explain.specs.Cells.{class_name, option_name, is_unseen, plain_glyph, glyph, leading_digit, hex};
 
 use bidi_base::char_data::BidiClass;
 use bidi_base::classes::is_nsm;

@@ -1,6 +1,6 @@
 //! The stages of the paragraphs of a text.
 ghost use Rattle.std.specs.Prelude.{◌≡◌, ◌<◌, ◌++◌, length, vec_len, All, IfOk, OnOk, string_bytes};
-ghost use Rattle.bidi_stages.specs.Explained.{stages_text, IsTold, AreTold};
+ghost use Rattle.bidi_explain.specs.Explained.{stages_text, IsTold, AreTold};
 
 use crate::page::push_section;
 use crate::table::push_table;

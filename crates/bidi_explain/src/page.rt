@@ -1,7 +1,7 @@
 //! The stages of a paragraph as a section of a page of HTML.
 ghost use Rattle.std.specs.Prelude.{◌≡◌, ◌<◌, ◌++◌, true, flat_map, map, length, vec_len, All, IfOk, OnOk, string_bytes};
 ghost use Rattle.std.specs.List.{list_all, range_with_len};
-ghost use Rattle.bidi_stages.specs.Pages.{escaped, is_text_byte, level_attribute, box_start, box_text, box_at, boxes_row, shown_row, link, is_in_block, link_in, link_from, links_start, links_row, cell_element, row_element, summary_text, upper_part, lower_part, block_element, section_text};
+ghost use Rattle.bidi_explain.specs.Pages.{escaped, is_text_byte, level_attribute, box_start, box_text, box_at, boxes_row, shown_row, link, is_in_block, link_in, link_from, links_start, links_row, cell_element, row_element, summary_text, upper_part, lower_part, block_element, section_text};
 
 use crate::blocks::{Block, blocks};
 use crate::rows::{Row, stage_rows};

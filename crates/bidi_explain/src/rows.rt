@@ -1,6 +1,6 @@
 //! The rows of a paragraph's stages.
 ghost use Rattle.std.specs.Prelude.{◌≡◌, length, map, vec_len, IfOk, string_bytes};
-ghost use Rattle.bidi_stages.specs.Rows.{stage_rows, rows_from};
+ghost use Rattle.bidi_explain.specs.Rows.{stage_rows, rows_from};
 
 use crate::cells::{
     class_cells, code_cells, glyph_cells, index_cells, level_cells, number_cells, option_cells,

@@ -4,7 +4,7 @@ ghost use Rattle.bidi_base.specs.Isolates.{stored_classes};
 ghost use Rattle.bidi_base.specs.Places.{at_places, first_or};
 ghost use Rattle.bidi_base.specs.declared.char_data.BidiClass.TheVariants.{L};
 ghost use Rattle.bidi_base.specs.Sequences.{level_at};
-ghost use Rattle.bidi_stages.specs.Stages.{weak_in, neutral_in, written, row_of, CanResolveIn, HasOneEach, StagesFrom, AreStages};
+ghost use Rattle.bidi_explain.specs.Stages.{weak_in, neutral_in, written, row_of, CanResolveIn, HasOneEach, StagesFrom, AreStages};
 ghost use Rattle.unicode_bidi.specs.ParagraphInfo.{levels_of};
 
 use bidi_base::char_data::BidiClass;

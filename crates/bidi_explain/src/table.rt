@@ -1,6 +1,6 @@
 //! The stages of a paragraph as a table, a column for each character.
 ghost use Rattle.std.specs.Prelude.{◌≡◌, ◌++◌, flat_map, map, length, vec_len, codes, decimal, OnOk, string_bytes};
-ghost use Rattle.bidi_stages.specs.Tables.{cell_text, row_text, gap_text, block_text, ends_text, sequence_line, sequence_text, level_text, blocks_text, table_text};
+ghost use Rattle.bidi_explain.specs.Tables.{cell_text, row_text, gap_text, block_text, ends_text, sequence_line, sequence_text, level_text, blocks_text, table_text};
 
 use crate::blocks::{Block, blocks, columns_in};
 use crate::rows::{Row, rows};

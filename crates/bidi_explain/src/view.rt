@@ -23,7 +23,7 @@ pub struct StageView {
 
 impl Default for StageView {
     ghost use Rattle.std.specs.Prelude.{◌≡◌};
-    ghost use Rattle.bidi_stages.specs.Explained.{first_stage_view};
+    ghost use Rattle.bidi_explain.specs.Explained.{first_stage_view};
 
     /// Tables of lines, each of which finds its own base level. They are not split.
     fn default() -> StageView

@@ -2,7 +2,7 @@
 ghost use Rattle.std.specs.Prelude.{◌≡◌, ◌||◌, IfErr, IfOk, IsErrOf, OnOk, string_bytes};
 ghost use Rattle.std.specs.Str.{chars, IsUtf8};
 ghost use Rattle.bidi_unicode.specs.Unicode.{unicode_source};
-ghost use Rattle.bidi_stages.specs.Explained.{AreTold};
+ghost use Rattle.bidi_explain.specs.Explained.{AreTold};
 ghost use Rattle.bidi_bytes.specs.Decoded.{decoded as decoded_chars, first_invalid as first_invalid_of};
 ghost use Rattle.bidi_bytes.specs.FileLines.{file_lines_of};
 ghost use Rattle.bidi_scan.specs.FileSearch.{found_from};
@@ -18,8 +18,8 @@ use bidi_terminal::names::chars_of;
 use bidi_reports::report::Report;
 use bidi_scan::file_search::found_lines;
 use bidi_shown::stream::StreamFault;
-use bidi_stages::explain::explain;
-use bidi_stages::view::StageView;
+use bidi_explain::explain::explain;
+use bidi_explain::view::StageView;
 use bidi_unicode::UnicodeData;
 use std::alloc::{AllocError, Global};
 
@@ -97,7 +97,7 @@ pub fn check_input(
 /// Returns the result of each rule for each line of a text, as tables or as sections of a page of HTML.
 ///
 /// A line ends after a paragraph separator, with CR LF as one. `view` has the base level, the form and the width of a
-/// table. The head and the foot of the page are in `bidi_stages::frame`. Returns an error if an allocation fails.
+/// table. The head and the foot of the page are in `bidi_explain::frame`. Returns an error if an allocation fails.
 pub fn explain_text(alloc: Global, view: StageView, text: &str) -> Result<String, AllocError>
     ensures { IfOk result (λ out. AreTold unicode_source view (chars text.now) (string_bytes out)) }
 {

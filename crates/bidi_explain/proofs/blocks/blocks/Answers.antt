@@ -1,9 +1,9 @@
 use Rattle.bidi_base.proofs.Common.{◌≡◌, ◌∙◌, ℕ, List, sym, ap, arith, flat_map, length, map, map-append, range_with_len}
 use Rattle.bidi_controls.proofs.IndexLemmas.{next_index}
-use Rattle.bidi_stages.specs.Blocks.{block_at, block_count, part_of}
-use Rattle.bidi_stages.specs.declared.blocks.Block.{Block}
-use Rattle.bidi_stages.proofs.BlocksLemmas.{all-blocks}
-use Rattle.bidi_stages.proofs.blocks.blocks.Goals as goal
+use Rattle.bidi_explain.specs.Blocks.{block_at, block_count, part_of}
+use Rattle.bidi_explain.specs.declared.blocks.Block.{Block}
+use Rattle.bidi_explain.proofs.BlocksLemmas.{all-blocks}
+use Rattle.bidi_explain.proofs.blocks.blocks.Goals as goal
 
 pub loop-index-preserved : goal.loop-index-preserved
 loop-index-preserved c = simp (next_index, map-append, c.in_ok-push.ensures.items, c.loop-index.invariant)

@@ -1,5 +1,5 @@
 use Rattle.bidi_base.proofs.Common.{arith, nil_from_length}
-use Rattle.bidi_stages.proofs.explain.explain.Goals as goal
+use Rattle.bidi_explain.proofs.explain.explain.Goals as goal
 
 pub loop-rest-preserved : goal.loop-rest-preserved
 loop-rest-preserved g c = grind arith

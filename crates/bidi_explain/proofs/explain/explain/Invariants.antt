@@ -1,7 +1,7 @@
 use Rattle.bidi_base.proofs.Common.{length, string_bytes}
 use Rattle.bidi_controls.specs.Lines.{lines_of}
-use Rattle.bidi_stages.specs.Explained.{AreAppended}
-use Rattle.bidi_stages.proofs.explain.explain.Given as goal
+use Rattle.bidi_explain.specs.Explained.{AreAppended}
+use Rattle.bidi_explain.proofs.explain.explain.Given as goal
 
 -- what is appended for the rest makes the tables of all lines
 abbrev pub invariant-loop-rest : goal.invariant-loop-rest

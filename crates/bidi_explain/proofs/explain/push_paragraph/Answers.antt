@@ -1,8 +1,8 @@
 use Rattle.bidi_base.proofs.Common.{arith}
 use Rattle.bidi_laws.proofs.LevelLaws.{length-stored_levels}
-use Rattle.bidi_stages.proofs.StagesLemmas.{line_levels-long, order-within}
-use Rattle.bidi_stages.proofs.PlacesLemmas.{places-long}
-use Rattle.bidi_stages.proofs.explain.push_paragraph.Goals as goal
+use Rattle.bidi_explain.proofs.StagesLemmas.{line_levels-long, order-within}
+use Rattle.bidi_explain.proofs.PlacesLemmas.{places-long}
+use Rattle.bidi_explain.proofs.explain.push_paragraph.Goals as goal
 
 pub push_stages-requires-clause-levels : goal.push_stages-requires-clause-levels
 push_stages-requires-clause-levels g c = grind (arith, line_levels-long, length-stored_levels)

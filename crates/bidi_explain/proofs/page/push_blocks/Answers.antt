@@ -1,7 +1,7 @@
 use Rattle.bidi_base.proofs.Common.{arith}
-use Rattle.bidi_stages.proofs.BlocksLemmas.{one_more}
-use Rattle.bidi_stages.specs.Pages.{block_element}
-use Rattle.bidi_stages.proofs.page.push_blocks.Goals as goal
+use Rattle.bidi_explain.proofs.BlocksLemmas.{one_more}
+use Rattle.bidi_explain.specs.Pages.{block_element}
+use Rattle.bidi_explain.proofs.page.push_blocks.Goals as goal
 
 pub loop-block-preserved : goal.loop-block-preserved
 loop-block-preserved c =

@@ -1,6 +1,6 @@
 use Rattle.bidi_base.proofs.Common.{◌≡◌, ◌++◌, take, flat_map, string_bytes}
-use Rattle.bidi_stages.specs.Pages.{block_element}
-use Rattle.bidi_stages.proofs.page.push_blocks.Given as goal
+use Rattle.bidi_explain.specs.Pages.{block_element}
+use Rattle.bidi_explain.proofs.page.push_blocks.Given as goal
 
 abbrev pub invariant-loop-block : goal.invariant-loop-block
 invariant-loop-block l = string_bytes l.out ≡ string_bytes l.fn.out ++ flat_map (block_element l.chars l.stages l.rows l.indexes) (take l.block-index l.blocks)

@@ -1,5 +1,5 @@
 use Rattle.bidi_base.proofs.Common.{append_assoc}
-use Rattle.bidi_stages.proofs.page.push_box_start.Goals as goal
+use Rattle.bidi_explain.proofs.page.push_box_start.Goals as goal
 
 pub returns : goal.returns
 returns c =

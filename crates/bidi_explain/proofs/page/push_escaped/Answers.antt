@@ -1,5 +1,5 @@
-use Rattle.bidi_stages.proofs.PagesLemmas.{escaped-harmless}
-use Rattle.bidi_stages.proofs.page.push_escaped.Goals as goal
+use Rattle.bidi_explain.proofs.PagesLemmas.{escaped-harmless}
+use Rattle.bidi_explain.proofs.page.push_escaped.Goals as goal
 
 pub returns-in_err-push_glyph-in_default-clause-harmless : goal.returns-in_err-push_glyph-in_default-clause-harmless
 returns-in_err-push_glyph-in_default-clause-harmless c = escaped-harmless c.args.class c.args.c

@@ -1,6 +1,6 @@
 use Rattle.bidi_base.proofs.Common.{append_assoc}
-use Rattle.bidi_stages.proofs.BlocksLemmas.{map-part}
-use Rattle.bidi_stages.proofs.page.push_labelled.Goals as goal
+use Rattle.bidi_explain.proofs.BlocksLemmas.{map-part}
+use Rattle.bidi_explain.proofs.page.push_labelled.Goals as goal
 
 pub returns : goal.returns
 returns c =

@@ -1,6 +1,6 @@
 use Rattle.bidi_base.proofs.Common.{◌≡◌, ◌++◌, take, flat_map, string_bytes}
-use Rattle.bidi_stages.specs.Pages.{row_element}
-use Rattle.bidi_stages.proofs.page.push_rows.Given as goal
+use Rattle.bidi_explain.specs.Pages.{row_element}
+use Rattle.bidi_explain.proofs.page.push_rows.Given as goal
 
 abbrev pub invariant-loop-row : goal.invariant-loop-row
 invariant-loop-row l = string_bytes l.out ≡ string_bytes l.fn.out ++ flat_map (row_element l.block) (take l.row-index l.rows)

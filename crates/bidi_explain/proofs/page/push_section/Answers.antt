@@ -1,6 +1,6 @@
 use Rattle.bidi_base.proofs.Common.{◌≡◌, ◌++◌, List, ℕ, append_assoc, length}
-use Rattle.bidi_stages.proofs.BlocksLemmas.{indexes-within}
-use Rattle.bidi_stages.proofs.page.push_section.Goals as goal
+use Rattle.bidi_explain.proofs.BlocksLemmas.{indexes-within}
+use Rattle.bidi_explain.proofs.page.push_section.Goals as goal
 
 -- three texts, each written behind the last
 all_written : (out a b c : List ℕ) {p q r : List ℕ} → p ≡ out ++ a → q ≡ p ++ b → r ≡ q ++ c → r ≡ out ++ (a ++ (b ++ c))

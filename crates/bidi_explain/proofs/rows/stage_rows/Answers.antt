@@ -1,4 +1,4 @@
-use Rattle.bidi_stages.proofs.rows.stage_rows.Goals as goal
+use Rattle.bidi_explain.proofs.rows.stage_rows.Goals as goal
 
 pub returns : goal.returns
 returns c =

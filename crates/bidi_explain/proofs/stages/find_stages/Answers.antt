@@ -1,9 +1,9 @@
 use Rattle.bidi_base.proofs.Common.{◌≡◌, ◌∙◌, false, length, map, ap, arith, rules, IsAnalysis, paragraph_level, one_unit}
 use Rattle.bidi_laws.proofs.LevelLaws.{paragraph_level-few}
-use Rattle.bidi_stages.proofs.AloneLemmas.{alone-classes, alone-levels, alone-level, length-alone_levels}
-use Rattle.bidi_stages.proofs.stages.find_stages.Given.{Over}
-use Rattle.bidi_stages.proofs.stages.find_stages.Goals as goal
-use Rattle.bidi_stages.proofs.stages.find_stages.Goals.{After-first_level-level}
+use Rattle.bidi_explain.proofs.AloneLemmas.{alone-classes, alone-levels, alone-level, length-alone_levels}
+use Rattle.bidi_explain.proofs.stages.find_stages.Given.{Over}
+use Rattle.bidi_explain.proofs.stages.find_stages.Goals as goal
+use Rattle.bidi_explain.proofs.stages.find_stages.Goals.{After-first_level-level}
 use Rattle.unicode_bidi.specs.ParagraphInfo.{ranges_of, levels_of}
 
 -- the paragraph is analysed

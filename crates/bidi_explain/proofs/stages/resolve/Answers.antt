@@ -1,7 +1,7 @@
 use Rattle.bidi_base.proofs.Common.{◌∙◌, arith, common_steps}
-use Rattle.bidi_stages.specs.Stages.{row_of}
-use Rattle.bidi_stages.proofs.StagesLemmas.{length-written, written-more}
-use Rattle.bidi_stages.proofs.stages.resolve.Goals as goal
+use Rattle.bidi_explain.specs.Stages.{row_of}
+use Rattle.bidi_explain.proofs.StagesLemmas.{length-written, written-more}
+use Rattle.bidi_explain.proofs.stages.resolve.Goals as goal
 
 pub loop-sequence-preserved : goal.loop-sequence-preserved
 loop-sequence-preserved c =

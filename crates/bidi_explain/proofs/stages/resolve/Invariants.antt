@@ -1,6 +1,6 @@
 use Rattle.bidi_base.proofs.Common.{◌≡◌, None, length, zip, take, flat_map, replicate}
-use Rattle.bidi_stages.specs.Stages.{written, weak_in, neutral_in}
-use Rattle.bidi_stages.proofs.stages.resolve.Given as goal
+use Rattle.bidi_explain.specs.Stages.{written, weak_in, neutral_in}
+use Rattle.bidi_explain.proofs.stages.resolve.Given as goal
 
 abbrev pub invariant-loop-sequence : goal.invariant-loop-sequence
 invariant-loop-sequence l = record {

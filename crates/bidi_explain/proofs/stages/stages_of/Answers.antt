@@ -3,10 +3,10 @@ use Rattle.bidi_base.specs.declared.char_data.BidiClass.{BidiClass}
 use Rattle.bidi_laws.proofs.ExplicitLemmas.{length-explicit_classes}
 use Rattle.bidi_laws.proofs.LayoutLemmas.{own_indexes, visual_places-inverse}
 use Rattle.bidi_laws.proofs.StoredSteps.{length-stored_classes}
-use Rattle.bidi_stages.proofs.SequencesLemmas.{can_resolve}
-use Rattle.bidi_stages.proofs.stages.stages_of.Given.{Over}
-use Rattle.bidi_stages.proofs.stages.stages_of.Goals as goal
-use Rattle.bidi_stages.proofs.stages.stages_of.Goals.{After-as_slice-3}
+use Rattle.bidi_explain.proofs.SequencesLemmas.{can_resolve}
+use Rattle.bidi_explain.proofs.stages.stages_of.Given.{Over}
+use Rattle.bidi_explain.proofs.stages.stages_of.Goals as goal
+use Rattle.bidi_explain.proofs.stages.stages_of.Goals.{After-as_slice-3}
 
 -- what the sequences are found in
 classes_are : (g : Over) (c : After-as_slice-3 g) → c.as_slice.result.now ≡ map (g.D.BidiDataSource.source c.args.data_source.now).class_of c.args.chars.now

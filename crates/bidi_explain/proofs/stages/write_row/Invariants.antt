@@ -1,6 +1,6 @@
 use Rattle.bidi_base.proofs.Common.{◌≡◌, length, zip, drop}
-use Rattle.bidi_stages.specs.Stages.{written}
-use Rattle.bidi_stages.proofs.stages.write_row.Given as goal
+use Rattle.bidi_explain.specs.Stages.{written}
+use Rattle.bidi_explain.proofs.stages.write_row.Given as goal
 
 abbrev pub invariant-loop-at : goal.invariant-loop-at
 invariant-loop-at l = record {

@@ -1,5 +1,5 @@
 use Rattle.bidi_base.proofs.Common.{append_assoc}
-use Rattle.bidi_stages.proofs.table.push_ends.Goals as goal
+use Rattle.bidi_explain.proofs.table.push_ends.Goals as goal
 
 pub returns : goal.returns
 returns c =
