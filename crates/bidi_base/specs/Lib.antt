@@ -1,7 +1,6 @@
 pub mod Analysed
 pub mod Brackets
 pub mod Classes
-pub mod CrLf
 pub mod Direction
 pub mod Display
 pub mod Embeddings
