@@ -90,7 +90,7 @@ enum {
   UNICODE_BIDI_PDI
 };
 
-/* What the number of an opening bracket has more than that of its closing bracket. */
+/* The difference between the number of an opening bracket and that of its closing bracket. */
 #define UNICODE_BIDI_OPENING 0x80000000u
 
 /* A paragraph: its units, including a separator that ends it, and its level. */
@@ -163,7 +163,8 @@ int64_t unicode_bidi_classes_utf8(const uint8_t *text, size_t text_len, uint8_t 
 int64_t unicode_bidi_classes_utf16(const uint16_t *text, size_t text_len, uint8_t *classes, size_t classes_len);
 int64_t unicode_bidi_classes_utf32(const uint32_t *text, size_t text_len, uint8_t *classes, size_t classes_len);
 
-/* Writes the number of each unit's character as unicode_bidi_bracket_of returns it, and returns the number of units.
+/* Writes the bracket of each unit's character, as the number that unicode_bidi_bracket_of returns, and returns how many
+ * units there are.
  * brackets_len  at least text_len
  * Faults   NOT_UTF8, NOT_SCALAR (by the encoding), NO_ROOM
  * Cost     the text
@@ -172,8 +173,8 @@ int64_t unicode_bidi_brackets_utf8(const uint8_t *text, size_t text_len, uint32_
 int64_t unicode_bidi_brackets_utf16(const uint16_t *text, size_t text_len, uint32_t *brackets, size_t brackets_len);
 int64_t unicode_bidi_brackets_utf32(const uint32_t *text, size_t text_len, uint32_t *brackets, size_t brackets_len);
 
-/* Returns the base direction (P2, P3) of characters with these classes, one a character: UNICODE_BIDI_LTR, _RTL or
- * _MIXED. With full 0 it is the direction of the first paragraph, otherwise that of the first paragraph that has one. A
+/* Returns the base direction (P2, P3) of characters with these classes, one class for each character: UNICODE_BIDI_LTR,
+ * _RTL or _MIXED. With full 0 it is the direction of the first paragraph, otherwise that of the first paragraph that has one. A
  * paragraph ends after each class B.
  * Faults   BAD_CLASS, in any of the classes
  * Cost     the classes

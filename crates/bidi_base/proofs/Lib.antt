@@ -4,6 +4,7 @@ pub mod BracketsLemmas
 pub mod ChainLemmas
 pub mod Common
 mod Examples
+mod RunExamples
 pub mod GivesLemmas
 pub mod LevelsLemmas
 pub mod Lists

@@ -25,6 +25,7 @@ pub mod PerChar
 pub mod Places
 pub mod Reading
 pub mod Search
+pub mod RunSequences
 pub mod SequencePass
 pub mod Sequences
 pub mod Source

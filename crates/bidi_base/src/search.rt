@@ -1,6 +1,6 @@
-//! Finds the next item of a list that passes a test: one by one at first, and then sixteen items at a time.
+//! Finds the first or the last item of a range that passes a test: one by one at first, and then sixteen items at a time.
 
-ghost use Rattle.std.specs.Prelude.{◌≡◌, ℕ, ◌+◌, ◌<◌, ◌≤◌, false, Bool, length, min, slice_index, if◌then◌else◌, MatchOption};
+ghost use Rattle.std.specs.Prelude.{◌≡◌, ℕ, ◌+◌, ◌-◌, ◌*◌, ◌<◌, ◌≤◌, false, Bool, length, max, min, slice_index, if◌then◌else◌, MatchOption};
 ghost use Rattle.bidi_base.specs.declared.char_data.BidiClass.{BidiClass};
 ghost use Rattle.bidi_base.specs.Search.{IsFirst, IsEndOfLast};
 
@@ -126,7 +126,7 @@ fn first_one_by_one<T: Tested, S: Ledger>(
     requires ordered { from ≤ to }
     requires within { to ≤ T.count tested }
     ensures first { IsFirst (T.passes tested) from to result }
-    ensures steps_at_least { steps.old ≤ steps.new }
+    ensures steps_at_least { min (result + 1) to + 16 * steps.old ≤ from + 16 * steps.new }
     ensures steps_at_most { steps.new + from ≤ steps.old + min (result + 1) to }
 {
     for at in from..to {
@@ -138,10 +138,10 @@ fn first_one_by_one<T: Tested, S: Ledger>(
     to
 }
 
-// Returns the first index in `from..to` whose item passes, or else `to`, and tests sixteen items at a time.
+// Like `first_one_by_one`, but tests sixteen items at a time if at least sixteen items of the list are left.
 //
-// This has the only call of `first_of_sixteen`: the compiler tests a block in vectors only if it finds a single call of
-// `array::from_fn` for a type.
+// Only this function calls `first_of_sixteen`. The compiler tests a block in vectors only if a type has one call of
+// `array::from_fn`.
 fn first_by_blocks<T: Tested, S: Ledger>(
     tested: T,
     from: usize,
@@ -151,7 +151,7 @@ fn first_by_blocks<T: Tested, S: Ledger>(
     requires ordered { from ≤ to }
     requires within { to ≤ T.count tested }
     ensures first { IsFirst (T.passes tested) from to result }
-    ensures steps_at_least { steps.old ≤ steps.new }
+    ensures steps_at_least { min (result + 1) to + 16 * steps.old ≤ from + 16 * steps.new }
     ensures steps_at_most { steps.new + from ≤ steps.old + min (result + 1) to }
 {
     let len = tested.len();
@@ -174,11 +174,11 @@ fn first_by_blocks<T: Tested, S: Ledger>(
 /// Returns the first index in `from..to` whose item passes, or else `to`, and counts loop iterations in `steps`.
 ///
 /// `from` must be at most `to`, and `to` at most the number of items. The first `singly` items are tested one by
-/// one, where the next one that passes is often near. After them sixteen items are tested at a time. Some of these may
-/// be outside the range, and are not returned.
+/// one: pass more than 0 if the next match is often near. The others are tested sixteen at a time, or one by one if
+/// fewer than sixteen items of the list are left. A block may extend past the range. A match there is not returned.
 ///
-/// There is at most one iteration for each item passed over, and one for the item that passes. A block of sixteen
-/// items is at most one iteration: the test of a block has no loop of ours.
+/// There is at most one iteration for each item passed over, and one for the item that passes. There is at least one
+/// for each sixteen of these items. A block of sixteen items is one iteration: its test has no loop of ours.
 #[inline(always)]
 pub fn first_passing_counted<T: Tested, S: Ledger>(
     tested: T,
@@ -190,7 +190,7 @@ pub fn first_passing_counted<T: Tested, S: Ledger>(
     requires ordered { from ≤ to }
     requires within { to ≤ T.count tested }
     ensures first { IsFirst (T.passes tested) from to result }
-    ensures steps_at_least { steps.old ≤ steps.new }
+    ensures steps_at_least { min (result + 1) to + 16 * steps.old ≤ from + 16 * steps.new }
     ensures steps_at_most { steps.new + from ≤ steps.old + min (result + 1) to }
 {
     let mut at = from;
@@ -247,8 +247,8 @@ pub fn end_of_last_passing_counted<T: Tested, S: Ledger>(
     requires ordered { from ≤ to }
     requires within { to ≤ T.count tested }
     ensures last { IsEndOfLast (T.passes tested) from to result }
-    ensures steps_at_least { steps.old ≤ steps.new }
-    ensures steps_at_most { steps.new + from ≤ steps.old + to }
+    ensures steps_at_least { to + 16 * steps.old ≤ max from (result - 1) + 16 * steps.new }
+    ensures steps_at_most { steps.new + max from (result - 1) ≤ steps.old + to }
 {
     let len = tested.len();
     let reversed = Reversed { tested };

@@ -2,7 +2,7 @@
 //! direction of classes.
 use crate::mirroring::partner_or_self;
 use bidi_calls::characters::{
-    Brackets, Classes, base_direction_of_classes, bracket_of, class_of, numbers_utf8,
+    Brackets, Classes, base_direction_of_classes, bracket_number_of, class_number_of, numbers_utf8,
     numbers_utf16, numbers_utf32,
 };
 use bidi_numbers::fault::answer;
@@ -10,12 +10,12 @@ use bidi_unicode::UnicodeData;
 
 #[unsafe(no_mangle)]
 pub extern "C" fn unicode_bidi_class_of(character: u32) -> i64 {
-    answer(class_of(&UnicodeData, character))
+    answer(class_number_of(&UnicodeData, character))
 }
 
 #[unsafe(no_mangle)]
 pub extern "C" fn unicode_bidi_bracket_of(character: u32) -> i64 {
-    answer(bracket_of(&UnicodeData, character))
+    answer(bracket_number_of(&UnicodeData, character))
 }
 
 #[unsafe(no_mangle)]

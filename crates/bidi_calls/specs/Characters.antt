@@ -1,4 +1,4 @@
--- What a data source has of characters, as numbers: their classes and their brackets.
+-- The classes and brackets of characters, as numbers.
 use Rattle.std.specs.Prelude.{ℕ, ◌+◌, ◌^◌, if◌then◌else◌, List, map, Option, Some, None, Result, Ok, Err}
 use Rattle.bidi_base.specs.Classes.{class_number}
 use Rattle.bidi_base.specs.declared.data_source.BidiMatchedOpeningBracket.{BidiMatchedOpeningBracket}
@@ -22,11 +22,11 @@ class_number_in source c = class_number (source.class_of c)
 abbrev pub bracket_number_in : Source → ℕ → ℕ
 bracket_number_in source c = bracket_number (source.bracket_of c)
 
--- a number of a character, or the fault of what is none
+-- the number, or the fault of a number that is not a scalar value
 abbrev pub if_scalar : ℕ → ℕ → Result ℕ Fault
 if_scalar c number = if is_scalar c then Ok number else Err NotScalar
 
--- a number for each unit of a text, which is that of its character
+-- the number of each character, on each of its units
 abbrev pub numbers_of : {N : Type 0} → (ℕ → N) → (ℕ → ℕ) → List ℕ → List N
 numbers_of number len_of chars = per_unit len_of chars (map number chars)
 

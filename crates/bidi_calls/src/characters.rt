@@ -1,4 +1,4 @@
-//! The calls over characters by themselves: their classes, their brackets, and the base direction of classes.
+//! The calls for single characters and lists of classes: classes, brackets, and the base direction of classes.
 //!
 //! The number of a bracket is 0 if the character is no bracket. Otherwise it is the opening bracket of its pair in
 //! normal form (BD16), plus `OPENING` if the character is an opening bracket.
@@ -9,7 +9,7 @@ ghost use Rattle.std.specs.Option.{option_or};
 ghost use Rattle.std.specs.Result.{result_err};
 ghost use Rattle.std.specs.Str.{chars};
 ghost use Rattle.bidi_base.specs.Source.{Source};
-ghost use Rattle.bidi_base.specs.Text.{text_len, one_unit};
+ghost use Rattle.bidi_base.specs.Text.{text_len};
 ghost use Rattle.bidi_base.specs.Utf16.{utf16_text, utf16_len};
 ghost use Rattle.bidi_calls.specs.Characters.{bracket_number, class_number_in, bracket_number_in, if_scalar, numbers_of, numbered_source};
 ghost use Rattle.bidi_calls.specs.Kept.{WritesList};
@@ -26,10 +26,10 @@ use unicode_bidi::direction_search::{DirectionSearch, search_class};
 use unicode_bidi::text::{StrText, TextSource, Utf16Text};
 use unicode_bidi::{BidiDataSource, Direction};
 
-/// What the number of an opening bracket has more than that of its closing bracket.
+/// The difference between the number of an opening bracket and that of its closing bracket.
 pub const OPENING: u32 = 0x8000_0000;
 
-/// A number that a data source has for each character.
+/// Gives each character of a data source a number.
 pub trait Numbering: Copy {
     /// The type of the numbers.
     type Number: Copy;
@@ -72,7 +72,7 @@ fn bracket_number(bracket: Option<BidiMatchedOpeningBracket>) -> u32
     }
 }
 
-/// The numbers of the brackets that characters are.
+/// Numbers a character by its bracket.
 #[derive(Clone, Copy, Debug)]
 pub struct Brackets;
 
@@ -86,16 +86,16 @@ impl Numbering for Brackets {
     }
 }
 
-/// Returns the number of a character's class, or `NotScalar` if the number is not a scalar value.
-pub fn class_of<D: BidiDataSource>(data_source: &D, character: u32) -> Result<usize, Fault>
+/// Returns the number of a character's class, or `NotScalar` if `character` is not a scalar value.
+pub fn class_number_of<D: BidiDataSource>(data_source: &D, character: u32) -> Result<usize, Fault>
     ensures { result ≡ if_scalar character (class_number_in (D.source data_source.now) character) }
 {
     check(is_scalar(character), Fault::NotScalar)?;
     Ok(usize::from(Classes.number(data_source, char_of(character))))
 }
 
-/// Returns the number of the bracket that a character is, or `NotScalar` if the number is not a scalar value.
-pub fn bracket_of<D: BidiDataSource>(data_source: &D, character: u32) -> Result<usize, Fault>
+/// Returns the number of a character's bracket, 0 if it is none, or `NotScalar` if `character` is not a scalar value.
+pub fn bracket_number_of<D: BidiDataSource>(data_source: &D, character: u32) -> Result<usize, Fault>
     ensures { result ≡ if_scalar character (bracket_number_in (D.source data_source.now) character) }
 {
     check(is_scalar(character), Fault::NotScalar)?;
@@ -163,7 +163,8 @@ fn write_numbers<D: BidiDataSource, T: TextSource, N: Numbering>(
 
 /// Writes the number of each byte's character in a text of UTF-8, and returns the number of bytes.
 ///
-/// Returns `NotUtf8` if the text is not UTF-8, and then `NoRoom`. Writes nothing after a fault. Does not allocate.
+/// Returns `NotUtf8` if the text is not UTF-8, or else `NoRoom` if `out` is shorter than the text. Writes nothing after a
+/// fault. Does not allocate.
 pub fn numbers_utf8<D: BidiDataSource, N: Numbering>(
     data_source: &D,
     numbering: N,
@@ -215,8 +216,8 @@ fn write_listed<D: BidiDataSource, N: Numbering>(
 
 /// Writes the number of each character of a list, and returns how many there are.
 ///
-/// Returns `NotScalar` if a number is not a scalar value, and then `NoRoom`. Writes nothing after a fault. Does not
-/// allocate.
+/// Returns `NotScalar` if a number is not a scalar value, or else `NoRoom` if `out` is shorter than the text. Writes
+/// nothing after a fault. Does not allocate.
 pub fn numbers_utf32<D: BidiDataSource, N: Numbering>(
     data_source: &D,
     numbering: N,

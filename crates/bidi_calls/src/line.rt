@@ -16,6 +16,7 @@ ghost use Rattle.bidi_numbers.specs.Rows.{run_row};
 
 use crate::checked::write_levels;
 use crate::run_rows::put_runs;
+use bidi_lines::line_text::{LineText, StoredLine, write_line};
 use bidi_lines::shown_levels::ShownLevels;
 use bidi_lines::visual_order::write_visual_order;
 use bidi_lines::visual_runs::LineRuns;
@@ -23,7 +24,6 @@ use bidi_numbers::class_numbers::ClassNumbers;
 use bidi_numbers::fault::{Fault, check, check_room_or_none};
 use bidi_numbers::numbers::{all_below, check_classes};
 use bidi_numbers::rows::{Paragraph, Run};
-use bidi_lines::line_text::{LineText, StoredLine, write_line};
 use std::alloc::{AllocError, Global};
 use std::ops::Range;
 use unicode_bidi::{Level, TextSource};

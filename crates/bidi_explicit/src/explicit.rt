@@ -11,9 +11,9 @@ mod overrides;
 mod status;
 mod stretches;
 
+use crate::prepare::{LevelRunVec, Steps};
 use bidi_base::char_data::BidiClass;
 use bidi_base::level::Level;
-use crate::prepare::{LevelRunVec, Steps};
 use bidi_text::text::TextSource;
 use status::StatusStack;
 use std::alloc::{AllocError, Global};

@@ -39,6 +39,7 @@ pub mod Repeated
 pub mod RepeatedPlaces
 pub mod RepeatedRules
 pub mod ResolvedLemmas
+pub mod RunSequencesLaw
 pub mod RunsLemmas
 pub mod SequencePlaces
 pub mod SequencesLemmas

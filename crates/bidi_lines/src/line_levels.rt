@@ -63,7 +63,7 @@ impl<C: ClassList> Tested for NoBlanks<C> {
 }
 
 // Most lines end with fewer blanks than this. Further blanks are tested sixteen at a time.
-const FEW_BLANKS: usize = 2;
+const TESTED_SINGLY: usize = 2;
 
 // Returns the start of the blanks that end the range from `from` to `to`, or `to` if there are none.
 fn blanks_start<C: ClassList>(classes: C, from: usize, to: usize) -> usize
@@ -78,7 +78,7 @@ fn blanks_start<C: ClassList>(classes: C, from: usize, to: usize) -> usize
     if from == to || !is_blank(classes.class_at(to - 1)) {
         return to;
     }
-    end_of_last_passing(NoBlanks { classes }, FEW_BLANKS, from, to)
+    end_of_last_passing(NoBlanks { classes }, TESTED_SINGLY, from, to)
 }
 
 // Returns whether the pass of L1 stops at a unit that comes after another one: at a separator, and at a unit that X9

@@ -3,11 +3,11 @@
 ghost use Rattle.std.specs.Prelude.{◌≡◌, ◌+◌, ◌-◌, ◌≤◌, length, Some};
 ghost use Rattle.bidi_explicit.specs.ExplicitStretches.{put_over, IsOverridden, IsUnread};
 
-use super::stretches::{Kept, Paragraph};
+use super::stretches::{KeptInPlace, Paragraph};
 use super::{Stride, write_class};
+use crate::prepare::Steps;
 use bidi_base::char_data::BidiClass;
 use bidi_base::search::ClassTest;
-use crate::prepare::Steps;
 use bidi_text::text::TextSource;
 use std::sync::ledger::Ledger;
 
@@ -67,7 +67,7 @@ impl<T: TextSource> Paragraph<'_, T> {
         while at < to {
             steps.tick();
             let next = self.end_of(at);
-            if Kept.passes(self.original_classes[at]) {
+            if KeptInPlace.passes(self.original_classes[at]) {
                 write_class(classes, at, next, put);
             }
             at = next;

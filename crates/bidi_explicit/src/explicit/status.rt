@@ -9,10 +9,10 @@ ghost use Rattle.bidi_base.specs.StatusMachine.{State, start, answer_class, answ
 ghost use Rattle.bidi_explicit.specs.Control.{is_control};
 ghost use Rattle.bidi_explicit.specs.Status.{below_last, entry_count, seen, state_by, IsLast};
 
+use crate::prepare::Steps;
 use arrayvec::ArrayVec;
 use bidi_base::char_data::{BidiClass, is_rtl};
 use bidi_base::level::{Error, LTR_LEVEL, Level};
-use crate::prepare::Steps;
 use std::marker::Model;
 use std::sync::ledger::Ledger;
 

@@ -16,11 +16,11 @@ ghost use Rattle.bidi_explicit.specs.Status.{entry_count, seen};
 
 use super::status::{StatusEntry, StatusStack};
 use super::{Stride, cut_run, write_control};
+use crate::characters::end_within;
+use crate::prepare::{LevelRunVec, Steps};
 use bidi_base::char_data::BidiClass::{self, B, BN, FSI, LRE, LRI, LRO, PDF, PDI, RLE, RLI, RLO};
 use bidi_base::level::Level;
 use bidi_base::search::{Among, ClassTest, first_passing_counted};
-use crate::characters::end_within;
-use crate::prepare::{LevelRunVec, Steps};
 use bidi_text::text::TextSource;
 use std::alloc::AllocError;
 use std::sync::ledger::Ledger;
@@ -54,9 +54,9 @@ impl ClassTest for Control {
 
 /// Classes that X9 keeps, in a stretch without controls: all but BN.
 #[derive(Clone, Copy, Debug)]
-pub struct Kept;
+pub struct KeptInPlace;
 
-impl ClassTest for Kept {
+impl ClassTest for KeptInPlace {
     ghost use Rattle.bidi_base.specs.Classes.{is_kept_in_place};
 
     ghost test = { λ _. is_kept_in_place };
@@ -222,12 +222,12 @@ impl<'p, T: TextSource> Paragraph<'p, T> {
         match self.stride {
             Stride::CodeUnit => {
                 let kept = Among {
-                    test: Kept,
+                    test: KeptInPlace,
                     classes: self.original_classes,
                 };
                 first_passing_counted(kept, TESTED_SINGLY, from, to, steps)
             }
-            Stride::Character => self.next_character(Kept, from, to, steps),
+            Stride::Character => self.next_character(KeptInPlace, from, to, steps),
         }
     }
 

@@ -1,6 +1,6 @@
 //! Joins level runs into isolating run sequences (BD13, X10).
 
-ghost use Rattle.std.specs.Prelude.{◌≡◌, ℕ, ◌<◌, ◌≤◌, false, max, [], length, map, flat_map, All, IsPermutation, IsTrue, OnOk};
+ghost use Rattle.std.specs.Prelude.{◌≡◌, ◌≤◌, max, [], length, map, flat_map, All, IsPermutation, IsTrue, OnOk};
 ghost use Rattle.bidi_base.specs.PerChar.{HaveClass, HaveLevel};
 ghost use Rattle.bidi_base.specs.declared.char_data.BidiClass.TheVariants.{L};
 ghost use Rattle.bidi_base.specs.Explicit.{explicit_levels};
