@@ -57,7 +57,7 @@ pub use Rattle.std.specs.Str.Lossy.{utf8_valid_len}
 pub use Rattle.std.specs.Str.Parse.{digits_value}
 pub use Rattle.std.specs.declared.ops.Range.{Range}
 pub use Rattle.std.specs.declared.str.CharIndices.{CharIndices}
-pub use Rattle.bidi_base.specs.Analysed.{AnalysedText, IsAnalysis, IsPerCharText, line_levels_per_char, AreLevelsOfLine, AreRunsOfLine, IsTextOfLine, StaysInOrder}
+pub use Rattle.bidi_base.specs.Analysed.{AnalysedText, AreParagraphs, IsAnalysis, IsPerCharText, line_levels_per_char, AreLevelsOfLine, AreRunsOfLine, IsTextOfLine, StaysInOrder}
 unfoldable pub use Rattle.bidi_base.specs.Brackets.{available, bracket_limit, bracket_pairs, closed_pairs, pairs_of, partner, with_closing}
 pub use Rattle.bidi_base.specs.Brackets.{AreNestedPairs, IsBehindOrWithin, bracket_at, counted_bracket, counted_brackets, is_available, is_closing, is_opening, is_same_bracket, is_taken}
 pub use Rattle.bidi_base.specs.Brackets.{max_open_brackets}
@@ -92,7 +92,7 @@ pub use Rattle.bidi_base.specs.Openers.{left_open, outside_isolate}
 unfoldable pub use Rattle.bidi_base.specs.Order.{index_at_visual, least_between, order_by_reversals, stands_left, visual_order, visual_place}
 pub use Rattle.bidi_base.specs.Order.{IsVisualOrder, least}
 pub use Rattle.bidi_base.specs.PairSearch.{AreWithin, HasRead, IsAt, IsUnderWay, closed_before}
-pub use Rattle.bidi_base.specs.Paragraphs.{IsPartition, SplitTest, begins_with_line_feed, cr_lf_together, cut_after, each_separator, ends_with_separator, paragraphs_of, pieces_of, ranges_from}
+pub use Rattle.bidi_base.specs.Paragraphs.{IsPartition, SplitTest, begins_with_line_feed, cr_lf_together, cut_after, each_separator, ends_with_separator, ends_after, ends_by, paragraphs_of, pieces_by, ranges_from}
 pub use Rattle.bidi_base.specs.Places.{at_places, between, chain, class_at, count_between, find_last, first_or, holds_number, in_context, indexes, last_or, nearest, nearest_is}
 pub use Rattle.bidi_base.specs.Reading.{decided_by, filled, innermost, is_fsi, met_units, opened_by, outer}
 pub use Rattle.bidi_base.specs.Search.{IsFirst, passing}

@@ -1,18 +1,18 @@
 -- A text whose classes and levels are known: what they are, and what a line of the text shows.
-use Rattle.std.specs.Prelude.{◌≡◌, ℕ, ◌+◌, ◌<◌, ◌≤◌, All, Bool, false, List, [], length, map, Option}
+use Rattle.std.specs.Prelude.{◌≡◌, ℕ, ◌+◌, ◌<◌, ◌≤◌, All, false, List, [], ◌∷◌, length, Option, None, IfSome, slice_range, zip}
 use Rattle.std.specs.declared.ops.Range.{Range}
 use Rattle.bidi_base.specs.declared.char_data.BidiClass.{BidiClass}
 use Rattle.bidi_base.specs.declared.char_data.BidiClass.TheVariants.{L}
-use Rattle.bidi_base.specs.Direction.{is_pure_ltr}
+use Rattle.bidi_base.specs.declared.split_rule.SplitRule.{SplitRule}
 use Rattle.bidi_base.specs.Display.{Run, line_text, visual_runs, AreVisualRuns}
-use Rattle.bidi_base.specs.Isolates.{paragraph_level, stored_classes}
+use Rattle.bidi_base.specs.Laws.{HasOwnUnits, AreLevelsFrom}
 use Rattle.bidi_base.specs.Levels.{has_rtl}
 use Rattle.bidi_base.specs.Line.{levels_of_line, levels_with_line, char_levels_of_line, char_levels_with_line}
-use Rattle.bidi_base.specs.Paragraphs.{pieces_of, ranges_from}
+use Rattle.bidi_base.specs.Paragraphs.{pieces_by, ranges_from, AreParagraphRanges}
 use Rattle.bidi_base.specs.PerChar.{HaveClass, HaveLevel}
 use Rattle.bidi_base.specs.Source.{Source}
 use Rattle.bidi_base.specs.Stored.{text_classes, text_levels, stored_levels, paragraph_levels}
-use Rattle.bidi_base.specs.Text.{subrange, per_unit, per_char, IsLine}
+use Rattle.bidi_base.specs.Text.{subrange, text_len, per_unit, per_char, IsLine}
 
 -- a text of these characters and their lengths, with the class and the level of each unit
 pub record AnalysedText : Type 0 where
@@ -30,34 +30,40 @@ pub record IsPerCharText (a : AnalysedText) : Type 0 where
   pub classes : HaveClass a.len_of a.chars a.classes
   pub levels : HaveLevel a.len_of a.chars a.levels
 
--- the text has its stored classes (X5c) and levels (X1 to I2), and these are the ranges (P1) and the levels
--- (P2, P3) of its paragraphs; not split, it is one paragraph
-pub record IsAnalysis (source : Source) (base : Option ℕ) (split : Bool) (a : AnalysedText)
-    (own_ranges : List (ℕ × ℕ)) (own_levels : List ℕ) : Type 0 where
-  pub classes : a.classes ≡ per_unit a.len_of a.chars (text_classes source (pieces_of split source a.chars))
-  pub levels : a.levels ≡ per_unit a.len_of a.chars (text_levels source base (pieces_of split source a.chars))
-  pub ranges : own_ranges ≡ ranges_from a.len_of 0 (pieces_of split source a.chars)
-  pub paragraph_levels : own_levels ≡ paragraph_levels source base (pieces_of split source a.chars)
+-- ---- what the algorithm finds in a text that a rule splits into paragraphs; without a rule the text is one paragraph
 
--- the classes and the levels, one a character: of the characters, the source, the base level and the split alone
-abbrev pub classes_of_chars : Source → Bool → List ℕ → List BidiClass
-classes_of_chars source split chars = text_classes source (pieces_of split source chars)
+module _ (source : Source) (base : Option ℕ) (rule : Option SplitRule) where
+  -- P1 to P3 and X5c: these are the stored classes of the text, and the ranges and the levels of its paragraphs
+  pub record AreParagraphs (len_of : ℕ → ℕ) (chars : List ℕ) (original_classes : List BidiClass)
+      (own_ranges : List (ℕ × ℕ)) (own_levels : List ℕ) : Type 0 where
+    pub classes : original_classes ≡ per_unit len_of chars (text_classes source (pieces_by rule source chars))
+    pub ranges : own_ranges ≡ ranges_from len_of 0 (pieces_by rule source chars)
+    pub para_levels : own_levels ≡ paragraph_levels source base (pieces_by rule source chars)
+    -- with a rule, every code unit is in one paragraph, and separators are only at the ends of paragraphs; with
+    -- `CrLfTogether`, a U+000D may also come directly before the U+000A that ends its paragraph
+    pub partition : IfSome rule (λ r. AreParagraphRanges r source len_of chars own_ranges)
+    -- without a rule, there is one paragraph, the whole text
+    pub whole : rule ≡ None → own_ranges ≡ (0, text_len len_of chars) ∷ []
+    -- the classes of the characters depend only on the characters, the source and the rule; so two texts with the
+    -- same characters have the same ones, whatever their encodings
+    pub by_characters : per_char L len_of chars original_classes ≡ text_classes source (pieces_by rule source chars)
+    -- all code units of a character have the same class
+    pub per_char : HaveClass len_of chars original_classes
 
-abbrev pub levels_of_chars : Source → Option ℕ → Bool → List ℕ → List ℕ
-levels_of_chars source base split chars = text_levels source base (pieces_of split source chars)
+  -- P1 to I2: the text also has its stored levels
+  pub record IsAnalysis (a : AnalysedText) (own_ranges : List (ℕ × ℕ)) (own_levels : List ℕ) : Type 0 where
+    pub paragraphs : AreParagraphs a.len_of a.chars a.classes own_ranges own_levels
+    pub levels : a.levels ≡ per_unit a.len_of a.chars (text_levels source base (pieces_by rule source a.chars))
+    -- the levels of the characters depend only on the characters, the source, the base level and the rule
+    pub by_characters : per_char 0 a.len_of a.chars a.levels ≡ text_levels source base (pieces_by rule source a.chars)
+    -- all code units of a character have the same level
+    pub per_char : HaveLevel a.len_of a.chars a.levels
+    -- no level is below that of its paragraph or above the maximum
+    pub bounded : All (λ p. AreLevelsFrom p.1 (slice_range a.levels p.0.0 p.0.1)) (zip own_ranges own_levels)
+    -- each paragraph has the levels that its characters would have as the whole text
+    pub each_by_itself : All (HasOwnUnits a.len_of (stored_levels source base) a.chars a.levels) own_ranges
 
--- the text's characters have these classes and levels
-pub record HasCharValues (a : AnalysedText) (char_classes : List BidiClass) (char_levels : List ℕ) : Type 0 where
-  pub classes : per_char L a.len_of a.chars a.classes ≡ char_classes
-  pub levels : per_char 0 a.len_of a.chars a.levels ≡ char_levels
-
--- a text that is one paragraph has its stored classes and levels, this level, and nothing in it can turn the
--- direction exactly if `pure` says so
-pub record IsParagraphAnalysis (source : Source) (base : Option ℕ) (a : AnalysedText) (level : ℕ) (pure : Bool) : Type 0 where
-  pub classes : a.classes ≡ per_unit a.len_of a.chars (stored_classes (map source.class_of a.chars))
-  pub levels : a.levels ≡ per_unit a.len_of a.chars (stored_levels source base a.chars)
-  pub paragraph_level : level ≡ paragraph_level base (map source.class_of a.chars)
-  pub pure_ltr : pure ≡ is_pure_ltr (map source.class_of a.chars)
+-- ---- what the calls on a line return
 
 -- the levels of all units, those of the line after L1 and all others as they are stored: by characters, and by units
 pub record AreLevelsWithLine (a : AnalysedText) (level : ℕ) (line : Range ℕ) (shown : List ℕ) : Type 0 where

@@ -2,7 +2,6 @@ pub mod Analysed
 pub mod Brackets
 pub mod ClassParagraphs
 pub mod Classes
-pub mod CrLf
 pub mod Direction
 pub mod Display
 pub mod Embeddings

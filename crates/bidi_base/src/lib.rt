@@ -15,4 +15,5 @@ pub mod level;
 pub mod neutrals;
 pub mod sample;
 pub mod search;
+pub mod split_rule;
 pub mod steps;

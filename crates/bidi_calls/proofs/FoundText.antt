@@ -2,9 +2,9 @@
 use Rattle.bidi_base.proofs.Common.{length-take-le, ◌≡◌, ◌∙◌, ℕ, ◌≤◌, take, List, [], ◌∷◌, map, length, refl, ap}
 use Rattle.bidi_base.proofs.Common.{ap₂, sym, Option, length-map, AnalysedText, Source}
 use Rattle.unicode_bidi.specs.ParagraphInfo.{range_of, level_of, ranges_of, levels_of}
-use Rattle.unicode_bidi.specs.SplitRule.{IsAnalysisBy}
+use Rattle.bidi_base.specs.Analysed.{IsAnalysis}
 use Rattle.bidi_paragraphs.specs.declared.paragraph_info.ParagraphInfo.{ParagraphInfo}
-use Rattle.bidi_paragraphs.specs.declared.split_rule.SplitRule.{SplitRule}
+use Rattle.bidi_base.specs.declared.split_rule.SplitRule.{SplitRule}
 use Rattle.bidi_numbers.specs.declared.rows.Paragraph.{Paragraph}
 use Rattle.bidi_calls.specs.Kept.{paragraphs_in}
 use Rattle.bidi_numbers.specs.Rows.{paragraph_row, paragraph_rows}
@@ -18,14 +18,14 @@ rows_of [] = refl
 rows_of (p ∷ ps) = ap (λ rows. row_of p ∷ rows) (rows_of ps)
 
 -- the paragraphs of an analysis
-pub rows-found : (source : Source) (base : Option ℕ) (split : Option SplitRule) (a : AnalysedText) (ps : List ParagraphInfo)
-    → IsAnalysisBy source base split a (ranges_of ps) (levels_of ps) → map row_of ps ≡ paragraphs_in source base split a.len_of a.chars
-rows-found source base split a ps h = rows_of ps ∙ ap₂ paragraph_rows h.ranges h.paragraph_levels
+pub rows-found : (source : Source) (base : Option ℕ) (rule : Option SplitRule) (a : AnalysedText) (ps : List ParagraphInfo)
+    → IsAnalysis source base rule a (ranges_of ps) (levels_of ps) → map row_of ps ≡ paragraphs_in source base rule a.len_of a.chars
+rows-found source base rule a ps h = rows_of ps ∙ ap₂ paragraph_rows h.paragraphs.ranges h.paragraphs.para_levels
 
 -- their number
-pub count-found : (source : Source) (base : Option ℕ) (split : Option SplitRule) (a : AnalysedText) (ps : List ParagraphInfo)
-    → IsAnalysisBy source base split a (ranges_of ps) (levels_of ps) → length ps ≡ length (paragraphs_in source base split a.len_of a.chars)
-count-found source base split a ps h = sym (length-map ps row_of) ∙ ap length (rows-found source base split a ps h)
+pub count-found : (source : Source) (base : Option ℕ) (rule : Option SplitRule) (a : AnalysedText) (ps : List ParagraphInfo)
+    → IsAnalysis source base rule a (ranges_of ps) (levels_of ps) → length ps ≡ length (paragraphs_in source base rule a.len_of a.chars)
+count-found source base rule a ps h = sym (length-map ps row_of) ∙ ap length (rows-found source base rule a ps h)
 
 -- a front of a buffer is as long as what goes there
 pub length-front : {X Y : Type 0} (n : ℕ) (buffer : List X) (xs : List Y) → n ≤ length buffer → length xs ≡ n → length (take n buffer) ≡ length xs

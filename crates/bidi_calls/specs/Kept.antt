@@ -7,7 +7,7 @@ use Rattle.bidi_base.specs.Source.{Source}
 use Rattle.bidi_base.specs.Stored.{text_classes, text_levels, paragraph_levels}
 use Rattle.bidi_base.specs.Text.{per_unit}
 use Rattle.unicode_bidi.specs.SplitRule.{pieces_by}
-use Rattle.bidi_paragraphs.specs.declared.split_rule.SplitRule.{SplitRule}
+use Rattle.bidi_base.specs.declared.split_rule.SplitRule.{SplitRule}
 use Rattle.bidi_numbers.specs.declared.fault.Fault.{Fault}
 use Rattle.bidi_numbers.specs.declared.fault.Fault.TheVariants.{BadBaseLevel, BadSplit, NoRoom, NotUtf8}
 use Rattle.bidi_numbers.specs.declared.rows.BracketPair.{BracketPair}
@@ -40,43 +40,43 @@ pub record WritesList {A : Type 0} (xs : List A) (result : Result ℕ Fault) (be
 
 -- the numbers of the stored classes of a text's units (X5c)
 abbrev pub class_numbers : Source → Option SplitRule → (ℕ → ℕ) → List ℕ → List ℕ
-class_numbers source split len_of chars =
-    map class_number (per_unit len_of chars (text_classes source (pieces_by split source chars)))
+class_numbers source rule len_of chars =
+    map class_number (per_unit len_of chars (text_classes source (pieces_by rule source chars)))
 
 -- the stored levels of a text's units (X1 to I2)
 abbrev pub level_numbers : Source → Option ℕ → Option SplitRule → (ℕ → ℕ) → List ℕ → List ℕ
-level_numbers source base split len_of chars = per_unit len_of chars (text_levels source base (pieces_by split source chars))
+level_numbers source base rule len_of chars = per_unit len_of chars (text_levels source base (pieces_by rule source chars))
 
 -- the paragraphs of a text (P1) with their levels (P2, P3)
 abbrev pub paragraphs_in : Source → Option ℕ → Option SplitRule → (ℕ → ℕ) → List ℕ → List Paragraph
-paragraphs_in source base split len_of chars =
-    let pieces = pieces_by split source chars in paragraph_rows (ranges_from len_of 0 pieces) (paragraph_levels source base pieces)
+paragraphs_in source base rule len_of chars =
+    let pieces = pieces_by rule source chars in paragraph_rows (ranges_from len_of 0 pieces) (paragraph_levels source base pieces)
 
 -- what a call finds of a text: the numbers of its classes and levels, one a unit, and its paragraphs
-pub record Analysis : Type 0 where
+pub record AnalysisAsNumbers : Type 0 where
   pub classes : List ℕ
   pub levels : List ℕ
   pub paragraphs : List Paragraph
 
-abbrev pub analysis_of : Source → Option ℕ → Option SplitRule → (ℕ → ℕ) → List ℕ → Analysis
-analysis_of source base split len_of chars = record {
-  classes = class_numbers source split len_of chars;
-  levels = level_numbers source base split len_of chars;
-  paragraphs = paragraphs_in source base split len_of chars;
+abbrev pub analysis_of : Source → Option ℕ → Option SplitRule → (ℕ → ℕ) → List ℕ → AnalysisAsNumbers
+analysis_of source base rule len_of chars = record {
+  classes = class_numbers source rule len_of chars;
+  levels = level_numbers source base rule len_of chars;
+  paragraphs = paragraphs_in source base rule len_of chars;
 }
 
 -- the same by the numbers that a caller passes
-abbrev pub analysis_by : Source → Settings → (ℕ → ℕ) → List ℕ → Analysis
+abbrev pub analysis_by : Source → Settings → (ℕ → ℕ) → List ℕ → AnalysisAsNumbers
 analysis_by source settings len_of chars =
     analysis_of source (base_of settings.base) (split_of settings.split) len_of chars
 
 -- what is wrong with the room for the paragraphs
-abbrev pub paragraphs_fault : Analysis → AnalysisBuffers → Option Fault
+abbrev pub paragraphs_fault : AnalysisAsNumbers → AnalysisBuffers → Option Fault
 paragraphs_fault found before =
     fault_unless (has_room_or_none (length found.paragraphs) (length before.paragraphs.now)) NoRoom
 
 -- what is wrong with a call over a text of so many units, by its settings and the room for what it finds
-abbrev pub analysis_fault : Settings → ℕ → Analysis → AnalysisBuffers → Option Fault
+abbrev pub analysis_fault : Settings → ℕ → AnalysisAsNumbers → AnalysisBuffers → Option Fault
 analysis_fault settings units found before =
     option_or (fault_unless (is_base settings.base) BadBaseLevel)
     (option_or (fault_unless (is_split settings.split) BadSplit)
@@ -97,7 +97,7 @@ pub record AreSame (before after : AnalysisBuffers) : Type 0 where
   pub paragraphs : after.paragraphs.ghost_name ≡ before.paragraphs.ghost_name
 
 -- the call writes what it finds to the buffers, or nothing after a fault, and returns the number of paragraphs
-pub record WritesAnalysis (found : Analysis) (result : Result ℕ Fault) (before after : AnalysisBuffers) : Type 0 where
+pub record WritesAnalysis (found : AnalysisAsNumbers) (result : Result ℕ Fault) (before after : AnalysisBuffers) : Type 0 where
   pub kept : OnErr result (AreKept before after)
   pub classes : OnOk result (after.classes.now ≡ written found.classes before.classes.now)
   pub levels : OnOk result (after.levels.now ≡ written found.levels before.levels.now)

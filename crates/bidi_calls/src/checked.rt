@@ -112,7 +112,7 @@ struct AskedText<'a, D: BidiDataSource, T: TextSource> {
     data_source: &'a D,
     text: T,
     base: Option<Level>,
-    split: Option<SplitRule>,
+    rule: Option<SplitRule>,
 }
 
 // Analyses a text into lists of its own, and then copies the result to the caller's buffers. So a late fault leaves
@@ -129,10 +129,10 @@ fn write_analysis<D: BidiDataSource, T: TextSource>(
     requires own_levels { length own_levels.old ≡ text_len (T.text asked.now.text) }
     requires class_room { text_len (T.text asked.now.text) ≤ length out.old.classes.now }
     requires level_room { text_len (T.text asked.now.text) ≤ length out.old.levels.now }
-    ensures fault { let found = analysis_of (D.source asked.now.data_source.now) asked.now.base asked.now.split T.encoding.len_of
+    ensures fault { let found = analysis_of (D.source asked.now.data_source.now) asked.now.base asked.now.rule T.encoding.len_of
         (T.text asked.now.text).chars in
         FaultsAs result (paragraphs_fault found out.old) }
-    ensures writes { let found = analysis_of (D.source asked.now.data_source.now) asked.now.base asked.now.split T.encoding.len_of
+    ensures writes { let found = analysis_of (D.source asked.now.data_source.now) asked.now.base asked.now.rule T.encoding.len_of
         (T.text asked.now.text).chars in
         WritesAnalysis found result out.old out.new }
 {
@@ -142,7 +142,7 @@ fn write_analysis<D: BidiDataSource, T: TextSource>(
         asked.data_source,
         asked.text,
         asked.base,
-        asked.split,
+        asked.rule,
         own_classes,
         own_levels,
     )?;
@@ -171,14 +171,14 @@ pub fn analyse<D: BidiDataSource, T: TextSource>(
         result out.old out.new }
 {
     let base = base_level(settings.base)?;
-    let split = split_rule(settings.split)?;
+    let rule = split_rule(settings.split)?;
     let len = text.len();
     check_room(len, out.classes.len(), out.levels.len())?;
     let asked = AskedText {
         data_source,
         text,
         base,
-        split,
+        rule,
     };
     if len <= FEW_UNITS {
         let mut few_classes = [BidiClass::L; FEW_UNITS];

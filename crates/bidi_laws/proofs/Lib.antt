@@ -23,6 +23,7 @@ pub mod NeutralLemmas
 pub mod NeutralSource
 pub mod NeutralStretches
 pub mod OneDirection
+pub mod OneParagraph
 pub mod OpenMatches
 pub mod OpenPass
 pub mod OpenersStack

@@ -1,8 +1,9 @@
 -- Paragraphs (P1): a text that is cut while it is read, and what the pieces and their ranges are.
-use Rattle.bidi_base.proofs.Common.{◌≡◌, ℕ, ◌+◌, ◌<◌, Bool, true, false, List, [], ◌∷◌, ◌++◌, length, flat_map, refl, sym, ap, subst, ◌∙◌, append_assoc, arith, length-append, All, IsTrue, ⊤}
+use Rattle.bidi_base.proofs.Common.{◌≡◌, ℕ, ◌+◌, ◌<◌, Bool, true, false, List, [], ◌∷◌, ◌++◌, length, flat_map, refl, sym, ap, subst, ◌∙◌, append_assoc, arith, length-append, All, IsTrue, Option, ⊤}
 use Rattle.bidi_base.proofs.Common.{onto_first, length-map, All-nil, All-cons, All-head, All-tail, sum_by-append, is_paragraph_separator, Source, text_classes, text_len, subrange, IsLine}
-use Rattle.bidi_base.proofs.Common.{SplitTest, cut_after, each_separator, paragraphs_of, pieces_of, ranges_from, IsPartition, ends_with_separator, append-nil}
-use Rattle.bidi_base.specs.Paragraphs.{AllButLast, has_inner_separator, AreParagraphRanges}
+use Rattle.bidi_base.proofs.Common.{SplitTest, cut_after, each_separator, paragraphs_of, pieces_by, ranges_from, IsPartition, ends_with_separator, append-nil}
+use Rattle.bidi_base.specs.declared.split_rule.SplitRule.{SplitRule}
+use Rattle.bidi_base.specs.Paragraphs.{AllButLast, has_inner_end}
 use Rattle.bidi_base.proofs.TextLemmas.{HasUnits, subrange-middle, is_boundary-append, length-le-text_len}
 use Rattle.bidi_laws.proofs.StoredSteps.{length-stored_classes}
 
@@ -92,10 +93,10 @@ module _ (source : Source) where
   cut_after-ended ends stops [] = tt
   cut_after-ended ends stops (c ∷ cs) = grind (arith, cut_after-ended ends stops cs)
 
-  abbrev Holds : List ℕ → Type 0
-  Holds p = has_inner_separator source p ≡ false
+  abbrev pub Holds : List ℕ → Type 0
+  Holds p = has_inner_end (each_separator source) p ≡ false
 
-  paragraphs-undivided : (chars : List ℕ) → All Holds (cut_after (each_separator source) chars)
+  pub paragraphs-undivided : (chars : List ℕ) → All Holds (cut_after (each_separator source) chars)
   paragraphs-undivided [] = All-nil Holds
   paragraphs-undivided (c ∷ cs) = grind (arith, All-cons Holds, All-onto_first Holds c, paragraphs-undivided cs)
 
@@ -169,23 +170,8 @@ module _ (ends : SplitTest) (len_of : ℕ → ℕ) (units : HasUnits len_of) (ch
   pub cut_after-All : (P : List ℕ → Type 0) → All P pieces → All (λ r. P (subrange len_of chars r.0 r.1)) (ranges_from len_of 0 pieces)
   cut_after-All P h = rw (cut_after-joined ends chars) at (ranges-All len_of units P [] pieces h)
 
--- the ranges of the paragraphs of a text
-pub paragraphs-AreParagraphRanges : (source : Source) (len_of : ℕ → ℕ) → HasUnits len_of → (chars : List ℕ)
-    → AreParagraphRanges source len_of chars (ranges_from len_of 0 (paragraphs_of (each_separator source) chars))
-paragraphs-AreParagraphRanges source len_of units chars = record {
-  partition = cut_after-partition (each_separator source) len_of units chars;
-  lines = cut_after-lines (each_separator source) len_of units chars;
-  ended = cut_after-AllButLast (each_separator source) len_of units chars (Ends source)
-      (cut_after-ended source (each_separator source) (λ c after stop. stop) chars);
-  undivided = cut_after-All (each_separator source) len_of units chars (Holds source) (paragraphs-undivided source chars);
-}
-
 pub paragraphs-joined : (source : Source) (chars : List ℕ) → joined (paragraphs_of (each_separator source) chars) ≡ chars
 paragraphs-joined source chars = cut_after-joined (each_separator source) chars
 
-pub pieces-joined : (split : Bool) (source : Source) (chars : List ℕ) → joined (pieces_of split source chars) ≡ chars
-pieces-joined split source chars = grind (arith, paragraphs-joined, append-nil)
-
--- the stored classes of a text are one a character
-pub length-paragraph_classes : (source : Source) (chars : List ℕ) → length (text_classes source (paragraphs_of (each_separator source) chars)) ≡ length chars
-length-paragraph_classes source chars = grind (arith, length-text_classes, paragraphs-joined)
+pub pieces_by-joined : (rule : Option SplitRule) (source : Source) (chars : List ℕ) → joined (pieces_by rule source chars) ≡ chars
+pieces_by-joined rule source chars = grind (arith, append-nil, cut_after-joined)

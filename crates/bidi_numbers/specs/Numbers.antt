@@ -7,8 +7,8 @@ use Rattle.bidi_base.specs.declared.char_data.Direction.TheVariants.{Ltr, Rtl, M
 use Rattle.bidi_base.specs.Direction.{base_direction, full_base_direction}
 use Rattle.bidi_base.specs.Paragraphs.{paragraphs_of, each_separator}
 use Rattle.bidi_base.specs.Source.{Source}
-use Rattle.bidi_paragraphs.specs.declared.split_rule.SplitRule.{SplitRule}
-use Rattle.bidi_paragraphs.specs.declared.split_rule.SplitRule.TheVariants.{EachSeparator, CrLfTogether}
+use Rattle.bidi_base.specs.declared.split_rule.SplitRule.{SplitRule}
+use Rattle.bidi_base.specs.declared.split_rule.SplitRule.TheVariants.{EachSeparator, CrLfTogether}
 
 -- the number stands for a class
 abbrev pub is_class : ℕ → Bool

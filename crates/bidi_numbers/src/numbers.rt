@@ -10,7 +10,7 @@ use crate::fault::{Fault, check};
 use bidi_base::char_data::BidiClass;
 use bidi_base::level::Level;
 use bidi_base::search::{Tested, first_passing};
-use bidi_paragraphs::split_rule::SplitRule;
+use bidi_base::split_rule::SplitRule;
 
 /// The number for no base level.
 const AUTO: u8 = 255;
@@ -136,7 +136,7 @@ pub fn base_level(number: u8) -> Result<Option<Level>, Fault>
 /// 0 is none, 1 is `EachSeparator`, and 2 is `CrLfTogether`. Any other number is `BadSplit`.
 pub fn split_rule(number: u8) -> Result<Option<SplitRule>, Fault>
     ensures fault { result_err result ≡ fault_unless (is_split number) Fault.BadSplit }
-    ensures rule { IfOk result (λ split. split ≡ split_of number) }
+    ensures rule { IfOk result (λ rule. rule ≡ split_of number) }
 {
     match number {
         0 => Ok(None),

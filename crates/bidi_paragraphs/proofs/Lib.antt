@@ -8,6 +8,7 @@ pub mod LevelPasses
 pub mod LowBlocks
 pub mod NumbersAfterL
 pub mod OneLevel
+pub mod ParagraphLaws
 pub mod PutUnits
 pub mod SequenceUnits
 pub mod SequencesInPlace

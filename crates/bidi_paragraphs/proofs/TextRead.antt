@@ -21,8 +21,8 @@ use Rattle.bidi_paragraphs.specs.declared.paragraph_info.ParagraphInfo.{Paragrap
 use Rattle.bidi_paragraphs.specs.FirstWalk.{waiting, depth_after, undecided_after, deciding_after, classes_after, is_decided, stops_at, with_flags, IsFresh, IsReadBy, StopsCounting, IsClosed}
 use Rattle.bidi_paragraphs.specs.ParagraphInfo.{ranges_of, levels_of}
 use Rattle.bidi_paragraphs.specs.ParagraphFlags.{flags_of, paragraph_flags, with_class}
-use Rattle.bidi_paragraphs.specs.SplitRule.{ends_by, ends_after, pieces_by}
-use Rattle.bidi_paragraphs.specs.declared.split_rule.SplitRule.{SplitRule}
+use Rattle.bidi_base.specs.Paragraphs.{ends_by, ends_after, pieces_by}
+use Rattle.bidi_base.specs.declared.split_rule.SplitRule.{SplitRule}
 use Rattle.bidi_paragraphs.proofs.FlagsLemmas.{with_classes-push}
 use Rattle.bidi_paragraphs.proofs.IdleClasses.{idle-classes, idle-initiator, idle-pdi, idle-strong}
 use Rattle.bidi_paragraphs.proofs.PutUnits.{take-filled, filled-append}
@@ -348,55 +348,55 @@ module _ (source : Source) (len_of : ℕ → ℕ) (chars : List ℕ) where
 
   -- ---- the whole walk
 
-  pub record IsRead (split : Option SplitRule) (base : Option ℕ) (n : ℕ) (found : Seen) (state : ParagraphState) : Type 0 where
+  pub record IsRead (rule : Option SplitRule) (base : Option ℕ) (n : ℕ) (found : Seen) (state : ParagraphState) : Type 0 where
     pub done : List (List ℕ)
     pub current : List ℕ
-    pub cut : IsCut (ends_after split source) chars done current (drop n chars)
-    pub one : split ≡ None → done ≡ []
+    pub cut : IsCut (ends_after rule source) chars done current (drop n chars)
+    pub one : rule ≡ None → done ≡ []
     pub read : IsTextRead base n done current found state
 
-  pub IsRead-start : (split : Option SplitRule) (base : Option ℕ) (found : Seen) (state : ParagraphState)
+  pub IsRead-start : (rule : Option SplitRule) (base : Option ℕ) (found : Seen) (state : ParagraphState)
       → length found.units ≡ text_len len_of chars → found.paragraphs ≡ [] → found.flags ≡ [] → IsFresh state 0
-      → IsRead split base 0 found state
+      → IsRead rule base 0 found state
   unfolding text_classes paragraph_levels paragraph_flags
-  IsRead-start split base found state sized no_paragraphs no_flags fresh =
+  IsRead-start rule base found state sized no_paragraphs no_flags fresh =
       let none : IsTextDone base 0 [] found = grind arith in
       let read = IsTextRead-fresh base 0 [] found state none fresh in
-      record { done = []; current = []; cut = IsCut-start (ends_after split source) chars; one = λ e. refl; read = read }
+      record { done = []; current = []; cut = IsCut-start (ends_after rule source) chars; one = λ e. refl; read = read }
 
   -- the paragraph goes on
-  pub IsRead-on : (split : Option SplitRule) (base : Option ℕ) (n c : ℕ) (found : Seen) (state : ParagraphState) (longer : Seen) (after : ParagraphState) (h : IsRead split base n found state)
+  pub IsRead-on : (rule : Option SplitRule) (base : Option ℕ) (n c : ℕ) (found : Seen) (state : ParagraphState) (longer : Seen) (after : ParagraphState) (h : IsRead rule base n found state)
       → drop n chars ≡ c ∷ drop (n + 1) chars
-      → IsTextRead base (n + 1) h.done (h.current ++ c ∷ []) longer after → ends_after split source c (drop (n + 1) chars) ≡ false → IsRead split base (n + 1) longer after
-  IsRead-on split base n c found state longer after h next read on =
-      let cut = IsCut-more (ends_after split source) chars h.done h.current c (drop (n + 1) chars) on (rw next at h.cut) in
+      → IsTextRead base (n + 1) h.done (h.current ++ c ∷ []) longer after → ends_after rule source c (drop (n + 1) chars) ≡ false → IsRead rule base (n + 1) longer after
+  IsRead-on rule base n c found state longer after h next read on =
+      let cut = IsCut-more (ends_after rule source) chars h.done h.current c (drop (n + 1) chars) on (rw next at h.cut) in
       record { done = h.done; current = h.current ++ c ∷ []; cut = cut; one = h.one; read = read }
 
   -- or it ends, and the next one begins
-  pub IsRead-stop : (split : Option SplitRule) (base : Option ℕ) (n c : ℕ) (found : Seen) (state : ParagraphState) (closed : Seen) (after : ParagraphState) (h : IsRead split base n found state)
+  pub IsRead-stop : (rule : Option SplitRule) (base : Option ℕ) (n c : ℕ) (found : Seen) (state : ParagraphState) (closed : Seen) (after : ParagraphState) (h : IsRead rule base n found state)
       → drop n chars ≡ c ∷ drop (n + 1) chars
-      → IsTextDone base (n + 1) (h.done ++ (h.current ++ c ∷ []) ∷ []) closed → IsFresh after (place len_of chars (n + 1)) → ends_after split source c (drop (n + 1) chars) ≡ true → IsRead split base (n + 1) closed after
-  IsRead-stop split base n c found state closed after h next ended fresh stop =
+      → IsTextDone base (n + 1) (h.done ++ (h.current ++ c ∷ []) ∷ []) closed → IsFresh after (place len_of chars (n + 1)) → ends_after rule source c (drop (n + 1) chars) ≡ true → IsRead rule base (n + 1) closed after
+  IsRead-stop rule base n c found state closed after h next ended fresh stop =
       let done = h.done ++ (h.current ++ c ∷ []) ∷ [] in
-      let cut = IsCut-stop (ends_after split source) chars h.done h.current c (drop (n + 1) chars) stop (rw next at h.cut) in
+      let cut = IsCut-stop (ends_after rule source) chars h.done h.current c (drop (n + 1) chars) stop (rw next at h.cut) in
       let read = IsTextRead-fresh base (n + 1) done closed after ended fresh in
       record { done = done; current = []; cut = cut; one = λ e. absurd (cc (e, stop)); read = read }
 
   -- at the end of the text, what is left is the last paragraph
   module _ (units : HasUnits len_of) (base : Option ℕ) (n : ℕ) (found : Seen) (state : ParagraphState) (all : n ≡ length chars) where
-    ended : (split : Option SplitRule) (h : IsRead split base n found state) → IsCut (ends_after split source) chars h.done h.current []
-    ended split h = rw (drop_all n chars (omega arith)) at h.cut
+    ended : (rule : Option SplitRule) (h : IsRead rule base n found state) → IsCut (ends_after rule source) chars h.done h.current []
+    ended rule h = rw (drop_all n chars (omega arith)) at h.cut
 
     -- it is not empty, or the only one
-    pub IsRead-last : (split : Option SplitRule) (h : IsRead split base n found state)
-        → (is_none split ≡ true) ⊎ (state.start < place len_of chars n) → h.done ++ h.current ∷ [] ≡ pieces_by split source chars
+    pub IsRead-last : (rule : Option SplitRule) (h : IsRead rule base n found state)
+        → (is_none rule ≡ true) ⊎ (state.start < place len_of chars n) → h.done ++ h.current ∷ [] ≡ pieces_by rule source chars
     IsRead-last None h last = grind (arith, h.one refl, h.read.whole, take_all)
     IsRead-last (Some rule) h (inl e) = absurd (cc e)
     IsRead-last (Some rule) h (inr order) =
         sym (IsCut-last (ends_by rule source) chars h.done h.current (current-some base n h.done h.current found state h.read units order) (ended (Some rule) h))
 
-    pub IsRead-none : (split : Option SplitRule) (h : IsRead split base n found state) → is_none split ≡ false
-        → place len_of chars n ≤ state.start → (h.current ≡ []) × (h.done ≡ pieces_by split source chars)
+    pub IsRead-none : (rule : Option SplitRule) (h : IsRead rule base n found state) → is_none rule ≡ false
+        → place len_of chars n ≤ state.start → (h.current ≡ []) × (h.done ≡ pieces_by rule source chars)
     IsRead-none None h some order = absurd (cc some)
     IsRead-none (Some rule) h some order =
         let none = current-none base n h.done h.current found state h.read units order in
@@ -404,19 +404,19 @@ module _ (source : Source) (len_of : ℕ → ℕ) (chars : List ℕ) where
 
   -- ---- what the walk answers
 
-  pub record IsAnswer (split : Option SplitRule) (base : Option ℕ) (found : Seen) : Type 0 where
-    pub classes : found.units ≡ per_unit len_of chars (text_classes source (pieces_by split source chars))
-    pub ranges : ranges_of found.paragraphs ≡ ranges_from len_of 0 (pieces_by split source chars)
-    pub levels : levels_of found.paragraphs ≡ paragraph_levels source base (pieces_by split source chars)
-    pub flags : found.flags ≡ paragraph_flags source (pieces_by split source chars)
+  pub record IsAnswer (rule : Option SplitRule) (base : Option ℕ) (found : Seen) : Type 0 where
+    pub classes : found.units ≡ per_unit len_of chars (text_classes source (pieces_by rule source chars))
+    pub ranges : ranges_of found.paragraphs ≡ ranges_from len_of 0 (pieces_by rule source chars)
+    pub levels : levels_of found.paragraphs ≡ paragraph_levels source base (pieces_by rule source chars)
+    pub flags : found.flags ≡ paragraph_flags source (pieces_by rule source chars)
 
-  pub IsTextDone-answer : (split : Option SplitRule) (base : Option ℕ) (n : ℕ) (done : List (List ℕ)) (found : Seen) → n ≡ length chars
-      → done ≡ pieces_by split source chars → IsTextDone base n done found → IsAnswer split base found
-  IsTextDone-answer split base n done found all is h = grind (arith, take_all)
+  pub IsTextDone-answer : (rule : Option SplitRule) (base : Option ℕ) (n : ℕ) (done : List (List ℕ)) (found : Seen) → n ≡ length chars
+      → done ≡ pieces_by rule source chars → IsTextDone base n done found → IsAnswer rule base found
+  IsTextDone-answer rule base n done found all is h = grind (arith, take_all)
 
 -- what is no separator ends no paragraph
-pub ends_after-other : (split : Option SplitRule) (source : Source) (c : ℕ) (after : List ℕ) → is_paragraph_separator (source.class_of c) ≡ false → ends_after split source c after ≡ false
-ends_after-other split source c after other = grind arith
+pub ends_after-other : (rule : Option SplitRule) (source : Source) (c : ℕ) (after : List ℕ) → is_paragraph_separator (source.class_of c) ≡ false → ends_after rule source c after ≡ false
+ends_after-other rule source c after other = grind arith
 
 -- the character that begins at a place is the first of those that follow
 pub next-at : (len_of : ℕ → ℕ) → HasUnits len_of → (chars : List ℕ) (n : ℕ) → char_at len_of chars (place len_of chars n) ≡ char_at len_of (drop n chars) 0

@@ -5,5 +5,4 @@ pub mod Paragraph
 pub mod ParagraphFlags
 pub mod ParagraphInfo
 pub mod Settled
-pub mod SplitRule
 pub mod Written

@@ -2,25 +2,24 @@
 //! paragraphs (P1) and their levels (P2, P3).
 ghost use Rattle.std.specs.Prelude.{◌≡◌, ℕ, ◌<◌, ◌≤◌, true, false, None, [], length, drop, OnOk, IfOk};
 ghost use Rattle.bidi_base.specs.declared.char_data.BidiClass.{BidiClass};
-ghost use Rattle.bidi_base.specs.Paragraphs.{begins_with_line_feed, ranges_from};
-ghost use Rattle.bidi_base.specs.Stored.{text_classes, paragraph_levels};
-ghost use Rattle.bidi_base.specs.Texts.{place as place_of, per_unit, text_len};
+ghost use Rattle.bidi_base.specs.Analysed.{AreParagraphs};
+ghost use Rattle.bidi_base.specs.Paragraphs.{begins_with_line_feed, ends_after, pieces_by};
+ghost use Rattle.bidi_base.specs.Texts.{place as place_of, text_len};
 ghost use Rattle.bidi_paragraphs.specs.ClassSet.{has};
 ghost use Rattle.bidi_paragraphs.specs.FirstWalk.{classes_after, stops_at, waiting, with_flags, AreWithin, IsClosed, IsFresh, IsReadBy, StopsCounting};
 ghost use Rattle.bidi_paragraphs.specs.InText.{CanRead, IsReadOn, HasReadSome};
 ghost use Rattle.bidi_paragraphs.specs.declared.first_walk.paragraph_state.ParagraphState.{ParagraphState};
 ghost use Rattle.bidi_paragraphs.specs.ParagraphInfo.{ranges_of, levels_of};
 ghost use Rattle.bidi_paragraphs.specs.ParagraphFlags.{paragraph_flags};
-ghost use Rattle.bidi_paragraphs.specs.SplitRule.{ends_after, pieces_by};
 
 use crate::class_set::ClassSet;
 use crate::paragraph_flags::ParagraphFlags;
 use crate::paragraph_info::ParagraphInfo;
-use crate::split_rule::SplitRule;
 use bidi_base::char_data::BidiClass;
 use bidi_base::classes::{is_initiator, is_paragraph_separator, is_pdi};
 use bidi_base::data_source::BidiDataSource;
 use bidi_base::level::Level;
+use bidi_base::split_rule::SplitRule;
 use bidi_text::text::TextSource;
 use smallvec::SmallVec;
 use std::alloc::{AllocError, Global};
@@ -262,16 +261,16 @@ fn goes_on_with_line_feed<D: BidiDataSource, T: TextSource>(
 fn ends_paragraph<D: BidiDataSource, T: TextSource>(
     data_source: &D,
     text: T,
-    split: Option<SplitRule>,
+    rule: Option<SplitRule>,
     c: char,
     class: BidiClass,
     end: usize,
 ) -> bool
     requires { class ≡ (D.source data_source.now).class_of c }
     ensures { (n : ℕ) → end ≡ place_of (T.text text) n
-        → result ≡ ends_after split (D.source data_source.now) c (drop n (T.text text).chars) }
+        → result ≡ ends_after rule (D.source data_source.now) c (drop n (T.text text).chars) }
 {
-    match split {
+    match rule {
         None => false,
         Some(SplitRule::EachSeparator) => is_paragraph_separator(class),
         Some(SplitRule::CrLfTogether) => {
@@ -284,7 +283,7 @@ fn ends_paragraph<D: BidiDataSource, T: TextSource>(
 /// Writes the stored classes (X5c) of a text, one for each code unit, and returns its paragraphs (P1).
 /// `base` or the characters (P2, P3) give their levels.
 ///
-/// If `split` is `None`, the whole text is one paragraph, even if it is empty. Any base level is accepted.
+/// If `rule` is `None`, the whole text is one paragraph, even if it is empty. Any base level is accepted.
 /// The result reuses the lists of `memory`, which are emptied first. Everything is allocated with the allocator of
 /// `memory.paragraphs`.
 ///
@@ -294,19 +293,14 @@ pub fn walk<D: BidiDataSource, T: TextSource>(
     data_source: &D,
     text: T,
     base: Option<Level>,
-    split: Option<SplitRule>,
+    rule: Option<SplitRule>,
     classes: &mut [BidiClass],
     memory: FoundParagraphs,
 ) -> Result<FoundParagraphs, AllocError>
     requires { length classes.old ≡ text_len (T.text text) }
-    ensures classes { let pieces = pieces_by split (D.source data_source.now) (T.text text).chars in
-        OnOk result (classes.new
-        ≡ per_unit (T.text text) (text_classes (D.source data_source.now) pieces)) }
-    ensures ranges { let pieces = pieces_by split (D.source data_source.now) (T.text text).chars in
-        IfOk result (λ i. ranges_of i.paragraphs.items ≡ ranges_from T.encoding.len_of 0 pieces) }
-    ensures levels { let pieces = pieces_by split (D.source data_source.now) (T.text text).chars in
-        IfOk result (λ i. levels_of i.paragraphs.items ≡ paragraph_levels (D.source data_source.now) base pieces) }
-    ensures flags { let pieces = pieces_by split (D.source data_source.now) (T.text text).chars in
+    ensures paragraphs { IfOk result (λ i. AreParagraphs (D.source data_source.now) base rule
+        T.encoding.len_of (T.text text).chars classes.new (ranges_of i.paragraphs.items) (levels_of i.paragraphs.items)) }
+    ensures flags { let pieces = pieces_by rule (D.source data_source.now) (T.text text).chars in
         IfOk result (λ i. i.flags.items ≡ paragraph_flags (D.source data_source.now) pieces) }
 {
     let mut walk = TextState::new(base, memory);
@@ -321,12 +315,12 @@ pub fn walk<D: BidiDataSource, T: TextSource>(
         at < near_end,
     ) {
         at = stop.start + stop.len;
-        let ends = ends_paragraph(data_source, text, split, stop.c, stop.class, at);
+        let ends = ends_paragraph(data_source, text, rule, stop.c, stop.class, at);
         walk.read_stop(classes, stop.class, stop.start..at, ends)?;
         near_end = near_end_after(near_end, at, stop.class, &walk.state);
     }
     let end = text.len();
-    if split.is_none() || walk.state.start < end {
+    if rule.is_none() || walk.state.start < end {
         walk.close(end)?;
     }
     Ok(FoundParagraphs {

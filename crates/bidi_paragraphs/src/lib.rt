@@ -11,4 +11,3 @@ pub mod paragraph_flags;
 pub mod paragraph_info;
 pub mod paragraph_levels;
 mod settled;
-pub mod split_rule;

@@ -1,14 +1,12 @@
 -- A paragraph whose classes and levels are known, and what is shown of its lines.
-use Rattle.std.specs.Prelude.{◌≡◌, ℕ, Bool, List, ◌++◌, map, Option, codes}
+use Rattle.std.specs.Prelude.{ℕ, Bool, List, ◌++◌, codes}
 use Rattle.std.specs.Char.{len_utf8}
 use Rattle.std.specs.Str.{chars}
 use Rattle.std.specs.declared.ops.Range.{Range}
-use Rattle.bidi_base.specs.Analysed.{AnalysedText, IsPerCharText, line_levels_per_char}
+use Rattle.bidi_base.specs.Analysed.{AnalysedText, line_levels_per_char}
 use Rattle.bidi_base.specs.Display.{Run}
-use Rattle.bidi_base.specs.Isolates.{paragraph_level, stored_classes}
 use Rattle.bidi_base.specs.Source.{Source}
-use Rattle.bidi_base.specs.Stored.{stored_levels}
-use Rattle.bidi_base.specs.Text.{per_unit, subrange}
+use Rattle.bidi_base.specs.Text.{subrange}
 use Rattle.bidi_base.specs.declared.char_data.BidiClass.{BidiClass}
 use Rattle.bidi_visual.specs.Shown.{tabbed_line}
 use Rattle.bidi_shown.specs.declared.paragraph.AnalysedParagraph.{AnalysedParagraph}
@@ -25,13 +23,6 @@ analysed_in memory chars = analysed chars memory.classes.items memory.levels.ite
 -- those of a paragraph with its analysis
 abbrev pub text_of : AnalysedParagraph → AnalysedText
 text_of paragraph = analysed_in paragraph.memory.now (chars paragraph.text.now)
-
--- these are the classes, the levels and the level of a paragraph
-pub record IsAnalysed (source : Source) (base : Option ℕ) (chars : List ℕ) (classes : List BidiClass) (levels : List ℕ) (level : ℕ) : Type 0 where
-  pub of_classes : classes ≡ per_unit len_utf8 chars (stored_classes (map source.class_of chars))
-  pub of_levels : levels ≡ per_unit len_utf8 chars (stored_levels source base chars)
-  pub of_level : level ≡ paragraph_level base (map source.class_of chars)
-  pub per_char : IsPerCharText (analysed chars classes levels)
 
 -- a line of an analysed text as it is shown, from the level of its paragraph and its range of bytes
 abbrev pub shown_in : Source → Bool → AnalysedText → ℕ → Run → List ℕ

@@ -1,13 +1,15 @@
 //! The lines of a paragraph from left to right.
-ghost use Rattle.std.specs.Prelude.{◌≡◌, ◌<◌, ◌++◌, length, get_or, flat_map, map, All, IfOk, OnOk, string_bytes};
+ghost use Rattle.std.specs.Prelude.{◌≡◌, ◌<◌, None, [], ◌∷◌, ◌++◌, length, get_or, flat_map, map, All, IfOk, OnOk, string_bytes};
+ghost use Rattle.std.specs.Char.{len_utf8};
 ghost use Rattle.std.specs.Str.{chars, IsUtf8};
-ghost use Rattle.bidi_base.specs.Analysed.{IsPerCharText};
+ghost use Rattle.bidi_base.specs.Analysed.{IsAnalysis, IsPerCharText};
 ghost use Rattle.bidi_base.specs.Display.{run_of};
+ghost use Rattle.bidi_base.specs.Text.{text_len};
 ghost use Rattle.bidi_columns.specs.Bounds.{IsRangeOf};
 ghost use Rattle.bidi_terminal.specs.Bases.{level_of_base};
 ghost use Rattle.bidi_visual.specs.Shown.{shown_paragraph, shown_ranges};
 ghost use Rattle.bidi_paragraphs.specs.ParagraphInfo.{levels_of};
-ghost use Rattle.bidi_shown.specs.Paragraph.{shown_in, text_of, IsAnalysed};
+ghost use Rattle.bidi_shown.specs.Paragraph.{analysed, shown_in, text_of};
 
 use bidi_base::char_data::BidiClass;
 use bidi_base::data_source::BidiDataSource;
@@ -60,8 +62,9 @@ impl Memory {
         base: Base,
         text: &str,
     ) -> Result<(), AllocError>
-        ensures { OnOk result (IsAnalysed (D.source data_source.now) (level_of_base base) (chars text.now)
-            self.new.classes.items self.new.levels.items self.new.level) }
+        ensures { OnOk result (IsAnalysis (D.source data_source.now) (level_of_base base) None
+            (analysed (chars text.now) self.new.classes.items self.new.levels.items)
+            ((0, text_len len_utf8 (chars text.now)) ∷ []) (self.new.level ∷ [])) }
     {
         let text = StrText::new(text);
         let len = text.len();

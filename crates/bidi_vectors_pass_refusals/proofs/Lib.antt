@@ -1,2 +1,3 @@
 mod AnalysesAsClauses
+mod EarlierRecords
 mod RecordsAsClauses

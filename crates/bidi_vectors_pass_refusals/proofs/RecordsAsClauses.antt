@@ -60,4 +60,4 @@ pub constructor-clauses : {I E : Type 0} (source : Source) (base : Option ℕ) (
     → Constructs source base text_of units is_analysis result
     ↔ IfOk result (λ i. text_of i ≡ units) × IfOk result is_analysis × ObeysLaws source base
 constructor-clauses source base text_of units is_analysis result =
-    (λ all. (all.text, all.analysed, all.laws), λ all. record { text = all.0; analysed = all.1; laws = all.2 })
+    (λ all. (all.text, all.analysis, all.laws), λ all. record { text = all.0; analysis = all.1; laws = all.2 })

@@ -1,2 +1,2 @@
--- How a rule cuts a text into its paragraphs, and what is found of a text that is cut so.
-pub use Rattle.bidi_paragraphs.specs.SplitRule.{ends_by, ends_after, pieces_by, AreParagraphRangesBy, IsAnalysisOf, IsAnalysisBy}
+-- How a rule splits a text into its paragraphs.
+pub use Rattle.bidi_base.specs.Paragraphs.{ends_by, ends_after, pieces_by}

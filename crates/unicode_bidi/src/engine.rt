@@ -1,28 +1,27 @@
 //! The classes, the paragraphs and the levels of a text in any encoding (P1 to I2), and the levels of a line (L1).
 
-ghost use Rattle.std.specs.Prelude.{◌≡◌, [], ◌≤◌, ◌++◌, length, map, take, drop, flat_map, slice_range, All, OnOk, OnErr, IfOk, IfSome};
-ghost use Rattle.bidi_base.specs.Analysed.{IsPerCharText, AreLevelsWithLine};
-ghost use Rattle.bidi_base.specs.Laws.{AreLevelsFrom};
+ghost use Rattle.std.specs.Prelude.{◌≡◌, [], ◌≤◌, ◌++◌, length, map, take, drop, flat_map, All, OnOk, OnErr, IfOk, IfSome};
+ghost use Rattle.std.specs.Bool.{then_some};
+ghost use Rattle.bidi_base.specs.Analysed.{IsAnalysis, AreLevelsWithLine};
 ghost use Rattle.bidi_base.specs.Line.{levels_with_line as levels_with_line_of};
+ghost use Rattle.bidi_base.specs.Paragraphs.{pieces_by};
 ghost use Rattle.bidi_base.specs.Texts.{char_index, per_char, text_len, HaveClass, HaveLevel, IsLine};
 ghost use Rattle.bidi_base.specs.declared.char_data.BidiClass.TheVariants.{L};
 ghost use Rattle.bidi_base.specs.Text.{is_per_char};
 ghost use Rattle.bidi_lines.specs.Analysed.{with_lists};
-ghost use Rattle.unicode_bidi.specs.Analysed.{IsAnalysed, IsAnalysedBy};
 ghost use Rattle.unicode_bidi.specs.Engine.{with_analysis, found_paragraphs, found_flags, original_classes as original_classes_of, levels as stored_levels_of, paragraphs as paragraphs_of_analysis, flags as flags_of_analysis, unit_levels, own_flags, CanWrite, Follow};
 ghost use Rattle.bidi_paragraphs.specs.ParagraphFlags.{paragraph_flags};
-ghost use Rattle.bidi_paragraphs.specs.ParagraphInfo.{level_of, range_of, ranges_of, levels_of};
-ghost use Rattle.bidi_paragraphs.specs.SplitRule.{pieces_by, IsAnalysisBy};
+ghost use Rattle.bidi_paragraphs.specs.ParagraphInfo.{ranges_of, levels_of};
 
 use bidi_base::char_data::BidiClass;
 use bidi_base::data_source::BidiDataSource;
 use bidi_base::level::{LTR_LEVEL, Level};
+use bidi_base::split_rule::SplitRule;
 use bidi_lines::line_levels::levels_with_line;
 use bidi_paragraphs::first_walk::{self, FoundParagraphs};
 pub use bidi_paragraphs::paragraph_flags::ParagraphFlags;
 use bidi_paragraphs::paragraph_info::ParagraphInfo;
 use bidi_paragraphs::paragraph_levels::{ClassifiedParagraph, LevelResolver};
-use bidi_paragraphs::split_rule::SplitRule;
 use bidi_text::text::TextSource;
 use smallvec::SmallVec;
 use std::alloc::{AllocError, Global};
@@ -192,12 +191,9 @@ impl Analyser {
         requires low { IfSome base (λ level. level ≤ 125) }
         requires class_room { length classes.old ≡ text_len (T.text text) }
         requires level_room { length levels.old ≡ text_len (T.text text) }
-        ensures analysis { OnOk result (IsAnalysisBy (D.source data_source.now) base rule
+        ensures analysis { OnOk result (IsAnalysis (D.source data_source.now) base rule
             (with_lists (T.text text) classes.new levels.new) (ranges_of (found_paragraphs self.new))
             (levels_of (found_paragraphs self.new))) }
-        ensures per_char { OnOk result (IsPerCharText (with_lists (T.text text) classes.new levels.new)) }
-        ensures bounded { OnOk result (All (λ p. AreLevelsFrom (level_of p)
-            (slice_range levels.new (range_of p).start (range_of p).end)) (found_paragraphs self.new)) }
         ensures flags { let pieces = pieces_by rule (D.source data_source.now) (T.text text).chars in
             OnOk result (found_flags self.new ≡ paragraph_flags (D.source data_source.now) pieces) }
         ensures none { OnErr result (found_paragraphs self.new ≡ []) }
@@ -229,12 +225,13 @@ pub(crate) fn analyse_by<D: BidiDataSource, T: TextSource>(
     data_source: &D,
     text: T,
     base: Option<Level>,
-    split: Option<SplitRule>,
+    rule: Option<SplitRule>,
 ) -> Result<Analysis, AllocError>
     requires { IfSome base (λ level. level ≤ 125) }
-    ensures analysed { IfOk result (λ a. IsAnalysedBy (D.source data_source.now) base split
-        (with_analysis (T.text text) a) (paragraphs_of_analysis a)) }
-    ensures flags { let pieces = pieces_by split (D.source data_source.now) (T.text text).chars in
+    ensures analysis { IfOk result (λ a. IsAnalysis (D.source data_source.now) base rule
+        (with_analysis (T.text text) a) (ranges_of (paragraphs_of_analysis a))
+        (levels_of (paragraphs_of_analysis a))) }
+    ensures flags { let pieces = pieces_by rule (D.source data_source.now) (T.text text).chars in
         IfOk result (λ a. flags_of_analysis a ≡ paragraph_flags (D.source data_source.now) pieces) }
 {
     let mut original_classes = vec![in alloc; BidiClass::L; text.len()]?;
@@ -245,7 +242,7 @@ pub(crate) fn analyse_by<D: BidiDataSource, T: TextSource>(
         data_source,
         text,
         base,
-        split,
+        rule,
         original_classes.as_mut_slice(),
         levels.as_mut_slice(),
     )?;
@@ -271,11 +268,12 @@ pub fn analyse<D: BidiDataSource, T: TextSource>(
     split: bool,
 ) -> Result<Analysis, AllocError>
     requires { IfSome base (λ level. level ≤ 125) }
-    ensures { IfOk result (λ a. IsAnalysed (D.source data_source.now) base split
-        (with_analysis (T.text text) a) (paragraphs_of_analysis a)) }
+    ensures { IfOk result (λ a. IsAnalysis (D.source data_source.now) base (then_some split SplitRule.EachSeparator)
+        (with_analysis (T.text text) a) (ranges_of (paragraphs_of_analysis a))
+        (levels_of (paragraphs_of_analysis a))) }
 {
-    let split = split.then_some(SplitRule::EachSeparator);
-    analyse_by(alloc, data_source, text, base, split)
+    let rule = split.then_some(SplitRule::EachSeparator);
+    analyse_by(alloc, data_source, text, base, rule)
 }
 
 /// Finds the paragraphs of a text, which end where `rule` says, and the class and the level of each character (P1 to
@@ -292,8 +290,9 @@ pub fn analyse_with_rule<D: BidiDataSource, T: TextSource>(
     rule: Option<SplitRule>,
 ) -> Result<Analysis, AllocError>
     requires { IfSome base (λ level. level ≤ 125) }
-    ensures { IfOk result (λ a. IsAnalysedBy (D.source data_source.now) base rule
-        (with_analysis (T.text text) a) (paragraphs_of_analysis a)) }
+    ensures { IfOk result (λ a. IsAnalysis (D.source data_source.now) base rule
+        (with_analysis (T.text text) a) (ranges_of (paragraphs_of_analysis a))
+        (levels_of (paragraphs_of_analysis a))) }
 {
     analyse_by(alloc, data_source, text, base, rule)
 }

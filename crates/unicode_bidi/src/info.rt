@@ -1,23 +1,23 @@
 // The result of the algorithm for a text.
 ghost use Rattle.std.specs.Prelude.{◌≡◌, ◌<◌, ◌≤◌, IfOk, IfSome, OnOk, OnErr, All, Some, map};
-ghost use Rattle.bidi_base.specs.Analysed.{IsLineOf, AreLevelsWithLine, AreLevelsOfLine, AreRunsOfLine, levels_with_line_per_char};
+ghost use Rattle.bidi_base.specs.Analysed.{IsAnalysis, IsLineOf, AreLevelsWithLine, AreLevelsOfLine, AreRunsOfLine, levels_with_line_per_char};
 ghost use Rattle.bidi_base.specs.Display.{run_of};
 ghost use Rattle.bidi_base.specs.Levels.{has_rtl as has_rtl_of};
 ghost use Rattle.bidi_base.specs.Texts.{IsLine};
-ghost use Rattle.bidi_paragraphs.specs.ParagraphInfo.{level_of, range_of};
+ghost use Rattle.bidi_paragraphs.specs.ParagraphInfo.{level_of, range_of, ranges_of, levels_of};
 ghost use Rattle.bidi_lines.specs.LineOrder.{IsLineOrder};
 ghost use Rattle.bidi_base.specs.PerChar.{HaveClass, HaveLevel};
-ghost use Rattle.unicode_bidi.specs.Analysed.{IsAnalysedBy, ObeysLaws};
+ghost use Rattle.unicode_bidi.specs.Analysed.{ObeysLaws};
 
 use crate::engine;
 use bidi_base::char_data::BidiClass;
 use bidi_base::data_source::BidiDataSource;
 use bidi_base::level::Level;
+use bidi_base::split_rule::SplitRule;
 use bidi_lines::analysed::Analysed;
 use bidi_lines::shown_line::ShownLine;
 use bidi_lines::visual_order;
 use bidi_paragraphs::paragraph_info::ParagraphInfo;
-use bidi_paragraphs::split_rule::SplitRule;
 use bidi_text::text::TextSource;
 use smallvec::SmallVec;
 use std::alloc::{AllocError, Global};
@@ -63,8 +63,8 @@ impl<T: TextSource> BidiInfo<T> {
     ) -> Result<BidiInfo<T>, AllocError>
         requires { IfSome default_para_level (λ level. level ≤ 125) }
         ensures text { IfOk result (λ i. i.analysed.text ≡ text) }
-        ensures analysed { IfOk result (λ i. IsAnalysedBy (D.source data_source.now) default_para_level (Some rule)
-            (analysed_of i) (paragraphs i)) }
+        ensures analysis { IfOk result (λ i. IsAnalysis (D.source data_source.now) default_para_level (Some rule)
+            (analysed_of i) (ranges_of (paragraphs i)) (levels_of (paragraphs i))) }
         ensures laws { ObeysLaws (D.source data_source.now) default_para_level }
     {
         let found = engine::analyse_by(alloc, data_source, text, default_para_level, Some(rule))?;

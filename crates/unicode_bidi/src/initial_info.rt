@@ -1,14 +1,15 @@
 // The paragraphs and the stored classes of a text.
-ghost use Rattle.std.specs.Prelude.{◌≡◌, IfOk};
+ghost use Rattle.std.specs.Prelude.{◌≡◌, IfOk, Some};
+ghost use Rattle.bidi_base.specs.Analysed.{AreParagraphs};
 ghost use Rattle.bidi_base.specs.PerChar.{HaveClass};
-ghost use Rattle.unicode_bidi.specs.Analysed.{HasParagraphs};
+ghost use Rattle.bidi_paragraphs.specs.ParagraphInfo.{ranges_of, levels_of};
 
 use bidi_base::char_data::BidiClass;
 use bidi_base::data_source::BidiDataSource;
 use bidi_base::level::Level;
+use bidi_base::split_rule::SplitRule;
 use bidi_paragraphs::first_walk::{FoundParagraphs, walk};
 use bidi_paragraphs::paragraph_info::ParagraphInfo;
-use bidi_paragraphs::split_rule::SplitRule;
 use bidi_text::text::TextSource;
 use smallvec::SmallVec;
 use std::alloc::{AllocError, Global};
@@ -33,21 +34,15 @@ impl<T: TextSource> InitialInfo<T> {
         default_para_level: Option<Level>,
     ) -> Result<InitialInfo<T>, AllocError>
         ensures text { IfOk result (λ i. i.text ≡ text) }
-        ensures paragraphs { IfOk result (λ i. HasParagraphs (D.source data_source.now) default_para_level (len_of i)
-            (chars_of i) (original_classes i) (paragraphs i)) }
+        ensures paragraphs { IfOk result (λ i. AreParagraphs (D.source data_source.now) default_para_level
+            (Some SplitRule.EachSeparator) (len_of i) (chars_of i) (original_classes i) (ranges_of (paragraphs i))
+            (levels_of (paragraphs i))) }
     {
-        let split = Some(SplitRule::EachSeparator);
+        let rule = Some(SplitRule::EachSeparator);
         let mut original_classes = vec![in alloc; BidiClass::L; text.len()]?;
         let memory = FoundParagraphs::new(alloc);
         let classes = original_classes.as_mut_slice();
-        let found = walk(
-            data_source,
-            text,
-            default_para_level,
-            split,
-            classes,
-            memory,
-        )?;
+        let found = walk(data_source, text, default_para_level, rule, classes, memory)?;
         Ok(InitialInfo {
             text,
             original_classes,

@@ -38,9 +38,9 @@ pub use base_direction::{
 pub use bidi_base::char_data::{BidiClass, Direction};
 pub use bidi_base::data_source::BidiDataSource;
 pub use bidi_base::level::{LTR_LEVEL, Level, RTL_LEVEL};
+pub use bidi_base::split_rule::SplitRule;
 pub use bidi_base::{char_data, data_source, format_chars, level, sample};
 pub use bidi_paragraphs::paragraph_info::ParagraphInfo;
-pub use bidi_paragraphs::split_rule::SplitRule;
 pub use bidi_text::text;
 pub use bidi_text::text::{TextSource, Utf8IndexLenIter};
 pub use prepare::{LevelRun, LevelRunVec};

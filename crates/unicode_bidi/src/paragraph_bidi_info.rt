@@ -1,12 +1,13 @@
 // The result of the algorithm for a text that is one paragraph.
-ghost use Rattle.std.specs.Prelude.{◌≡◌, ◌<◌, ◌≤◌, IfOk, IfSome, OnOk, OnErr, map};
-ghost use Rattle.bidi_base.specs.Analysed.{IsLineOf, AreLevelsWithLine, AreLevelsOfLine, AreRunsOfLine, levels_with_line_per_char};
-ghost use Rattle.bidi_base.specs.Direction.{direction_of_levels};
+ghost use Rattle.std.specs.Prelude.{◌≡◌, ◌<◌, ◌≤◌, IfOk, IfSome, None, [], ◌∷◌, OnOk, OnErr, map};
+ghost use Rattle.bidi_base.specs.Analysed.{IsAnalysis, IsLineOf, AreLevelsWithLine, AreLevelsOfLine, AreRunsOfLine, levels_with_line_per_char};
+ghost use Rattle.bidi_base.specs.Direction.{direction_of_levels, is_pure_ltr as is_pure_ltr_of};
 ghost use Rattle.bidi_base.specs.Display.{run_of};
 ghost use Rattle.bidi_base.specs.Levels.{has_rtl as has_rtl_of};
 ghost use Rattle.bidi_lines.specs.LineOrder.{IsLineOrder};
 ghost use Rattle.bidi_base.specs.PerChar.{HaveClass, HaveLevel};
-ghost use Rattle.unicode_bidi.specs.Analysed.{IsAnalysedAsOne, ObeysLaws};
+ghost use Rattle.bidi_base.specs.Text.{text_len};
+ghost use Rattle.unicode_bidi.specs.Analysed.{ObeysLaws};
 
 use crate::engine;
 use bidi_base::char_data::{BidiClass, Direction};
@@ -58,8 +59,11 @@ impl<T: TextSource> ParagraphBidiInfo<T> {
     ) -> Result<ParagraphBidiInfo<T>, AllocError>
         requires { IfSome default_para_level (λ level. level ≤ 125) }
         ensures text { IfOk result (λ i. i.paragraph.text ≡ text) }
-        ensures analysed { IfOk result (λ i. IsAnalysedAsOne (D.source data_source.now) default_para_level
-            (analysed_of i) (paragraph_level i) (is_pure_ltr i)) }
+        ensures analysis { IfOk result (λ i. let a = analysed_of i in
+            IsAnalysis (D.source data_source.now) default_para_level None a ((0, text_len a.len_of a.chars) ∷ [])
+            (paragraph_level i ∷ [])) }
+        ensures pure_ltr { IfOk result (λ i. is_pure_ltr i
+            ≡ is_pure_ltr_of (map (D.source data_source.now).class_of (analysed_of i).chars)) }
         ensures laws { ObeysLaws (D.source data_source.now) default_para_level }
     {
         let found = engine::analyse_by(alloc, data_source, text, default_para_level, None)?;

@@ -1,17 +1,19 @@
 //! Texts of UTF-8, analysed (P1 to I2) and shown line by line (L1, L2). A code unit is a byte.
 
-ghost use Rattle.std.specs.Prelude.{◌≡◌, ◌≤◌, ◌↔◌, IfOk, IfSome, Some, true, encode_utf8};
+ghost use Rattle.std.specs.Prelude.{◌≡◌, ◌≤◌, ◌↔◌, IfOk, IfSome, Some, None, [], ◌∷◌, map, encode_utf8};
 ghost use Rattle.std.specs.Cow.{cow_str_bytes, IsBorrowedStr};
-ghost use Rattle.bidi_base.specs.Analysed.{IsLineOf, IsTextOfLine, StaysInOrder};
-ghost use Rattle.bidi_paragraphs.specs.ParagraphInfo.{level_of};
-ghost use Rattle.unicode_bidi.specs.Analysed.{Constructs, HasParagraphs, IsAnalysed, IsAnalysedAsOne, IsAnalysedBy};
+ghost use Rattle.bidi_base.specs.Analysed.{AreParagraphs, IsAnalysis, IsLineOf, IsTextOfLine, StaysInOrder};
+ghost use Rattle.bidi_base.specs.Direction.{is_pure_ltr as is_pure_ltr_of};
+ghost use Rattle.bidi_paragraphs.specs.ParagraphInfo.{level_of, ranges_of, levels_of};
+ghost use Rattle.bidi_base.specs.Text.{text_len};
+ghost use Rattle.unicode_bidi.specs.Analysed.{Constructs};
 
 use crate::{info, initial_info, paragraph, paragraph_bidi_info};
 use bidi_base::data_source::BidiDataSource;
 use bidi_base::level::Level;
+use bidi_base::split_rule::SplitRule;
 use bidi_lines::shown_line;
 use bidi_paragraphs::paragraph_info::ParagraphInfo;
-use bidi_paragraphs::split_rule::SplitRule;
 use bidi_text::text::StrText;
 use std::alloc::{AllocError, Global};
 use std::borrow::CowStr;
@@ -58,8 +60,8 @@ impl<'t> info::BidiInfo<StrText<'t>> {
     ) -> Result<BidiInfo<'t>, AllocError>
         requires { IfSome default_para_level (λ level. level ≤ 125) }
         ensures { Constructs (D.source data_source.now) default_para_level text_of text.now
-            (λ i. IsAnalysed (D.source data_source.now) default_para_level
-            true (analysed_of i) (paragraphs i)) result }
+            (λ i. IsAnalysis (D.source data_source.now) default_para_level (Some SplitRule.EachSeparator)
+            (analysed_of i) (ranges_of (paragraphs i)) (levels_of (paragraphs i))) result }
     {
         let rule = SplitRule::EachSeparator;
         BidiInfo::new_with_rule(alloc, data_source, text, default_para_level, rule)
@@ -82,8 +84,8 @@ impl<'t> info::BidiInfo<StrText<'t>> {
     ) -> Result<BidiInfo<'t>, AllocError>
         requires { IfSome default_para_level (λ level. level ≤ 125) }
         ensures { Constructs (D.source data_source.now) default_para_level text_of text.now
-            (λ i. IsAnalysedBy (D.source data_source.now) default_para_level
-            (Some rule) (analysed_of i) (paragraphs i)) result }
+            (λ i. IsAnalysis (D.source data_source.now) default_para_level (Some rule)
+            (analysed_of i) (ranges_of (paragraphs i)) (levels_of (paragraphs i))) result }
     {
         let text = StrText::new(text);
         info::BidiInfo::of_text(alloc, data_source, text, default_para_level, rule)
@@ -131,9 +133,12 @@ impl<'t> paragraph_bidi_info::ParagraphBidiInfo<StrText<'t>> {
         default_para_level: Option<Level>,
     ) -> Result<ParagraphBidiInfo<'t>, AllocError>
         requires { IfSome default_para_level (λ level. level ≤ 125) }
-        ensures { Constructs (D.source data_source.now) default_para_level text_of text.now
-            (λ i. IsAnalysedAsOne (D.source data_source.now) default_para_level
-            (analysed_of i) (paragraph_level i) (is_pure_ltr i)) result }
+        ensures constructs { Constructs (D.source data_source.now) default_para_level text_of text.now
+            (λ i. let a = analysed_of i in
+            IsAnalysis (D.source data_source.now) default_para_level None a ((0, text_len a.len_of a.chars) ∷ [])
+            (paragraph_level i ∷ [])) result }
+        ensures pure_ltr { IfOk result (λ i. is_pure_ltr i
+            ≡ is_pure_ltr_of (map (D.source data_source.now).class_of (analysed_of i).chars)) }
     {
         paragraph_bidi_info::ParagraphBidiInfo::of_text(
             alloc,
@@ -180,8 +185,9 @@ impl<'t> initial_info::InitialInfo<StrText<'t>> {
         default_para_level: Option<Level>,
     ) -> Result<InitialInfo<'t>, AllocError>
         ensures text { IfOk result (λ i. text_of i ≡ text.now) }
-        ensures paragraphs { IfOk result (λ i. HasParagraphs (D.source data_source.now) default_para_level (len_of i)
-            (chars_of i) (original_classes i) (paragraphs i)) }
+        ensures paragraphs { IfOk result (λ i. AreParagraphs (D.source data_source.now) default_para_level
+            (Some SplitRule.EachSeparator) (len_of i) (chars_of i) (original_classes i) (ranges_of (paragraphs i))
+            (levels_of (paragraphs i))) }
     {
         initial_info::InitialInfo::of_text(
             alloc,

@@ -9,7 +9,7 @@ returns-in_err-check_room_or_none-clause-fault g c =
     let asked = c.args.asked.now in
     let a = with_lists (g.T.TextSource.text asked.text) c.analyse.new.classes c.analyse.new.levels in
     let count = ap length c.paragraphs-found.ensures
-    ∙ count-found (g.D.BidiDataSource.source asked.data_source.now) asked.base asked.split a (found_paragraphs c.analyse.new.self) c.in_ok-analyse.ensures.analysis in
+    ∙ count-found (g.D.BidiDataSource.source asked.data_source.now) asked.base asked.rule a (found_paragraphs c.analyse.new.self) c.in_ok-analyse.ensures.analysis in
     rw (← count) (search rules)
 
 pub returns-clause-fault : goal.returns-clause-fault
@@ -17,7 +17,7 @@ returns-clause-fault g c =
     let asked = c.args.asked.now in
     let a = with_lists (g.T.TextSource.text asked.text) c.analyse.new.classes c.analyse.new.levels in
     let count = ap length c.paragraphs-found.ensures
-    ∙ count-found (g.D.BidiDataSource.source asked.data_source.now) asked.base asked.split a (found_paragraphs c.analyse.new.self) c.in_ok-analyse.ensures.analysis in
+    ∙ count-found (g.D.BidiDataSource.source asked.data_source.now) asked.base asked.rule a (found_paragraphs c.analyse.new.self) c.in_ok-analyse.ensures.analysis in
     rw (← count) (search rules)
 
 pub put_paragraphs-requires : goal.put_paragraphs-requires
@@ -29,12 +29,12 @@ returns-clause-writes g c =
     let a = with_lists (g.T.TextSource.text asked.text) c.analyse.new.classes c.analyse.new.levels in
     let source = g.D.BidiDataSource.source asked.data_source.now in
     let count = ap length c.paragraphs-found.ensures
-    ∙ count-found source asked.base asked.split a (found_paragraphs c.analyse.new.self) c.in_ok-analyse.ensures.analysis in
-    let rows = rows-found source asked.base asked.split a (found_paragraphs c.analyse.new.self) c.in_ok-analyse.ensures.analysis in
+    ∙ count-found source asked.base asked.rule a (found_paragraphs c.analyse.new.self) c.in_ok-analyse.ensures.analysis in
+    let rows = rows-found source asked.base asked.rule a (found_paragraphs c.analyse.new.self) c.in_ok-analyse.ensures.analysis in
     record {
       kept = search rules;
-      classes = search rules;
-      levels = search rules;
+      classes = search (rules, c.in_ok-analyse.ensures.analysis.paragraphs.classes);
+      levels = search (rules, c.in_ok-analyse.ensures.analysis.levels);
       paragraphs = rw (← rows) (search rules);
       count = count;
       buffers = search rules;

@@ -1,4 +1,4 @@
-use Rattle.bidi_base.proofs.Common.{◌≡◌, ◌∙◌, false, length, map, ap, arith, rules, IsAnalysis, paragraph_level, one_unit}
+use Rattle.bidi_base.proofs.Common.{◌≡◌, ◌∙◌, None, length, map, ap, arith, rules, IsAnalysis, paragraph_level, one_unit}
 use Rattle.bidi_laws.proofs.LevelLaws.{paragraph_level-few}
 use Rattle.bidi_explain.proofs.AloneLemmas.{alone-classes, alone-levels, alone-level, length-alone_levels}
 use Rattle.bidi_explain.proofs.stages.find_stages.Given.{Over}
@@ -7,7 +7,7 @@ use Rattle.bidi_explain.proofs.stages.find_stages.Goals.{After-first_level-level
 use Rattle.unicode_bidi.specs.ParagraphInfo.{ranges_of, levels_of}
 
 -- the paragraph is analysed
-alone : (g : Over) (c : After-first_level-level g) → IsAnalysis (g.D.BidiDataSource.source c.args.data_source.now) c.args.base false
+alone : (g : Over) (c : After-first_level-level g) → IsAnalysis (g.D.BidiDataSource.source c.args.data_source.now) c.args.base None
     (record { len_of = one_unit; chars = c.args.chars.now; classes = c.in_ok-analysis.analysis.original_classes.items; levels = c.in_ok-analysis.analysis.levels.items })
     (ranges_of c.in_ok-analysis.analysis.paragraphs.items) (levels_of c.in_ok-analysis.analysis.paragraphs.items)
 alone g c = grind arith

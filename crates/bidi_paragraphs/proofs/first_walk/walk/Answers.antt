@@ -3,6 +3,7 @@ use Rattle.bidi_base.proofs.PlaceLemmas.{is_boundary-place, place-end}
 use Rattle.bidi_paragraphs.specs.declared.first_walk.paragraph_state.ParagraphState.{ParagraphState}
 use Rattle.bidi_paragraphs.proofs.TextRead.{seen, same_range, open_within, depth-le, drawn-is, IsTextRead-more, IsTextRead-stop_counting, IsTextDone-close, IsRead}
 use Rattle.bidi_paragraphs.proofs.TextRead.{IsRead-start, IsRead-on, IsRead-stop, IsRead-last, IsRead-none, IsTextDone-none, IsAnswer, IsTextDone-answer}
+use Rattle.bidi_paragraphs.proofs.ParagraphLaws.{AreParagraphs-found}
 use Rattle.bidi_paragraphs.proofs.WalkSteps.{IsAt, IsAt-stop, IsRead-end}
 use Rattle.bidi_paragraphs.proofs.first_walk.walk.Goals as goal
 use Rattle.bidi_paragraphs.proofs.first_walk.walk.Goals.{In-Some, then-is_none+in_ok-close, then-is_none-via-then-is_none, then-is_none-via-else-is_none+then-walk-end, else-is_none+else-walk-end}
@@ -14,7 +15,7 @@ loop-stop-init g c = (
     index = 0;
     within = omega arith;
     here = refl;
-    read = IsRead-start _ _ _ c.args.split c.args.base _ c.new-walk.result.state c.requires c.new-walk.ensures.paragraphs c.new-walk.ensures.flags c.new-walk.ensures.state;
+    read = IsRead-start _ _ _ c.args.rule c.args.base _ c.new-walk.result.state c.requires c.new-walk.ensures.paragraphs c.new-walk.ensures.flags c.new-walk.ensures.state;
   },
   c.new-walk.ensures.base,
 )
@@ -27,9 +28,9 @@ next_stop-requires g c = record {
 
 -- the character at which the search stopped
 met_at : (g : Over) (c : In-Some g)
-    → IsAt (g.D.BidiDataSource.source c.args.data_source.now) g.T.TextSource.encoding.len_of (g.T.TextSource.text c.args.text).chars c.args.split c.args.base c.in-Some.stop (seen c.next_stop.new.classes c.loop-stop.walk) c.next_stop.new.state
+    → IsAt (g.D.BidiDataSource.source c.args.data_source.now) g.T.TextSource.encoding.len_of (g.T.TextSource.text c.args.text).chars c.args.rule c.args.base c.in-Some.stop (seen c.next_stop.new.classes c.loop-stop.walk) c.next_stop.new.state
 met_at g c =
-    subst (λ (r : ParagraphState). IsAt (g.D.BidiDataSource.source c.args.data_source.now) g.T.TextSource.encoding.len_of (g.T.TextSource.text c.args.text).chars c.args.split c.args.base c.in-Some.stop (seen c.next_stop.new.classes c.loop-stop.walk) r) (sym c.next_stop.ensures.kept)
+    subst (λ (r : ParagraphState). IsAt (g.D.BidiDataSource.source c.args.data_source.now) g.T.TextSource.encoding.len_of (g.T.TextSource.text c.args.text).chars c.args.rule c.args.base c.in-Some.stop (seen c.next_stop.new.classes c.loop-stop.walk) r) (sym c.next_stop.ensures.kept)
     (IsAt-stop _ _ _ g.T.TextSource.encoding.positive _ _ _ _ _ _ c.loop-stop.invariant.0 c.next_stop.auto.classes c.in-Some.stop c.next_stop.new.state.flags c.in-Some.ensures.stop)
 
 pub overflow_add-at : goal.overflow_add-at
@@ -64,7 +65,7 @@ loop-stop-preserved g c =
     let ends_is = c.ends_paragraph-ends.ensures (n + 1) end in
     let longer = seen c.read_stop.new.classes c.loop-stop.walk in
     let new = seen c.read_stop.new.classes c.read_stop.new.self in
-    let read : IsRead _ _ _ c.args.split c.args.base (n + 1) new c.read_stop.new.self.state = elim (cases_Bool c.ends_paragraph-ends.result) [
+    let read : IsRead _ _ _ c.args.rule c.args.base (n + 1) new c.read_stop.new.self.state = elim (cases_Bool c.ends_paragraph-ends.result) [
       | inl stop ↦
           let ended = c.in_ok-read_stop.ensures.ended stop in
           let r = ended.1.0 in
@@ -85,30 +86,33 @@ pub close-requires : goal.close-requires
 close-requires g c = grind arith
 
 answered : (g : Over) (c : goal.After-drop-walk-2 g)
-    → IsAnswer (g.D.BidiDataSource.source c.args.data_source.now) g.T.TextSource.encoding.len_of (g.T.TextSource.text c.args.text).chars c.args.split c.args.base (seen c.next_stop.new.classes c.if-is_none.walk)
+    → IsAnswer (g.D.BidiDataSource.source c.args.data_source.now) g.T.TextSource.encoding.len_of (g.T.TextSource.text c.args.text).chars c.args.rule c.args.base (seen c.next_stop.new.classes c.if-is_none.walk)
 answered g c =
-    let split = c.args.split in
+    let rule = c.args.rule in
     let old = seen c.next_stop.new.classes c.loop-stop.walk in
     let cs : List ℕ = (g.T.TextSource.text c.args.text).chars in
     let n : ℕ = length cs in
     let kept = IsRead-end _ _ _ g.T.TextSource.encoding.positive _ _ _ _ _ _ c.loop-stop.invariant.0 c.next_stop.auto.classes c.next_stop.new.state.flags c.in_default.ensures.stop in
-    let h = subst (λ (r : ParagraphState). IsRead (g.D.BidiDataSource.source c.args.data_source.now) g.T.TextSource.encoding.len_of cs split c.args.base n old r) (sym c.next_stop.ensures.kept) kept in
+    let h = subst (λ (r : ParagraphState). IsRead (g.D.BidiDataSource.source c.args.data_source.now) g.T.TextSource.encoding.len_of cs rule c.args.base n old r) (sym c.next_stop.ensures.kept) kept in
     let end : c.len-end.result ≡ place g.T.TextSource.encoding.len_of cs n = c.len-end.ensures ∙ sym (place-end _ cs n (omega arith)) in
     elim c.if-is_none.branch [
       | then-is_none+in_ok-close w ↦
-          let rest : (is_none split ≡ true) ⊎ (c.next_stop.new.state.start < place g.T.TextSource.encoding.len_of cs n) = elim w.then-is_none.branch [
+          let rest : (is_none rule ≡ true) ⊎ (c.next_stop.new.state.start < place g.T.TextSource.encoding.len_of cs n) = elim w.then-is_none.branch [
             | then-is_none-via-then-is_none v ↦ inl (ap not (c.is_none.ensures ∙ ap not v.if-is_none.true))
             | then-is_none-via-else-is_none+then-walk-end v ↦ inr (omega (arith, v.if-walk-end.true, end))
           ] in
           let new = seen c.next_stop.new.classes w.close.new.self in
-          rw w.walk-is (IsTextDone-answer _ _ _ split _ n _ new refl (IsRead-last _ _ _ g.T.TextSource.encoding.positive _ n old _ refl split h rest)
+          rw w.walk-is (IsTextDone-answer _ _ _ rule _ n _ new refl (IsRead-last _ _ _ g.T.TextSource.encoding.positive _ n old _ refl rule h rest)
           (IsTextDone-close _ _ _ _ n _ _ old _ h.read new c.len-end.result end refl (rw c.loop-stop.invariant.1 at w.in_ok-close.ensures.closed)))
       | else-is_none+else-walk-end w ↦
-          let none = IsRead-none _ _ _ g.T.TextSource.encoding.positive _ n old _ refl split h (ap not (c.is_none.ensures ∙ ap not w.if-is_none.false)) (omega (arith, w.if-walk-end.false, end)) in
-          rw w.walk-is (IsTextDone-answer _ _ _ split _ n _ old refl none.1 (IsTextDone-none _ _ _ _ n _ _ old _ none.0 h.read))
+          let none = IsRead-none _ _ _ g.T.TextSource.encoding.positive _ n old _ refl rule h (ap not (c.is_none.ensures ∙ ap not w.if-is_none.false)) (omega (arith, w.if-walk-end.false, end)) in
+          rw w.walk-is (IsTextDone-answer _ _ _ rule _ n _ old refl none.1 (IsTextDone-none _ _ _ _ n _ _ old _ none.0 h.read))
     ]
 
 pub returns : goal.returns
 returns g c =
     let a = answered g c in
-    record { classes = grind (arith, with_items_is, a); ranges = a.ranges; levels = a.levels; flags = a.flags }
+    record {
+      paragraphs = AreParagraphs-found _ c.args.base c.args.rule _ g.T.TextSource.encoding.positive _ _ _ _ (grind (arith, with_items_is, a)) a.ranges a.levels;
+      flags = a.flags;
+    }

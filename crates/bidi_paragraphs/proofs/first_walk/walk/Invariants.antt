@@ -5,7 +5,7 @@ use Rattle.bidi_paragraphs.proofs.first_walk.walk.Given as goal
 
 abbrev pub invariant-loop-stop : goal.invariant-loop-stop
 invariant-loop-stop g l =
-    IsWalked (g.D.BidiDataSource.source l.data_source) g.T.TextSource.encoding.len_of (g.T.TextSource.text l.fn.text).chars l.split l.fn.base l.at (seen l.classes l.walk) l.walk.state
+    IsWalked (g.D.BidiDataSource.source l.data_source) g.T.TextSource.encoding.len_of (g.T.TextSource.text l.fn.text).chars l.rule l.fn.base l.at (seen l.classes l.walk) l.walk.state
     × (l.walk.base ≡ l.fn.base)
 
 abbrev pub decreases-loop-stop : goal.decreases-loop-stop

@@ -3,6 +3,9 @@ use Rattle.std.proofs.lemmas.Result.{on_ok_weaker}
 use Rattle.bidi_shown.proofs.ParagraphLemmas.{lines-shown}
 use Rattle.bidi_shown.proofs.paragraph.push_paragraph.Goals as goal
 
+pub push_lines-requires-clause-per_char : goal.push_lines-requires-clause-per_char
+push_lines-requires-clause-per_char g c = record { classes = c.in_ok-analyse.ensures.paragraphs.per_char; levels = c.in_ok-analyse.ensures.per_char }
+
 pub returns : goal.returns
 returns g c =
     let memory = c.analyse.new.self in

@@ -4,6 +4,7 @@ use Rattle.bidi_base.proofs.PerUnit.{per_char-per_unit}
 use Rattle.bidi_base.specs.declared.char_data.BidiClass.{BidiClass}
 use Rattle.bidi_base.specs.declared.char_data.BidiClass.TheVariants.{L}
 use Rattle.bidi_laws.proofs.LevelLaws.{length-stored_levels}
+use Rattle.bidi_laws.proofs.OneParagraph.{classes-one, levels-one, para_level-one}
 use Rattle.bidi_laws.proofs.StoredSteps.{length-stored_classes}
 use Rattle.bidi_text.proofs.StrLemmas.{has_units, is_boundary-from_str}
 use Rattle.std.proofs.lemmas.Str.{IsCharBoundary-end}
@@ -20,7 +21,7 @@ whole text u = record {
 }
 
 pub reorder_line-requires : goal.reorder_line-requires
-reorder_line-requires c = rw c.in_ok-info.ensures.text (whole c.args.line.now c.utf8.line)
+reorder_line-requires c = rw c.in_ok-info.ensures.constructs.text (whole c.args.line.now c.utf8.line)
 
 -- what the line shows, from the classes and the levels of its characters
 shown-is : (source : Source) (own text shown : List ℕ) (classes : List BidiClass) (levels : List ℕ) (level : ℕ) → own ≡ text
@@ -38,6 +39,6 @@ shown-is source own text shown classes levels level same of_classes of_levels of
 
 pub returns : goal.returns
 returns c =
-    let is = c.in_ok-info.ensures.analysed.analysis in
+    let is = c.in_ok-info.ensures.constructs.analysis in
     IfOk-weaker c.reorder_line.result _ _
-    (λ shown of_line. shown-is unicode_source _ c.args.line.now _ _ _ _ c.in_ok-info.ensures.text is.classes is.levels is.paragraph_level of_line.text) c.reorder_line.ensures.text
+    (λ shown of_line. shown-is unicode_source _ c.args.line.now _ _ _ _ c.in_ok-info.ensures.constructs.text (classes-one _ _ _ _ _ is) (levels-one _ _ _ _ _ is) (cc (para_level-one _ _ _ _ _ is)) of_line.text) c.reorder_line.ensures.text

@@ -2,7 +2,7 @@ use Rattle.bidi_base.proofs.Common.{◌≡◌, ℕ, ◌++◌, List, None, length
 use Rattle.bidi_base.proofs.PlaceLemmas.{text_len-one_unit}
 use Rattle.bidi_terminal.specs.Bases.{level_of_base}
 use Rattle.bidi_paragraphs.specs.ParagraphInfo.{ranges_of, levels_of}
-use Rattle.bidi_paragraphs.specs.SplitRule.{IsAnalysisBy}
+use Rattle.bidi_base.specs.Analysed.{IsAnalysis}
 use Rattle.bidi_controls.proofs.LineLevels.{displayed_levels-alone}
 use Rattle.bidi_controls.proofs.displayed.CharLevels.find.Given.{Over}
 use Rattle.bidi_controls.proofs.displayed.CharLevels.find.Goals as goal
@@ -15,7 +15,7 @@ pub analyse-requires-clause-level_room : goal.analyse-requires-clause-level_room
 analyse-requires-clause-level_room g c = grind (arith, text_len-one_unit)
 
 -- the line is analysed as one paragraph
-alone : (g : Over) (c : In_ok-analyse g) → IsAnalysisBy (g.D.BidiDataSource.source c.args.data_source.now) (level_of_base c.args.base) None
+alone : (g : Over) (c : In_ok-analyse g) → IsAnalysis (g.D.BidiDataSource.source c.args.data_source.now) (level_of_base c.args.base) None
     (record { len_of = one_unit; chars = c.args.line.now; classes = c.analyse.new.classes; levels = c.analyse.new.levels })
     (ranges_of c.analyse.new.self.found.paragraphs.items) (levels_of c.analyse.new.self.found.paragraphs.items)
 alone g c = grind arith

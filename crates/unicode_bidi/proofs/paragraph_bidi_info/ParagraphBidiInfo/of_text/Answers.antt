@@ -1,9 +1,11 @@
-use Rattle.bidi_base.proofs.Common.{◌≡◌, ◌∙◌, ℕ, List, [], ◌∷◌, map, arith, refl, rules, paragraph_level}
+use Rattle.bidi_base.proofs.Common.{◌≡◌, ◌∙◌, ℕ, List, [], ◌∷◌, map, ap, arith, refl, rules, sym, paragraph_level}
+use Rattle.bidi_laws.proofs.OneParagraph.{para_level-one, whole-IsAnalysis}
 use Rattle.unicode_bidi.specs.Engine.{with_analysis}
 use Rattle.bidi_paragraphs.specs.ParagraphFlags.{flags_of}
-use Rattle.bidi_paragraphs.specs.ParagraphInfo.{level_of}
+use Rattle.bidi_paragraphs.specs.declared.paragraph_info.ParagraphInfo.{ParagraphInfo}
+use Rattle.bidi_paragraphs.specs.ParagraphInfo.{level_of, levels_of}
 use Rattle.bidi_paragraphs.proofs.FlagsLemmas.{is_pure_ltr-flags}
-use Rattle.unicode_bidi.proofs.FoundLaws.{laws-obeyed, classes-one, levels-one, paragraph_level-one, bounded-one}
+use Rattle.unicode_bidi.proofs.FoundLaws.{laws-obeyed}
 use Rattle.unicode_bidi.proofs.ParagraphUnits.{only, flags-one}
 use Rattle.unicode_bidi.proofs.paragraph_bidi_info.ParagraphBidiInfo.of_text.Goals as goal
 
@@ -19,25 +21,20 @@ returns g c =
     let base = c.args.default_para_level in
     let cs : List ℕ = (g.T.TextSource.text c.args.text).chars in
     let found = with_analysis (g.T.TextSource.text c.args.text) c.in_ok-found.found in
-    let analysis = c.in_ok-found.ensures.analysed.analysis in
+    let ps : List ParagraphInfo = c.in_ok-found.found.paragraphs.items in
+    let analysis = c.in_ok-found.ensures.analysis in
     let one : c.in_ok-found.found.flags.items ≡ flags_of (map source.class_of cs) ∷ [] = rw (← flags-one) c.in_ok-found.ensures.flags in
+    let own : levels_of ps ≡ paragraph_level base (map source.class_of cs) ∷ [] = para_level-one source base found _ _ analysis in
     let level : c.level-paragraph_level.result ≡ paragraph_level base (map source.class_of cs) =
-    c.level-paragraph_level.ensures
-    ∙ only level_of _ c.index-as_slice-0.result _ (paragraph_level-one source base found _ _ analysis) (rw c.as_slice.ensures at c.index-as_slice-0.is) in
+    c.level-paragraph_level.ensures ∙ only level_of ps c.index-as_slice-0.result _ own (rw c.as_slice.ensures at c.index-as_slice-0.is) in
     record {
       text = first_of (search rules, grind arith);
-      analysed = record {
-        analysis = record {
-          classes = c.new.ensures.classes ∙ rw c.new.ensures.text (classes-one source base found _ _ analysis);
-          levels = c.new.ensures.levels ∙ rw c.new.ensures.text (levels-one source base found _ _ analysis);
-          paragraph_level = level ∙ rw c.new.ensures.text refl;
-          pure_ltr =
-              c.is_pure_ltr-is_pure_ltr.ensures
-              ∙ is_pure_ltr-flags _ (map source.class_of cs) (rw (c.as_slice-2.ensures, one) refl)
-              ∙ rw c.new.ensures.text refl;
-        };
-        per_char = rw (c.new.ensures.text, c.new.ensures.classes, c.new.ensures.levels) c.in_ok-found.ensures.analysed.per_char;
-        bounded = rw (c.new.ensures.levels, level) (bounded-one source base found _ _ analysis c.requires);
-      };
+      analysis =
+          rw (c.new.ensures.text, c.new.ensures.classes, c.new.ensures.levels)
+          (whole-IsAnalysis source base found _ _ analysis c.level-paragraph_level.result (own ∙ ap (λ l. l ∷ []) (sym level)));
+      pure_ltr =
+          c.is_pure_ltr-is_pure_ltr.ensures
+          ∙ is_pure_ltr-flags _ (map source.class_of cs) (rw (c.as_slice-2.ensures, one) refl)
+          ∙ rw c.new.ensures.text refl;
       laws = laws-obeyed _ _;
     }
