@@ -3,11 +3,11 @@ ghost use Rattle.std.specs.Prelude.{◌≡◌, ◌<◌, ◌++◌, length, vec_le
 ghost use Rattle.bidi_explain.specs.Explained.{stages_text, IsTold, AreTold};
 
 use crate::page::push_section;
+use crate::stages::{Stages, find_stages};
 use crate::table::push_table;
 use crate::view::{Form, StageView};
 use bidi_base::data_source::BidiDataSource;
 use bidi_controls::lines::{first_line_len, own_chars};
-use crate::stages::{Stages, find_stages};
 use std::alloc::{AllocError, Global};
 
 /// Appends the stages of a paragraph in this form, a table for a terminal of this width.

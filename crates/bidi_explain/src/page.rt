@@ -4,13 +4,13 @@ ghost use Rattle.std.specs.List.{list_all, range_with_len};
 ghost use Rattle.bidi_explain.specs.Pages.{escaped, is_text_byte, level_attribute, box_start, box_text, box_at, boxes_row, shown_row, link, is_in_block, link_in, link_from, links_start, links_row, cell_element, row_element, summary_text, upper_part, lower_part, block_element, section_text};
 
 use crate::blocks::{Block, blocks};
+use crate::cells::push_glyph;
 use crate::rows::{Row, stage_rows};
+use crate::stages::Stages;
 use crate::table::{push_level, push_sequences};
 use bidi_base::char_data::BidiClass;
 use bidi_base::level::Level;
-use crate::cells::push_glyph;
 use bidi_plain::plain::PlainSequence;
-use crate::stages::Stages;
 use bidi_terminal::push_number;
 use std::alloc::{AllocError, Global};
 

@@ -3,11 +3,11 @@ ghost use Rattle.std.specs.Prelude.{◌≡◌, ◌++◌, flat_map, map, length, 
 ghost use Rattle.bidi_explain.specs.Tables.{cell_text, row_text, gap_text, block_text, ends_text, sequence_line, sequence_text, level_text, blocks_text, table_text};
 
 use crate::blocks::{Block, blocks, columns_in};
-use crate::rows::{Row, rows};
-use bidi_base::char_data::BidiClass;
 use crate::cells::class_name;
-use bidi_plain::plain::PlainSequence;
+use crate::rows::{Row, rows};
 use crate::stages::Stages;
+use bidi_base::char_data::BidiClass;
+use bidi_plain::plain::PlainSequence;
 use bidi_terminal::push_number;
 use std::alloc::{AllocError, Global};
 
