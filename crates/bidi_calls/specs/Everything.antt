@@ -3,7 +3,7 @@ use Rattle.std.specs.Prelude.{◌≡◌, ℕ, ◌<◌, ◌≤◌, All, IsTrue, B
 use Rattle.std.specs.Option.{option_or}
 use Rattle.std.specs.declared.ops.Range.{Range}
 use Rattle.bidi_base.specs.Display.{visual_runs}
-use Rattle.bidi_base.specs.Text.{one_unit, text_len, IsLine}
+use Rattle.bidi_base.specs.Text.{one_unit, text_len}
 use Rattle.bidi_calls.specs.declared.buffers.LineBuffers.{LineBuffers}
 use Rattle.bidi_calls.specs.declared.line.KeptLine.{KeptLine}
 use Rattle.bidi_calls.specs.Kept.{written_if_room}
@@ -96,10 +96,6 @@ begins_character byte = nat_lt byte 0x80 || nat_le 0xC0 byte
 -- each unit of a text is a character, if the flag is set
 abbrev pub AreCharsIf : Bool → (ℕ → ℕ) → List ℕ → Type 0
 AreCharsIf flag len_of chars = IsTrue flag → text_len len_of chars ≡ length chars
-
--- each range begins and ends at a character
-abbrev pub AreLines : (ℕ → ℕ) → List ℕ → List (Range ℕ) → Type 0
-AreLines len_of chars ranges = All (λ r. IsLine len_of chars r.start r.end) ranges
 
 -- each range begins at one of so many units, and ends with them
 abbrev pub AreWithin : ℕ → List (Range ℕ) → Type 0

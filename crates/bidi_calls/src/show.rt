@@ -5,7 +5,7 @@ ghost use Rattle.bidi_base.specs.Display.{run_of, visual_runs, AreVisualRuns};
 ghost use Rattle.bidi_base.specs.Levels.{is_odd};
 ghost use Rattle.bidi_base.specs.Order.{visual_order as visual_order_of};
 ghost use Rattle.bidi_base.specs.Text.{text_len, per_char, one_unit, IsLine, IsPerChar};
-ghost use Rattle.bidi_calls.specs.Everything.{everything_of_chars, line_shown, room_fault, WritesLine, AreLines, AreWithin};
+ghost use Rattle.bidi_calls.specs.Everything.{everything_of_chars, line_shown, room_fault, WritesLine, AreWithin};
 ghost use Rattle.bidi_calls.specs.Kept.{written_if_room, HasRoomOrNone};
 ghost use Rattle.bidi_calls.specs.Lines.{IsSound, IsAsLongAs, shown_levels};
 ghost use Rattle.bidi_calls.specs.Shown.{is_even, chars_at};
@@ -20,11 +20,11 @@ use crate::checked::write_levels;
 use crate::counted::CountedText;
 use crate::line::KeptLine;
 use crate::run_rows::put_runs;
+use bidi_lines::line_text::{LineText, write_runs};
 use bidi_lines::shown_levels::ShownLevels;
 use bidi_lines::visual_order::write_visual_order;
 use bidi_lines::visual_runs::LineRuns;
 use bidi_numbers::fault::{Fault, check};
-use bidi_lines::line_text::{LineText, write_runs};
 use std::alloc::Global;
 use std::ops::Range;
 use unicode_bidi::{Level, TextSource};
@@ -43,7 +43,7 @@ fn put_levels(out: &mut [u8], levels: &[Level])
 fn put_text<T: LineText>(text: T, levels: &[Level], runs: &[Range<usize>], out: &mut [T::Unit])
     requires room { HasRoomOrNone levels.now out.old }
     requires visual { AreVisualRuns 0 levels.now (map run_of runs.now) }
-    requires boundaries { AreLines T.units (T.characters text) runs.now }
+    requires boundaries { All (λ r. IsLine T.units (T.characters text) r.start r.end) runs.now }
     ensures { out.new
         ≡ written_if_room
         (flat_map (run_units T.units T.encode (T.characters text) (T.units_of text) 0 levels.now) (map run_of runs.now))
