@@ -52,7 +52,7 @@ pub record IsWritten {X : Type 0} (shown : LineShown X) (before after : LineBuff
   pub characters : after.characters.now ≡ length shown.order
 
 -- no buffer has changed
-pub record IsKept {X : Type 0} (before after : LineBuffers X) : Type 0 where
+pub record IsUnchanged {X : Type 0} (before after : LineBuffers X) : Type 0 where
   pub levels : after.levels.now ≡ before.levels.now
   pub runs : after.runs.now ≡ before.runs.now
   pub order : after.order.now ≡ before.order.now
@@ -60,7 +60,7 @@ pub record IsKept {X : Type 0} (before after : LineBuffers X) : Type 0 where
   pub characters : after.characters.now ≡ before.characters.now
 
 -- the fields still are the buffers of the caller
-pub record IsSame {X : Type 0} (before after : LineBuffers X) : Type 0 where
+pub record AreTheSameBuffers {X : Type 0} (before after : LineBuffers X) : Type 0 where
   pub levels : after.levels.ghost_name ≡ before.levels.ghost_name
   pub runs : after.runs.ghost_name ≡ before.runs.ghost_name
   pub order : after.order.ghost_name ≡ before.order.ghost_name
@@ -70,10 +70,10 @@ pub record IsSame {X : Type 0} (before after : LineBuffers X) : Type 0 where
 -- the call writes what a line shows to the buffers, or nothing after a fault, and returns the number of runs
 pub record WritesLine {X : Type 0} (line : LineShown X) (result : Result ℕ Fault) (before after : LineBuffers X)
     : Type 0 where
-  pub kept : OnErr result (IsKept before after)
+  pub kept : OnErr result (IsUnchanged before after)
   pub shown : OnOk result (IsWritten line before after)
   pub count : IfOk result (λ count. count ≡ length line.runs)
-  pub buffers : IsSame before after
+  pub buffers : AreTheSameBuffers before after
 
 -- a line of UTF-8 or UTF-16 with these characters and units, and its text from left to right
 abbrev pub everything : (ℕ → ℕ) → (ℕ → List ℕ) → List ℕ → List ℕ → KeptLine → LineShown ℕ
