@@ -3,7 +3,7 @@ use Rattle.std.specs.Prelude.{◌≡◌, ℕ, ◌<◌, ◌≤◌, All, IsTrue, B
 use Rattle.std.specs.Option.{option_or}
 use Rattle.std.specs.declared.ops.Range.{Range}
 use Rattle.bidi_base.specs.Display.{visual_runs}
-use Rattle.bidi_base.specs.Text.{one_unit, text_len, IsLine}
+use Rattle.bidi_base.specs.Text.{one_unit, text_len}
 use Rattle.bidi_calls.specs.declared.buffers.LineBuffers.{LineBuffers}
 use Rattle.bidi_calls.specs.declared.line.KeptLine.{KeptLine}
 use Rattle.bidi_calls.specs.Kept.{written_if_room}
@@ -52,7 +52,7 @@ pub record IsWritten {X : Type 0} (shown : LineShown X) (before after : LineBuff
   pub characters : after.characters.now ≡ length shown.order
 
 -- no buffer has changed
-pub record IsKept {X : Type 0} (before after : LineBuffers X) : Type 0 where
+pub record IsUnchanged {X : Type 0} (before after : LineBuffers X) : Type 0 where
   pub levels : after.levels.now ≡ before.levels.now
   pub runs : after.runs.now ≡ before.runs.now
   pub order : after.order.now ≡ before.order.now
@@ -60,7 +60,7 @@ pub record IsKept {X : Type 0} (before after : LineBuffers X) : Type 0 where
   pub characters : after.characters.now ≡ before.characters.now
 
 -- the fields still are the buffers of the caller
-pub record IsSame {X : Type 0} (before after : LineBuffers X) : Type 0 where
+pub record AreTheSameBuffers {X : Type 0} (before after : LineBuffers X) : Type 0 where
   pub levels : after.levels.ghost_name ≡ before.levels.ghost_name
   pub runs : after.runs.ghost_name ≡ before.runs.ghost_name
   pub order : after.order.ghost_name ≡ before.order.ghost_name
@@ -70,10 +70,10 @@ pub record IsSame {X : Type 0} (before after : LineBuffers X) : Type 0 where
 -- the call writes what a line shows to the buffers, or nothing after a fault, and returns the number of runs
 pub record WritesLine {X : Type 0} (line : LineShown X) (result : Result ℕ Fault) (before after : LineBuffers X)
     : Type 0 where
-  pub kept : OnErr result (IsKept before after)
+  pub kept : OnErr result (IsUnchanged before after)
   pub shown : OnOk result (IsWritten line before after)
   pub count : IfOk result (λ count. count ≡ length line.runs)
-  pub buffers : IsSame before after
+  pub buffers : AreTheSameBuffers before after
 
 -- a line of UTF-8 or UTF-16 with these characters and units, and its text from left to right
 abbrev pub everything : (ℕ → ℕ) → (ℕ → List ℕ) → List ℕ → List ℕ → KeptLine → LineShown ℕ
@@ -96,10 +96,6 @@ begins_character byte = nat_lt byte 0x80 || nat_le 0xC0 byte
 -- each unit of a text is a character, if the flag is set
 abbrev pub AreCharsIf : Bool → (ℕ → ℕ) → List ℕ → Type 0
 AreCharsIf flag len_of chars = IsTrue flag → text_len len_of chars ≡ length chars
-
--- each range begins and ends at a character
-abbrev pub AreLines : (ℕ → ℕ) → List ℕ → List (Range ℕ) → Type 0
-AreLines len_of chars ranges = All (λ r. IsLine len_of chars r.start r.end) ranges
 
 -- each range begins at one of so many units, and ends with them
 abbrev pub AreWithin : ℕ → List (Range ℕ) → Type 0

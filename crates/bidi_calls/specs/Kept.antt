@@ -85,25 +85,25 @@ analysis_fault settings units found before =
     (paragraphs_fault found before)))
 
 -- no buffer has changed
-pub record AreKept (before after : AnalysisBuffers) : Type 0 where
+pub record IsUnchanged (before after : AnalysisBuffers) : Type 0 where
   pub classes : after.classes.now ≡ before.classes.now
   pub levels : after.levels.now ≡ before.levels.now
   pub paragraphs : after.paragraphs.now ≡ before.paragraphs.now
 
 -- the fields still are the buffers of the caller
-pub record AreSame (before after : AnalysisBuffers) : Type 0 where
+pub record AreTheSameBuffers (before after : AnalysisBuffers) : Type 0 where
   pub classes : after.classes.ghost_name ≡ before.classes.ghost_name
   pub levels : after.levels.ghost_name ≡ before.levels.ghost_name
   pub paragraphs : after.paragraphs.ghost_name ≡ before.paragraphs.ghost_name
 
 -- the call writes what it finds to the buffers, or nothing after a fault, and returns the number of paragraphs
 pub record WritesAnalysis (found : AnalysisAsNumbers) (result : Result ℕ Fault) (before after : AnalysisBuffers) : Type 0 where
-  pub kept : OnErr result (AreKept before after)
+  pub kept : OnErr result (IsUnchanged before after)
   pub classes : OnOk result (after.classes.now ≡ written found.classes before.classes.now)
   pub levels : OnOk result (after.levels.now ≡ written found.levels before.levels.now)
   pub paragraphs : OnOk result (after.paragraphs.now ≡ written_if_room found.paragraphs before.paragraphs.now)
   pub count : IfOk result (λ count. count ≡ length found.paragraphs)
-  pub buffers : AreSame before after
+  pub buffers : AreTheSameBuffers before after
 
 -- what a call that reads tables tells of a text that is not UTF-8: what is wrong with the tables is told first
 abbrev pub TellsNotUtf8ByTables : Result ℕ Fault → List ClassRange → List BracketPair → List ℕ → Type 0

@@ -6,7 +6,7 @@ ghost use Rattle.bidi_base.specs.Levels.{is_odd};
 ghost use Rattle.bidi_base.specs.Order.{visual_order as visual_order_of};
 ghost use Rattle.bidi_base.specs.Text.{one_unit, IsLine};
 ghost use Rattle.bidi_base.specs.Texts.{text_len, per_char, IsPerChar};
-ghost use Rattle.bidi_calls.specs.Everything.{everything_of_chars, line_shown, room_fault, WritesLine, AreLines, AreWithin};
+ghost use Rattle.bidi_calls.specs.Everything.{everything_of_chars, line_shown, room_fault, WritesLine, AreWithin};
 ghost use Rattle.bidi_calls.specs.Kept.{written_if_room, HasRoomOrNone};
 ghost use Rattle.bidi_calls.specs.Lines.{IsSound, IsAsLongAs, shown_levels};
 ghost use Rattle.bidi_calls.specs.Shown.{is_even, chars_at};
@@ -44,7 +44,7 @@ fn put_levels(out: &mut [u8], levels: &[Level])
 fn put_text<T: LineText>(text: T, levels: &[Level], runs: &[Range<usize>], out: &mut [T::Unit])
     requires room { HasRoomOrNone levels.now out.old }
     requires visual { AreVisualRuns 0 levels.now (map run_of runs.now) }
-    requires boundaries { AreLines T.encoding.len_of (T.text text).chars runs.now }
+    requires boundaries { All (λ r. IsLine T.encoding.len_of (T.text text).chars r.start r.end) runs.now }
     ensures { out.new
         ≡ written_if_room
         (flat_map (run_units (T.text text) T.encode (T.units_of text) 0 levels.now) (map run_of runs.now))

@@ -6,7 +6,7 @@ use Rattle.bidi_base.specs.declared.char_data.BidiClass.{BidiClass}
 use Rattle.bidi_controls.specs.Controls.{control_of}
 use Rattle.bidi_controls.specs.Findings.{wants_every_control, finding_of, line_finding_of, findings_at, differing_place, findings_in_line, findings_in_paragraph, findings_in_paragraphs}
 use Rattle.bidi_controls.specs.declared.finding.Wanted.{Wanted}
-use Rattle.bidi_controls.specs.Lines.{lines_of}
+use Rattle.bidi_base.specs.Paragraphs.{paragraphs_in}
 use Rattle.bidi_controls.specs.Matches.{is_unmatched}
 use Rattle.bidi_controls.specs.Quiet.{AreQuiet}
 
@@ -81,4 +81,4 @@ findings_in_paragraphs-quiet source wanted number from (piece ∷ pieces) quiet 
 pub findings_in_line-quiet : (source : Source) (wanted : Wanted) (number : ℕ) (line : List ℕ) → AreQuiet source line → findings_in_line source wanted number line ≡ []
 unfolding findings_in_line
 findings_in_line-quiet source wanted number line quiet =
-    findings_in_paragraphs-quiet source wanted number 0 (lines_of source line) (AllQuiet-cut source (cr_lf_together source) line quiet)
+    findings_in_paragraphs-quiet source wanted number 0 (paragraphs_in source line) (AllQuiet-cut source (cr_lf_together source) line quiet)

@@ -8,7 +8,7 @@ use Rattle.bidi_base.specs.Source.{Source}
 use Rattle.bidi_controls.specs.Controls.{control_of, control_name}
 use Rattle.bidi_controls.specs.Displayed.{is_displayed_differently}
 use Rattle.bidi_bytes.specs.FileLines.{file_lines_of}
-use Rattle.bidi_controls.specs.Lines.{lines_of, own_chars}
+use Rattle.bidi_base.specs.Paragraphs.{paragraphs_in, own_chars}
 use Rattle.bidi_controls.specs.Matches.{is_control, is_unmatched}
 use Rattle.bidi_controls.specs.declared.finding.Finding.{Finding}
 use Rattle.bidi_controls.specs.declared.finding.Trouble.{Trouble}
@@ -92,7 +92,7 @@ findings_in_paragraphs source wanted line from (chars ∷ paragraphs) =
 
 -- the findings in a line of a file
 unfoldable pub findings_in_line : Source → Wanted → ℕ → List ℕ → List Finding
-findings_in_line source wanted line chars = findings_in_paragraphs source wanted line 0 (lines_of source chars)
+findings_in_line source wanted line chars = findings_in_paragraphs source wanted line 0 (paragraphs_in source chars)
 
 -- the same for lines, of which the first has this number
 abbrev pub findings_from : Source → Wanted → ℕ → List (List ℕ) → List Finding

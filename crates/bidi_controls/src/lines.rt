@@ -1,11 +1,10 @@
 //! Where the lines of a file and the paragraphs of a text end.
 ghost use Rattle.std.specs.Prelude.{◌≡◌, ◌<◌, ◌≤◌, ◌∷◌, All, is_some, true, length, take, drop};
 ghost use Rattle.bidi_controls.specs.Controls.{control_of};
-ghost use Rattle.bidi_base.specs.Paragraphs.{begins_with_line_feed, cr_lf_together};
+ghost use Rattle.bidi_base.specs.Paragraphs.{begins_with_line_feed, cr_lf_together, paragraphs_in, own_chars as own_chars_of};
 ghost use Rattle.bidi_bytes.specs.FileLines.{ends_file_line, file_lines_of};
-ghost use Rattle.bidi_controls.specs.Lines.{is_printable_ascii, lines_of};
+ghost use Rattle.bidi_controls.specs.Lines.{is_printable_ascii};
 ghost use Rattle.bidi_controls.specs.Quiet.{AreQuiet, HasQuietAscii};
-ghost use Rattle.bidi_controls.specs.Lines.{own_chars as own_chars_of};
 
 use crate::control::Control;
 use bidi_base::classes::is_paragraph_separator;
@@ -35,8 +34,8 @@ pub fn first_line_len<D: BidiDataSource>(data_source: &D, chars: &[char]) -> usi
     requires { 0 < length chars.now }
     ensures some { 0 < result }
     ensures within { result ≤ length chars.now }
-    ensures first { lines_of (D.source data_source.now) chars.now
-        ≡ take result chars.now ∷ lines_of (D.source data_source.now) (drop result chars.now) }
+    ensures first { paragraphs_in (D.source data_source.now) chars.now
+        ≡ take result chars.now ∷ paragraphs_in (D.source data_source.now) (drop result chars.now) }
 {
     let mut at = 0;
     while at < chars.len() {

@@ -3,7 +3,7 @@ use Rattle.std.specs.Prelude.{◌≡◌, ℕ, List, [], ◌∷◌, ◌++◌, Opt
 use Rattle.bidi_base.specs.Source.{Source}
 use Rattle.bidi_terminal.specs.Bases.{level_of_base}
 use Rattle.bidi_terminal.specs.declared.base.Base.TheVariants.{Auto}
-use Rattle.bidi_controls.specs.Lines.{lines_of, own_chars}
+use Rattle.bidi_base.specs.Paragraphs.{paragraphs_in, own_chars}
 use Rattle.bidi_explain.specs.Pages.{section_text}
 use Rattle.bidi_explain.specs.Stages.{AreStages}
 use Rattle.bidi_explain.specs.Tables.{table_text}
@@ -31,7 +31,7 @@ AreAppended source view (line ∷ lines) old new =
 
 -- the text is what is told of a text's lines
 abbrev pub AreTold : Source → StageView → List ℕ → List ℕ → Type 0
-AreTold source view chars text = AreAppended source view (lines_of source chars) [] text
+AreTold source view chars text = AreAppended source view (paragraphs_in source chars) [] text
 
 -- what `explain` does without options
 abbrev pub first_stage_view : StageView

@@ -2,7 +2,7 @@
 use Rattle.std.specs.Prelude.{ℕ, ◌-◌, nat_lt, if◌then◌else◌, List, [], ◌∷◌, length, Option, Some, None}
 use Rattle.bidi_base.specs.Source.{Source}
 use Rattle.bidi_controls.specs.Displayed.{displayed_text, is_reordered}
-use Rattle.bidi_controls.specs.Lines.{lines_of, own_chars}
+use Rattle.bidi_base.specs.Paragraphs.{paragraphs_in, own_chars}
 use Rattle.bidi_controls.specs.declared.finding.Finding.{Finding}
 use Rattle.bidi_reports.specs.Words.{is_about_line}
 
@@ -23,7 +23,7 @@ displayed_paragraph source chars = displayed_text source (telling_base source ch
 
 -- the paragraph around the character at an index of a line, as it is displayed
 unfoldable pub displayed_around : Source → List ℕ → ℕ → List ℕ
-displayed_around source line place = displayed_paragraph source (own_chars source (paragraph_with place (lines_of source line)))
+displayed_around source line place = displayed_paragraph source (own_chars source (paragraph_with place (paragraphs_in source line)))
 
 -- what is displayed where a finding is about that, and else nothing
 abbrev pub displayed_for : Source → List ℕ → Finding → List ℕ

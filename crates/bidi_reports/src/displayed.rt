@@ -1,6 +1,6 @@
 //! How the part of a line is displayed that a finding is about.
 ghost use Rattle.std.specs.Prelude.{◌≡◌, ◌<◌, IfOk, OnOk};
-ghost use Rattle.bidi_controls.specs.Lines.{lines_of};
+ghost use Rattle.bidi_base.specs.Paragraphs.{paragraphs_in};
 ghost use Rattle.bidi_terminal.specs.Bases.{level_of_base};
 ghost use Rattle.bidi_reports.specs.Shown.{paragraph_with, telling_base, displayed_paragraph, displayed_around, displayed_for};
 
@@ -18,7 +18,7 @@ fn paragraph_with<'t, D: BidiDataSource>(
     line: &'t [char],
     place: usize,
 ) -> &'t [char]
-    ensures { result.now ≡ paragraph_with place (lines_of (D.source data_source.now) line.now) }
+    ensures { result.now ≡ paragraph_with place (paragraphs_in (D.source data_source.now) line.now) }
 {
     let mut rest = line;
     let mut at = place;

@@ -5,7 +5,8 @@ use Rattle.bidi_base.proofs.Common.{drop-append_seam, flat_map-append, length-ap
 use Rattle.bidi_base.proofs.Common.{is_paragraph_separator, cr_lf_together, onto_first, chars-append, chars_past_char, encode_ascii, IsCharBoundary-before_ascii, IsUtf8-append, IsUtf8-drop}
 use Rattle.bidi_base.proofs.Common.{IsCharBoundary-after_ascii, IsUtf8-take}
 use Rattle.bidi_unicode.specs.Unicode.{unicode_source}
-use Rattle.bidi_visual.specs.Shown.{own_chars, paragraphs_in, shown_paragraph, shown_text}
+use Rattle.bidi_base.specs.Paragraphs.{own_chars, paragraphs_in}
+use Rattle.bidi_visual.specs.Shown.{shown_paragraph, shown_text}
 use Rattle.bidi_visual.specs.declared.view.View.{View}
 use Rattle.bidi_visual.proofs.QuietLemmas.{feed-separates}
 use Rattle.bidi_shown.specs.Streams.{whole_lines, shown_bytes, shown_now, pending_after, IsShownTo}

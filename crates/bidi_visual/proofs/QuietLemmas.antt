@@ -19,7 +19,8 @@ use Rattle.bidi_terminal.specs.Bases.{level_of_base}
 use Rattle.bidi_text.proofs.StrLemmas.{has_units}
 use Rattle.bidi_unicode.specs.Unicode.{class_named, unicode_source}
 use Rattle.bidi_visual.specs.Quiet.{is_quiet, IsQuietView}
-use Rattle.bidi_visual.specs.Shown.{own_chars, after_first, shown_levels, shown_paragraph, shown_range, shown_text}
+use Rattle.bidi_base.specs.Paragraphs.{own_chars}
+use Rattle.bidi_visual.specs.Shown.{after_first, shown_levels, shown_paragraph, shown_range, shown_text}
 use Rattle.bidi_visual.specs.declared.view.View.{View}
 use Rattle.bidi_visual.proofs.EvenLemmas.{tabbed_line-even}
 use Rattle.bidi_visual.proofs.FirstLemmas.{own-ended, shown_text-first}

@@ -1,13 +1,13 @@
 -- What is shown of a line, of a paragraph and of a text.
-use Rattle.std.specs.Prelude.{ℕ, Bool, not, if◌then◌else◌, List, [], ◌∷◌, ◌++◌, map, flat_map, reverse, slice_range, codes, take_while, Option, Some, None, unwrap_or, encode_utf8}
+use Rattle.std.specs.Prelude.{ℕ, Bool, if◌then◌else◌, List, [], ◌∷◌, ◌++◌, map, flat_map, reverse, slice_range, codes, Option, Some, None, unwrap_or, encode_utf8}
 use Rattle.std.specs.Char.{len_utf8}
 use Rattle.std.specs.Str.{encode_utf8_all}
-use Rattle.bidi_base.specs.Classes.{is_nsm, is_paragraph_separator}
+use Rattle.bidi_base.specs.Classes.{is_nsm}
 use Rattle.bidi_base.specs.Display.{Run, run_level, visual_runs}
 use Rattle.bidi_base.specs.Isolates.{paragraph_level, stored_classes}
 use Rattle.bidi_base.specs.Levels.{is_odd}
 use Rattle.bidi_base.specs.Line.{levels_of_line}
-use Rattle.bidi_base.specs.Paragraphs.{cr_lf_together, paragraphs_of}
+use Rattle.bidi_base.specs.Paragraphs.{cr_lf_together, own_chars, paragraphs_in}
 use Rattle.bidi_base.specs.Source.{Source}
 use Rattle.bidi_base.specs.Stored.{stored_levels}
 use Rattle.bidi_base.specs.Text.{char_index, text_len}
@@ -74,14 +74,6 @@ shown_range source view chars run =
 -- the lines of a paragraph
 unfoldable pub shown_paragraph : Source → View → List ℕ → List ℕ
 shown_paragraph source view chars = flat_map (shown_range source view chars) (shown_ranges source view.width chars)
-
--- the characters before the first separator
-abbrev pub own_chars : Source → List ℕ → List ℕ
-own_chars source chars = take_while (λ c. not (is_paragraph_separator (source.class_of c))) chars
-
--- the paragraphs of a text: each ends after a separator, a CR LF as one, the last one at the end of the text
-abbrev pub paragraphs_in : Source → List ℕ → List (List ℕ)
-paragraphs_in source chars = paragraphs_of (cr_lf_together source) chars
 
 -- the characters after the first paragraph
 abbrev pub after_first : Source → List ℕ → List ℕ

@@ -2,8 +2,8 @@
 ghost use Rattle.std.specs.Prelude.{◌≡◌, ◌≤◌, ◌<◌, [], if◌then◌else◌, length, take, drop};
 ghost use Rattle.std.specs.Str.{chars, IsCharBoundary};
 ghost use Rattle.bidi_base.specs.Classes.{is_paragraph_separator};
-ghost use Rattle.bidi_base.specs.Paragraphs.{begins_with_line_feed};
-ghost use Rattle.bidi_visual.specs.Shown.{own_chars, after_first};
+ghost use Rattle.bidi_base.specs.Paragraphs.{begins_with_line_feed, own_chars};
+ghost use Rattle.bidi_visual.specs.Shown.{after_first};
 
 use bidi_base::classes::is_paragraph_separator;
 use bidi_base::data_source::BidiDataSource;

@@ -8,20 +8,17 @@ use Rattle.bidi_base.specs.declared.char_data.Direction.{Direction}
 use Rattle.bidi_base.specs.declared.char_data.Direction.TheVariants.{Mixed}
 use Rattle.bidi_laws.proofs.DirectionWalk.{direction_from, direction_from-classes, direction_from-is}
 use Rattle.bidi_laws.proofs.IsolateWalk.{is_zero, depth_by, kind_of, initiator-kind, pdi-kind}
+use Rattle.bidi_paragraphs.specs.FirstWalk.{depth_after}
 use Rattle.unicode_bidi.specs.DirectionSearch.{direction_after, direction_with, IsSearched, direction_found}
 use Rattle.unicode_bidi.specs.declared.direction_search.DirectionSearch.{DirectionSearch}
 use Rattle.unicode_bidi.specs.declared.direction_search.DirectionSearch.TheVariants.{Found, Open}
-
--- how many isolates are open after a character
-abbrev pub depth_after : ℕ → BidiClass → ℕ
-depth_after depth c = if is_initiator c then depth + 1 else if is_pdi c then depth - 1 else depth
 
 -- a strong character outside isolates decides; a separator ends the search, or with `full` every open isolate
 abbrev pub search_step : Bool → ℕ → BidiClass → DirectionSearch
 search_step full depth c =
     if is_strong c && depth == 0 then Found (direction_by (Some c))
     else if is_paragraph_separator c then (if full then Open 0 else Found Mixed)
-    else Open (depth_after depth c)
+    else Open (depth_after c depth)
 
 -- a search that is not over goes on
 abbrev pub search_on : (ℕ → DirectionSearch) → DirectionSearch → DirectionSearch
@@ -46,7 +43,7 @@ zero_test : (d : ℕ) → (d == 0) ≡ is_zero d
 zero_test zero = refl
 zero_test (suc d) = ne_eqb (suc d) 0 (omega arith)
 
-counted : (d : ℕ) (c : BidiClass) → depth_after d c ≡ depth_by (kind_of c) d
+counted : (d : ℕ) (c : BidiClass) → depth_after c d ≡ depth_by (kind_of c) d
 counted d c = grind (arith, initiator-kind c, pdi-kind c)
 
 -- ---- the direction after open isolates
@@ -165,7 +162,7 @@ search_in-over full d (c ∷ cs) =
     grind (arith, zero_test d, counted d c, decided c, cases_Bool full, cases_Bool (is_strong c), cases_Bool (is_zero d), cases_Bool (is_paragraph_separator c), search_in-over full 0 cs, search_in-over full (depth_by (kind_of c) d) cs)
 
 -- no more isolates are open than characters were read
-pub depth_after-le : (d : ℕ) (c : BidiClass) → depth_after d c ≤ d + 1
+pub depth_after-le : (d : ℕ) (c : BidiClass) → depth_after c d ≤ d + 1
 depth_after-le d c = grind (arith, cases_Bool (is_initiator c), cases_Bool (is_pdi c))
 
 pub step-le : (full : Bool) (d : ℕ) (c : BidiClass) (e : ℕ) → search_step full d c ≡ Open e → e ≤ d + 1

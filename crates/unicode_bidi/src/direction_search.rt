@@ -1,9 +1,9 @@
 //! The search for a base direction (P2, P3), in a text or in its pieces one after another.
-ghost use Rattle.std.specs.Prelude.{◌≡◌, ◌+◌, ◌-◌, ◌<◌, ◌^◌, if◌then◌else◌, [], ◌∷◌, map, Some};
-ghost use Rattle.bidi_base.specs.Classes.{is_initiator, is_pdi};
+ghost use Rattle.std.specs.Prelude.{◌≡◌, ◌+◌, ◌<◌, ◌^◌, [], ◌∷◌, map, Some};
 ghost use Rattle.bidi_base.specs.Direction.{direction_by, base_direction, full_base_direction};
 ghost use Rattle.bidi_base.specs.Paragraphs.{paragraphs_of, each_separator};
 ghost use Rattle.bidi_base.specs.Texts.{text_len};
+ghost use Rattle.bidi_paragraphs.specs.FirstWalk.{depth_after as depth_after_of};
 ghost use Rattle.unicode_bidi.specs.DirectionSearch.{IsSearched, direction_found};
 
 use bidi_base::char_data::{BidiClass, Direction};
@@ -35,7 +35,7 @@ fn direction_of(class: BidiClass) -> Direction
 // Returns how many isolates are open after a character of this class.
 fn depth_after(depth: usize, class: BidiClass) -> usize
     requires { depth + 1 < 2 ^ 64 }
-    ensures { result ≡ (if is_initiator class then depth + 1 else if is_pdi class then depth - 1 else depth) }
+    ensures { result ≡ depth_after_of class depth }
 {
     if is_initiator(class) {
         depth + 1
