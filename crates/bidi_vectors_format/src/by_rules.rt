@@ -3,6 +3,7 @@
 ghost use Rattle.std.specs.Prelude.{◌≤◌, IfOk};
 
 use crate::conditions::{are_kept, is_side};
+use crate::fault::{RowFault, Why};
 use bidi_base::char_data::BidiClass::{self, B, FSI, L, LRI, RLI};
 use bidi_base::classes::{is_initiator, is_pdi, is_removed, is_strong};
 use bidi_base::data_source::{BidiDataSource, BidiMatchedOpeningBracket, TableBidiData};
@@ -10,7 +11,6 @@ use bidi_base::level::Level;
 use bidi_plain::plain::{
     Explicit, PlainSequence, explicit_levels, implicit, neutral, sequences, weak,
 };
-use crate::fault::{RowFault, Why};
 use std::alloc::Global;
 
 // A condition of the rules over lists does not hold. No row breaks one.

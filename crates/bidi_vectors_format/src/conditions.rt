@@ -4,13 +4,13 @@ ghost use Rattle.std.specs.Prelude.{◌≡◌, ◌≤◌, not, ◌||◌, IfOk};
 ghost use Rattle.std.specs.List.{list_all, list_any};
 ghost use Rattle.bidi_base.specs.Classes.{is_initiator as is_initiator_of, is_kept, is_l_or_r, is_kept_in_place, is_weak_resolved, has_direction};
 
+use crate::fault::{RowFault, Why};
+use crate::item::level_of;
+use crate::row::Row;
 use bidi_base::char_data::BidiClass::{self, AN, B, BN, EN, FSI, L, LRI, ON, PDI, R, RLI, S, WS};
 use bidi_base::classes::is_initiator;
 use bidi_base::level::Level;
 use bidi_rules::prepare::not_removed_by_x9;
-use crate::fault::{RowFault, Why};
-use crate::item::level_of;
-use crate::row::Row;
 
 /// Returns whether a class may be sos or eos.
 pub fn is_side(class: BidiClass) -> bool

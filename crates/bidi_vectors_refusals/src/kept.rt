@@ -6,13 +6,12 @@ ghost use Rattle.bidi_base.specs.PerChar.{HaveClass, HaveLevel};
 ghost use Rattle.bidi_base.specs.Text.{is_per_char};
 ghost use Rattle.bidi_base.specs.Utf16.{utf16_text, utf16_len};
 
+use crate::texts::{LONG_TEXT, UNITS};
+use crate::trial::{Fault, tried};
 use bidi_base::char_data::BidiClass;
 use bidi_base::data_source::TableBidiData;
 use bidi_base::level::Level;
 use bidi_text::text::{StrText, Utf16Text, is_per_char};
-use bidi_vectors_trials::texts::{LONG_TEXT, UNITS};
-use bidi_vectors_trials::trial::Fault;
-use bidi_vectors_trials::tried;
 use std::alloc::{AllocError, Global};
 use std::borrow::{CowSlice, CowStr};
 use unicode_bidi::SplitRule;

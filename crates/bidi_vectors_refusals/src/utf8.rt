@@ -5,11 +5,10 @@ ghost use Rattle.bidi_base.specs.Analysed.{IsLineOf};
 ghost use Rattle.unicode_bidi.specs.BidiInfo.{analysed as analysed_of};
 ghost use Rattle.unicode_bidi.specs.ParagraphBidiInfo.{analysed as whole_of};
 
+use crate::texts::TEXT;
+use crate::trial::{Fault, tried};
 use bidi_base::data_source::TableBidiData;
 use bidi_text::text::{StrText, is_line};
-use bidi_vectors_trials::texts::TEXT;
-use bidi_vectors_trials::trial::Fault;
-use bidi_vectors_trials::tried;
 use std::ops::Range;
 use unicode_bidi::layout::{CharWidth, LineMap, lines};
 use unicode_bidi::{BidiInfo, InitialInfo, ParagraphBidiInfo, ParagraphInfo, SplitRule};

@@ -8,10 +8,10 @@ use bidi_plain::plain::implicit;
 use bidi_rules::implicit::resolve_levels;
 use bidi_vectors_format::answer::{level_words, number_words};
 use bidi_vectors_format::class::classes_of;
+use bidi_vectors_format::conditions::{are_directed, explicit_level};
 use bidi_vectors_format::fault::RowFault;
 use bidi_vectors_format::row::Row;
 use bidi_vectors_format::tally::Tally;
-use bidi_vectors_format::conditions::{are_directed, explicit_level};
 use std::alloc::Global;
 
 // Resolves one level for each class in place, and returns the levels and their maximum.

@@ -7,7 +7,7 @@ ghost use Rattle.bidi_base.specs.InPlace.{CanResolveNeutrals};
 ghost use Rattle.bidi_base.specs.Units.{bounds};
 
 use crate::bracket_pairs::brackets_of;
-use crate::units::{Sequence, sequences_of_field, whole_sequence_of};
+use crate::unit_sequences::{Sequence, sequences_of_field, whole_sequence_of};
 use crate::weak_types::class_field;
 use bidi_base::char_data::BidiClass;
 use bidi_base::data_source::{BidiMatchedOpeningBracket, TableBidiData};
@@ -19,15 +19,15 @@ use bidi_rules::prepare::IsolatingRunSequence;
 use bidi_text::text::{StrText, is_per_char};
 use bidi_vectors_format::answer::{class_words, classes_in, level_words};
 use bidi_vectors_format::class::classes_of;
+use bidi_vectors_format::conditions::{
+    are_directed, are_kept, are_left, are_left_or_removed, explicit_level, is_side,
+};
 use bidi_vectors_format::fault::{RowFault, Why};
 use bidi_vectors_format::item::levels;
 use bidi_vectors_format::row::Row;
 use bidi_vectors_format::source::Tables;
 use bidi_vectors_format::tally::Tally;
 use bidi_vectors_format::text::RowText;
-use bidi_vectors_format::conditions::{
-    are_directed, are_kept, are_left, are_left_or_removed, explicit_level, is_side,
-};
 use bidi_vectors_format::units::per_unit;
 use std::alloc::Global;
 
