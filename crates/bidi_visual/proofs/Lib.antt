@@ -1,6 +1,6 @@
-pub mod EvenLemmas
+mod EvenLemmas
 pub mod FirstLemmas
 pub mod QuietLemmas
-pub mod ShownLemmas
-pub mod TabLemmas
-pub mod TurnedLemmas
+mod ShownLemmas
+mod TabLemmas
+mod TurnedLemmas
