@@ -1,9 +1,9 @@
 -- The lines of decoded bytes.
 use Rattle.bidi_base.proofs.Common.{◌≡◌, ℕ, zero, suc, ◌+◌, ◌<◌, ◌≤◌, true, false, ◌||◌, ◌&&◌, ◌==◌, not, List, [], ◌∷◌, ◌++◌, length, get_or, take, drop, refl, sym, ap, ◌∙◌, arith, append_assoc}
-use Rattle.bidi_base.proofs.Common.{cases_lt, inl, inr, nat_tests, take_more, drop_more, take_all, drop_all, take-append-drop, append-nil, add-zero, get_or-drop, get_or-take, get_or_default}
-use Rattle.bidi_base.proofs.Common.{length-drop, length-take, cases_Bool, cond-true, cond-false, eqb-true, and_parts, false_from_ne_true, Some, None, nil_from_length, length-append}
+use Rattle.bidi_base.proofs.Common.{cases_lt, inl, inr, nat_tests, take_more, drop_more, take-append-drop, append-nil, add-zero, get_or-drop, get_or-take, get_or_default}
+use Rattle.bidi_base.proofs.Common.{length-drop, length-take, cases_Bool, cond-true, cond-false, eqb-true, and_parts, false_from_ne_true, Some, nil_from_length, length-append}
 use Rattle.bidi_base.proofs.Common.{get_or_append_left, ⊎_elim, All-drop}
-use Rattle.memchr.specs.Find.{IsFirstByte, IsLastByte, is_byte2}
+use Rattle.memchr.specs.Find.{IsLastByte, is_byte2}
 use Rattle.bidi_bytes.specs.Decoded.{utf8_decoded, utf8_fault, fault_from}
 use Rattle.bidi_bytes.specs.FileLines.{is_break, is_before_line_feed, ends_file_line, break_end, file_lines_of}
 use Rattle.bidi_bytes.proofs.CutLemmas.{HasNoBreak, file_lines-append, file_lines-one, file_lines-whole}
@@ -194,12 +194,6 @@ module _ (bytes : List ℕ) (at : ℕ) (within : at < length bytes) (is : is_bre
         let one = one-single single h in grind (arith, append-nil, e, one))
   ]
 
--- bytes without the end of a line are one
-pub first-whole : (bytes : List ℕ) → 0 < length bytes → HasNoBreak bytes
-    → file_lines_of (utf8_decoded bytes) ≡ utf8_decoded (take (length bytes) bytes) ∷ file_lines_of (utf8_decoded (drop (length bytes) bytes))
-first-whole bytes some h =
-    rw (take_all (length bytes) bytes (omega arith), drop_all (length bytes) bytes (omega arith), utf8_decoded-nil) (decoded-whole bytes h some)
-
 -- ---- what the searches found
 
 -- none of the first bytes ends a line
@@ -208,9 +202,6 @@ none-before bytes end none k d below =
     let fits : k < end = omega (arith, length-take end bytes) in
     let inside : k < length bytes = omega (arith, length-take end bytes) in
     ap is_break (get_or-take end bytes k d fits ∙ get_or_default bytes k d 0 inside) ∙ false_from_ne_true (is_byte2 0x0A 0x0D (get_or bytes k 0)) (none k (omega arith) fits)
-
-pub none-at_all : (bytes : List ℕ) → IsFirstByte (is_byte2 0x0A 0x0D) bytes None → HasNoBreak bytes
-none-at_all bytes none = rw (sym (take_all (length bytes) bytes (omega arith))) (none-before bytes (length bytes) none)
 
 pub no_lines : (bytes : List ℕ) → length bytes ≡ 0 → length (file_lines_of (utf8_decoded bytes)) ≡ 0
 no_lines bytes none = ap (λ t. length (file_lines_of (utf8_decoded t))) (nil_from_length bytes none) ∙ ap (λ t. length (file_lines_of t)) utf8_decoded-nil

@@ -1,8 +1,7 @@
 -- What is found in lines: line by line, and in lines without controls.
-use Rattle.bidi_base.proofs.Common.{◌≡◌, ℕ, ◌+◌, true, false, List, [], ◌∷◌, ◌++◌, Option, None, Some, length, refl, sym, ap, ◌∙◌, arith}
-use Rattle.bidi_base.proofs.Common.{append_assoc, All, All-nil, All-cons, All-head, All-tail, All-weaker, onto_first, cases_Bool, inl, inr, nat_tests, nil_from_length}
-use Rattle.bidi_base.proofs.Common.{Source, IsUtf8, chars, cond-true, utf8_valid_len-IsUtf8, option_map, option_or}
-use Rattle.std.proofs.lemmas.Str.{utf8_lossy-IsUtf8}
+use Rattle.bidi_base.proofs.Common.{◌≡◌, ℕ, ◌+◌, false, List, [], ◌∷◌, ◌++◌, Option, None, Some, length, refl, sym, ap, ◌∙◌, arith}
+use Rattle.bidi_base.proofs.Common.{append_assoc, All, All-nil, All-cons, All-head, All-tail, All-weaker, onto_first, cases_Bool, inl, inr, nat_tests}
+use Rattle.bidi_base.proofs.Common.{Source, chars, option_map, option_or}
 use Rattle.std.proofs.Common.{add_assoc}
 use Rattle.bidi_base.specs.declared.char_data.BidiClass.{BidiClass}
 use Rattle.bidi_base.specs.declared.char_data.BidiClass.TheVariants.{LRE, LRO, RLE, RLO, PDF, LRI, RLI, FSI, PDI}
@@ -12,10 +11,9 @@ use Rattle.bidi_controls.specs.declared.finding.Wanted.{Wanted}
 use Rattle.bidi_controls.specs.Quiet.{AreQuiet}
 use Rattle.bidi_controls.proofs.QuietLines.{findings_in_line-quiet}
 use Rattle.bidi_bytes.specs.ControlBytes.{is_control_char, holds_control}
-use Rattle.bidi_bytes.specs.Decoded.{is_utf16, utf8_decoded, utf8_fault, fault_from, first_invalid}
+use Rattle.bidi_bytes.specs.Decoded.{utf8_decoded, utf8_fault, fault_from}
 use Rattle.bidi_bytes.specs.FileLines.{ends_file_line, file_lines_of}
 use Rattle.bidi_bytes.proofs.ControlBytesLemmas.{utf8_decoded-other}
-use Rattle.bidi_bytes.proofs.LossyLemmas.{utf8_decoded-nil}
 use Rattle.bidi_bytes.proofs.ControlChars.{is_control_class, control_class-char}
 use Rattle.bidi_scan.specs.FileSearch.{FoundAt, with_findings, found_in, found_from}
 
@@ -117,11 +115,6 @@ module _ (wanted : Wanted) (number : ℕ) (rest line after : List ℕ) (first : 
   pub first-count : length (file_lines_of (utf8_decoded rest)) ≡ length (file_lines_of (utf8_decoded after)) + 1
   first-count = let e = ap length first in omega arith
 
-pub nothing-left : (wanted : Wanted) (number : ℕ) (bytes : List ℕ) → length bytes ≡ 0 → found_from unicode_source wanted number (file_lines_of (utf8_decoded bytes)) ≡ []
-nothing-left wanted number bytes none =
-    ap (λ t. found_from unicode_source wanted number (file_lines_of (utf8_decoded t))) (nil_from_length bytes none)
-    ∙ ap (λ t. found_from unicode_source wanted number (file_lines_of t)) utf8_decoded-nil
-
 -- ---- bytes that are cut behind the end of a line
 
 pub joined-found : (wanted : Wanted) (start lines : ℕ) (bytes front rest : List ℕ) (before found : List FoundAt)
@@ -145,14 +138,3 @@ joined-fault before now offset end len bytes front rest cut is at =
     ap (λ t. fault_from t end rest) is ∙ ap (λ n. fault_from (fault_from before offset front) n rest) at
     ∙ sym (fault_from-twice before (utf8_fault front) offset len rest)
     ∙ ap (λ t. option_or before (option_map (λ at. offset + at) t)) (sym cut)
-
--- ---- UTF-16
-
-pub utf8_decoded-text : (text : List ℕ) → IsUtf8 text → utf8_decoded text ≡ chars text
-utf8_decoded-text text u = ap chars (utf8_lossy-IsUtf8 text u)
-
-pub utf8_fault-text : (text : List ℕ) → IsUtf8 text → utf8_fault text ≡ None
-utf8_fault-text text u = grind (arith, nat_tests, utf8_valid_len-IsUtf8 text u)
-
-pub first_invalid-utf16 : (bytes : List ℕ) → is_utf16 bytes ≡ true → first_invalid bytes ≡ None
-first_invalid-utf16 bytes is = cond-true _ _ _ is

@@ -1,11 +1,20 @@
-use Rattle.bidi_base.proofs.Common.{◌≡◌, ◌∙◌, ℕ, List, sym, ap, map, IfOk-weaker, IsUtf8-string_bytes}
+use Rattle.bidi_base.proofs.Common.{◌≡◌, ◌∙◌, ℕ, List, sym, ap, map, IfOk-weaker, IsUtf8-string_bytes, IsUtf8, chars, None, arith, nat_tests, utf8_valid_len-IsUtf8, true, cond-true}
 use Rattle.bidi_unicode.specs.Unicode.{unicode_source}
-use Rattle.bidi_bytes.specs.Decoded.{decoded, utf8_decoded, utf8_fault, first_invalid}
+use Rattle.bidi_bytes.specs.Decoded.{decoded, utf8_decoded, utf8_fault, first_invalid, is_utf16}
 use Rattle.bidi_bytes.specs.FileLines.{file_lines_of}
 use Rattle.bidi_scan.specs.FileSearch.{line_of, found_from}
 use Rattle.bidi_scan.specs.declared.file_search.Searched.{Searched}
-use Rattle.bidi_scan.proofs.FoundLemmas.{utf8_decoded-text, utf8_fault-text, first_invalid-utf16}
+use Rattle.std.proofs.lemmas.Str.{utf8_lossy-IsUtf8}
 use Rattle.bidi_scan.proofs.file_search.found_lines.Goals as goal
+
+first_invalid-utf16 : (bytes : List ℕ) → is_utf16 bytes ≡ true → first_invalid bytes ≡ None
+first_invalid-utf16 bytes is = cond-true _ _ _ is
+
+utf8_fault-text : (text : List ℕ) → IsUtf8 text → utf8_fault text ≡ None
+utf8_fault-text text u = grind (arith, nat_tests, utf8_valid_len-IsUtf8 text u)
+
+utf8_decoded-text : (text : List ℕ) → IsUtf8 text → utf8_decoded text ≡ chars text
+utf8_decoded-text text u = ap chars (utf8_lossy-IsUtf8 text u)
 
 pub returns-in-Some-clause-lines : goal.returns-in-Some-clause-lines
 returns-in-Some-clause-lines c =

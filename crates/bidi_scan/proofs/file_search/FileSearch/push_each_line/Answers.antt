@@ -1,11 +1,19 @@
-use Rattle.bidi_base.proofs.Common.{◌≡◌, ◌+◌, ◌++◌, ◌∙◌, ◌∷◌, false, sym, ap, arith, append-nil, map}
+use Rattle.bidi_base.proofs.Common.{◌≡◌, ◌+◌, ◌++◌, ◌∙◌, ◌∷◌, false, sym, ap, arith, append-nil, map, ℕ, List, length, nil_from_length, []}
 use Rattle.bidi_bytes.specs.ControlBytes.{holds_control}
 use Rattle.bidi_bytes.specs.Decoded.{utf8_decoded}
 use Rattle.bidi_bytes.specs.FileLines.{file_lines_of}
 use Rattle.bidi_bytes.proofs.FileLinesLemmas.{no_lines}
-use Rattle.bidi_scan.specs.FileSearch.{line_of}
-use Rattle.bidi_scan.proofs.FoundLemmas.{first-quiet, first-count, nothing-left}
+use Rattle.bidi_scan.specs.FileSearch.{line_of, found_from}
+use Rattle.bidi_scan.proofs.FoundLemmas.{first-quiet, first-count}
+use Rattle.bidi_controls.specs.declared.finding.Wanted.{Wanted}
+use Rattle.bidi_unicode.specs.Unicode.{unicode_source}
+use Rattle.bidi_bytes.proofs.LossyLemmas.{utf8_decoded-nil}
 use Rattle.bidi_scan.proofs.file_search.FileSearch.push_each_line.Goals as goal
+
+nothing-left : (wanted : Wanted) (number : ℕ) (bytes : List ℕ) → length bytes ≡ 0 → found_from unicode_source wanted number (file_lines_of (utf8_decoded bytes)) ≡ []
+nothing-left wanted number bytes none =
+    ap (λ t. found_from unicode_source wanted number (file_lines_of (utf8_decoded t))) (nil_from_length bytes none)
+    ∙ ap (λ t. found_from unicode_source wanted number (file_lines_of t)) utf8_decoded-nil
 
 pub loop-rest-preserved : goal.loop-rest-preserved
 loop-rest-preserved c =
