@@ -1,5 +1,6 @@
 pub mod Analysed
 pub mod Brackets
+pub mod ClassParagraphs
 pub mod Classes
 pub mod CrLf
 pub mod Direction

@@ -2,6 +2,7 @@
 use Rattle.bidi_base.proofs.Common.{◌≡◌, ◌↔◌, ℕ, Bool, true, false, ◌&&◌, cond, if◌then◌else◌, List, [], ◌∷◌, map, find, Option, Some, None, is_some, refl, ap, ◌∙◌, inl}
 use Rattle.bidi_base.proofs.Common.{inr, arith, onto_first, option_or, cases_Bool, is_strong, is_paragraph_separator, direction_by, base_direction, deciding_class}
 use Rattle.bidi_base.proofs.Common.{paragraph_level, paragraphs_of, each_separator, first_or, Source, option_and_then, full_base_direction}
+use Rattle.bidi_base.specs.ClassParagraphs.{class_paragraphs}
 use Rattle.bidi_base.specs.declared.char_data.BidiClass.{BidiClass}
 use Rattle.bidi_base.specs.declared.char_data.Direction.{Direction}
 use Rattle.bidi_base.specs.declared.char_data.Direction.TheVariants.{Rtl, Mixed}
@@ -23,23 +24,14 @@ first_piece [] = []
 first_piece (c ∷ cs) = c ∷ cond (is_paragraph_separator c) [] (first_piece cs)
 
 -- the pieces from the next separator on
-class_pieces : List BidiClass → List (List BidiClass)
-class_pieces [] = []
-class_pieces (c ∷ cs) = cond (is_paragraph_separator c) ((c ∷ []) ∷ class_pieces cs) (onto_first c (class_pieces cs))
-
 other_pieces : List BidiClass → List (List BidiClass)
 other_pieces [] = []
-other_pieces (c ∷ cs) = cond (is_paragraph_separator c) (class_pieces cs) (other_pieces cs)
+other_pieces (c ∷ cs) = cond (is_paragraph_separator c) (class_paragraphs cs) (other_pieces cs)
 
-class_pieces-first : (c : BidiClass) (cs : List BidiClass) → class_pieces (c ∷ cs) ≡ first_piece (c ∷ cs) ∷ other_pieces (c ∷ cs)
-unfolding first_piece class_pieces other_pieces
-class_pieces-first c [] = elim (cases_Bool (is_paragraph_separator c)) [ inl ends ↦ rw ends refl | inr on ↦ rw on refl ]
-class_pieces-first c (d ∷ cs) = elim (cases_Bool (is_paragraph_separator c)) [ inl ends ↦ rw ends refl | inr on ↦ rw on (ap (onto_first c) (class_pieces-first d cs)) ]
-
-pieces-map : (source : Source) (chars : List ℕ) → map (map source.class_of) (paragraphs_of (each_separator source) chars) ≡ class_pieces (map source.class_of chars)
-unfolding class_pieces
-pieces-map source [] = refl
-pieces-map source (c ∷ cs) = grind (arith, pieces-map source cs)
+class_paragraphs-first : (c : BidiClass) (cs : List BidiClass) → class_paragraphs (c ∷ cs) ≡ first_piece (c ∷ cs) ∷ other_pieces (c ∷ cs)
+unfolding first_piece other_pieces
+class_paragraphs-first c [] = elim (cases_Bool (is_paragraph_separator c)) [ inl ends ↦ rw ends refl | inr on ↦ rw on refl ]
+class_paragraphs-first c (d ∷ cs) = elim (cases_Bool (is_paragraph_separator c)) [ inl ends ↦ rw ends refl | inr on ↦ rw on (ap (onto_first c) (class_paragraphs-first d cs)) ]
 
 -- ---- the first paragraph
 
@@ -51,10 +43,10 @@ first_direction d (c ∷ cs) = elim (cases_Bool (is_strong c && is_zero d)) [
   | inr on ↦ elim (cases_Bool (is_paragraph_separator c)) [ inl ends ↦ simp (on, ends) | inr more ↦ simp (on, more) (first_direction (depth_by (kind_of c) d) cs) ]
 ]
 
-first_or-pieces : (cs : List BidiClass) → first_or [] (class_pieces cs) ≡ first_piece cs
-unfolding first_piece class_pieces
+first_or-pieces : (cs : List BidiClass) → first_or [] (class_paragraphs cs) ≡ first_piece cs
+unfolding first_piece
 first_or-pieces [] = refl
-first_or-pieces (c ∷ cs) = ap (first_or []) (class_pieces-first c cs)
+first_or-pieces (c ∷ cs) = ap (first_or []) (class_paragraphs-first c cs)
 
 -- ---- any paragraph
 
@@ -66,13 +58,13 @@ found_in-cons : (p : List BidiClass) (ps : List (List BidiClass)) → found_in (
 unfolding found_in
 found_in-cons p ps = elim (cases_Option (deciding_class p)) [ inl e ↦ rw e refl | inr c ↦ rw c.1 c.1 ]
 
-found_from : (cs : List BidiClass) → found_in (class_pieces cs) ≡ option_or (deciding_from 0 (first_piece cs)) (found_in (other_pieces cs))
-unfolding first_piece class_pieces other_pieces found_in
+found_from : (cs : List BidiClass) → found_in (class_paragraphs cs) ≡ option_or (deciding_from 0 (first_piece cs)) (found_in (other_pieces cs))
+unfolding first_piece other_pieces found_in
 found_from [] = refl
 found_from (c ∷ cs) =
     let first = first_piece (c ∷ cs) in
     let others = other_pieces (c ∷ cs) in
-    ap found_in (class_pieces-first c cs) ∙ found_in-cons first others ∙ ap (λ o. option_or o (found_in others)) (deciding_class-from first)
+    ap found_in (class_paragraphs-first c cs) ∙ found_in-cons first others ∙ ap (λ o. option_or o (found_in others)) (deciding_class-from first)
 
 full_direction : (d : ℕ) (cs : List BidiClass) → direction_by (option_or (deciding_from d (first_piece cs)) (found_in (other_pieces cs))) ≡ direction_from true d cs
 unfolding first_piece other_pieces found_in
@@ -87,10 +79,18 @@ full_direction d (c ∷ cs) = elim (cases_Bool (is_strong c && is_zero d)) [
 
 -- ---- what the walk answers
 
+pub direction_from-classes : (full : Bool) (cs : List BidiClass)
+    → direction_from full 0 cs ≡ (if full then full_base_direction (class_paragraphs cs) else base_direction (class_paragraphs cs))
+unfolding base_direction full_base_direction found_in
+direction_from-classes full cs = grind (arith, full_direction, found_from, first_direction, deciding_class-from, first_or-pieces)
+
+class_paragraphs-map : (source : Source) (chars : List ℕ) → map (map source.class_of) (paragraphs_of (each_separator source) chars) ≡ class_paragraphs (map source.class_of chars)
+class_paragraphs-map source [] = refl
+class_paragraphs-map source (c ∷ cs) = grind (arith, class_paragraphs-map source cs)
+
 pub direction_from-is : (source : Source) (chars : List ℕ) (full : Bool)
     → direction_from full 0 (map source.class_of chars) ≡ (if full then full_base_direction (map (map source.class_of) (paragraphs_of (each_separator source) chars)) else base_direction (map (map source.class_of) (paragraphs_of (each_separator source) chars)))
-unfolding base_direction full_base_direction found_in
-direction_from-is source chars full = grind (arith, full_direction, found_from, pieces-map, first_direction, deciding_class-from, first_or-pieces)
+direction_from-is source chars full = rw (class_paragraphs-map source chars) (direction_from-classes full (map source.class_of chars))
 
 -- the base direction is right to left exactly if the first paragraph's own level is 1
 pub base_direction-Rtl : (paragraphs : List (List BidiClass)) → (base_direction paragraphs ≡ Rtl) ↔ (paragraph_level None (first_or [] paragraphs) ≡ 1)

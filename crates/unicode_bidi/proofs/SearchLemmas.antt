@@ -1,15 +1,14 @@
 -- The search for a base direction, step by step, finds what the walk over a whole text finds.
-use Rattle.bidi_base.proofs.Common.{◌≡◌, ◌∙◌, ap, sym, ℕ, zero, suc, ◌+◌, ◌-◌, ◌≤◌, replicate, indexes, class_at, None, Bool, true, false, not, ◌&&◌, ◌||◌, ◌==◌, if◌then◌else◌, List, [], ◌∷◌, ◌++◌, length, map, list_any, refl}
-use Rattle.bidi_base.proofs.Common.{◌<◌, get_or_default, same_lists, length-map, append-nil, Some, direction_by, arith, cases_Bool, is_strong, is_initiator, is_pdi, is_paragraph_separator, ne_eqb, base_direction, paragraphs_of}
+use Rattle.bidi_base.proofs.Common.{◌≡◌, ◌∙◌, ap, sym, ℕ, zero, suc, ◌+◌, ◌-◌, ◌≤◌, replicate, Bool, true, false, not, ◌&&◌, ◌||◌, ◌==◌, if◌then◌else◌, List, [], ◌∷◌, ◌++◌, length, map, list_any, refl}
+use Rattle.bidi_base.proofs.Common.{◌<◌, append-nil, Some, direction_by, arith, cases_Bool, is_strong, is_initiator, is_pdi, is_paragraph_separator, ne_eqb, base_direction, paragraphs_of}
 use Rattle.bidi_base.proofs.Common.{each_separator, Source, full_base_direction}
 use Rattle.bidi_base.specs.declared.char_data.BidiClass.{BidiClass}
 use Rattle.bidi_base.specs.declared.char_data.BidiClass.TheVariants.{R, L, LRI, PDI}
 use Rattle.bidi_base.specs.declared.char_data.Direction.{Direction}
 use Rattle.bidi_base.specs.declared.char_data.Direction.TheVariants.{Mixed}
-use Rattle.std.proofs.lemmas.List.FromFn.{get_or-map-range_with_len, length-range_with_len}
-use Rattle.bidi_laws.proofs.DirectionWalk.{direction_from, direction_from-is}
+use Rattle.bidi_laws.proofs.DirectionWalk.{direction_from, direction_from-classes, direction_from-is}
 use Rattle.bidi_laws.proofs.IsolateWalk.{is_zero, depth_by, kind_of, initiator-kind, pdi-kind}
-use Rattle.unicode_bidi.specs.DirectionSearch.{class_paragraphs, direction_after, direction_with, IsSearched, direction_found}
+use Rattle.unicode_bidi.specs.DirectionSearch.{direction_after, direction_with, IsSearched, direction_found}
 use Rattle.unicode_bidi.specs.declared.direction_search.DirectionSearch.{DirectionSearch}
 use Rattle.unicode_bidi.specs.declared.direction_search.DirectionSearch.TheVariants.{Found, Open}
 
@@ -52,15 +51,6 @@ counted d c = grind (arith, initiator-kind c, pdi-kind c)
 
 -- ---- the direction after open isolates
 
-class_paragraphs-map : (source : Source) (chars : List ℕ) → map (map source.class_of) (paragraphs_of (each_separator source) chars) ≡ class_paragraphs (map source.class_of chars)
-class_paragraphs-map source [] = refl
-class_paragraphs-map source (c ∷ cs) = grind (arith, class_paragraphs-map source cs)
-
-map-class_at : (cs : List BidiClass) → map (class_at cs) (indexes cs) ≡ cs
-map-class_at cs =
-    let long = length-map (indexes cs) (class_at cs) ∙ length-range_with_len 0 (length cs) in
-    same_lists (map (class_at cs) (indexes cs)) cs long (λ k d below. get_or-map-range_with_len (class_at cs) 0 (length cs) k k d (omega (arith, below, long)) (omega arith) ∙ get_or_default cs k L d (omega (arith, below, long)))
-
 opened : (full : Bool) (d n : ℕ) (cs : List BidiClass) → direction_from full n (replicate d LRI ++ cs) ≡ direction_from full (d + n) cs
 unfolding kind_of
 opened full zero n cs = ap (λ m. direction_from full m cs) (omega arith)
@@ -68,11 +58,7 @@ opened full (suc d) n cs = opened full d (suc n) cs ∙ ap (λ m. direction_from
 
 -- it is what the walk finds
 pub direction_after-from : (full : Bool) (d : ℕ) (cs : List BidiClass) → direction_after full d cs ≡ direction_from full d cs
-direction_after-from full d cs =
-    let all = replicate d LRI ++ cs in
-    let source : Source = record { class_of = class_at all; bracket_of = λ c. None } in
-    let walked = direction_from-is source (indexes all) full in
-    sym (rw (map-class_at all) at (rw (class_paragraphs-map source (indexes all)) at walked)) ∙ opened full d 0 cs ∙ ap (λ m. direction_from full m cs) (omega arith)
+direction_after-from full d cs = sym (direction_from-classes full (replicate d LRI ++ cs)) ∙ opened full d 0 cs ∙ ap (λ m. direction_from full m cs) (omega arith)
 
 -- ---- the search step by step
 
