@@ -1,7 +1,7 @@
 -- The pass over units that gives explicit levels, classes and level runs: what it has written once it read some characters.
 use native.Mathlib.Numerals.{unary_clauses}
 use Rattle.bidi_base.proofs.Common.{◌≡◌, ℕ, zero, suc, ◌+◌, ◌<◌, ◌≤◌, ◌^◌, true, List, [], ◌∷◌, length, get_or, set, unwrap_or, refl, sym, ap, ◌∙◌, arith, length-append, common_steps}
-use Rattle.bidi_base.proofs.Common.{take-append-drop, length-replicate, is_paragraph_separator, is_removed, class_at, text_len, per_unit, per_char, is_per_char, explicit_levels, processing_class}
+use Rattle.bidi_base.proofs.Common.{length-replicate, is_paragraph_separator, is_removed, class_at, text_len, per_unit, per_char, is_per_char, explicit_levels, processing_class}
 use Rattle.bidi_base.proofs.Common.{processing_classes, State, closed, step, state_at, counted, IsWithinDepth, IsPoppable, suc-add, ◌||◌, if◌then◌else◌, length-take, length-drop, answer_class}
 use Rattle.bidi_base.proofs.Common.{answer_level}
 use Rattle.bidi_base.specs.declared.char_data.BidiClass.{BidiClass}
@@ -24,9 +24,6 @@ processing_class-is paragraph classes k fits = grind (arith, answer_class-explic
 -- writing the units of a character
 pub length-filled : {X : Type 0} (from len : ℕ) (x : X) (units : List X) → from + len ≤ length units → length (filled from len x units) ≡ length units
 length-filled from len x units fits = grind (arith, length-append, length-take, length-replicate, length-drop)
-
-pub filled-none : {X : Type 0} (from : ℕ) (x : X) (units : List X) → filled from 0 x units ≡ units
-filled-none from x units = grind (arith, take-append-drop)
 
 next-filled : {X : Type 0} (from len : ℕ) (x : X) (units : List X) → from + len < length units → set (filled from len x units) (from + len) x ≡ filled from (len + 1) x units
 next-filled from len x [] fits = absurd (omega arith)

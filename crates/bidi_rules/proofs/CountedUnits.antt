@@ -58,9 +58,6 @@ paid-by-part index runs u v a b ordered order paid =
 pub count_settled-monotone : (runs : List (ℕ × ℕ)) (w : Walk) (u v : ℕ) → are_ordered runs ≡ true → u ≤ v → count_below runs (settled_to w u) ≤ count_below runs (settled_to w v)
 count_settled-monotone runs w u v ordered order = grind (arith, count_below-monotone 0 runs (settled_to w u) (settled_to w v))
 
-pub WaitsBelow-later : (runs : List (ℕ × ℕ)) (w : Walk) (u v : ℕ) → u ≤ v → WaitsBelow runs w u → WaitsBelow runs w v
-WaitsBelow-later runs w u v order h = grind arith steps 400000
-
 pub WaitsBelow-idle : (runs : List (ℕ × ℕ)) (w : Walk) (u : ℕ) → w.first_run ≤ length runs → waits w.before ≡ false → WaitsBelow runs w u
 WaitsBelow-idle runs w u fits idle = grind arith steps 400000
 

@@ -24,9 +24,6 @@ use Rattle.bidi_rules.proofs.WeakUnits.{walked-plain, row-joins, row-waits, row-
 settled-stays : (c strong : BidiClass) (b : Bool) (before : Before) → left_over (w7_by b (settled (strengthened strong c) before)) ≡ w7_by b (settled (strengthened strong c) before)
 settled-stays c strong b before = grind arith
 
-pub resolved-stays : (c strong : BidiClass) (b : Bool) (before : Before) → left_over (w7_by b (resolved (strengthened strong c) before)) ≡ w7_by b (resolved (strengthened strong c) before)
-resolved-stays c strong b before = grind arith
-
 stays-row : (n : ℕ) (v : BidiClass) → left_over v ≡ v → map left_over (replicate n v) ≡ replicate n v
 stays-row zero v h = refl
 stays-row (suc n) v h = simp (h, stays-row n v h)

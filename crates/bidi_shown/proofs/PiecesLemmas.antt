@@ -54,11 +54,6 @@ shown_text-append view cs ds =
     let shown = λ (p : List ℕ). shown_paragraph unicode_source view (own_chars unicode_source p) in
     ap (flat_map shown) (paragraphs-append unicode_source feed-separates cs ds) ∙ flat_map-append shown (paragraphs_in unicode_source (cs ++ 0x0A ∷ [])) (paragraphs_in unicode_source ds)
 
--- of no text nothing
-pub nothing-shown : (view : View) → shown_text unicode_source view (chars []) ≡ []
-unfolding shown_text
-nothing-shown view = simp chars-nil
-
 -- ---- the same of bytes
 
 feed-chars : (rest : List ℕ) → IsUtf8 (0x0A ∷ rest) → (chars (0x0A ∷ rest) ≡ 0x0A ∷ chars rest) × IsUtf8 rest

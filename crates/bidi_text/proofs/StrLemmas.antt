@@ -270,8 +270,5 @@ module _ (bs : List ℕ) (i : ℕ) (u : IsUtf8 bs) (begins : is_boundary len_utf
 abbrev pub lengths_left : CharIndices → List (ℕ × ℕ)
 lengths_left s = indices_lengths_from len_utf8 (char_indices_offset s) (chars (char_indices_rest s))
 
-pub lengths_end : (s : CharIndices) → length (char_indices_rest s) ≡ 0 → lengths_left s ≡ []
-lengths_end s e = grind (arith, common_steps, chars-nil)
-
 pub lengths_step : (s t : CharIndices) (p : ℕ × ℕ) → IsUtf8 (char_indices_rest s) → char_indices_steps s (Some p) t → lengths_left s ≡ (p.0, len_utf8 p.1) ∷ lengths_left t
 lengths_step s t p u h = grind (arith, chars_past_char, length-encode)

@@ -1,8 +1,7 @@
 -- Lists of indexes that are kept only if they differ from the indexes in their own order.
-use Rattle.bidi_base.proofs.Common.{◌≡◌, ◌≢◌, ℕ, ◌+◌, ◌<◌, ◌≤◌, List, [], ◌∷◌, Option, length, get_or, slice_get, Some, None, refl, sym, ap, ◌∙◌, arith, inl, inr, cases_lt, slice_get-get_or}
+use Rattle.bidi_base.proofs.Common.{◌≡◌, ◌≢◌, ℕ, ◌+◌, ◌<◌, List, Option, length, get_or, slice_get, Some, None, refl, sym, ap, ◌∙◌, arith, inl, inr, cases_lt, slice_get-get_or}
 use Rattle.bidi_base.proofs.Common.{length_permutation, length-range_with_len, get_or-range_with_len, same_number_lists, indexes, IsVisualOrder, visual_places, IfSome, slice_get_within}
 use Rattle.bidi_base.proofs.Common.{get_or_from_slice_get, range_with_len, AreInverse}
-use Rattle.std.proofs.lemmas.Option.{slice_get_past}
 use Rattle.bidi_laws.proofs.LayoutLemmas.{visual_places-inverse}
 use Rattle.unicode_bidi.specs.KeptOrder.{entries}
 
@@ -11,9 +10,6 @@ pub range-found : (len k : ℕ) → k < len → slice_get (range_with_len 0 len)
 range-found len k fits =
     let same : 0 + k ≡ k = omega arith in
     slice_get-get_or (range_with_len 0 len) k 0 (omega (arith, length-range_with_len 0 len)) ∙ ap Some (get_or-range_with_len 0 len k 0 fits ∙ same)
-
-pub range-past : (len k : ℕ) → len ≤ k → slice_get (range_with_len 0 len) k ≡ None
-range-past len k past = slice_get_past (range_with_len 0 len) k (omega (arith, length-range_with_len 0 len))
 
 -- they are their own inverse
 range-inverse : (len : ℕ) → AreInverse (range_with_len 0 len) (range_with_len 0 len)
@@ -34,10 +30,6 @@ entries-none list len e = grind arith
 pub entries-kept : (list : List ℕ) (len : ℕ) → 0 < length list → entries list len ≡ list
 entries-kept list len some = grind arith
 
-pub entries-whole : (list : List ℕ) (len : ℕ) → length list ≡ len → entries list len ≡ list
-entries-whole [] len e = rw (← e) refl
-entries-whole (x ∷ xs) len e = entries-kept (x ∷ xs) len (omega arith)
-
 pub length-entries : (list : List ℕ) (len : ℕ) → (0 < length list → length list ≡ len) → length (entries list len) ≡ len
 length-entries list len whole = grind (arith, length-range_with_len)
 
@@ -54,9 +46,6 @@ found-back xs ys None k h e = tt
 found-back xs ys (Some x) k h e =
     let fits = slice_get_within xs k x (sym e) in
     ap (slice_get ys) (sym (get_or_from_slice_get xs k x 0 (sym e))) ∙ h.back k fits
-
-pub AreInverse-sym : (xs ys : List ℕ) → AreInverse xs ys → AreInverse ys xs
-AreInverse-sym xs ys h = record { same_len = sym h.same_len; back = h.forth; forth = h.back }
 
 -- a list of indexes each of which stands at its own place, and one in which one does not
 pub in_order : (order : List ℕ) → ((k : ℕ) → k < length order → get_or order k 0 ≡ k) → order ≡ indexes order

@@ -4,14 +4,18 @@ use Rattle.bidi_base.specs.declared.char_data.BidiClass.{BidiClass}
 use Rattle.bidi_text.proofs.PerCharTests.{class_test}
 use Rattle.bidi_rules.specs.declared.weak.w2_w4_w5_w7.Walk.{Walk}
 use Rattle.bidi_explicit.specs.ExplicitPass.{filled}
-use Rattle.bidi_rules.specs.WeakPass.{strengthened, waits, left_over}
+use Rattle.bidi_rules.specs.WeakPass.{strengthened, waits, left_over, w7_by, resolved}
 use Rattle.bidi_rules.specs.WeakWalk.{seen, settled_to, Pass, IsUnderWay}
 use Rattle.bidi_explicit.specs.Written.{count_below, is_seen, IsWrittenOver}
 use Rattle.bidi_explicit.proofs.CountBelow.{count_below-monotone}
-use Rattle.bidi_rules.proofs.WeakWalkLemmas.{resolved-stays, IsWrittenOver-settled, IsUnderWay-joins, IsUnderWay-waits, IsUnderWay-decides}
+use Rattle.bidi_rules.proofs.WeakWalkLemmas.{IsWrittenOver-settled, IsUnderWay-joins, IsUnderWay-waits, IsUnderWay-decides}
 use Rattle.bidi_explicit.proofs.WrittenOver.{IsWrittenOver-filled}
+use Rattle.bidi_rules.specs.declared.weak.before.Before.{Before}
 use Rattle.bidi_rules.proofs.weak.w2_w4_w5_w7.Walk.read.Goals as goal
 use Rattle.bidi_rules.proofs.weak.w2_w4_w5_w7.Walk.read.Goals.{then-not-is_joined_by+then-waits, then-not-is_joined_by+else-waits+then-ne, then-not-is_joined_by+else-waits+else-ne, else-not-is_joined_by}
+
+resolved-stays : (c strong : BidiClass) (b : Bool) (before : Before) → left_over (w7_by b (resolved (strengthened strong c) before)) ≡ w7_by b (resolved (strengthened strong c) before)
+resolved-stays c strong b before = grind arith
 
 equal : (b : Bool) → not b ≡ false → b ≡ true
 equal b h = grind arith

@@ -1,12 +1,15 @@
 use Rattle.bidi_base.proofs.Common.{◌≡◌, ◌+◌, ◌-◌, ◌<◌, ◌≤◌, ℕ, true, List, length, get_or, map, bounds, arith, and_right, get_or-map, length-map, are_ordered}
 use Rattle.bidi_rules.specs.declared.weak.w2_w4_w5_w7.Walk.{Walk}
 use Rattle.bidi_rules.specs.WeakPass.{is_other}
-use Rattle.bidi_rules.specs.WeakWalk.{settled_to}
+use Rattle.bidi_rules.specs.WeakWalk.{settled_to, WaitsBelow}
 use Rattle.bidi_explicit.specs.Written.{count_below}
-use Rattle.bidi_rules.proofs.CountedUnits.{count_below-within, count_settled-monotone, settled_to-idle, WaitsBelow-later}
+use Rattle.bidi_rules.proofs.CountedUnits.{count_below-within, count_settled-monotone, settled_to-idle}
 use Rattle.bidi_explicit.proofs.InRuns.{run_some}
 use Rattle.bidi_rules.proofs.WeakWalkLemmas.{other-free, IsUnderWay-unseen}
 use Rattle.bidi_rules.proofs.weak.w2_w4_w5_w7.Walk.read_run.Goals as goal
+
+WaitsBelow-later : (runs : List (ℕ × ℕ)) (w : Walk) (u v : ℕ) → u ≤ v → WaitsBelow runs w u → WaitsBelow runs w v
+WaitsBelow-later runs w u v order h = grind arith steps 400000
 
 pub loop-at-init : goal.loop-at-init
 loop-at-init g c = grind (arith, get_or-map, run_some, length-map)
