@@ -1,5 +1,5 @@
 //! Where the lines of bytes end.
-ghost use Rattle.std.specs.Prelude.{◌≡◌, ◌+◌, ◌<◌, ◌≤◌, ◌∷◌, ◌++◌, true, false, List, ℕ, length, take, drop, slice_index};
+ghost use Rattle.std.specs.Prelude.{◌≡◌, ◌+◌, ◌<◌, ◌≤◌, ◌∷◌, ◌++◌, false, List, ℕ, length, take, drop, slice_index};
 ghost use Rattle.bidi_bytes.specs.Decoded.{utf8_decoded, utf8_fault, fault_from};
 ghost use Rattle.bidi_bytes.specs.FileLines.{is_break, break_end, file_lines_of};
 

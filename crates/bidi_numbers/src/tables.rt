@@ -1,7 +1,7 @@
 //! A data source that reads the caller's tables.
-ghost use Rattle.std.specs.Prelude.{◌≡◌, true, map, IsTrue, IfOk, None};
+ghost use Rattle.std.specs.Prelude.{◌≡◌, true, map, IsTrue, IfOk};
 ghost use Rattle.std.specs.List.{list_all};
-ghost use Rattle.bidi_base.specs.Source.{table_fault, table_source};
+ghost use Rattle.bidi_base.specs.Source.{table_source};
 ghost use Rattle.bidi_base.specs.Table.{source_of};
 ghost use Rattle.bidi_numbers.specs.Faults.{FaultsAs};
 ghost use Rattle.bidi_numbers.specs.Tables.{has_scalars, has_brackets, has_class, range_of, bracket_of, rows_fault, order_fault};

@@ -1,5 +1,5 @@
 //! Texts as callers in other languages pass them: bytes, code units and numbers of characters.
-ghost use Rattle.std.specs.Prelude.{◌≡◌, ℕ, ◌<◌, ◌≤◌, IsTrue, IsUtf8, IfOk, MatchResult, length, slice_get, List, true};
+ghost use Rattle.std.specs.Prelude.{◌≡◌, ◌<◌, IsUtf8, IfOk, MatchResult, true};
 ghost use Rattle.std.specs.List.{list_all};
 ghost use Rattle.bidi_numbers.specs.Texts.{is_scalar, goes_on};
 

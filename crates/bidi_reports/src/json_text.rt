@@ -8,8 +8,8 @@ use crate::parts::push_part;
 use crate::words::{character_of, code_of, is_about_line, kind_of, level_of, push_message};
 use bidi_controls::finding::{Finding, Trouble};
 use bidi_terminal::json_text::push_json_string;
-use bidi_terminal::uri::push_uri;
 use bidi_terminal::push_number;
+use bidi_terminal::uri::push_uri;
 use std::alloc::{AllocError, Global};
 use unicode_bidi::VERSION;
 

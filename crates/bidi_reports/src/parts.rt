@@ -1,6 +1,6 @@
 //! The part of a line that a report shows.
-ghost use Rattle.std.specs.Prelude.{◌≡◌, ◌++◌, ◌≤◌, ◌<◌, length, flat_map, min, slice_range, nat_lt, if◌then◌else◌, [], OnOk, string_bytes};
-ghost use Rattle.bidi_reports.specs.Parts.{bold, bold_red, as_before, styled, is_marked, marked_char, part_start, part_end, dots, marked_part, shown_columns, blanks, blank_part};
+ghost use Rattle.std.specs.Prelude.{◌≡◌, ◌++◌, ◌≤◌, ◌<◌, flat_map, min, if◌then◌else◌, [], OnOk, string_bytes};
+ghost use Rattle.bidi_reports.specs.Parts.{styled, is_marked, marked_char, part_start, part_end, dots, marked_part, shown_columns, blanks, blank_part};
 
 use bidi_columns::cluster::columns;
 use bidi_terminal::names::{is_hidden, push_quoted};

@@ -1,7 +1,6 @@
 //! The report as lines of text.
-ghost use Rattle.std.specs.Prelude.{◌≡◌, ◌++◌, ◌-◌, [], if◌then◌else◌, codes, OnOk, string_bytes};
-ghost use Rattle.bidi_controls.specs.Findings.{place_text, trouble_text};
-ghost use Rattle.bidi_controls.specs.Controls.{control_name};
+ghost use Rattle.std.specs.Prelude.{◌≡◌, ◌++◌, codes, OnOk, string_bytes};
+ghost use Rattle.bidi_controls.specs.Findings.{place_text};
 ghost use Rattle.bidi_reports.specs.Parts.{bold, bold_red, styled};
 ghost use Rattle.bidi_reports.specs.Text.{without_last, without_end, finding_text, excerpt_text, note_start, note_text, excerpt_report, note_report, text_report};
 ghost use Rattle.bidi_reports.specs.Words.{is_about_line};
