@@ -3,5 +3,5 @@ pub mod Displayed
 pub mod Findings
 pub mod Lines
 pub mod Matches
-mod OpenOpeners
+pub mod OpenOpeners
 pub mod Quiet

@@ -10,5 +10,5 @@ pub mod Paragraph
 pub mod RunSequence
 pub mod Status
 pub mod Stride
-mod Waiting
+pub mod Waiting
 pub mod Written

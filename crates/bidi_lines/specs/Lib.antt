@@ -7,5 +7,5 @@ pub mod Runs
 pub mod ShownLevels
 pub mod ShownLine
 pub mod Stops
-mod Turned
+pub mod Turned
 pub mod Written
