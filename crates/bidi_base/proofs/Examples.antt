@@ -1,15 +1,15 @@
 -- Worked examples: what the definitions compute, one for each stage of the algorithm, each by computation alone.
 use Rattle.bidi_base.proofs.Common.{◌≡◌, ℕ, [], ◌∷◌, refl, L, R, EN, ET, ES, CS, AN, NSM, BN, WS, ON, LRE, RLE, RLO, PDF, LRI, FSI, PDI, Ltr, Mixed, BidiMatchedOpeningBracket, match_of}
 use Rattle.bidi_base.proofs.Common.{matching_pdi, is_inside, is_isolated, deciding_class, paragraph_level, isolated_classes, stored_classes, is_level_with, closing_pdf, shares_isolates}
-use Rattle.bidi_base.proofs.Common.{is_embedded, is_open_at, open_at, status_inside, status_at, explicit_level, explicit_class, explicit_levels, explicit_classes, kept_places, next_kept}
+use Rattle.bidi_base.proofs.Common.{is_embedded, is_open_at, open_at, status_inside, status_at, explicit_level, explicit_class, explicit_levels, explicit_classes, kept_indexes, next_kept}
 use Rattle.bidi_base.proofs.Common.{kept_before, resumed_at, successor, is_first, start_class, end_class, sequence_from, sequences, weak_classes, available, partner, with_closing, closed_pairs}
 use Rattle.bidi_base.proofs.Common.{bracket_limit, pairs_of, bracket_pairs, pair_direction, is_mark_after, goes_with_pair, with_pair, n0_pair, n0, neutral_classes, implicit_levels}
-use Rattle.bidi_base.proofs.Common.{resolved_levels, sequence_levels, filled_levels, levels_in, line_levels_after, line_levels, least_between, stands_left, visual_place, index_at_visual}
+use Rattle.bidi_base.proofs.Common.{resolved_levels, sequence_levels, filled_levels, levels_in, line_levels_after, line_levels, least_between, stands_left, visual_index, index_at_visual}
 use Rattle.bidi_base.proofs.Common.{visual_order, order_by_reversals, visual_runs, reordered_text, base_direction, direction_of_levels, Option, Some, None, true, false}
 
 -- opens every definition that an example computes
 opened : ℕ
-unfolding match_of matching_pdi is_inside is_isolated deciding_class paragraph_level isolated_classes stored_classes is_level_with closing_pdf shares_isolates is_embedded is_open_at open_at status_inside status_at explicit_level explicit_class explicit_levels explicit_classes kept_places next_kept kept_before resumed_at successor is_first start_class end_class sequence_from sequences weak_classes available partner with_closing closed_pairs bracket_limit pairs_of bracket_pairs pair_direction is_mark_after goes_with_pair with_pair n0_pair n0 neutral_classes resolved_levels sequence_levels filled_levels levels_in line_levels_after line_levels least_between stands_left visual_place index_at_visual visual_order order_by_reversals visual_runs reordered_text base_direction direction_of_levels
+unfolding match_of matching_pdi is_inside is_isolated deciding_class paragraph_level isolated_classes stored_classes is_level_with closing_pdf shares_isolates is_embedded is_open_at open_at status_inside status_at explicit_level explicit_class explicit_levels explicit_classes kept_indexes next_kept kept_before resumed_at successor is_first start_class end_class sequence_from sequences weak_classes available partner with_closing closed_pairs bracket_limit pairs_of bracket_pairs pair_direction is_mark_after goes_with_pair with_pair n0_pair n0 neutral_classes resolved_levels sequence_levels filled_levels levels_in line_levels_after line_levels least_between stands_left visual_index index_at_visual visual_order order_by_reversals visual_runs reordered_text base_direction direction_of_levels
 opened = 0
 
 abbrev opening : ℕ → Option BidiMatchedOpeningBracket

@@ -12,10 +12,10 @@ pub mod NestedPairs
 pub mod OpeningSearch
 pub mod PairsLemmas
 pub mod PerUnit
-pub mod PlaceLemmas
+pub mod UnitIndexLemmas
 pub mod PlacesLemmas
 pub mod SearchLanes
 pub mod TableLemmas
 pub mod TextLemmas
-pub mod TextPlaces
+pub mod TextUnitIndexes
 pub mod UnitsLemmas

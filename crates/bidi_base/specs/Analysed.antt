@@ -32,13 +32,13 @@ pub record IsPerCharText (a : AnalysedText) : Type 0 where
 
 -- ---- what the algorithm finds in a text that a rule splits into paragraphs; without a rule the text is one paragraph
 
-module _ (source : Source) (base : Option ℕ) (rule : Option SplitRule) where
+module _ (source : Source) (base_level : Option ℕ) (rule : Option SplitRule) where
   -- P1 to P3 and X5c: these are the stored classes of the text, and the ranges and the levels of its paragraphs
   pub record AreParagraphs (len_of : ℕ → ℕ) (chars : List ℕ) (original_classes : List BidiClass)
       (own_ranges : List (ℕ × ℕ)) (own_levels : List ℕ) : Type 0 where
     pub classes : original_classes ≡ per_unit len_of chars (text_classes source (pieces_by rule source chars))
     pub ranges : own_ranges ≡ ranges_from len_of 0 (pieces_by rule source chars)
-    pub para_levels : own_levels ≡ paragraph_levels source base (pieces_by rule source chars)
+    pub para_levels : own_levels ≡ paragraph_levels source base_level (pieces_by rule source chars)
     -- with a rule, every code unit is in one paragraph, and separators are only at the ends of paragraphs; with
     -- `CrLfTogether`, a U+000D may also come directly before the U+000A that ends its paragraph
     pub partition : IfSome rule (λ r. AreParagraphRanges r source len_of chars own_ranges)
@@ -53,15 +53,15 @@ module _ (source : Source) (base : Option ℕ) (rule : Option SplitRule) where
   -- P1 to I2: the text also has its stored levels
   pub record IsAnalysis (a : AnalysedText) (own_ranges : List (ℕ × ℕ)) (own_levels : List ℕ) : Type 0 where
     pub paragraphs : AreParagraphs a.len_of a.chars a.classes own_ranges own_levels
-    pub levels : a.levels ≡ per_unit a.len_of a.chars (text_levels source base (pieces_by rule source a.chars))
+    pub levels : a.levels ≡ per_unit a.len_of a.chars (text_levels source base_level (pieces_by rule source a.chars))
     -- the levels of the characters depend only on the characters, the source, the base level and the rule
-    pub by_characters : per_char 0 a.len_of a.chars a.levels ≡ text_levels source base (pieces_by rule source a.chars)
+    pub by_characters : per_char 0 a.len_of a.chars a.levels ≡ text_levels source base_level (pieces_by rule source a.chars)
     -- all code units of a character have the same level
     pub per_char : HaveLevel a.len_of a.chars a.levels
     -- no level is below that of its paragraph or above the maximum
     pub bounded : All (λ p. AreLevelsFrom p.1 (slice_range a.levels p.0.0 p.0.1)) (zip own_ranges own_levels)
     -- each paragraph has the levels that its characters would have as the whole text
-    pub each_by_itself : All (HasOwnUnits a.len_of (stored_levels source base) a.chars a.levels) own_ranges
+    pub each_by_itself : All (HasOwnUnits a.len_of (stored_levels source base_level) a.chars a.levels) own_ranges
 
 -- ---- what the calls on a line return
 

@@ -9,10 +9,10 @@ use Rattle.bidi_base.specs.Explicit.{explicit_levels, processing_classes}
 use Rattle.bidi_base.specs.Levels.{direction_of}
 use Rattle.bidi_base.specs.Neutral.{n2_rule, neutral_classes}
 use Rattle.bidi_base.specs.PerChar.{HaveClass}
-use Rattle.bidi_base.specs.Places.{at_places, class_at, first_or}
+use Rattle.bidi_base.specs.Places.{at_indexes, class_at, first_or}
 use Rattle.bidi_base.specs.Sequences.{level_at}
 use Rattle.bidi_base.specs.Source.{Source}
-use Rattle.bidi_base.specs.Text.{per_char, per_unit, place}
+use Rattle.bidi_base.specs.Text.{per_char, per_unit, unit_index}
 use Rattle.bidi_base.specs.Units.{in_runs, kept_in_place, level_run_ranges, AreLines}
 use Rattle.bidi_base.specs.Weak.{weak_classes}
 
@@ -20,29 +20,29 @@ use Rattle.bidi_base.specs.Weak.{weak_classes}
 
 -- the paragraph level is at most 125, the units of each character have one stored class, there is a level for each unit,
 -- the classes to rewrite are a copy of the stored ones, and there are no runs yet
-pub record CanFindExplicitLevels (len_of : ℕ → ℕ) (chars : List ℕ) (paragraph : ℕ) (stored_units : List BidiClass)
+pub record CanFindExplicitLevels (len_of : ℕ → ℕ) (chars : List ℕ) (para_level : ℕ) (original_classes : List BidiClass)
     (level_units : List ℕ) (class_units : List BidiClass) (found : List (ℕ × ℕ)) : Type 0 where
-  pub explicit : paragraph ≤ 125
-  pub original : HaveClass len_of chars stored_units
-  pub levels : length level_units ≡ length stored_units
-  pub processing : class_units ≡ stored_units
+  pub explicit : para_level ≤ 125
+  pub original : HaveClass len_of chars original_classes
+  pub levels : length level_units ≡ length original_classes
+  pub processing : class_units ≡ original_classes
   pub runs : found ≡ []
 
 -- the units have the explicit levels of their characters and the classes under overrides, and these are the level runs
-pub record AreExplicitLevels (len_of : ℕ → ℕ) (chars : List ℕ) (paragraph : ℕ) (stored_units : List BidiClass)
+pub record AreExplicitLevels (len_of : ℕ → ℕ) (chars : List ℕ) (para_level : ℕ) (original_classes : List BidiClass)
     (level_units : List ℕ) (class_units : List BidiClass) (found : List (ℕ × ℕ)) : Type 0 where
-  pub levels : let stored = per_char L len_of chars stored_units in
-      level_units ≡ per_unit len_of chars (explicit_levels paragraph stored)
-  pub classes : let stored = per_char L len_of chars stored_units in
-      class_units ≡ per_unit len_of chars (processing_classes paragraph stored)
-  pub runs : let stored = per_char L len_of chars stored_units in
-      found ≡ level_run_ranges len_of chars stored (explicit_levels paragraph stored)
+  pub levels : let stored = per_char L len_of chars original_classes in
+      level_units ≡ per_unit len_of chars (explicit_levels para_level stored)
+  pub classes : let stored = per_char L len_of chars original_classes in
+      class_units ≡ per_unit len_of chars (processing_classes para_level stored)
+  pub runs : let stored = per_char L len_of chars original_classes in
+      found ≡ level_run_ranges len_of chars stored (explicit_levels para_level stored)
 
 -- ---- one sequence
 
 -- the classes in `units` of the characters of a sequence; `old` says which of them X9 keeps
 abbrev pub classes_in : (ℕ → ℕ) → List ℕ → List (ℕ × ℕ) → List BidiClass → List BidiClass → List BidiClass
-classes_in len_of chars runs old units = at_places L units (map (place len_of chars) (kept_in_place len_of chars old runs))
+classes_in len_of chars runs old classes = at_indexes L classes (map (unit_index len_of chars) (kept_in_place len_of chars old runs))
 
 -- its runs cut no character, and the units of a character have one class
 pub record CanResolveWeakTypes (len_of : ℕ → ℕ) (chars : List ℕ) (runs : List (ℕ × ℕ)) (old : List BidiClass) : Type 0 where
@@ -59,36 +59,36 @@ pub record AreWeakTypesResolved (len_of : ℕ → ℕ) (chars : List ℕ) (runs 
 
 -- what CanResolveWeakTypes says, a level and a stored class for each unit, and only classes that W7 leaves
 pub record CanResolveNeutrals (len_of : ℕ → ℕ) (chars : List ℕ) (runs : List (ℕ × ℕ)) (level_units : List ℕ)
-    (stored_units old : List BidiClass) : Type 0 where
+    (original_classes old : List BidiClass) : Type 0 where
   pub per_char : HaveClass len_of chars old
   pub fits : AreLines len_of chars runs
   pub levels : length level_units ≡ length old
-  pub original : length stored_units ≡ length old
+  pub original : length original_classes ≡ length old
   pub resolved : IsTrue (list_all is_weak_resolved (classes_in len_of chars runs old old))
 
 -- what N0 to N2 make of the classes of its characters
 abbrev pub neutral_classes_in : (ℕ → ℕ) → List ℕ → Source → List (ℕ × ℕ) → BidiClass → BidiClass → List ℕ → List BidiClass → List BidiClass → List BidiClass
-neutral_classes_in len_of chars source runs sos eos levels original old =
+neutral_classes_in len_of chars source runs sos eos levels original_classes old =
     let indexes = kept_in_place len_of chars old runs in
-    let places = map (place len_of chars) indexes in
-    neutral_classes (level_at levels (first_or 0 places)) sos eos (at_places L original places)
-    (map source.bracket_of (at_places 0 chars indexes)) (at_places L old places)
+    let places = map (unit_index len_of chars) indexes in
+    neutral_classes (level_at levels (first_or 0 places)) sos eos (at_indexes L original_classes places)
+    (map source.bracket_of (at_indexes 0 chars indexes)) (at_indexes L old places)
 
 -- N0 to N2 are done
 pub record AreNeutralsResolved (len_of : ℕ → ℕ) (chars : List ℕ) (source : Source) (runs : List (ℕ × ℕ))
-    (sos eos : BidiClass) (level_units : List ℕ) (stored_units old new : List BidiClass) : Type 0 where
+    (sos eos : BidiClass) (level_units : List ℕ) (original_classes old new : List BidiClass) : Type 0 where
   pub kept : classes_in len_of chars runs old new
-      ≡ neutral_classes_in len_of chars source runs sos eos level_units stored_units old
+      ≡ neutral_classes_in len_of chars source runs sos eos level_units original_classes old
   pub removed : (u : ℕ) → class_at old u ≡ BN → class_at new u ≡ BN
   pub outside : (u : ℕ) → in_runs runs u ≡ false → class_at new u ≡ class_at old u
   pub per_char : HaveClass len_of chars new
 
 -- N0 and N1 are done: with N2, which changes no level, the classes would be those of the rules
 pub record AreNeutralsResolvedUpToN1 (len_of : ℕ → ℕ) (chars : List ℕ) (source : Source) (runs : List (ℕ × ℕ))
-    (sos eos : BidiClass) (level_units : List ℕ) (stored_units old new : List BidiClass) : Type 0 where
-  pub kept : let places = map (place len_of chars) (kept_in_place len_of chars old runs) in
-      map (n2_rule (direction_of (level_at level_units (first_or 0 places)))) (at_places L new places)
-      ≡ neutral_classes_in len_of chars source runs sos eos level_units stored_units old
+    (sos eos : BidiClass) (level_units : List ℕ) (original_classes old new : List BidiClass) : Type 0 where
+  pub kept : let places = map (unit_index len_of chars) (kept_in_place len_of chars old runs) in
+      map (n2_rule (direction_of (level_at level_units (first_or 0 places)))) (at_indexes L new places)
+      ≡ neutral_classes_in len_of chars source runs sos eos level_units original_classes old
   pub removed : (u : ℕ) → class_at old u ≡ BN → class_at new u ≡ BN
   pub outside : (u : ℕ) → in_runs runs u ≡ false → class_at new u ≡ class_at old u
   pub per_char : HaveClass len_of chars new

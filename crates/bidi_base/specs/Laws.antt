@@ -15,17 +15,17 @@ HasOwnUnits len_of values_of chars units r =
 
 -- the levels are at least this one and at most the greatest
 abbrev pub AreLevelsFrom : ℕ → List ℕ → Type 0
-AreLevelsFrom paragraph levels = All (λ level. (paragraph ≤ level) × (level ≤ 126)) levels
+AreLevelsFrom para_level levels = All (λ level. (para_level ≤ level) × (level ≤ 126)) levels
 
 -- which character of class BN stands at a place of a paragraph changes no level
 abbrev pub BoundaryNeutralsAreAlike : Source → Option ℕ → Type 0
-BoundaryNeutralsAreAlike source base =
+BoundaryNeutralsAreAlike source base_level =
     (front back : List ℕ) (c d : ℕ) → source.class_of c ≡ BN → source.class_of d ≡ BN
-    → stored_levels source base (front ++ c ∷ back) ≡ stored_levels source base (front ++ d ∷ back)
+    → stored_levels source base_level (front ++ c ∷ back) ≡ stored_levels source base_level (front ++ d ∷ back)
 
 -- a paragraph of level 0 in which no character can turn the direction has level 0 throughout
 abbrev pub StaysLeftToRight : Source → Option ℕ → Type 0
-StaysLeftToRight source base =
+StaysLeftToRight source base_level =
     (piece : List ℕ) → is_pure_ltr (map source.class_of piece) ≡ true
-    → paragraph_level base (map source.class_of piece) ≡ 0
-    → stored_levels source base piece ≡ replicate (length piece) 0
+    → paragraph_level base_level (map source.class_of piece) ≡ 0
+    → stored_levels source base_level piece ≡ replicate (length piece) 0

@@ -7,7 +7,7 @@ use Rattle.bidi_base.specs.Text.{is_per_char}
 
 -- a class for each code unit, one class for each character
 abbrev pub HaveClass : (ℕ → ℕ) → List ℕ → List BidiClass → Type 0
-HaveClass len_of chars units = IsTrue (is_per_char class_test.eq len_of chars units)
+HaveClass len_of chars classes = IsTrue (is_per_char class_test.eq len_of chars classes)
 
 -- a level for each code unit, one level for each character
 abbrev pub HaveLevel : (ℕ → ℕ) → List ℕ → List ℕ → Type 0

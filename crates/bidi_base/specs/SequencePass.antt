@@ -2,13 +2,13 @@
 -- PDI of an open isolate, and what has come to each.
 use Rattle.std.specs.Prelude.{ℕ, ◌-◌, ◌<◌, ◌==◌, if◌then◌else◌, Bool, List, [], ◌∷◌, ◌++◌, length, take, get_or, slice_set, Option, Some, None}
 use Rattle.bidi_base.specs.declared.char_data.BidiClass.{BidiClass}
-use Rattle.bidi_base.specs.Classes.{is_initiator, is_pdi}
+use Rattle.bidi_base.specs.Classes.{is_isolate_initiator, is_pdi}
 use Rattle.bidi_base.specs.Places.{class_at, first_or, last_or}
 use Rattle.bidi_base.specs.Sequences.{level_at}
 
 -- what waits once a character of this class was read, the innermost last: an initiator adds what waits for its PDI
 abbrev pub read_class : BidiClass → Option ℕ → List (Option ℕ) → List (Option ℕ)
-read_class c wait waits = if is_initiator c then waits ++ wait ∷ [] else if is_pdi c then take (length waits - 1) waits else waits
+read_class c wait waits = if is_isolate_initiator c then waits ++ wait ∷ [] else if is_pdi c then take (length waits - 1) waits else waits
 
 -- the sequence that a character of this class goes on with where it begins a level run
 abbrev pub waiting_for : BidiClass → List (Option ℕ) → Option ℕ

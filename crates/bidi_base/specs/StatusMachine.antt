@@ -2,7 +2,7 @@
 -- and opens.
 use Rattle.std.specs.Prelude.{ℕ, zero, suc, ◌+◌, ◌-◌, ◌<◌, ◌≤◌, ◌≡◌, Bool, false, ◌&&◌, ◌||◌, ◌==◌, nat_lt, nat_le, if◌then◌else◌, List, [], ◌∷◌, None, unwrap_or, ⊤}
 use Rattle.bidi_base.specs.declared.char_data.BidiClass.{BidiClass}
-use Rattle.bidi_base.specs.Classes.{is_initiator, is_opener, is_pdi, is_pdf, is_paragraph_separator, is_removed}
+use Rattle.bidi_base.specs.Classes.{is_isolate_initiator, is_opener, is_pdi, is_pdf, is_paragraph_separator, is_removed}
 use Rattle.bidi_base.specs.Levels.{max_depth}
 use Rattle.bidi_base.specs.Places.{class_at}
 use Rattle.bidi_base.specs.Explicit.{Status, override_of, asked_level}
@@ -21,12 +21,12 @@ pub record State : Type 0 where
   pub valid_isolates : ℕ
 
 abbrev pub start_status : ℕ → Status
-start_status paragraph = record { level = paragraph; override = None }
+start_status para_level = record { level = para_level; override = None }
 
 abbrev pub start : ℕ → State
-start paragraph =
+start para_level =
     record {
-      top = record { status = start_status paragraph; is_isolate = false };
+      top = record { status = start_status para_level; is_isolate = false };
       below = [];
       overflow_isolates = 0;
       overflow_embeddings = 0;
@@ -42,7 +42,7 @@ abbrev pub entry_of : BidiClass → State → Entry
 entry_of c s =
     record {
       status = record { level = asked_level c s.top.status.level; override = override_of c };
-      is_isolate = is_initiator c;
+      is_isolate = is_isolate_initiator c;
     }
 
 abbrev pub taken : BidiClass → State → State
@@ -52,12 +52,12 @@ taken c s =
       below = s.top ∷ s.below;
       overflow_isolates = s.overflow_isolates;
       overflow_embeddings = s.overflow_embeddings;
-      valid_isolates = s.valid_isolates + (if is_initiator c then 1 else 0);
+      valid_isolates = s.valid_isolates + (if is_isolate_initiator c then 1 else 0);
     }
 
 abbrev pub refused : BidiClass → State → State
 refused c s =
-    if is_initiator c then record s { overflow_isolates = s.overflow_isolates + 1 }
+    if is_isolate_initiator c then record s { overflow_isolates = s.overflow_isolates + 1 }
     else if s.overflow_isolates == 0 then record s { overflow_embeddings = s.overflow_embeddings + 1 }
     else s
 
@@ -103,26 +103,26 @@ step c s = opened c (closed c s)
 
 -- the level and the class of the character itself
 abbrev pub answer_level : ℕ → BidiClass → State → ℕ
-answer_level paragraph c s = if is_paragraph_separator c then paragraph else (closed c s).top.status.level
+answer_level para_level c s = if is_paragraph_separator c then para_level else (closed c s).top.status.level
 
 abbrev pub answer_class : BidiClass → State → BidiClass
 answer_class c s = if is_paragraph_separator c || is_removed c then c else unwrap_or (closed c s).top.status.override c
 
 -- the state once p characters were read
 unfoldable pub state_at : ℕ → List BidiClass → ℕ → State
-state_at paragraph classes zero = start paragraph
-state_at paragraph classes (suc p) = step (class_at classes p) (state_at paragraph classes p)
+state_at para_level classes zero = start para_level
+state_at para_level classes (suc p) = step (class_at classes p) (state_at para_level classes p)
 
 -- entries below a level, each below the one above it, and none below the paragraph level
 abbrev pub AreBelow : ℕ → ℕ → List Entry → Type 0
-AreBelow paragraph level [] = ⊤
-AreBelow paragraph level (e ∷ es) = (paragraph ≤ e.status.level) × (e.status.level < level) × AreBelow paragraph e.status.level es
+AreBelow para_level level [] = ⊤
+AreBelow para_level level (e ∷ es) = (para_level ≤ e.status.level) × (e.status.level < level) × AreBelow para_level e.status.level es
 
 -- the levels of the stack go up, from the paragraph level to at most 125, so there are at most 126
-pub record IsWithinDepth (paragraph : ℕ) (s : State) : Type 0 where
-  pub from : paragraph ≤ s.top.status.level
+pub record IsWithinDepth (para_level : ℕ) (s : State) : Type 0 where
+  pub from : para_level ≤ s.top.status.level
   pub top : s.top.status.level ≤ 125
-  pub below : AreBelow paragraph s.top.status.level s.below
+  pub below : AreBelow para_level s.top.status.level s.below
 
 -- the three counts, together at most the openers that are open
 abbrev pub counted : State → ℕ

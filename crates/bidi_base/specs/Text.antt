@@ -8,16 +8,16 @@ use Rattle.std.specs.Iterator.{Count, IsFinite, AlwaysYields}
 abbrev pub text_len : (ℕ → ℕ) → List ℕ → ℕ
 text_len len_of chars = sum_by len_of chars
 
--- the place of the k-th character: the units before it
-abbrev pub place : (ℕ → ℕ) → List ℕ → ℕ → ℕ
-place len_of chars k = sum_by len_of (take k chars)
+-- the index of the k-th character's first unit: the units before it
+abbrev pub unit_index : (ℕ → ℕ) → List ℕ → ℕ → ℕ
+unit_index len_of chars k = sum_by len_of (take k chars)
 
 -- if a character begins at `start`, the next one begins at `next`, or the text ends there
 abbrev pub IsNextPlace : (ℕ → ℕ) → List ℕ → ℕ → ℕ → Type 0
 IsNextPlace len_of chars start next =
-    (k : ℕ) → k < length chars → start ≡ place len_of chars k → next ≡ place len_of chars (k + 1)
+    (k : ℕ) → k < length chars → start ≡ unit_index len_of chars k → next ≡ unit_index len_of chars (k + 1)
 
--- each character with its place, where the first stands at `from`
+-- each character with the index of its first unit, where the first stands at `from`
 abbrev pub char_indices_from : (ℕ → ℕ) → ℕ → List ℕ → List (ℕ × ℕ)
 char_indices_from len_of from [] = []
 char_indices_from len_of from (c ∷ cs) = (from, c) ∷ char_indices_from len_of (from + len_of c) cs
@@ -25,7 +25,7 @@ char_indices_from len_of from (c ∷ cs) = (from, c) ∷ char_indices_from len_o
 abbrev pub char_indices : (ℕ → ℕ) → List ℕ → List (ℕ × ℕ)
 char_indices len_of chars = char_indices_from len_of 0 chars
 
--- the place and the length of each character, where the first stands at `from`
+-- the index of the first unit and the length of each character, where the first stands at `from`
 abbrev pub indices_lengths_from : (ℕ → ℕ) → ℕ → List ℕ → List (ℕ × ℕ)
 indices_lengths_from len_of from [] = []
 indices_lengths_from len_of from (c ∷ cs) = (from, len_of c) ∷ indices_lengths_from len_of (from + len_of c) cs
@@ -47,7 +47,7 @@ ascii_of (Some p) = if is_ascii p.0 && p.1 == 1 then Some p.0 else None
 abbrev pub ascii_at : (ℕ → ℕ) → List ℕ → ℕ → Option ℕ
 ascii_at len_of chars u = ascii_of (char_at len_of chars u)
 
--- u is a place, or the text's length
+-- a character begins at unit u, or u is the text's length
 abbrev pub is_boundary : (ℕ → ℕ) → List ℕ → ℕ → Bool
 is_boundary len_of [] u = u == 0
 is_boundary len_of (c ∷ cs) u = u == 0 || (nat_le (len_of c) u && is_boundary len_of cs (u - len_of c))
@@ -70,7 +70,7 @@ subrange len_of chars start end = slice_range chars (char_index len_of chars sta
 abbrev pub per_unit : {X : Type 0} → (ℕ → ℕ) → List ℕ → List X → List X
 per_unit len_of chars values = flat_map (λ e. replicate (len_of e.0) e.1) (zip chars values)
 
--- one value a character, from one a unit: the one at the character's place
+-- one value a character, from one a unit: that of the character's first unit
 abbrev pub per_char : {X : Type 0} → X → (ℕ → ℕ) → List ℕ → List X → List X
 per_char d len_of chars units = map (λ e. get_or units e.0 d) (char_indices len_of chars)
 

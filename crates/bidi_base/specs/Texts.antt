@@ -46,9 +46,9 @@ module _ {e : Encoding} (text : Text e) where
   abbrev pub text_len : ℕ
   text_len = list.text_len e.len_of text.chars
 
-  -- the place of the k-th character: the units before it
-  abbrev pub place : ℕ → ℕ
-  place k = list.place e.len_of text.chars k
+  -- the index of the k-th character's first unit: the units before it
+  abbrev pub unit_index : ℕ → ℕ
+  unit_index k = list.unit_index e.len_of text.chars k
 
   -- if a character begins at `start`, the next one begins at `next`, or the text ends there
   abbrev pub IsNextPlace : ℕ → ℕ → Type 0
@@ -100,7 +100,7 @@ module _ {e : Encoding} (text : Text e) where
 
   -- a class for each code unit, one class for each character
   abbrev pub HaveClass : List BidiClass → Type 0
-  HaveClass units = entries.HaveClass e.len_of text.chars units
+  HaveClass classes = entries.HaveClass e.len_of text.chars classes
 
   -- a level for each code unit, one level for each character
   abbrev pub HaveLevel : List ℕ → Type 0
@@ -123,12 +123,12 @@ module _ {e : Encoding} (text : Text e) where
   kept_in_place classes runs = units.kept_in_place e.len_of text.chars classes runs
 
   abbrev pub CanFindExplicitLevels : ℕ → List BidiClass → List ℕ → List BidiClass → List (ℕ × ℕ) → Type 0
-  CanFindExplicitLevels paragraph stored_units level_units class_units found =
-      passes.CanFindExplicitLevels e.len_of text.chars paragraph stored_units level_units class_units found
+  CanFindExplicitLevels para_level original_classes level_units class_units found =
+      passes.CanFindExplicitLevels e.len_of text.chars para_level original_classes level_units class_units found
 
   abbrev pub AreExplicitLevels : ℕ → List BidiClass → List ℕ → List BidiClass → List (ℕ × ℕ) → Type 0
-  AreExplicitLevels paragraph stored_units level_units class_units found =
-      passes.AreExplicitLevels e.len_of text.chars paragraph stored_units level_units class_units found
+  AreExplicitLevels para_level original_classes level_units class_units found =
+      passes.AreExplicitLevels e.len_of text.chars para_level original_classes level_units class_units found
 
   abbrev pub CanResolveWeakTypes : List (ℕ × ℕ) → List BidiClass → Type 0
   CanResolveWeakTypes runs old = passes.CanResolveWeakTypes e.len_of text.chars runs old
@@ -137,18 +137,18 @@ module _ {e : Encoding} (text : Text e) where
   AreWeakTypesResolved runs sos old new = passes.AreWeakTypesResolved e.len_of text.chars runs sos old new
 
   abbrev pub CanResolveNeutrals : List (ℕ × ℕ) → List ℕ → List BidiClass → List BidiClass → Type 0
-  CanResolveNeutrals runs level_units stored_units old =
-      passes.CanResolveNeutrals e.len_of text.chars runs level_units stored_units old
+  CanResolveNeutrals runs level_units original_classes old =
+      passes.CanResolveNeutrals e.len_of text.chars runs level_units original_classes old
 
   abbrev pub AreNeutralsResolved : Source → List (ℕ × ℕ) → BidiClass → BidiClass → List ℕ → List BidiClass → List BidiClass → List BidiClass → Type 0
-  AreNeutralsResolved source runs sos eos level_units stored_units old new =
-      passes.AreNeutralsResolved e.len_of text.chars source runs sos eos level_units stored_units old new
+  AreNeutralsResolved source runs sos eos level_units original_classes old new =
+      passes.AreNeutralsResolved e.len_of text.chars source runs sos eos level_units original_classes old new
 
   abbrev pub AreNeutralsResolvedUpToN1 : Source → List (ℕ × ℕ) → BidiClass → BidiClass → List ℕ → List BidiClass → List BidiClass → List BidiClass → Type 0
-  AreNeutralsResolvedUpToN1 source runs sos eos level_units stored_units old new =
-      passes.AreNeutralsResolvedUpToN1 e.len_of text.chars source runs sos eos level_units stored_units old new
+  AreNeutralsResolvedUpToN1 source runs sos eos level_units original_classes old new =
+      passes.AreNeutralsResolvedUpToN1 e.len_of text.chars source runs sos eos level_units original_classes old new
 
--- one value a character, from one a unit: the one at the character's place
+-- one value a character, from one a unit: that of the character's first unit
 abbrev pub per_char : {X : Type 0} {e : Encoding} → X → Text e → List X → List X
 per_char {e = e} d text units = list.per_char d e.len_of text.chars units
 

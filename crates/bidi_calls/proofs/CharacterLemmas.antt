@@ -4,7 +4,7 @@ use Rattle.bidi_base.proofs.Common.{take_more, map-append, length-map, length-re
 use borrow.Rule.Slice.PartMut.{put_mid}
 use Rattle.std.proofs.lemmas.Slice.{take-put_mid}
 use Rattle.bidi_base.proofs.PerUnit.{per_unit-push}
-use Rattle.bidi_base.proofs.PlaceLemmas.{CharTurn}
+use Rattle.bidi_base.proofs.UnitIndexLemmas.{CharTurn}
 use Rattle.bidi_numbers.specs.Numbers.{class_numbered, direction_number, direction_in}
 use Rattle.bidi_calls.specs.Characters.{numbers_of, numbered_source}
 use Rattle.unicode_bidi.specs.DirectionSearch.{direction_found}

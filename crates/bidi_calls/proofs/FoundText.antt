@@ -18,14 +18,14 @@ rows_of [] = refl
 rows_of (p ∷ ps) = ap (λ rows. row_of p ∷ rows) (rows_of ps)
 
 -- the paragraphs of an analysis
-pub rows-found : (source : Source) (base : Option ℕ) (rule : Option SplitRule) (a : AnalysedText) (ps : List ParagraphInfo)
-    → IsAnalysis source base rule a (ranges_of ps) (levels_of ps) → map row_of ps ≡ paragraphs_in source base rule a.len_of a.chars
-rows-found source base rule a ps h = rows_of ps ∙ ap₂ paragraph_rows h.paragraphs.ranges h.paragraphs.para_levels
+pub rows-found : (source : Source) (base_level : Option ℕ) (rule : Option SplitRule) (a : AnalysedText) (ps : List ParagraphInfo)
+    → IsAnalysis source base_level rule a (ranges_of ps) (levels_of ps) → map row_of ps ≡ paragraphs_in source base_level rule a.len_of a.chars
+rows-found source base_level rule a ps h = rows_of ps ∙ ap₂ paragraph_rows h.paragraphs.ranges h.paragraphs.para_levels
 
 -- their number
-pub count-found : (source : Source) (base : Option ℕ) (rule : Option SplitRule) (a : AnalysedText) (ps : List ParagraphInfo)
-    → IsAnalysis source base rule a (ranges_of ps) (levels_of ps) → length ps ≡ length (paragraphs_in source base rule a.len_of a.chars)
-count-found source base rule a ps h = sym (length-map ps row_of) ∙ ap length (rows-found source base rule a ps h)
+pub count-found : (source : Source) (base_level : Option ℕ) (rule : Option SplitRule) (a : AnalysedText) (ps : List ParagraphInfo)
+    → IsAnalysis source base_level rule a (ranges_of ps) (levels_of ps) → length ps ≡ length (paragraphs_in source base_level rule a.len_of a.chars)
+count-found source base_level rule a ps h = sym (length-map ps row_of) ∙ ap length (rows-found source base_level rule a ps h)
 
 -- a front of a buffer is as long as what goes there
 pub length-front : {X Y : Type 0} (n : ℕ) (buffer : List X) (xs : List Y) → n ≤ length buffer → length xs ≡ n → length (take n buffer) ≡ length xs

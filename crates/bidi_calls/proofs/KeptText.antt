@@ -3,7 +3,7 @@ use Rattle.bidi_base.proofs.Common.{◌≡◌, ℕ, ◌+◌, true, false, Some, 
 use Rattle.bidi_base.proofs.Common.{line_text, levels_of_line, IsLine, IsPerChar, sub-zero}
 use Rattle.bidi_base.specs.declared.char_data.BidiClass.TheVariants.{L}
 use Rattle.bidi_base.proofs.PerUnit.{length-per_char}
-use Rattle.bidi_base.proofs.PlaceLemmas.{place-zero, place-end, char_index-place}
+use Rattle.bidi_base.proofs.UnitIndexLemmas.{unit_index-zero, unit_index-end, char_index-unit_index}
 use Rattle.bidi_base.proofs.TextLemmas.{HasUnits}
 use Rattle.bidi_lines.proofs.LineInText.{length-line}
 use Rattle.bidi_lines.proofs.ShownUnits.{length-shown_units}
@@ -41,8 +41,8 @@ module _ (len_of : ℕ → ℕ) (some : HasUnits len_of) (chars : List ℕ) (l :
   kept-even =
       let level : ℕ = l.paragraph.now.level in
       let n : ℕ = text_len len_of chars in
-      let first : char_index len_of chars 0 ≡ 0 = grind (arith, place-zero len_of chars, char_index-place len_of chars some 0) in
-      let last : char_index len_of chars n ≡ length chars = grind (arith, place-end len_of chars (length chars), char_index-place len_of chars some (length chars)) in
+      let first : char_index len_of chars 0 ≡ 0 = grind (arith, unit_index-zero len_of chars, char_index-unit_index len_of chars some 0) in
+      let last : char_index len_of chars n ≡ length chars = grind (arith, unit_index-end len_of chars (length chars), char_index-unit_index len_of chars some (length chars)) in
       let whole : subrange len_of chars 0 n ≡ chars = simp (first, last, sub-zero) (take_all (length chars) chars (le_refl (length chars))) in
       let classes = per_char L len_of chars (line_classes l) in
       let levels = per_char 0 len_of chars (own_levels l) in

@@ -3,7 +3,7 @@ use Rattle.bidi_base.proofs.Common.{◌≡◌, ℕ, ◌+◌, ◌-◌, ◌<◌, �
 use Rattle.bidi_base.proofs.Common.{Run, run_of, level_runs_from, level_runs, run_level, visual_runs, visual_order, AreVisualRuns, All}
 use Rattle.bidi_lines.proofs.Ordered.{visual_order-is}
 use Rattle.bidi_lines.proofs.VisualRuns.{order_below}
-use Rattle.bidi_lines.proofs.CharRuns.{map-same_on, at_places-moved}
+use Rattle.bidi_lines.proofs.CharRuns.{map-same_on, at_indexes-moved}
 use Rattle.bidi_numbers.specs.Rows.{run_row}
 
 -- a run that begins so many units later
@@ -30,7 +30,7 @@ visual_runs-moved by levels =
     let own : List ℕ = map (run_level 0 levels) (level_runs 0 levels) in
     let below = order_below own (visual_order own) (length (level_runs 0 levels)) (length-map (level_runs 0 levels) (run_level 0 levels)) (visual_order-is own) in
     let same_levels = map-same_on (λ r. run_level by levels (moved by r)) (run_level 0 levels) (level_runs 0 levels) (λ k d fits. run_level-moved by levels (get_or (level_runs 0 levels) k d)) in
-    simp (level_runs-moved by levels, map-map, same_levels, at_places-moved (moved by) (level_runs 0 levels) (visual_order own) below)
+    simp (level_runs-moved by levels, map-map, same_levels, at_indexes-moved (moved by) (level_runs 0 levels) (visual_order own) below)
 
 -- the runs as rows, from the ranges that are counted from the line's first unit
 pub rows-moved : (by : ℕ) (levels : List ℕ) (ranges : List (Range ℕ)) → map run_of ranges ≡ visual_runs 0 levels

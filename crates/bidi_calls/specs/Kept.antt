@@ -45,12 +45,12 @@ class_numbers source rule len_of chars =
 
 -- the stored levels of a text's units (X1 to I2)
 abbrev pub level_numbers : Source → Option ℕ → Option SplitRule → (ℕ → ℕ) → List ℕ → List ℕ
-level_numbers source base rule len_of chars = per_unit len_of chars (text_levels source base (pieces_by rule source chars))
+level_numbers source base_level rule len_of chars = per_unit len_of chars (text_levels source base_level (pieces_by rule source chars))
 
 -- the paragraphs of a text (P1) with their levels (P2, P3)
 abbrev pub paragraphs_in : Source → Option ℕ → Option SplitRule → (ℕ → ℕ) → List ℕ → List Paragraph
-paragraphs_in source base rule len_of chars =
-    let pieces = pieces_by rule source chars in paragraph_rows (ranges_from len_of 0 pieces) (paragraph_levels source base pieces)
+paragraphs_in source base_level rule len_of chars =
+    let pieces = pieces_by rule source chars in paragraph_rows (ranges_from len_of 0 pieces) (paragraph_levels source base_level pieces)
 
 -- what a call finds of a text: the numbers of its classes and levels, one a unit, and its paragraphs
 pub record AnalysisAsNumbers : Type 0 where
@@ -59,10 +59,10 @@ pub record AnalysisAsNumbers : Type 0 where
   pub paragraphs : List Paragraph
 
 abbrev pub analysis_of : Source → Option ℕ → Option SplitRule → (ℕ → ℕ) → List ℕ → AnalysisAsNumbers
-analysis_of source base rule len_of chars = record {
+analysis_of source base_level rule len_of chars = record {
   classes = class_numbers source rule len_of chars;
-  levels = level_numbers source base rule len_of chars;
-  paragraphs = paragraphs_in source base rule len_of chars;
+  levels = level_numbers source base_level rule len_of chars;
+  paragraphs = paragraphs_in source base_level rule len_of chars;
 }
 
 -- the same by the numbers that a caller passes

@@ -65,7 +65,7 @@ shown_fault len_of encode chars units l room =
     option_or (fault_unless (is_even len_of chars l) UnevenCharacter)
     (fault_unless (nat_le (length (reordered len_of encode chars units l)) room) NoRoom)
 
--- the index in the line of the character that stands at each visual place (L2)
+-- the index in the line of the character that stands at each visual index (L2)
 unfoldable pub order_of_line : (ℕ → ℕ) → List ℕ → KeptLine → List ℕ
 order_of_line len_of chars l = visual_order (per_char 0 len_of chars (shown_levels l))
 

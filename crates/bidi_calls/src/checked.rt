@@ -10,7 +10,7 @@ ghost use Rattle.bidi_numbers.specs.Rows.{paragraph_row};
 ghost use Rattle.unicode_bidi.specs.ParagraphInfo.{range_of, level_of};
 
 use crate::buffers::{AnalysisBuffers, Settings};
-use bidi_lines::shown_levels::FEW_UNITS;
+use bidi_lines::reused_levels::FEW_UNITS;
 use bidi_numbers::fault::{Fault, check, check_room_or_none};
 use bidi_numbers::numbers::{base_level, number_of, split_rule};
 use bidi_numbers::rows::Paragraph;

@@ -4,9 +4,9 @@ ghost use Rattle.std.specs.List.{list_all};
 ghost use Rattle.std.specs.Result.{result_err};
 ghost use Rattle.bidi_base.specs.Display.{run_of, visual_runs};
 ghost use Rattle.bidi_base.specs.Order.{visual_order as visual_order_of};
-ghost use Rattle.bidi_base.specs.Text.{place, per_char};
+ghost use Rattle.bidi_base.specs.Text.{unit_index, per_char};
 ghost use Rattle.bidi_base.specs.Texts.{text_len};
-ghost use Rattle.bidi_lines.specs.ShownLevels.{levels as levels_of};
+ghost use Rattle.bidi_lines.specs.LineLevels.{levels as levels_of};
 ghost use Rattle.bidi_numbers.specs.Faults.{FaultsAs, fault_unless, has_room_or_none};
 ghost use Rattle.bidi_calls.specs.Kept.{written, written_if_room, WritesList};
 ghost use Rattle.bidi_calls.specs.Lines.{lies_in, IsSound, IsAsLongAs, own_classes, own_levels, line_fault, levels_fault, runs_fault, order_fault, shown_levels};
@@ -18,7 +18,7 @@ ghost use Rattle.bidi_numbers.specs.Rows.{run_row};
 use crate::checked::write_levels;
 use crate::run_rows::put_runs;
 use bidi_lines::line_text::{LineText, StoredLine, write_line};
-use bidi_lines::shown_levels::ShownLevels;
+use bidi_lines::reused_levels::LineLevels;
 use bidi_lines::visual_order::write_visual_order;
 use bidi_lines::visual_runs::LineRuns;
 use bidi_numbers::class_numbers::ClassNumbers;
@@ -97,13 +97,13 @@ impl<'t> KeptLine<'t> {
     }
 
     /// Returns the level of each code unit of the line after L1. A line of up to 256 code units needs no allocation.
-    pub fn shown(&self, alloc: Global) -> Result<ShownLevels, AllocError>
+    pub fn shown(&self, alloc: Global) -> Result<LineLevels, AllocError>
         requires { IsSound self.now }
         ensures levels { IfOk result (λ s. levels_of s ≡ shown_levels self.now) }
         ensures units { IfOk result (λ s. length (levels_of s) + self.now.start ≡ self.now.end) }
     {
         let classes = ClassNumbers::new(self.class_numbers());
-        let mut shown = ShownLevels::new(alloc);
+        let mut shown = LineLevels::new(alloc);
         shown.show(self.level(), classes, self.level_numbers())?;
         Ok(shown)
     }

@@ -12,7 +12,7 @@ ghost use Rattle.bidi_calls.specs.Lines.{IsSound, IsAsLongAs, shown_levels};
 ghost use Rattle.bidi_calls.specs.Shown.{is_even, chars_at};
 ghost use Rattle.bidi_numbers.specs.Faults.{FaultsAs, has_room_or_none};
 ghost use Rattle.bidi_numbers.specs.Rows.{run_row};
-ghost use Rattle.bidi_lines.specs.ShownLevels.{levels as levels_of};
+ghost use Rattle.bidi_lines.specs.LineLevels.{levels as levels_of};
 ghost use Rattle.bidi_lines.specs.InText.{run_units, shown_units};
 
 use crate::buffers::LineBuffers;
@@ -22,7 +22,7 @@ use crate::counted::CountedText;
 use crate::line::KeptLine;
 use crate::run_rows::put_runs;
 use bidi_lines::line_text::{LineText, write_runs};
-use bidi_lines::shown_levels::ShownLevels;
+use bidi_lines::reused_levels::LineLevels;
 use bidi_lines::visual_order::write_visual_order;
 use bidi_lines::visual_runs::LineRuns;
 use bidi_numbers::fault::{Fault, check};
@@ -87,7 +87,7 @@ fn have_room<U>(units: usize, runs: usize, characters: usize, out: &LineBuffers<
 }
 
 // Keeps one level for each of a line's `len` characters. If each character is one unit, there is nothing to do.
-fn keep_characters<T: TextSource>(text: T, len: usize, shown: &mut ShownLevels)
+fn keep_characters<T: TextSource>(text: T, len: usize, shown: &mut LineLevels)
     requires units { length (levels_of shown.old) ≡ text_len (T.text text) }
     requires len { len ≡ length (T.text text).chars }
     ensures { levels_of shown.new ≡ per_char 0 (T.text text) (levels_of shown.old) }
@@ -102,7 +102,7 @@ fn keep_characters<T: TextSource>(text: T, len: usize, shown: &mut ShownLevels)
 fn write_order<T: CountedText>(
     text: T,
     runs: &[Range<usize>],
-    shown: &mut ShownLevels,
+    shown: &mut LineLevels,
     out: &mut [usize],
 )
     requires even { IsPerChar (T.text text) (levels_of shown.old) }
@@ -124,7 +124,7 @@ fn put_order_of<T: CountedText>(
     text: T,
     len: usize,
     runs: &[Range<usize>],
-    shown: &mut ShownLevels,
+    shown: &mut LineLevels,
 )
     requires even { IsPerChar (T.text text) (levels_of shown.old) }
     requires runs { map run_of runs.now ≡ visual_runs 0 (levels_of shown.old) }

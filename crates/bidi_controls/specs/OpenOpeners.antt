@@ -2,7 +2,7 @@
 use Rattle.std.specs.Prelude.{ℕ, Bool, false, is_some, if◌then◌else◌, List, [], ◌∷◌, slice_set, Option, Some, None}
 use Rattle.bidi_base.specs.declared.char_data.BidiClass.{BidiClass}
 use Rattle.bidi_base.specs.declared.char_data.BidiClass.TheVariants.{PDF, PDI}
-use Rattle.bidi_base.specs.Classes.{is_initiator, is_opener}
+use Rattle.bidi_base.specs.Classes.{is_isolate_initiator, is_opener}
 use Rattle.bidi_controls.specs.declared.openers.Opener.{Opener}
 
 -- the place of the innermost isolate initiator
@@ -40,7 +40,7 @@ left_open _ openers = openers
 -- what is open after it, where it stands at this place
 abbrev pub then_open : ℕ → BidiClass → List Opener → List Opener
 then_open place class openers =
-    if is_opener class then record { place = place; is_isolate = is_initiator class } ∷ openers else openers
+    if is_opener class then record { place = place; is_isolate = is_isolate_initiator class } ∷ openers else openers
 
 -- of the characters read so far, which are controls without a match: with one more, which closes what stands at a place
 abbrev pub with_closed : Option ℕ → List Bool → List Bool

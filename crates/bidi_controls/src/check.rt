@@ -7,7 +7,7 @@ ghost use Rattle.bidi_controls.specs.Matches.{is_control, is_unmatched};
 
 use crate::displayed::DisplayComparison;
 use crate::finding::{Finding, LineChar, Trouble, Wanted};
-use crate::lines::{first_file_line, first_line_len, has_quiet_ascii, own_chars};
+use crate::lines::{first_file_line, first_paragraph_len, has_quiet_ascii, own_chars};
 use crate::openers::Openers;
 use crate::unmatched::{find_unmatched, is_control};
 use bidi_base::data_source::BidiDataSource;
@@ -193,7 +193,7 @@ impl LineSearch {
     {
         let mut rest = line.chars;
         while !rest.is_empty() {
-            let (chars, after) = rest.split_at(first_line_len(data_source, rest));
+            let (chars, after) = rest.split_at(first_paragraph_len(data_source, rest));
             let paragraph = LineParagraph {
                 line: line.number,
                 place: line.chars.len() - rest.len(),

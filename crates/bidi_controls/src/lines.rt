@@ -30,7 +30,7 @@ fn ends_paragraph<D: BidiDataSource>(data_source: &D, c: char, after: &[char]) -
 
 /// Returns how many characters the first paragraph of a text has, with the separator that ends it, CR LF as one. The
 /// text is not empty.
-pub fn first_line_len<D: BidiDataSource>(data_source: &D, chars: &[char]) -> usize
+pub fn first_paragraph_len<D: BidiDataSource>(data_source: &D, chars: &[char]) -> usize
     requires { 0 < length chars.now }
     ensures some { 0 < result }
     ensures within { result ≤ length chars.now }

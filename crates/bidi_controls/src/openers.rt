@@ -2,7 +2,7 @@
 ghost use Rattle.std.specs.Prelude.{◌≡◌, reverse, OnOk, is_some, if◌then◌else◌};
 
 use bidi_base::char_data::BidiClass;
-use bidi_base::classes::{is_embedding, is_initiator};
+use bidi_base::classes::{is_embedding_initiator, is_isolate_initiator};
 use std::alloc::{AllocError, Global};
 use std::marker::Model;
 
@@ -111,8 +111,8 @@ impl Openers {
     pub fn open(&mut self, place: usize, class: BidiClass) -> Result<(), AllocError>
         ensures { OnOk result (self.new ≡ then_open place class self.old) }
     {
-        let is_isolate = is_initiator(class);
-        if is_isolate || is_embedding(class) {
+        let is_isolate = is_isolate_initiator(class);
+        if is_isolate || is_embedding_initiator(class) {
             self.entries.push(Opener { place, is_isolate })?;
             self.isolates += usize::from(is_isolate);
         }

@@ -7,7 +7,7 @@ ghost use Rattle.bidi_controls.specs.OpenOpeners.{with_closed};
 
 use crate::openers::Openers;
 use bidi_base::char_data::BidiClass;
-use bidi_base::classes::{is_embedding, is_initiator, is_pdi};
+use bidi_base::classes::{is_embedding_initiator, is_isolate_initiator, is_pdi};
 use bidi_base::data_source::BidiDataSource;
 use std::alloc::AllocError;
 
@@ -15,7 +15,7 @@ use std::alloc::AllocError;
 pub(crate) fn is_control(class: BidiClass) -> bool
     ensures { result ≡ is_control class }
 {
-    is_initiator(class) || is_embedding(class) || is_pdi(class) || matches!(class, BidiClass::PDF)
+    is_isolate_initiator(class) || is_embedding_initiator(class) || is_pdi(class) || matches!(class, BidiClass::PDF)
 }
 
 /// Notes a character of this class, which has closed what stands at a place, or nothing.

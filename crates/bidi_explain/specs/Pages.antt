@@ -54,7 +54,7 @@ link logical visual =
     ++ (decimal logical
     ++ (codes "\" x1=\"" ++ (decimal logical ++ (codes "\" y1=\"0\" x2=\"" ++ (decimal visual ++ codes "\" y2=\"1\"/>")))))
 
--- the same, only if the visual place is in the block
+-- the same, only if the visual index is in the block
 abbrev pub is_in_block : Block → ℕ → Bool
 is_in_block block place = nat_le block.from place && nat_lt (place - block.from) block.columns
 

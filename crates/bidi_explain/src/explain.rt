@@ -7,7 +7,7 @@ use crate::stages::{Stages, find_stages};
 use crate::table::push_table;
 use crate::view::{Form, StageView};
 use bidi_base::data_source::BidiDataSource;
-use bidi_controls::lines::{first_line_len, own_chars};
+use bidi_controls::lines::{first_paragraph_len, own_chars};
 use std::alloc::{AllocError, Global};
 
 /// Appends the stages of a paragraph in this form, a table for a terminal of this width.
@@ -61,7 +61,7 @@ pub fn explain<D: BidiDataSource>(
     let mut out = String::new(alloc);
     let mut rest = chars;
     while !rest.is_empty() {
-        let (line, after) = rest.split_at(first_line_len(data_source, rest));
+        let (line, after) = rest.split_at(first_paragraph_len(data_source, rest));
         push_paragraph(alloc, &mut out, data_source, view, line)?;
         rest = after;
     }

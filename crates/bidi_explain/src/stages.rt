@@ -1,7 +1,7 @@
 //! The results of the rules for a paragraph, stage by stage.
 ghost use Rattle.std.specs.Prelude.{◌≡◌, ◌<◌, ◌≤◌, None, map, length, vec_len, zip, All, IfOk, IfSome};
 ghost use Rattle.bidi_base.specs.Isolates.{stored_classes};
-ghost use Rattle.bidi_base.specs.Places.{at_places, first_or};
+ghost use Rattle.bidi_base.specs.Places.{at_indexes, first_or};
 ghost use Rattle.bidi_base.specs.declared.char_data.BidiClass.TheVariants.{L};
 ghost use Rattle.bidi_base.specs.Sequences.{level_at};
 ghost use Rattle.bidi_explain.specs.Stages.{weak_in, neutral_in, written, row_of, CanResolveIn, HasOneEach, StagesFrom, AreStages};
@@ -38,9 +38,9 @@ pub struct Stages {
     pub levels: Vec<Level>,
     /// The levels after L1, if the paragraph is one line.
     pub line_levels: Vec<Level>,
-    /// The visual order: for each visual place, the index of the character there (L2).
+    /// The visual order: for each visual index, the index of the character there (L2).
     pub order: Vec<usize>,
-    /// The visual place of each character.
+    /// The visual index of each character.
     pub places: Vec<usize>,
 }
 
@@ -51,7 +51,7 @@ fn classes_at(
     places: &[usize],
 ) -> Result<Vec<BidiClass>, AllocError>
     requires { All (λ p. p < length classes.now) places.now }
-    ensures { IfOk result (λ v. v.items ≡ at_places L classes.now places.now) }
+    ensures { IfOk result (λ v. v.items ≡ at_indexes L classes.now places.now) }
 {
     let mut found = Vec::with_capacity(alloc, places.len())?;
     for place in places {
@@ -67,7 +67,7 @@ fn brackets_at(
     places: &[usize],
 ) -> Result<Vec<Option<BidiMatchedOpeningBracket>>, AllocError>
     requires { All (λ p. p < length brackets.now) places.now }
-    ensures { IfOk result (λ v. v.items ≡ at_places None brackets.now places.now) }
+    ensures { IfOk result (λ v. v.items ≡ at_indexes None brackets.now places.now) }
 {
     let mut found = Vec::with_capacity(alloc, places.len())?;
     for place in places {
@@ -264,13 +264,13 @@ fn stages_of<D: BidiDataSource>(
 pub fn find_stages<D: BidiDataSource>(
     alloc: Global,
     data_source: &D,
-    base: Option<Level>,
+    base_level: Option<Level>,
     chars: &[char],
 ) -> Result<Stages, AllocError>
-    requires { IfSome base (λ level. level ≤ 125) }
-    ensures { IfOk result (AreStages (D.source data_source.now) base chars.now) }
+    requires { IfSome base_level (λ level. level ≤ 125) }
+    ensures { IfOk result (AreStages (D.source data_source.now) base_level chars.now) }
 {
-    let analysis = engine::analyse(alloc, data_source, CharsText::new(chars), base, false)?;
+    let analysis = engine::analyse(alloc, data_source, CharsText::new(chars), base_level, false)?;
     let level = first_level(analysis.paragraphs());
     stages_of(
         alloc,

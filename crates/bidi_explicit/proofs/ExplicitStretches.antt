@@ -3,13 +3,13 @@ use Rattle.bidi_base.proofs.Common.{◌≡◌, ℕ, zero, suc, ◌+◌, ◌-◌,
 use Rattle.bidi_base.proofs.Common.{arith, inl, inr, length-take, eq-eqb, common_steps, cases_Bool, cases_lt, cases_eq, ext_get_or, length-replicate, get_or-append_right, is_kept}
 use Rattle.bidi_base.proofs.Common.{is_kept_in_place, is_removed, then_some, class_at, IsFirst, passing, is_kept_at, level_at, State, start, closed, step, state_at}
 use Rattle.bidi_base.proofs.Common.{add-zero, if◌then◌else◌, get_or-drop, answer_class, answer_level}
-use Rattle.bidi_base.proofs.TextPlaces.{length-per_char, get_or-per_unit, char_index-place, is_boundary-place, place-char_index, place-end, place-le, place-lt, place-mono, place-more, place-zero, unit_of, IsPerChar-from_is_per_char}
-use Rattle.bidi_base.specs.Texts.{Encoding, Text, char_index, is_boundary, place, text_len, is_per_char, per_unit, IsPerChar, level_run_ranges}
+use Rattle.bidi_base.proofs.TextUnitIndexes.{length-per_char, get_or-per_unit, char_index-unit_index, is_boundary-unit_index, unit_index-char_index, unit_index-end, unit_index-le, unit_index-lt, unit_index-mono, unit_index-more, unit_index-zero, unit_of, IsPerChar-from_is_per_char}
+use Rattle.bidi_base.specs.Texts.{Encoding, Text, char_index, is_boundary, unit_index, text_len, is_per_char, per_unit, IsPerChar, level_run_ranges}
 use Rattle.bidi_base.specs.declared.char_data.BidiClass.{BidiClass}
 use Rattle.bidi_base.specs.declared.char_data.BidiClass.TheVariants.{L, BN}
 use Rattle.bidi_laws.proofs.ExplicitLemmas.{length-explicit_levels, length-processing_classes, level_at-explicit_levels, class_at-processing_classes}
 use Rattle.bidi_base.proofs.PerUnit.{length-per_unit}
-use Rattle.bidi_base.proofs.PlaceLemmas.{UnitOf}
+use Rattle.bidi_base.proofs.UnitIndexLemmas.{UnitOf}
 use Rattle.bidi_laws.proofs.StatusBounds.{state_at-more}
 use Rattle.bidi_laws.proofs.StatusMachine.{answer_level-explicit_level}
 use Rattle.bidi_base.proofs.TextLemmas.{length-le-text_len}
@@ -99,7 +99,7 @@ module _ (len_of : ℕ → ℕ) (chars : List ℕ) (classes : List BidiClass) (l
 
 module _ {encoding : Encoding} (p : Paragraph encoding) (whole : IsPerChar p.text p.original) where
   abbrev place_of : ℕ → ℕ
-  place_of k = place p.text k
+  place_of k = unit_index p.text k
 
   original_is : p.original ≡ per_unit p.text (stored p)
   original_is = per_unit-from_IsPerChar L encoding.len_of encoding.positive p.text.chars p.original whole
@@ -128,10 +128,10 @@ module _ {encoding : Encoding} (p : Paragraph encoding) (whole : IsPerChar p.tex
 
   -- a unit between two places is one of a character between them
   unit-from : (i v : ℕ) → place_of i ≤ v → (w : UnitOf encoding.len_of p.text.chars v) → i ≤ w.index
-  unit-from i v above w = grind (arith, w.at_place, w.below, place-more p.text w.index 0 w.within, place-mono p.text (w.index + 1) i)
+  unit-from i v above w = grind (arith, w.at_place, w.below, unit_index-more p.text w.index 0 w.within, unit_index-mono p.text (w.index + 1) i)
 
   unit-to : (j v : ℕ) → v < place_of j → (w : UnitOf encoding.len_of p.text.chars v) → w.index < j
-  unit-to j v below w = grind (arith, place-mono)
+  unit-to j v below w = grind (arith, unit_index-mono)
 
   -- a character that begins at unit u, behind others, or the end
   record BeginsFrom (i u : ℕ) : Type 0 where
@@ -145,7 +145,7 @@ module _ {encoding : Encoding} (p : Paragraph encoding) (whole : IsPerChar p.tex
   first-begins test i from to u from_is fits h inside =
       let w = unit_of p.text u (omega (arith, original_long)) in
       let order = unit-from i u (omega (arith, h.begins)) w in
-      let after = place-mono p.text i w.index order in
+      let after = unit_index-mono p.text i w.index order in
       elim (cases_eq w.offset 0) [
         | inl none ↦ grind arith
         | inr some ↦ grind (
@@ -159,13 +159,13 @@ module _ {encoding : Encoding} (p : Paragraph encoding) (whole : IsPerChar p.tex
   -- where a stretch without controls ends
   stretch-ends : (i from to : ℕ) → from ≡ place_of i → i ≤ length p.text.chars → IsFirst (passing is_control p.original) from (length p.original) to → BeginsFrom i to
   stretch-ends i from to from_is short h =
-      grind (arith, cases_lt to (length p.original), first-begins is_control i from (length p.original) to, original_long, place-end p.text (length p.text.chars))
+      grind (arith, cases_lt to (length p.original), first-begins is_control i from (length p.original) to, original_long, unit_index-end p.text (length p.text.chars))
 
   -- what holds of the class of each unit holds of each character
   each-char : (test : BidiClass → Bool) (b : Bool) (i j from to : ℕ) → from ≡ place_of i → to ≡ place_of j → j ≤ length p.text.chars
       → ((u : ℕ) → from ≤ u → u < to → test (class_at p.original u) ≡ b) → (k : ℕ) → i ≤ k → k < j → test (class_at (stored p) k) ≡ b
   each-char test b i j from to from_is to_is short each k above below =
-      grind (arith, class-at_place k, place-mono p.text i k, place-lt p.text k j, each (place_of k))
+      grind (arith, class-at_place k, unit_index-mono p.text i k, unit_index-lt p.text k j, each (place_of k))
 
   -- where characters i to j are no controls
   module _ (i j : ℕ) (order : i ≤ j) (short : j ≤ length p.text.chars) (plain : (k : ℕ) → i ≤ k → k < j → is_control (class_at (stored p) k) ≡ false) where
@@ -190,8 +190,8 @@ pub first-is_boundary : {encoding : Encoding} (p : Paragraph encoding) → is_pe
 first-is_boundary p whole test from to u begins ends fits first = elim (cases_lt u to) [
   | inl inside ↦
       let per_char = IsPerChar-from_is_per_char p.text ghosts.eq class_test p.original whole in
-      let b = first-begins p per_char test (char_index p.text from) from to u (sym (place-char_index p.text from begins)) fits first inside in
-      ap (is_boundary p.text) b.there ∙ is_boundary-place p.text b.index
+      let b = first-begins p per_char test (char_index p.text from) from to u (sym (unit_index-char_index p.text from begins)) fits first inside in
+      ap (is_boundary p.text) b.there ∙ is_boundary-unit_index p.text b.index
   | inr past ↦ let same : u ≡ to = omega (arith, first.ends) in ap (is_boundary p.text) same ∙ ends
 ]
 
@@ -210,29 +210,29 @@ IsFirst-advances test from to u fails some first = grind (arith, cases_eq u from
 
 -- the end of a text is a boundary
 pub is_boundary-end : {encoding : Encoding} (text : Text encoding) (units : ℕ) → units ≡ text_len text → is_boundary text units ≡ true
-is_boundary-end text units is = ap (is_boundary text) (is ∙ sym (place-end text (length text.chars) (omega arith))) ∙ is_boundary-place text (length text.chars)
+is_boundary-end text units is = ap (is_boundary text) (is ∙ sym (unit_index-end text (length text.chars) (omega arith))) ∙ is_boundary-unit_index text (length text.chars)
 
 -- as many characters are read as begin below the unit
 pub read-index : {encoding : Encoding} (p : Paragraph encoding) (u : ℕ) (stack : State) (levels : List ℕ) (classes : List BidiClass) (runs : List (ℕ × ℕ)) (run : OpenRun) (h : IsReadTo p u stack levels classes runs run)
     → char_index p.text u ≡ h.index
-read-index p u stack levels classes runs run h = ap (char_index p.text) h.begins ∙ char_index-place p.text h.index h.within
+read-index p u stack levels classes runs run h = ap (char_index p.text) h.begins ∙ char_index-unit_index p.text h.index h.within
 
 pub read-begins : {encoding : Encoding} (p : Paragraph encoding) (u : ℕ) (stack : State) (levels : List ℕ) (classes : List BidiClass) (runs : List (ℕ × ℕ)) (run : OpenRun)
     → IsReadTo p u stack levels classes runs run → is_boundary p.text u ≡ true
-read-begins p u stack levels classes runs run h = grind (arith, is_boundary-place) steps 400000
+read-begins p u stack levels classes runs run h = grind (arith, is_boundary-unit_index) steps 400000
 
 -- ---- more characters are read
 
 module _ {encoding : Encoding} (p : Paragraph encoding) (at : ℕ) (stack : State) (levels : List ℕ) (classes : List BidiClass) (runs : List (ℕ × ℕ)) (run : OpenRun) (h : IsReadTo p at stack levels classes runs run) (to index : ℕ)
-    (begins : to ≡ place p.text index) (order : h.index ≤ index) (within : index ≤ length p.text.chars) where
+    (begins : to ≡ unit_index p.text index) (order : h.index ≤ index) (within : index ≤ length p.text.chars) where
   read-more : (next : State) (level : ℕ) (now_levels : List ℕ) (now_classes : List BidiClass) (now_runs : List (ℕ × ℕ)) (now : OpenRun) → next ≡ state_at p.level (stored p) index
       → now_levels ≡ filled at (to - at) level levels → ((k : ℕ) → h.index ≤ k → k < index → get_or (levels_of p) k 0 ≡ level)
       → length now_classes ≡ length classes → ((v : ℕ) → v < at → class_at now_classes v ≡ class_at classes v) → ((v : ℕ) → to ≤ v → class_at now_classes v ≡ class_at classes v)
       → ((v : ℕ) → at ≤ v → v < to → (w : UnitOf encoding.len_of p.text.chars v) → h.index ≤ w.index → w.index < index → class_at now_classes v ≡ class_at (classes_of p) w.index)
       → IsCutTo encoding.len_of p.text.chars (stored p) (levels_of p) index now_runs now.start now.last_level → IsReadTo p to next now_levels now_classes now_runs now
   read-more next level now_levels now_classes now_runs now machine filled_is each long below above new cut =
-      let upto : to ≤ text_len p.text = omega (arith, begins, place-le p.text index) in
-      let from : at ≤ to = omega (arith, begins, h.begins, place-mono p.text h.index index order) in
+      let upto : to ≤ text_len p.text = omega (arith, begins, unit_index-le p.text index) in
+      let from : at ≤ to = omega (arith, begins, h.begins, unit_index-mono p.text h.index index order) in
       let room : at + (to - at) ≤ length levels = omega (arith, h.levels_long) in
       let unit = λ (v : ℕ) (inside : v < to). unit_of p.text v (omega arith) in
       let first = λ (v : ℕ) (a : at ≤ v) (b : v < to). unit-from p h.per_char h.index v (omega (arith, h.begins)) (unit v b) in
@@ -280,13 +280,13 @@ module _ {encoding : Encoding} (p : Paragraph encoding) (from to : ℕ) (stack :
   class-here : (k : ℕ) → h.index ≤ k → k < end.index → class_at (classes_of p) k ≡ overridden stack.top.status.override (class_at (stored p) k)
   class-here k above below = simp h.machine (class-still p h.per_char h.index end.index end.order end.within plain k above below)
 
-  kept-as : (b : Bool) (j u : ℕ) → u ≡ place p.text j → j ≤ end.index
+  kept-as : (b : Bool) (j u : ℕ) → u ≡ unit_index p.text j → j ≤ end.index
       → ((v : ℕ) → from ≤ v → v < u → is_kept_in_place (class_at p.original v) ≡ b) → (k : ℕ) → h.index ≤ k → k < j → is_kept_at (stored p) k ≡ b
   kept-as b j u there upto each k above below =
       grind (arith, kept-plain (class_at (stored p) k), plain k, end.within, each-char p h.per_char is_kept_in_place b h.index j from u h.begins there)
 
   -- up to the first kept unit
-  cut-before : (j u : ℕ) → u ≡ place p.text j → h.index ≤ j → j ≤ end.index
+  cut-before : (j u : ℕ) → u ≡ unit_index p.text j → h.index ≤ j → j ≤ end.index
       → ((v : ℕ) → from ≤ v → v < u → is_kept_in_place (class_at p.original v) ≡ false) → IsCut j runs run.start run.last_level
   cut-before j u there order upto none =
       kept_on (λ k. IsCut k runs run.start run.last_level) h.index (j - h.index) j (omega arith)
@@ -297,7 +297,7 @@ module _ {encoding : Encoding} (p : Paragraph encoding) (from to : ℕ) (stack :
   cut-some v level level_is first inside =
       let last = stretch.ends in
       let b = first-begins p h.per_char is_kept_in_place h.index from to v h.begins (omega arith) first inside in
-      let below : b.index < end.index = grind (arith, place-mono) in
+      let below : b.index < end.index = grind (arith, unit_index-mono) in
       let kept : is_kept_at (stored p) b.index ≡ true = cc (kept-plain (class_at (stored p) b.index) (plain b.index b.order below), class-at_place p h.per_char b.index (omega (arith, below, end.within)), b.there, first.at inside) in
       cut-same encoding.len_of p.text.chars (stored p) (levels_of p) (b.index + 1) end.index (runs_before run.last_level level run.start v runs) (run_start run.last_level level run.start v) level (omega arith)
       (λ k above upto. level_is ∙ sym (level-here k (omega (arith, b.order)) upto))
@@ -338,7 +338,7 @@ module _ {encoding : Encoding} (p : Paragraph encoding) (from to : ℕ) (stack :
 module _ {encoding : Encoding} (p : Paragraph encoding) (at : ℕ) (stack : State) (levels : List ℕ) (classes : List BidiClass) (runs : List (ℕ × ℕ)) (run : OpenRun)
     (h : IsReadTo p at stack levels classes runs run) (inside : at < length p.original) where
   control-fits : h.index < length p.text.chars
-  control-fits = grind (arith, place-end, original_long)
+  control-fits = grind (arith, unit_index-end, original_long)
 
   control-class : class_at p.original at ≡ class_at (stored p) h.index
   control-class = grind (arith, class-at_place, control-fits) steps 400000
@@ -350,14 +350,14 @@ module _ {encoding : Encoding} (p : Paragraph encoding) (at : ℕ) (stack : Stat
 
   -- where it ends
   abbrev pub Ends : ℕ → Type 0
-  Ends next = (k : ℕ) → k < length p.text.chars → at ≡ place p.text k → next ≡ place p.text (k + 1)
+  Ends next = (k : ℕ) → k < length p.text.chars → at ≡ unit_index p.text k → next ≡ unit_index p.text (k + 1)
 
   pub control-index : (next : ℕ) → Ends next → char_index p.text next ≡ char_index p.text at + 1
   control-index next ends =
-      cc (ends h.index control-fits h.begins, char_index-place p.text (h.index + 1) (omega (arith, control-fits)), read-index p at stack levels classes runs run h)
+      cc (ends h.index control-fits h.begins, char_index-unit_index p.text (h.index + 1) (omega (arith, control-fits)), read-index p at stack levels classes runs run h)
 
   pub control-some : (next : ℕ) → Ends next → at < next
-  control-some next ends = grind (arith, control-fits, place-lt) steps 400000
+  control-some next ends = grind (arith, control-fits, unit_index-lt) steps 400000
 
   module _ (next : ℕ) (ends : Ends next) (now : State) (level : ℕ) (put : BidiClass) (now_is : now ≡ step (class_at p.original at) stack)
       (level_is : level ≡ answer_level p.level (class_at p.original at) stack)
@@ -376,8 +376,8 @@ module _ {encoding : Encoding} (p : Paragraph encoding) (at : ℕ) (stack : Stat
         → IsCutTo encoding.len_of p.text.chars (stored p) (levels_of p) (h.index + 1) now_runs now_run.start now_run.last_level
         → IsReadTo p next now now_levels now_classes now_runs now_run
     control-read now_runs now_run cut =
-        let there : next ≡ place p.text (h.index + 1) = ends h.index control-fits h.begins in
-        let room : at + (next - at) ≤ length classes = omega (arith, there, h.classes_long, control-some next ends, place-le p.text (h.index + 1)) in
+        let there : next ≡ unit_index p.text (h.index + 1) = ends h.index control-fits h.begins in
+        let room : at + (next - at) ≤ length classes = omega (arith, there, h.classes_long, control-some next ends, unit_index-le p.text (h.index + 1)) in
         let one = λ (k : ℕ) (above : h.index ≤ k) (below : k < h.index + 1). let same : k ≡ h.index = omega arith in same in
         read-more p at stack levels classes runs run h next (h.index + 1) there (omega arith) (omega (arith, control-fits)) now level now_levels now_classes now_runs now_run
         (next_at encoding.len_of p.text.chars p.level (stored p) h.index within (class_at p.original at) control-class stack now level put now_is level_is put_is h.machine)
@@ -409,18 +409,18 @@ pub read-start : {encoding : Encoding} (p : Paragraph encoding) → is_per_char 
 unfolding state_at
 read-start {encoding = encoding} p whole stack levels classes runs run new long same none first =
     let per_char = IsPerChar-from_is_per_char p.text ghosts.eq class_test p.original whole in
-    grind (arith, place-zero p.text, original_long p per_char, IsCutTo-start encoding.len_of p.text.chars (stored p) (levels_of p))
+    grind (arith, unit_index-zero p.text, original_long p per_char, IsCutTo-start encoding.len_of p.text.chars (stored p) (levels_of p))
 
 module _ {encoding : Encoding} (p : Paragraph encoding) (at : ℕ) (stack : State) (levels : List ℕ) (classes : List BidiClass) (runs : List (ℕ × ℕ)) (run : OpenRun)
     (h : IsReadTo p at stack levels classes runs run) (past : length p.original ≤ at) where
   all_read : h.index ≡ length (stored p)
-  all_read = grind (arith, common_steps, original_long, stored_long, place-lt)
+  all_read = grind (arith, common_steps, original_long, stored_long, unit_index-lt)
 
   pub read-all : char_index p.text at ≡ length p.text.chars
   read-all = read-index p at stack levels classes runs run h ∙ all_read ∙ stored_long p h.per_char
 
   pub read-count : (stride : Stride) → count_to stride p.text at ≡ count_of stride (length p.original) (length p.text.chars)
-  read-count CodeUnit = grind (arith, h.begins, h.within, place-le p.text h.index, original_long p h.per_char)
+  read-count CodeUnit = grind (arith, h.begins, h.within, unit_index-le p.text h.index, original_long p h.per_char)
   read-count Character = read-all
 
   pub read-units : at ≡ length p.original

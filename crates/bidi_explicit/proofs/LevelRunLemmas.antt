@@ -2,9 +2,9 @@
 use Rattle.bidi_base.proofs.Common.{◌≡◌, ℕ, zero, suc, ◌+◌, ◌-◌, ◌<◌, ◌≤◌, true, false, List, [], ◌∷◌, ◌++◌, length, map, get_or, refl, sym, ap, arith, ◌⊎◌}
 use Rattle.bidi_base.proofs.Common.{length-append, rules, filter, range_with_len, cases_Bool, map-append, get_or-map, length-map, indexes}
 use Rattle.bidi_base.proofs.Common.{is_kept_at, begins_run, run_starts, ranges_between, chars_in_runs}
-use Rattle.bidi_base.proofs.TextPlaces.{place-end, char_index-place}
+use Rattle.bidi_base.proofs.TextUnitIndexes.{unit_index-end, char_index-unit_index}
 use Rattle.bidi_base.specs.Units as in_units
-use Rattle.bidi_base.specs.Texts.{Encoding, Text, place, text_len, level_run_ranges, kept_in_runs}
+use Rattle.bidi_base.specs.Texts.{Encoding, Text, unit_index, text_len, level_run_ranges, kept_in_runs}
 use Rattle.bidi_base.specs.declared.char_data.BidiClass.{BidiClass}
 use Rattle.bidi_laws.proofs.SuccessorLemmas.{kept_before-is_None}
 use Rattle.bidi_laws.proofs.RunsLemmas.{IsLevelRun}
@@ -63,26 +63,26 @@ IsLevelRun-at (c ∷ classes) levels k within = level_run_at (c ∷ classes) lev
 
 -- the kept characters of one range of units
 pub kept_in_run : {encoding : Encoding} (text : Text encoding) (classes : List BidiClass) (a b : ℕ) → a ≤ length text.chars → b ≤ length text.chars
-    → kept_in_runs text classes ((place text a, place text b) ∷ []) ≡ filter (is_kept_at classes) (range_with_len a (b - a))
+    → kept_in_runs text classes ((unit_index text a, unit_index text b) ∷ []) ≡ filter (is_kept_at classes) (range_with_len a (b - a))
 unfolding in_units.kept_in_runs in_units.chars_in_runs
-kept_in_run text classes a b first second = search (rules, char_index-place)
+kept_in_run text classes a b first second = search (rules, char_index-unit_index)
 
 -- the k-th level run as a range of units
 pub level_run_ranges-at : {encoding : Encoding} (text : Text encoding) (classes : List BidiClass) (levels : List ℕ) (k : ℕ) (d : ℕ × ℕ) → length classes ≡ length text.chars → k < length (run_starts classes levels)
     → get_or (level_run_ranges text classes levels) k d
-    ≡ (place text (get_or (run_starts classes levels ++ length classes ∷ []) k 0), place text (get_or (run_starts classes levels ++ length classes ∷ []) (suc k) 0))
+    ≡ (unit_index text (get_or (run_starts classes levels ++ length classes ∷ []) k 0), unit_index text (get_or (run_starts classes levels ++ length classes ∷ []) (suc k) 0))
 unfolding in_units.level_run_ranges
 level_run_ranges-at text classes levels k d long within =
     let starts : List ℕ = run_starts classes levels in
     let n : ℕ = length classes in
-    let last : text_len text ≡ place text n = sym (place-end text n (omega arith)) in
+    let last : text_len text ≡ unit_index text n = sym (unit_index-end text n (omega arith)) in
     let both : length (starts ++ n ∷ []) ≡ length starts + 1 = length-append starts (n ∷ []) in
     grind (
       arith,
-      ranges_between-at (map (place text) starts) (text_len text) k d,
+      ranges_between-at (map (unit_index text) starts) (text_len text) k d,
       length-map,
-      map-append (place text) starts (n ∷ []),
-      get_or-map (place text) (starts ++ n ∷ []),
+      map-append (unit_index text) starts (n ∷ []),
+      get_or-map (unit_index text) (starts ++ n ∷ []),
     )
 
 pub length-level_run_ranges : {encoding : Encoding} (text : Text encoding) (classes : List BidiClass) (levels : List ℕ)

@@ -4,9 +4,9 @@ use Rattle.bidi_base.proofs.Common.{subst, ◌∙◌, arith, add-one, append-nil
 use Rattle.bidi_base.proofs.Common.{All-nil, All-cons, map-append, IsPermutation, length-map, indexes, is_l_or_r, last_or, holds_number, chain, is_kept_at, kept_before, next_kept, have_one_level}
 use Rattle.bidi_base.proofs.Common.{successor, is_first, start_class, end_class, sequence_from, sequences, has_places, are_ordered_from, are_ordered}
 use Rattle.bidi_base.proofs.Common.{chars_in_runs, flat_map, IsPermutation-map, is_run_sequence}
-use Rattle.bidi_base.proofs.TextPlaces.{place-lt, place-mono, IsLine-places}
+use Rattle.bidi_base.proofs.TextUnitIndexes.{unit_index-lt, unit_index-mono, IsLine-unit_indexes}
 use Rattle.bidi_base.specs.Units as in_units
-use Rattle.bidi_base.specs.Texts.{Encoding, Text, place, IsLine, AreLines, level_run_ranges, kept_in_runs}
+use Rattle.bidi_base.specs.Texts.{Encoding, Text, unit_index, IsLine, AreLines, level_run_ranges, kept_in_runs}
 use Rattle.bidi_base.specs.declared.char_data.BidiClass.{BidiClass}
 use Rattle.bidi_base.specs.declared.char_data.BidiClass.TheVariants.{L}
 use Rattle.bidi_base.proofs.ChainLemmas.{IsLinked, IsPermutation-chains, IsMaximal-chain, Follows, Follows-chain, Follows-join}
@@ -23,7 +23,7 @@ use Rattle.bidi_explicit.specs.declared.prepare.links.RunLinks.{RunLinks}
 use Rattle.bidi_explicit.specs.declared.prepare.links.RunSides.{RunSides}
 use Rattle.bidi_explicit.proofs.LevelRunLemmas.{kept_in_run, level_run_ranges-at, length-level_run_ranges}
 use Rattle.bidi_explicit.proofs.LinkPass.{AreLinks, AreSides}
-use Rattle.bidi_explicit.proofs.RunMembers.{count, cut, members, head, back, level_run, IsWhole, below_cut, same_run, begun_in, ended_in, kept_places-members}
+use Rattle.bidi_explicit.proofs.RunMembers.{count, cut, members, head, back, level_run, IsWhole, below_cut, same_run, begun_in, ended_in, kept_indexes-members}
 
 last_or-append : (d x : ℕ) (xs ys : List ℕ) → last_or d (xs ++ x ∷ ys) ≡ last_or x ys
 last_or-append d x [] ys = refl
@@ -212,7 +212,7 @@ module _ (classes : List BidiClass) (levels : List ℕ) (links : RunLinks) (whol
 
   -- ---- the sequences, of runs as ranges of units
 
-  module _ (paragraph : ℕ) (sides : AreSides classes levels paragraph (count classes levels) links.sides.items) {encoding : Encoding} (text : Text encoding) (long : length classes ≡ length text.chars)
+  module _ (para_level : ℕ) (sides : AreSides classes levels para_level (count classes levels) links.sides.items) {encoding : Encoding} (text : Text encoding) (long : length classes ≡ length text.chars)
       (runs : List (ℕ × ℕ)) (runs_are : runs ≡ level_run_ranges text classes levels) where
     all_runs : length runs ≡ n
     all_runs = ap length runs_are ∙ length-level_run_ranges text classes levels
@@ -223,7 +223,7 @@ module _ (classes : List BidiClass) (levels : List ℕ) (links : RunLinks) (whol
     abbrev start_of : ℕ → ℕ
     start_of k = cut classes levels k
 
-    run_is : (k : ℕ) → k < n → get_or runs k (0, 0) ≡ (place text (cut classes levels k), place text (cut classes levels (k + 1)))
+    run_is : (k : ℕ) → k < n → get_or runs k (0, 0) ≡ (unit_index text (cut classes levels k), unit_index text (cut classes levels (k + 1)))
     run_is k within = rw (runs_are, add-one k) (level_run_ranges-at text classes levels k (0, 0) long within)
 
     kept_in_runs-first : (r : ℕ × ℕ) (rs : List (ℕ × ℕ)) → kept_in_runs text classes (r ∷ rs) ≡ kept_in_runs text classes (r ∷ []) ++ kept_in_runs text classes rs
@@ -251,20 +251,20 @@ module _ (classes : List BidiClass) (levels : List ℕ) (links : RunLinks) (whol
     begins_is : (r : ℕ) → r < n → begins links r ≡ is_first classes levels (head classes levels r)
     begins_is r within = ap (λ (s : RunSides). is_some s.sos) (sides.is r within) ∙ either (is_first classes levels (first_of r))
       where
-        either : (b : Bool) → is_some (cond b (Some (start_class paragraph classes levels (first_of r))) None) ≡ b
+        either : (b : Bool) → is_some (cond b (Some (start_class para_level classes levels (first_of r))) None) ≡ b
         either true = refl
         either false = refl
 
-    sos_is : (r : ℕ) → r < n → is_first classes levels (head classes levels r) ≡ true → (sequence_at links runs r).sos ≡ start_class paragraph classes levels (head classes levels r)
+    sos_is : (r : ℕ) → r < n → is_first classes levels (head classes levels r) ≡ true → (sequence_at links runs r).sos ≡ start_class para_level classes levels (head classes levels r)
     sos_is r within first = ap (λ (s : RunSides). unwrap_or s.sos L) (sides.is r within) ∙ simp first
 
-    eos_is : (r : ℕ) → r < n → (s : IsSequence r) → (sequence_at links runs r).eos ≡ end_class paragraph classes levels (back classes levels (last_or r s.rs))
+    eos_is : (r : ℕ) → r < n → (s : IsSequence r) → (sequence_at links runs r).eos ≡ end_class para_level classes levels (back classes levels (last_or r s.rs))
     eos_is r within s =
         ap (λ ks. (sides_at links.sides.items (last_or r ks)).eos) s.runs
         ∙ ap (λ (x : RunSides). x.eos) (sides.is (last_or r s.rs) (last_below r s.rs within s.follows))
 
     sequence_is : (r : ℕ) → r < n → is_first classes levels (head classes levels r) ≡ true
-        → characters_of text classes (sequence_at links runs r) ≡ sequence_from paragraph classes levels (head classes levels r)
+        → characters_of text classes (sequence_at links runs r) ≡ sequence_from para_level classes levels (head classes levels r)
     unfolding sequence_from
     sequence_is r within first = λ i. record { places = places_are i; sos = sos_is r within first i; eos = eos_are i }
       where
@@ -275,17 +275,17 @@ module _ (classes : List BidiClass) (levels : List ℕ) (links : RunLinks) (whol
         places_are =
             ap (λ ks. kept_in_runs text classes (map (λ k. get_or runs k (0, 0)) ks)) s.runs ∙ kept_along r s.rs within s.follows ∙ s.members_are ∙ sym s.places
 
-        eos_are : (sequence_at links runs r).eos ≡ end_class paragraph classes levels (last_or (head classes levels r) (chain (successor classes levels) (length classes) (Some (head classes levels r))))
+        eos_are : (sequence_at links runs r).eos ≡ end_class para_level classes levels (last_or (head classes levels r) (chain (successor classes levels) (length classes) (Some (head classes levels r))))
         eos_are =
-            eos_is r within s ∙ ap (end_class paragraph classes levels) (sym (ap (last_or (first_of r)) s.places ∙ s.final))
+            eos_is r within s ∙ ap (end_class para_level classes levels) (sym (ap (last_or (first_of r)) s.places ∙ s.final))
 
-    has_members : (r : ℕ) → r < n → has_places (sequence_from paragraph classes levels (head classes levels r)) ≡ true
+    has_members : (r : ℕ) → r < n → has_places (sequence_from para_level classes levels (head classes levels r)) ≡ true
     unfolding sequence_from
     has_members r within = let s = sequence_of r within in lt-ltb 0 _ (omega (arith, ap length s.places))
 
     sequences_from : (low m : ℕ) → low + m ≤ n
         → filter has_places (map (characters_of text classes) (map (sequence_at links runs) (filter (begins links) (range_with_len low m))))
-        ≡ map (sequence_from paragraph classes levels) (map (head classes levels) (filter (λ k. is_first classes levels (head classes levels k)) (range_with_len low m)))
+        ≡ map (sequence_from para_level classes levels) (map (head classes levels) (filter (λ k. is_first classes levels (head classes levels k)) (range_with_len low m)))
     sequences_from low zero fits = refl
     sequences_from low (suc m) fits = elim (cases_Bool (is_first classes levels (first_of low))) [
       | inl first ↦
@@ -298,12 +298,12 @@ module _ (classes : List BidiClass) (levels : List ℕ) (links : RunLinks) (whol
           simp (here, later, sequences_from (low + 1) m (omega arith))
     ]
 
-    pub linked-sequences : sequences_of text classes (linked_sequences links runs) ≡ sequences paragraph classes levels
+    pub linked-sequences : sequences_of text classes (linked_sequences links runs) ≡ sequences para_level classes levels
     unfolding linked_sequences sequences
     linked-sequences =
         ap (λ k. filter has_places (map (characters_of text classes) (map (sequence_at links runs) (filter (begins links) (range_with_len 0 k))))) all_runs
         ∙ sequences_from 0 n (omega arith)
-        ∙ ap (map (sequence_from paragraph classes levels)) (sym (ap (filter (is_first classes levels)) (kept_places-members classes levels) ∙ firsts_from 0 n (omega arith)))
+        ∙ ap (map (sequence_from para_level classes levels)) (sym (ap (filter (is_first classes levels)) (kept_indexes-members classes levels) ∙ firsts_from 0 n (omega arith)))
 
     -- each run is in one of them
     pub linked-runs : IsPermutation runs (flat_map (λ (s : JoinedRuns). s.runs) (linked_sequences links runs))
@@ -326,7 +326,7 @@ module _ (classes : List BidiClass) (levels : List ℕ) (links : RunLinks) (whol
 
     line_at : (k : ℕ) → k < n → IsLine text (get_or runs k (0, 0)).0 (get_or runs k (0, 0)).1
     line_at k within =
-        rw (run_is k within) (IsLine-places text (start_of k) (start_of (k + 1)) (let run = level_run classes levels k within in omega (arith, run.not_empty)))
+        rw (run_is k within) (IsLine-unit_indexes text (start_of k) (start_of (k + 1)) (let run = level_run classes levels k within in omega (arith, run.not_empty)))
 
     lines_along : (r : ℕ) (rs : List ℕ) → r < n → FollowRuns (r ∷ rs) → AreLines text (map (λ k. get_or runs k (0, 0)) (r ∷ rs))
     lines_along r [] within steps = All-cons (λ (q : ℕ × ℕ). IsLine text q.0 q.1) (run_at r) [] (line_at r within) (All-nil (λ (q : ℕ × ℕ). IsLine text q.0 q.1))
@@ -348,22 +348,22 @@ module _ (classes : List BidiClass) (levels : List ℕ) (links : RunLinks) (whol
     unfolding linked_sequences
     linked-lines = rw all_runs (lines_from 0 n (omega arith))
 
-    run_some : (k : ℕ) → k < n → place text (cut classes levels k) < place text (cut classes levels (k + 1))
-    run_some k within = let run = level_run classes levels k within in place-lt text (start_of k) (start_of (k + 1)) run.not_empty (omega (arith, run.within, long))
+    run_some : (k : ℕ) → k < n → unit_index text (cut classes levels k) < unit_index text (cut classes levels (k + 1))
+    run_some k within = let run = level_run classes levels k within in unit_index-lt text (start_of k) (start_of (k + 1)) run.not_empty (omega (arith, run.within, long))
 
-    ordered_along : (low r : ℕ) (rs : List ℕ) → r < n → low ≤ place text (cut classes levels r) → FollowRuns (r ∷ rs) → are_ordered_from low (map (λ k. get_or runs k (0, 0)) (r ∷ rs)) ≡ true
+    ordered_along : (low r : ℕ) (rs : List ℕ) → r < n → low ≤ unit_index text (cut classes levels r) → FollowRuns (r ∷ rs) → are_ordered_from low (map (λ k. get_or runs k (0, 0)) (r ∷ rs)) ≡ true
     ordered_along low r [] within from steps =
-        simp (run_is r within, le-leb low (place text (start_of r)) from, lt-ltb (place text (start_of r)) (place text (start_of (r + 1))) (run_some r within))
+        simp (run_is r within, le-leb low (unit_index text (start_of r)) from, lt-ltb (unit_index text (start_of r)) (unit_index text (start_of (r + 1))) (run_some r within))
     ordered_along low r (q ∷ rs) within from steps =
         let l = are.to r q steps.0 in
-        let later = ordered_along (place text (start_of (r + 1))) q rs l.within (place-mono text (start_of (r + 1)) (start_of q) (below_cut classes levels r q l.order (omega (arith, l.within)))) steps.1 in
-        rw (run_is r within, le-leb low (place text (start_of r)) from, lt-ltb (place text (start_of r)) (place text (start_of (r + 1))) (run_some r within)) later
+        let later = ordered_along (unit_index text (start_of (r + 1))) q rs l.within (unit_index-mono text (start_of (r + 1)) (start_of q) (below_cut classes levels r q l.order (omega (arith, l.within)))) steps.1 in
+        rw (run_is r within, le-leb low (unit_index text (start_of r)) from, lt-ltb (unit_index text (start_of r)) (unit_index text (start_of (r + 1))) (run_some r within)) later
 
-    sos_side : (p : ℕ) → is_l_or_r (start_class paragraph classes levels p) ≡ true
+    sos_side : (p : ℕ) → is_l_or_r (start_class para_level classes levels p) ≡ true
     unfolding start_class
     sos_side p = grind arith
 
-    eos_side : (p : ℕ) → is_l_or_r (end_class paragraph classes levels p) ≡ true
+    eos_side : (p : ℕ) → is_l_or_r (end_class para_level classes levels p) ≡ true
     unfolding end_class
     eos_side p = grind arith
 

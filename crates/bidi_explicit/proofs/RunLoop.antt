@@ -1,11 +1,11 @@
 -- The loop over the level runs of a text: the run that comes, what has been joined before it, and what then.
 use Rattle.bidi_base.proofs.Common.{◌≡◌, ℕ, ◌+◌, ◌-◌, ◌<◌, ◌≤◌, Bool, true, false, cond, eqb, max, List, [], ◌∷◌, ◌++◌, length, map, get_or, take, Option, refl, sym, ap, subst, ◌∙◌, arith}
 use Rattle.bidi_base.proofs.Common.{length-append, rules, common_steps, IfSome, All, list_any, Range, both_ways, length-map, get_or-map, get_or_default, get_or_past, nil_from_length, take_more}
-use Rattle.bidi_base.proofs.Common.{All-nil, All-cons, list_any_at, IsPermutation-refl, is_initiator, direction_of, class_at, is_initiator_at, is_kept_at, level_at, is_l_or_r, Some, None, IsTrue}
+use Rattle.bidi_base.proofs.Common.{All-nil, All-cons, list_any_at, IsPermutation-refl, is_isolate_initiator, direction_of, class_at, is_isolate_initiator_at, is_kept_at, level_at, is_l_or_r, Some, None, IsTrue}
 use Rattle.bidi_base.proofs.Common.{lt-ltb, le-leb, suc, zero, sequences, waiting_for, bounds}
 use Rattle.bidi_base.proofs.Common.{flat_map, is_run_sequence}
-use Rattle.bidi_base.proofs.TextPlaces.{place-lt, place-end, char_index-place, is_boundary-place, IsLine-places, length-per_char, per_unit-from_is_per_char, length-from_is_per_char}
-use Rattle.bidi_base.specs.Texts.{Encoding, Text, place, text_len, per_unit, per_char, is_per_char, is_boundary, IsLine, kept_in_runs, level_run_ranges, AreLines}
+use Rattle.bidi_base.proofs.TextUnitIndexes.{unit_index-lt, unit_index-end, char_index-unit_index, is_boundary-unit_index, IsLine-unit_indexes, length-per_char, per_unit-from_is_per_char, length-from_is_per_char}
+use Rattle.bidi_base.specs.Texts.{Encoding, Text, unit_index, text_len, per_unit, per_char, is_per_char, is_boundary, IsLine, kept_in_runs, level_run_ranges, AreLines}
 use Rattle.std.specs.Prelude.{IsPermutation}
 use Rattle.bidi_base.specs.declared.char_data.BidiClass.{BidiClass}
 use Rattle.bidi_base.specs.declared.char_data.BidiClass.TheVariants.{L}
@@ -36,17 +36,17 @@ one_of xs k x long within is = grind (arith, common_steps)
 
 -- where the n-th run begins
 abbrev pub cut : {encoding : Encoding} → Text encoding → List BidiClass → List ℕ → ℕ → ℕ
-cut text units unit_levels n = get_or (cuts (per_char L text units) (per_char 0 text unit_levels)) n 0
+cut text classes unit_levels n = get_or (cuts (per_char L text classes) (per_char 0 text unit_levels)) n 0
 
 -- these runs have come; where no class opens an isolate nothing waits
-pub record AreLinkedSoFar {encoding : Encoding} (text : Text encoding) (units : List BidiClass) (unit_levels : List ℕ) (paragraph : ℕ) (reads : Bool)
+pub record AreLinkedSoFar {encoding : Encoding} (text : Text encoding) (classes : List BidiClass) (unit_levels : List ℕ) (para_level : ℕ) (reads : Bool)
     (came : List (Range ℕ)) (links : RunLinks) (before : ℕ) : Type 0 where
-  pub so_far : IsLinkedTo (per_char L text units) (per_char 0 text unit_levels) paragraph (length came) links.next.items links.sides.items links.waiting before
+  pub so_far : IsLinkedTo (per_char L text classes) (per_char 0 text unit_levels) para_level (length came) links.next.items links.sides.items links.waiting before
   pub quiet : reads ≡ false → links.waiting ≡ []
 
 -- what holds when all runs have come
-pub record AreSequences {encoding : Encoding} (text : Text encoding) (units : List BidiClass) (unit_levels : List ℕ) (paragraph : ℕ) (runs : List (Range ℕ)) (links : RunLinks) : Type 0 where
-  pub in_order : sequences_of text (per_char L text units) (linked_sequences links (map bounds runs)) ≡ sequences paragraph (per_char L text units) (per_char 0 text unit_levels)
+pub record AreSequences {encoding : Encoding} (text : Text encoding) (classes : List BidiClass) (unit_levels : List ℕ) (para_level : ℕ) (runs : List (Range ℕ)) (links : RunLinks) : Type 0 where
+  pub in_order : sequences_of text (per_char L text classes) (linked_sequences links (map bounds runs)) ≡ sequences para_level (per_char L text classes) (per_char 0 text unit_levels)
   pub shares : IsPermutation (map bounds runs) (flat_map (λ (s : JoinedRuns). s.runs) (linked_sequences links (map bounds runs)))
   pub lines : All (λ (s : JoinedRuns). AreLines text s.runs) (linked_sequences links (map bounds runs))
   pub linked : AreLinked links (map bounds runs)
@@ -109,7 +109,7 @@ module _ {encoding : Encoding} (text : Text encoding) (units : List BidiClass) (
       let at : IsRunAt text classes levels long n (cut text units unit_levels n) (cut text units unit_levels (n + 1)) (bounds run) =
       simp here at (run_at text classes levels long (map bounds runs) n given.runs_are (omega (arith, length-map runs bounds))) in
       let unit = unit_run text classes levels long n (cut text units unit_levels n) (cut text units unit_levels (n + 1)) (bounds run) at in
-      grind (arith, at, unit, units_long, levels_long, IsLine-places text (cut text units unit_levels n) (cut text units unit_levels (n + 1)))
+      grind (arith, at, unit, units_long, levels_long, IsLine-unit_indexes text (cut text units unit_levels n) (cut text units unit_levels (n + 1)))
 
   -- the run at k comes after those before it
   pub record Comes (k : ℕ) (run : Range ℕ) : Type 0 where
@@ -134,21 +134,21 @@ module _ {encoding : Encoding} (text : Text encoding) (units : List BidiClass) (
       record {
         index = w.0;
         unit = w.1;
-        boundary = ap (is_boundary text) w.1.at_end ∙ is_boundary-place text (w.0 + 1);
+        boundary = ap (is_boundary text) w.1.at_end ∙ is_boundary-unit_index text (w.0 + 1);
         within = omega (arith, w.1.is_last.below, next.at.range.within, long);
       }
 
   counted : length runs ≡ count (per_char L text units) (per_char 0 text unit_levels)
   counted = sym (length-map runs bounds) ∙ ap length given.runs_are ∙ length-level_run_ranges text classes levels
 
-  module _ (paragraph : ℕ) where
+  module _ (para_level : ℕ) where
     pub AreLinkedSoFar-start : (reads : Bool) (links : RunLinks) → links.next.items ≡ [] → links.sides.items ≡ [] → links.waiting ≡ []
-        → AreLinkedSoFar text units unit_levels paragraph reads [] links paragraph
-    AreLinkedSoFar-start reads links next sides waiting = record { so_far = rw (next, sides, waiting) (IsLinkedTo-start classes levels paragraph); quiet = λ _. waiting }
+        → AreLinkedSoFar text units unit_levels para_level reads [] links para_level
+    AreLinkedSoFar-start reads links next sides waiting = record { so_far = rw (next, sides, waiting) (IsLinkedTo-start classes levels para_level); quiet = λ _. waiting }
 
     -- a run with a kept character comes
     module _ (reads : Bool) (came : List (Range ℕ)) (run : Range ℕ) (links : RunLinks) (before kept_end : ℕ) (g : Option ℕ)
-        (state : AreLinkedSoFar text units unit_levels paragraph reads came links before) (next : IsNext (length came) run)
+        (state : AreLinkedSoFar text units unit_levels para_level reads came links before) (next : IsNext (length came) run)
         (more_runs : length came < length runs) (e : IsEndOfLast (is_kept_at units) run.start run.end kept_end) (some : ¬ (kept_end ≡ run.start)) (g_is : g ≡ waiting_for (class_at units run.start) links.waiting) where
       abbrev a : ℕ
       a = cut text units unit_levels (length came)
@@ -170,17 +170,17 @@ module _ {encoding : Encoding} (text : Text encoding) (units : List BidiClass) (
 
       -- the run that waits is there
       pub waiting_fits : IfSome g (λ r. r < length links.next.items)
-      waiting_fits = waiting-fits classes levels paragraph (length came) links.next.items links.sides.items links.waiting before g first.0 last.index within state.so_far first.1 last.unit.is_last g_at
+      waiting_fits = waiting-fits classes levels para_level (length came) links.next.items links.sides.items links.waiting before g first.0 last.index within state.so_far first.1 last.unit.is_last g_at
 
       module _ (level after : ℕ) (sos eos : BidiClass) (level_is : level ≡ get_or unit_levels (kept_end - 1) level)
-          (after_is : after ≡ level_after_run paragraph (class_at units (kept_end - 1)) unit_levels run.end) (sos_is : sos ≡ direction_of (max level before))
+          (after_is : after ≡ level_after_run para_level (class_at units (kept_end - 1)) unit_levels run.end) (sos_is : sos ≡ direction_of (max level before))
           (eos_is : eos ≡ direction_of (max level after)) (more : RunLinks) (next_is : more.next.items ≡ with_link g links.next.items) (sides_are : more.sides.items ≡ with_sides g sos eos links.sides.items) where
         -- past the run stands the next one, or nothing
-        past_end : cond (eqb run.end (length unit_levels)) paragraph (level_at unit_levels run.end) ≡ cond (eqb (cut text units unit_levels (length came + 1)) (length (per_char L text units))) paragraph (level_at (per_char 0 text unit_levels) (cut text units unit_levels (length came + 1)))
+        past_end : cond (eqb run.end (length unit_levels)) para_level (level_at unit_levels run.end) ≡ cond (eqb (cut text units unit_levels (length came + 1)) (length (per_char L text units))) para_level (level_at (per_char 0 text unit_levels) (cut text units unit_levels (length came + 1)))
         past_end =
-            grind (arith, next.at.end, next.at.range.within, long, levels_long, place-end text (length text.chars), place-lt text b (length text.chars), level_of_unit text classes levels long units unit_levels same units_are levels_are b)
+            grind (arith, next.at.end, next.at.range.within, long, levels_long, unit_index-end text (length text.chars), unit_index-lt text b (length text.chars), level_of_unit text classes levels long units unit_levels same units_are levels_are b)
 
-        after_at : after ≡ level_beyond (per_char L text units) (per_char 0 text unit_levels) paragraph last.index (cut text units unit_levels (length came + 1))
+        after_at : after ≡ level_beyond (per_char L text units) (per_char 0 text unit_levels) para_level last.index (cut text units unit_levels (length came + 1))
         after_at = grind (arith, last, past_end)
 
         level_at_last : level ≡ level_at (per_char 0 text unit_levels) last.index
@@ -188,52 +188,52 @@ module _ {encoding : Encoding} (text : Text encoding) (units : List BidiClass) (
 
         linked_with : more.waiting ≡ read_range (per_char L text units) (last.index + 1) (length came) (cut text units unit_levels (length came)) (cut text units unit_levels (length came + 1)) links.waiting
             → (reads ≡ false → more.waiting ≡ [])
-            → AreLinkedSoFar text units unit_levels paragraph reads (came ++ run ∷ []) more level
+            → AreLinkedSoFar text units unit_levels para_level reads (came ++ run ∷ []) more level
         linked_with read quiet = record {
           so_far = rw (length-append came (run ∷ []), next_is, sides_are)
-              (IsLinkedTo-more classes levels paragraph (length came) links.next.items links.sides.items links.waiting before g first.0 last.index within state.so_far first.1 last.unit.is_last g_at level after sos eos level_at_last after_at sos_is eos_is more.waiting read);
+              (IsLinkedTo-more classes levels para_level (length came) links.next.items links.sides.items links.waiting before g first.0 last.index within state.so_far first.1 last.unit.is_last g_at level after sos eos level_at_last after_at sos_is eos_is more.waiting read);
           quiet = quiet;
         }
 
         -- its characters were read
         pub AreLinkedSoFar-read : reads ≡ true → (index : ℕ) → index ≡ length came
             → more.waiting ≡ read_units text units kept_end index run.start run.end links.waiting
-            → AreLinkedSoFar text units unit_levels paragraph reads (came ++ run ∷ []) more level
+            → AreLinkedSoFar text units unit_levels para_level reads (came ++ run ∷ []) more level
         AreLinkedSoFar-read on index is read =
-            let last_at = char_index-place text (last.index + 1) last.within in
-            let a_at = char_index-place text a (omega (arith, next.at.range.not_empty, next.at.range.within, long)) in
-            let b_at = char_index-place text b (omega (arith, next.at.range.within, long)) in
+            let last_at = char_index-unit_index text (last.index + 1) last.within in
+            let a_at = char_index-unit_index text a (omega (arith, next.at.range.not_empty, next.at.range.within, long)) in
+            let b_at = char_index-unit_index text b (omega (arith, next.at.range.within, long)) in
             linked_with (read ∙ simp (is, last.unit.at_end, next.at.start, next.at.end, last_at, a_at, b_at)) (λ off. absurd (both_ways reads off on))
 
         -- none of its characters opens an isolate
-        pub AreLinkedSoFar-unread : reads ≡ false → (list_any is_initiator units ≡ true → reads ≡ true) → more.waiting ≡ links.waiting
-            → AreLinkedSoFar text units unit_levels paragraph reads (came ++ run ∷ []) more level
+        pub AreLinkedSoFar-unread : reads ≡ false → (list_any is_isolate_initiator units ≡ true → reads ≡ true) → more.waiting ≡ links.waiting
+            → AreLinkedSoFar text units unit_levels para_level reads (came ++ run ∷ []) more level
         AreLinkedSoFar-unread off any kept =
             linked_with (kept ∙ simp (state.quiet off, read_range-quiet classes (last.index + 1) (length came) a b none)) (λ _. kept ∙ state.quiet off)
           where
-            none : (m : ℕ) → is_initiator_at (per_char L text units) m ≡ false
+            none : (m : ℕ) → is_isolate_initiator_at (per_char L text units) m ≡ false
             none m =
-                grind (arith, any, units_long, long, class_of_unit text classes levels long units unit_levels same units_are levels_are m, place-lt text m (length text.chars), place-end text (length text.chars), list_any_at is_initiator units (place text m) L, get_or_past classes m L)
+                grind (arith, any, units_long, long, class_of_unit text classes levels long units unit_levels same units_are levels_are m, unit_index-lt text m (length text.chars), unit_index-end text (length text.chars), list_any_at is_isolate_initiator units (unit_index text m) L, get_or_past classes m L)
 
     pub AreSequences-end : (reads : Bool) (came : List (Range ℕ)) (links : RunLinks) (before : ℕ) → came ≡ runs
-        → AreLinkedSoFar text units unit_levels paragraph reads came links before
-        → AreSequences text units unit_levels paragraph runs links
+        → AreLinkedSoFar text units unit_levels para_level reads came links before
+        → AreSequences text units unit_levels para_level runs links
     AreSequences-end reads came links before all state =
-        let w : IsLinkedTo (per_char L text units) (per_char 0 text unit_levels) paragraph (count (per_char L text units) (per_char 0 text unit_levels)) links.next.items links.sides.items links.waiting before =
-        subst (λ (n : ℕ). IsLinkedTo classes levels paragraph n links.next.items links.sides.items links.waiting before) (ap length all ∙ counted) state.so_far in
+        let w : IsLinkedTo (per_char L text units) (per_char 0 text unit_levels) para_level (count (per_char L text units) (per_char 0 text unit_levels)) links.next.items links.sides.items links.waiting before =
+        subst (λ (n : ℕ). IsLinkedTo classes levels para_level n links.next.items links.sides.items links.waiting before) (ap length all ∙ counted) state.so_far in
         record {
-          in_order = linked-sequences classes levels links w.wholes w.links paragraph w.sides_are text long (map bounds runs) given.runs_are;
-          shares = linked-runs classes levels links w.wholes w.links paragraph w.sides_are text long (map bounds runs) given.runs_are;
-          lines = linked-lines classes levels links w.wholes w.links paragraph w.sides_are text long (map bounds runs) given.runs_are;
-          linked = linked-AreLinked classes levels links w.wholes w.links paragraph w.sides_are text long (map bounds runs) given.runs_are;
+          in_order = linked-sequences classes levels links w.wholes w.links para_level w.sides_are text long (map bounds runs) given.runs_are;
+          shares = linked-runs classes levels links w.wholes w.links para_level w.sides_are text long (map bounds runs) given.runs_are;
+          lines = linked-lines classes levels links w.wholes w.links para_level w.sides_are text long (map bounds runs) given.runs_are;
+          linked = linked-AreLinked classes levels links w.wholes w.links para_level w.sides_are text long (map bounds runs) given.runs_are;
         }
 
     -- X9 removes the whole paragraph
     pub AreSequences-removed : (reads : Bool) (came : List (Range ℕ)) (run : Range ℕ) (links : RunLinks) (before kept_end : ℕ) (side : BidiClass) (new : RunLinks)
-        → AreLinkedSoFar text units unit_levels paragraph reads came links before → IsNext (length came) run → length came < length runs → run ≡ get_or runs (length came) run → IsEndOfLast (is_kept_at units) run.start run.end kept_end → kept_end ≡ run.start
-        → is_l_or_r side ≡ true → new.next.items ≡ with_link None links.next.items → new.sides.items ≡ with_sides None side side links.sides.items → AreSequences text units unit_levels paragraph runs new
+        → AreLinkedSoFar text units unit_levels para_level reads came links before → IsNext (length came) run → length came < length runs → run ≡ get_or runs (length came) run → IsEndOfLast (is_kept_at units) run.start run.end kept_end → kept_end ≡ run.start
+        → is_l_or_r side ≡ true → new.next.items ≡ with_link None links.next.items → new.sides.items ≡ with_sides None side side links.sides.items → AreSequences text units unit_levels para_level runs new
     AreSequences-removed reads came run links before kept_end side new state next within is e none known next_is sides_are = record {
-      in_order = simp (runs_one, one_is, sequences-none paragraph classes levels gone.none, no_places);
+      in_order = simp (runs_one, one_is, sequences-none para_level classes levels gone.none, no_places);
       shares = simp (runs_one, one_is) (IsPermutation-refl (bounds run ∷ []));
       lines = simp (runs_one, one_is)
           (All-cons (λ (s : JoinedRuns). AreLines text s.runs) (record { runs = bounds run ∷ []; sos = side; eos = side }) []
@@ -249,7 +249,7 @@ module _ {encoding : Encoding} (text : Text encoding) (units : List BidiClass) (
         none_here = none_kept text classes levels long units unit_levels same units_are levels_are (cut text units unit_levels (length came)) (cut text units unit_levels (length came + 1)) run.start run.end kept_end next.at.start next.at.end fits e none
 
         gone : IsAllRemoved (per_char L text units) (cut text units unit_levels (length came)) (cut text units unit_levels (length came + 1))
-        gone = all_removed classes levels paragraph (cut text units unit_levels (length came)) (cut text units unit_levels (length came + 1)) next.at.range none_here
+        gone = all_removed classes levels para_level (cut text units unit_levels (length came)) (cut text units unit_levels (length came + 1)) next.at.range none_here
 
         none_came : length came ≡ 0
         none_came = (state.so_far.fresh gone.front).0

@@ -3,7 +3,7 @@ use Rattle.std.specs.Prelude.{◌≡◌, ℕ, ◌+◌, Bool, false, not, ◌==�
 use Rattle.std.specs.List.{range_with_len}
 use Rattle.bidi_base.specs.declared.char_data.BidiClass.{BidiClass}
 use Rattle.bidi_base.specs.Sequences.{kept_before, level_at, begins_run}
-use Rattle.bidi_base.specs.Text.{place}
+use Rattle.bidi_base.specs.Text.{unit_index}
 use Rattle.bidi_base.specs.Units.{ranges_between}
 
 -- units from `start` on, `len` of them, hold one value
@@ -29,4 +29,4 @@ pub record IsCutTo (len_of : ℕ → ℕ) (chars : List ℕ) (stored : List Bidi
   pub level : last ≡ option_map (level_at levels) (kept_before stored k)
   pub cut : (end : ℕ)
       → runs ++ (from, end) ∷ []
-      ≡ ranges_between (map (place len_of chars) (0 ∷ filter (begins_run stored levels) (range_with_len 0 k))) end
+      ≡ ranges_between (map (unit_index len_of chars) (0 ∷ filter (begins_run stored levels) (range_with_len 0 k))) end

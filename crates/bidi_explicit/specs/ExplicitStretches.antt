@@ -6,14 +6,14 @@ use Rattle.bidi_base.specs.Classes.{is_kept_in_place}
 use Rattle.bidi_base.specs.Explicit.{explicit_levels, processing_classes}
 use Rattle.bidi_base.specs.Places.{class_at}
 use Rattle.bidi_base.specs.StatusMachine.{State, state_at}
-use Rattle.bidi_base.specs.Texts.{Encoding, Text, place, text_len, per_char, per_unit, IsPerChar}
+use Rattle.bidi_base.specs.Texts.{Encoding, Text, unit_index, text_len, per_char, per_unit, IsPerChar}
 use Rattle.bidi_explicit.specs.ExplicitPass.{runs_before, run_start, IsCutTo}
 use Rattle.bidi_explicit.specs.declared.explicit.stretches.OpenRun.{OpenRun}
 use Rattle.bidi_explicit.specs.declared.explicit.stretches.Progress.{Progress}
 
 -- from a code unit on the classes are still the stored ones
 abbrev pub IsUnread : List BidiClass → List BidiClass → ℕ → Type 0
-IsUnread original classes from = (u : ℕ) → from ≤ u → class_at classes u ≡ class_at original u
+IsUnread original_classes classes from = (u : ℕ) → from ≤ u → class_at classes u ≡ class_at original_classes u
 
 -- what an override that puts a class makes of another, where there is no control (X6)
 abbrev pub put_over : BidiClass → BidiClass → BidiClass
@@ -38,7 +38,7 @@ pub record Paragraph (encoding : Encoding) : Type 0 where
   pub original : List BidiClass
 
 abbrev pub paragraph_of : {encoding : Encoding} → Text encoding → ℕ → List BidiClass → Paragraph encoding
-paragraph_of text level original = record { text = text; level = level; original = original }
+paragraph_of text level original_classes = record { text = text; level = level; original = original_classes }
 
 -- the stored class of each character
 abbrev pub stored : {encoding : Encoding} → Paragraph encoding → List BidiClass
@@ -56,7 +56,7 @@ pub record IsReadTo {encoding : Encoding} (p : Paragraph encoding) (u : ℕ) (st
     (runs : List (ℕ × ℕ)) (run : OpenRun) : Type 0 where
   pub per_char : IsPerChar p.text p.original
   pub index : ℕ
-  pub begins : u ≡ place p.text index
+  pub begins : u ≡ unit_index p.text index
   pub within : index ≤ length p.text.chars
   pub machine : stack ≡ state_at p.level (stored p) index
   pub levels_long : length levels ≡ text_len p.text

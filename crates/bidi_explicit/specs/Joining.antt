@@ -3,7 +3,7 @@ use Rattle.std.specs.Prelude.{ℕ, ◌+◌, Bool, ◌||◌, ◌==◌, if◌then�
 use Rattle.std.specs.List.{fold}
 use Rattle.bidi_base.specs.declared.char_data.BidiClass.{BidiClass}
 use Rattle.bidi_base.specs.declared.char_data.BidiClass.TheVariants.{L}
-use Rattle.bidi_base.specs.Classes.{is_initiator, is_pdi}
+use Rattle.bidi_base.specs.Classes.{is_isolate_initiator, is_pdi}
 use Rattle.bidi_base.specs.Places.{between, class_at}
 use Rattle.bidi_base.specs.Sequences.{RunSequence, level_at}
 use Rattle.bidi_base.specs.SequencePass.{read_class}
@@ -22,7 +22,7 @@ characters_of len_of chars classes j = record { places = kept_in_runs len_of cha
 
 -- a class that opens or closes an isolate
 abbrev pub is_isolate_control : BidiClass → Bool
-is_isolate_control c = is_initiator c || is_pdi c
+is_isolate_control c = is_isolate_initiator c || is_pdi c
 
 -- what waits once the characters from a up to b were read, of which the one before `last` waits for the sequence at s
 abbrev pub read_range : List BidiClass → ℕ → ℕ → ℕ → ℕ → List (Option ℕ) → List (Option ℕ)
@@ -37,5 +37,5 @@ read_units len_of chars classes kept_end s start end waits =
 
 -- the level beyond a run that ends at a unit, by the class of its last kept character
 abbrev pub level_after_run : ℕ → BidiClass → List ℕ → ℕ → ℕ
-level_after_run paragraph class levels end =
-    if is_initiator class then paragraph else (if end == length levels then paragraph else level_at levels end)
+level_after_run para_level class levels end =
+    if is_isolate_initiator class then para_level else (if end == length levels then para_level else level_at levels end)

@@ -8,7 +8,7 @@ use Rattle.bidi_base.specs.Units.{bounds, in_runs}
 
 -- a unit of some ranges whose class is read
 abbrev pub is_seen : List (ℕ × ℕ) → List BidiClass → ℕ → Bool
-is_seen runs units k = in_runs runs k && is_kept_in_place (class_at units k)
+is_seen runs classes k = in_runs runs k && is_kept_in_place (class_at classes k)
 
 -- the class was written over those units from `from` up to `to` that pass the test, and nowhere else
 pub record IsWrittenOver (test : ℕ → Bool) (class : BidiClass) (from to : ℕ) (old new : List BidiClass) : Type 0 where
@@ -33,10 +33,10 @@ pub record KeepsAround (run : Range ℕ) (old new : List BidiClass) : Type 0 whe
 
 -- the seen units from `low` up to `high`, and all of them
 abbrev pub seen_from : List (ℕ × ℕ) → List BidiClass → ℕ → ℕ → List ℕ
-seen_from runs units low high = filter (is_seen runs units) (between low high)
+seen_from runs classes low high = filter (is_seen runs classes) (between low high)
 
 abbrev pub seen_units : List (ℕ × ℕ) → List BidiClass → List ℕ
-seen_units runs units = seen_from runs units 0 (length units)
+seen_units runs classes = seen_from runs classes 0 (length classes)
 
 -- how many units of some ranges lie below u
 unfoldable pub count_below : List (ℕ × ℕ) → ℕ → ℕ

@@ -29,31 +29,31 @@ status_inside-IsWithin status [] fits = record { above = le_refl _; below = fits
 status_inside-IsWithin status (opener ∷ openers) fits =
     grind (arith, leb-true, asked_level-above opener status.level, status_inside-IsWithin (record { level = asked_level opener status.level; override = override_of opener }) openers)
 
-pub explicit_level-IsWithin : (paragraph : ℕ) (classes : List BidiClass) (p : ℕ) → paragraph ≤ 125 → IsWithin paragraph (explicit_level paragraph classes p)
+pub explicit_level-IsWithin : (para_level : ℕ) (classes : List BidiClass) (p : ℕ) → para_level ≤ 125 → IsWithin para_level (explicit_level para_level classes p)
 unfolding explicit_level status_at
-explicit_level-IsWithin paragraph classes p fits = grind (arith, status_inside-IsWithin)
+explicit_level-IsWithin para_level classes p fits = grind (arith, status_inside-IsWithin)
 
 -- one level and one class a character
-pub length-explicit_levels : (paragraph : ℕ) (classes : List BidiClass) → length (explicit_levels paragraph classes) ≡ length classes
+pub length-explicit_levels : (para_level : ℕ) (classes : List BidiClass) → length (explicit_levels para_level classes) ≡ length classes
 unfolding explicit_levels
-length-explicit_levels paragraph classes = grind (arith, length-map-range_with_len)
+length-explicit_levels para_level classes = grind (arith, length-map-range_with_len)
 
-pub length-explicit_classes : (paragraph : ℕ) (classes : List BidiClass) → length (explicit_classes paragraph classes) ≡ length classes
+pub length-explicit_classes : (para_level : ℕ) (classes : List BidiClass) → length (explicit_classes para_level classes) ≡ length classes
 unfolding explicit_classes
-length-explicit_classes paragraph classes = grind (arith, length-map-range_with_len)
+length-explicit_classes para_level classes = grind (arith, length-map-range_with_len)
 
-pub length-processing_classes : (paragraph : ℕ) (classes : List BidiClass) → length (processing_classes paragraph classes) ≡ length classes
+pub length-processing_classes : (para_level : ℕ) (classes : List BidiClass) → length (processing_classes para_level classes) ≡ length classes
 unfolding processing_classes
-length-processing_classes paragraph classes = grind (arith, length-map-range_with_len)
+length-processing_classes para_level classes = grind (arith, length-map-range_with_len)
 
-pub level_at-explicit_levels : (paragraph : ℕ) (classes : List BidiClass) (p : ℕ) → p < length classes → level_at (explicit_levels paragraph classes) p ≡ explicit_level paragraph classes p
+pub level_at-explicit_levels : (para_level : ℕ) (classes : List BidiClass) (p : ℕ) → p < length classes → level_at (explicit_levels para_level classes) p ≡ explicit_level para_level classes p
 unfolding explicit_levels
-level_at-explicit_levels paragraph classes p within = grind (arith, get_or-map-range_with_len)
+level_at-explicit_levels para_level classes p within = grind (arith, get_or-map-range_with_len)
 
-pub class_at-explicit_classes : (paragraph : ℕ) (classes : List BidiClass) (p : ℕ) → p < length classes → class_at (explicit_classes paragraph classes) p ≡ explicit_class paragraph classes p
+pub class_at-explicit_classes : (para_level : ℕ) (classes : List BidiClass) (p : ℕ) → p < length classes → class_at (explicit_classes para_level classes) p ≡ explicit_class para_level classes p
 unfolding explicit_classes
-class_at-explicit_classes paragraph classes p within = grind (arith, get_or-map-range_with_len)
+class_at-explicit_classes para_level classes p within = grind (arith, get_or-map-range_with_len)
 
-pub class_at-processing_classes : (paragraph : ℕ) (classes : List BidiClass) (p : ℕ) → p < length classes → class_at (processing_classes paragraph classes) p ≡ processing_class paragraph classes p
+pub class_at-processing_classes : (para_level : ℕ) (classes : List BidiClass) (p : ℕ) → p < length classes → class_at (processing_classes para_level classes) p ≡ processing_class para_level classes p
 unfolding processing_classes
-class_at-processing_classes paragraph classes p within = grind (arith, get_or-map-range_with_len)
+class_at-processing_classes para_level classes p within = grind (arith, get_or-map-range_with_len)

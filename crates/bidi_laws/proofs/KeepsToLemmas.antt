@@ -1,8 +1,8 @@
 -- A paragraph without a character that may leave its level: all its levels are that one.
 use Rattle.bidi_base.proofs.Common.{◌≡◌, ℕ, Bool, true, false, not, ◌&&◌, ◌||◌, cond, List, [], ◌∷◌, length, Option, None, refl, sym, ◌∙◌, arith, list_all, list_any, and_parts, or_parts}
 use Rattle.bidi_base.proofs.Common.{cases_Bool, inl, inr, not-true, get_or-replicate, length-replicate, is_opener, is_kept, is_nsm, is_al, is_en, is_et, is_l, is_l_or_r, is_strong}
-use Rattle.bidi_base.proofs.Common.{is_weak_resolved, same_class, is_odd, direction_of, at_places, nearest, nearest_is, in_context, carried, w1_rule, w2_rule, w3_rule, w4_rule, w5_rule, w6_rule}
-use Rattle.bidi_base.proofs.Common.{w7_rule, w1, w2, w3, w4, w5, w6, weak_classes, may_turn, is_pure_ltr, implicit_levels, kept_places, levels_in, is_flat, may_leave, run_levels, kept_of}
+use Rattle.bidi_base.proofs.Common.{is_weak_resolved, same_class, is_odd, direction_of, at_indexes, nearest, nearest_is, in_context, carried, w1_rule, w2_rule, w3_rule, w4_rule, w5_rule, w6_rule}
+use Rattle.bidi_base.proofs.Common.{w7_rule, w1, w2, w3, w4, w5, w6, weak_classes, may_turn, is_pure_ltr, implicit_levels, kept_indexes, levels_in, is_flat, may_leave, run_levels, kept_of}
 use Rattle.bidi_base.proofs.Common.{replicate, keeps_to}
 use Rattle.bidi_base.specs.declared.char_data.BidiClass.{BidiClass}
 use Rattle.bidi_base.specs.declared.char_data.BidiClass.TheVariants.{L, R, AL, EN, ET, NSM}
@@ -12,7 +12,7 @@ use Rattle.bidi_laws.proofs.NeutralLemmas.{direction_of-l_or_r}
 use Rattle.bidi_laws.proofs.OneDirection.{goes_with, neutral_classes-one}
 use Rattle.bidi_laws.proofs.ContextLemmas.{list_all-mapped}
 use Rattle.bidi_laws.proofs.WeakLemmas.{w4_rule-passes, either_passes}
-use Rattle.bidi_laws.proofs.FlatLemmas.{at_places-kept, kept_of-replicate, length-run_levels, levels_in-flat_written}
+use Rattle.bidi_laws.proofs.FlatLemmas.{at_indexes-kept, kept_of-replicate, length-run_levels, levels_in-flat_written}
 
 -- ---- W1 to W7, at an odd level or an even one
 
@@ -168,18 +168,18 @@ list_any-or f g (c ∷ cs) = simp (list_any-or f g cs) (grind arith)
 pub keeps_to-parts : (level : ℕ) (classes : List BidiClass) → keeps_to level classes ≡ (is_flat classes && not (list_any (turns (is_odd level)) classes))
 keeps_to-parts level classes = simp (list_any-or is_opener (turns (is_odd level)) classes) (grind arith)
 
-pub levels_in-keeps_to : (paragraph : ℕ) (source : List BidiClass) (brackets : List (Option BidiMatchedOpeningBracket))
-    → keeps_to paragraph source ≡ true → levels_in paragraph source brackets ≡ replicate (length source) paragraph
-levels_in-keeps_to paragraph source brackets keeps =
-    let flat : is_flat source ≡ true = (and_parts _ _ (sym (keeps_to-parts paragraph source) ∙ keeps)).0 in
-    let new : List ℕ = replicate (length source) paragraph in
-    let long : length new ≡ length source = length-replicate (length source) paragraph in
-    sym (levels_in-flat_written source flat paragraph brackets new new
+pub levels_in-keeps_to : (para_level : ℕ) (source_classes : List BidiClass) (brackets : List (Option BidiMatchedOpeningBracket))
+    → keeps_to para_level source_classes ≡ true → levels_in para_level source_classes brackets ≡ replicate (length source_classes) para_level
+levels_in-keeps_to para_level source_classes brackets keeps =
+    let flat : is_flat source_classes ≡ true = (and_parts _ _ (sym (keeps_to-parts para_level source_classes) ∙ keeps)).0 in
+    let new : List ℕ = replicate (length source_classes) para_level in
+    let long : length new ≡ length source_classes = length-replicate (length source_classes) para_level in
+    sym (levels_in-flat_written source_classes flat para_level brackets new new
     (simp (
-      at_places-kept L source source refl,
-      at_places-kept 0 source new long,
-      kept_of-replicate source paragraph,
-      run_levels-quiet paragraph (kept_of source source) (at_places None brackets (kept_places source)) (quiet_kept paragraph source (not-true _ keeps)),
+      at_indexes-kept L source_classes source_classes refl,
+      at_indexes-kept 0 source_classes new long,
+      kept_of-replicate source_classes para_level,
+      run_levels-quiet para_level (kept_of source_classes source_classes) (at_indexes None brackets (kept_indexes source_classes)) (quiet_kept para_level source_classes (not-true _ keeps)),
     ))
     long (λ p within kept. refl) (λ some gone. grind (arith, get_or-replicate)) (λ p within gone. grind (arith, get_or-replicate)))
 
@@ -191,5 +191,5 @@ keeps_to-zero : (classes : List BidiClass) → list_any (may_leave 0) classes �
 keeps_to-zero [] = refl
 keeps_to-zero (c ∷ classes) = simp (may_leave-zero c, keeps_to-zero classes)
 
-pub levels_in-pure_ltr : (source : List BidiClass) (brackets : List (Option BidiMatchedOpeningBracket)) → is_pure_ltr source ≡ true → levels_in 0 source brackets ≡ replicate (length source) 0
-levels_in-pure_ltr source brackets pure = grind (arith, levels_in-keeps_to, keeps_to-zero)
+pub levels_in-pure_ltr : (source_classes : List BidiClass) (brackets : List (Option BidiMatchedOpeningBracket)) → is_pure_ltr source_classes ≡ true → levels_in 0 source_classes brackets ≡ replicate (length source_classes) 0
+levels_in-pure_ltr source_classes brackets pure = grind (arith, levels_in-keeps_to, keeps_to-zero)

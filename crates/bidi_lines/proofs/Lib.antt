@@ -22,7 +22,7 @@ pub mod StillLine
 pub mod StoredLine
 mod Stretches
 pub mod TextOfLine
-mod TurnedText
+mod ReversedUtf8
 mod Utf16Backwards
 pub mod VisualRuns
 pub mod WrittenRuns

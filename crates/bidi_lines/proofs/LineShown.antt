@@ -1,12 +1,12 @@
 -- A line that is shown, by its levels: its runs, its text, and the order of its characters.
 use Rattle.bidi_base.proofs.Common.{◌≡◌, ℕ, ◌-◌, ◌≤◌, List, [], length, take, refl, sym, ap, subst, ◌∙◌, arith, Range, is_odd, has_rtl, reordered_text, line_text, line_levels_after, line_levels}
-use Rattle.bidi_base.proofs.Common.{levels_of_line, text_len, place, char_index, subrange, per_unit, is_per_char, IsLine, All, Run, visual_runs, visual_order, AnalysedText, line_levels_per_char}
+use Rattle.bidi_base.proofs.Common.{levels_of_line, text_len, unit_index, char_index, subrange, per_unit, is_per_char, IsLine, All, Run, visual_runs, visual_order, AnalysedText, line_levels_per_char}
 use Rattle.bidi_base.proofs.Common.{take_all, slice_range, IsTrue, ◌↔◌, not, AreLevelsOfLine, AreRunsOfLine, IsTextOfLine, StaysInOrder}
 use Rattle.bidi_base.specs.declared.char_data.BidiClass.{BidiClass}
 use Rattle.bidi_text.proofs.PerCharTests.{class_eq, level_eq}
 use Rattle.bidi_base.proofs.TextLemmas.{HasUnits}
 use Rattle.bidi_base.proofs.PerUnit.{length-per_char}
-use Rattle.bidi_base.proofs.PlaceLemmas.{place-zero, place-end, IsLine-places, IsLineAt, line_places}
+use Rattle.bidi_base.proofs.UnitIndexLemmas.{unit_index-zero, unit_index-end, IsLine-unit_indexes, IsLineAt, line_unit_indexes}
 use Rattle.bidi_lines.proofs.LineInText.{length-part, length-line}
 use Rattle.bidi_lines.proofs.FoundRuns.{AreVisualRuns-from_same}
 use Rattle.bidi_lines.proofs.LineText.{reordered_text-line}
@@ -18,7 +18,7 @@ use Rattle.bidi_lines.specs.Written.{shown_units, AreRunsOfChars}
 -- ---- the empty line at the start of a text
 
 pub empty-IsLine : (len_of : ℕ → ℕ) (chars : List ℕ) → IsLine len_of chars 0 0
-empty-IsLine len_of chars = rw (place-zero len_of chars) at (IsLine-places len_of chars 0 0 (omega arith))
+empty-IsLine len_of chars = rw (unit_index-zero len_of chars) at (IsLine-unit_indexes len_of chars 0 0 (omega arith))
 
 pub empty-runs : (start : ℕ) → visual_runs start [] ≡ []
 unfolding visual_runs visual_order
@@ -62,16 +62,16 @@ module _ (len_of : ℕ → ℕ) (some : HasUnits len_of) (chars : List ℕ) (lev
 
 -- a line from the character i up to the character j, by the levels of its characters
 text-at : (len_of : ℕ → ℕ) → HasUnits len_of → (encode : ℕ → List ℕ) (chars units of_chars shown : List ℕ) (i j start end : ℕ) → i ≤ j → j ≤ length chars
-    → length units ≡ text_len len_of chars → length of_chars ≡ j - i → start ≡ place len_of chars i → end ≡ place len_of chars j → shown ≡ per_unit len_of (slice_range chars i j) of_chars
+    → length units ≡ text_len len_of chars → length of_chars ≡ j - i → start ≡ unit_index len_of chars i → end ≡ unit_index len_of chars j → shown ≡ per_unit len_of (slice_range chars i j) of_chars
     → shown_units len_of encode chars units start shown ≡ reordered_text len_of encode (slice_range chars i j) (slice_range units start end) of_chars
 text-at len_of some encode chars units of_chars shown i j start end up within same long begins ends is =
     simp (begins, ends, is)
-    (sym (reordered_text-line len_of some encode chars units of_chars i j up within (same ∙ sym (place-end len_of chars (length chars) (omega arith))) long))
+    (sym (reordered_text-line len_of some encode chars units of_chars i j up within (same ∙ sym (unit_index-end len_of chars (length chars) (omega arith))) long))
 
 module _ (a : AnalysedText) (some : HasUnits a.len_of) (level : ℕ) (line : Range ℕ) (is_line : IsLine a.len_of a.chars line.start line.end)
     (shown : List ℕ) (levels : AreLevelsOfLine a level line shown) where
   ends : IsLineAt a.len_of a.chars line.start line.end (char_index a.len_of a.chars line.start) (char_index a.len_of a.chars line.end)
-  ends = line_places a.len_of some a.chars line.start line.end is_line
+  ends = line_unit_indexes a.len_of some a.chars line.start line.end is_line
 
   long : length (line_levels_per_char a level line) ≡ char_index a.len_of a.chars line.end - char_index a.len_of a.chars line.start
   long = grind (arith, length-line, length-per_char, ends)

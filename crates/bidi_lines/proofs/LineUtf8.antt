@@ -4,7 +4,7 @@ use Rattle.bidi_base.proofs.Common.{visual_runs, levels_of_line, slice_range, Al
 use Rattle.bidi_base.specs.declared.char_data.BidiClass.{BidiClass}
 use Rattle.bidi_text.proofs.StrLemmas.{has_units, IsCharBoundary-from_is_boundary, subrange-from_str}
 use Rattle.bidi_lines.specs.Written.{run_units, shown_units, line_units, AreRunsOfChars}
-use Rattle.bidi_lines.proofs.TurnedText.{backwards-utf8}
+use Rattle.bidi_lines.proofs.ReversedUtf8.{backwards-utf8}
 use Rattle.bidi_lines.proofs.TextOfLine.{visual_runs_at_boundaries}
 
 IsUtf8-flat_map : {X : Type 0} (f : X → List ℕ) (xs : List X) → All (λ x. IsUtf8 (f x)) xs → IsUtf8 (flat_map f xs)

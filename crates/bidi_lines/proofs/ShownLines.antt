@@ -6,7 +6,7 @@ use Rattle.bidi_base.proofs.TextLemmas.{HasUnits}
 use Rattle.bidi_lines.specs.declared.shown_line.ShownLine.{ShownLine}
 use Rattle.bidi_lines.specs.ShownLine.{text_of, levels, runs, Shows, AppendsTextOfLine}
 use Rattle.bidi_lines.specs.Written.{shown_units}
-use Rattle.bidi_lines.specs.ShownLevels.{levels as kept_levels}
+use Rattle.bidi_lines.specs.LineLevels.{levels as kept_levels}
 use Rattle.bidi_lines.proofs.StillLine.{shown_units-still}
 use Rattle.bidi_lines.proofs.StoredLine.{per_char-shown}
 use Rattle.bidi_lines.proofs.LineShown.{shown-runs, shown-stays, shown-text}

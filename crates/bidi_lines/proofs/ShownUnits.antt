@@ -2,7 +2,7 @@
 use Rattle.bidi_base.proofs.Common.{◌≡◌, ℕ, zero, ◌+◌, ◌-◌, ◌≤◌, List, [], ◌∷◌, length, reverse, flat_map, refl, ap, ◌∙◌, arith, inl, inr, All-tail, IsPermutation-reverse, cases_Bool, sum_by-cons}
 use Rattle.bidi_base.proofs.Common.{sum_by-IsPermutation, length-append, length-map, is_odd, text_len, subrange, IsLine, Run, run_level, written_runs, visual_runs, All}
 use Rattle.bidi_base.proofs.TextLemmas.{HasUnits}
-use Rattle.bidi_base.proofs.PlaceLemmas.{text_len-subrange}
+use Rattle.bidi_base.proofs.UnitIndexLemmas.{text_len-subrange}
 use Rattle.bidi_lines.proofs.LineInText.{length-part}
 use Rattle.bidi_lines.proofs.VisualRuns.{visual_runs-are}
 use Rattle.bidi_lines.proofs.RunLengths.{length-written_run, length-visual_order}

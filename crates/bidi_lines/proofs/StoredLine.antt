@@ -4,7 +4,7 @@ use Rattle.bidi_base.proofs.Common.{char_levels_of_line, char_levels_with_line, 
 use Rattle.bidi_base.specs.Analysed.{AreLevelsWithLine, levels_with_line_per_char}
 use Rattle.bidi_base.specs.declared.char_data.BidiClass.{BidiClass}
 use Rattle.bidi_base.proofs.PerUnit.{length-per_char, per_char-per_unit}
-use Rattle.bidi_base.proofs.PlaceLemmas.{line_places, text_len-subrange}
+use Rattle.bidi_base.proofs.UnitIndexLemmas.{line_unit_indexes, text_len-subrange}
 use Rattle.bidi_text.proofs.PerCharTests.{class_eq, class_test, level_eq, level_test}
 use Rattle.bidi_base.proofs.TextLemmas.{HasUnits}
 use Rattle.bidi_base.proofs.UnitsLemmas.{IsPerChar-from_is_per_char, length-from_IsPerChar}
@@ -75,7 +75,7 @@ module _ (len_of : ℕ → ℕ) (some : HasUnits len_of) (chars : List ℕ) wher
 
 module _ (a : AnalysedText) (some : HasUnits a.len_of) (level : ℕ) (line : Range ℕ) (is_line : IsLine a.len_of a.chars line.start line.end) where
   length-line_levels_per_char : length (line_levels_per_char a level line) ≡ length (subrange a.len_of a.chars line.start line.end)
-  length-line_levels_per_char = grind (arith, line_places, length-line, length-per_char, length-part)
+  length-line_levels_per_char = grind (arith, line_unit_indexes, length-line, length-per_char, length-part)
 
   module _ (shown : List ℕ) (levels : AreLevelsOfLine a level line shown) where
     -- one level a unit of the line's text

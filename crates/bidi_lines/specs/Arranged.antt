@@ -8,17 +8,17 @@ IsEven n = n % 2 ≡ 0
 abbrev pub IsOdd : ℕ → Type 0
 IsOdd n = n % 2 ≡ 1
 
--- item i may stand left of item j, where each stretch above the level `base` is turned round as often as its levels
--- ask: the least level between them, less `base`, is even if i comes before j, and odd if it comes after j
-pub record StandsLeft (levels : List ℕ) (base i j : ℕ) : Type 0 where
-  pub up : i < j → IsEven (least_between levels i j - base)
-  pub down : j < i → IsOdd (least_between levels j i - base)
+-- item i may stand left of item j, where each stretch above the level `threshold` is turned round as often as its levels
+-- ask: the least level between them, less `threshold`, is even if i comes before j, and odd if it comes after j
+pub record StandsLeft (levels : List ℕ) (threshold i j : ℕ) : Type 0 where
+  pub up : i < j → IsEven (least_between levels i j - threshold)
+  pub down : j < i → IsOdd (least_between levels j i - threshold)
 
 -- the places from `from` to `to` of `order` have the items from `from` to `to`, so arranged
-pub record IsArranged (levels : List ℕ) (base from to : ℕ) (order : List ℕ) : Type 0 where
+pub record IsArranged (levels : List ℕ) (threshold from to : ℕ) (order : List ℕ) : Type 0 where
   pub low : (p : ℕ) → from ≤ p → p < to → from ≤ slice_index order p
   pub high : (p : ℕ) → from ≤ p → p < to → slice_index order p < to
-  pub pairs : (p q : ℕ) → from ≤ p → p < q → q < to → StandsLeft levels base (slice_index order p) (slice_index order q)
+  pub pairs : (p q : ℕ) → from ≤ p → p < q → q < to → StandsLeft levels threshold (slice_index order p) (slice_index order q)
 
 -- the entries below an index, or from it on, stay as they were
 abbrev pub SameBelow : List ℕ → List ℕ → ℕ → Type 0
@@ -27,9 +27,9 @@ SameBelow old new n = (p : ℕ) → p < n → slice_index new p ≡ slice_index 
 abbrev pub SameFrom : List ℕ → List ℕ → ℕ → Type 0
 SameFrom old new n = (p : ℕ) → n ≤ p → slice_index new p ≡ slice_index old p
 
--- each item from `from` to `to` has at least the level `base`
+-- each item from `from` to `to` has at least the level `threshold`
 abbrev pub AtLeast : List ℕ → ℕ → ℕ → ℕ → Type 0
-AtLeast levels base from to = (p : ℕ) → from ≤ p → p < to → base ≤ slice_index levels p
+AtLeast levels threshold from to = (p : ℕ) → from ≤ p → p < to → threshold ≤ slice_index levels p
 
 -- no item has an odd level
 abbrev pub NoneIsOdd : List ℕ → Type 0

@@ -4,8 +4,8 @@ pub mod InText
 pub mod LineOrder
 pub mod LineRuns
 pub mod Runs
-pub mod ShownLevels
+pub mod LineLevels
 pub mod ShownLine
 pub mod Stops
-pub mod Turned
+pub mod ReversedUtf8
 pub mod Written

@@ -4,7 +4,7 @@ use Rattle.std.specs.declared.ops.Range.{Range}
 use Rattle.bidi_base.specs.Analysed.{AnalysedText, AreLevelsOfLine, IsTextOfLine}
 use Rattle.bidi_base.specs.Display.{Run}
 use Rattle.bidi_lines.specs.LineRuns as line_runs
-use Rattle.bidi_lines.specs.ShownLevels as shown_levels
+use Rattle.bidi_lines.specs.LineLevels as line_levels
 use Rattle.bidi_lines.specs.declared.shown_line.ShownLine.{ShownLine}
 
 module _ {T C I L : Type 0} {t : _} {c : _} {i : _} {l : _} (shown : ShownLine T C I L t c i l) where
@@ -14,7 +14,7 @@ module _ {T C I L : Type 0} {t : _} {c : _} {i : _} {l : _} (shown : ShownLine T
 
   -- the levels of the line's units, and its runs from left to right
   abbrev pub levels : List ℕ
-  levels = take (shown.end - shown.start) (shown_levels.levels shown.levels)
+  levels = take (shown.end - shown.start) (line_levels.levels shown.levels)
 
   abbrev pub runs : List Run
   runs = line_runs.runs shown.runs

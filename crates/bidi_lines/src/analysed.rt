@@ -8,7 +8,7 @@ ghost use Rattle.bidi_base.specs.Texts.{HaveClass, HaveLevel};
 
 use crate::level_direction::direction_of;
 use crate::line_levels::{levels_of_line, levels_per_char, levels_with_line};
-use crate::shown_levels::ShownLevels;
+use crate::reused_levels::LineLevels;
 use crate::visual_runs::{levels_and_runs, visual_runs_of};
 use bidi_base::char_data::{BidiClass, Direction};
 use bidi_base::level::{Level, has_rtl};
@@ -88,27 +88,27 @@ impl<T: TextSource> Analysed<T> {
     pub fn reordered_levels(
         &self,
         alloc: Global,
-        level: Level,
+        para_level: Level,
         line: Range<usize>,
     ) -> Result<Vec<Level>, AllocError>
         requires { IsLineOf (analysed self.now) line }
-        ensures { IfOk result (λ v. AreLevelsWithLine (analysed self.now) level line v.items) }
+        ensures { IfOk result (λ v. AreLevelsWithLine (analysed self.now) para_level line v.items) }
     {
-        levels_with_line(alloc, level, self.original_classes(), self.levels(), line)
+        levels_with_line(alloc, para_level, self.original_classes(), self.levels(), line)
     }
 
     /// Returns the level of each character of the text: after L1 in the line, and as stored outside it.
     pub fn reordered_levels_per_char(
         &self,
         alloc: Global,
-        level: Level,
+        para_level: Level,
         line: Range<usize>,
     ) -> Result<Vec<Level>, AllocError>
         requires { IsLineOf (analysed self.now) line }
-        ensures { IfOk result (λ v. v.items ≡ levels_with_line_per_char (analysed self.now) level line) }
+        ensures { IfOk result (λ v. v.items ≡ levels_with_line_per_char (analysed self.now) para_level line) }
     {
         let classes = self.original_classes();
-        levels_per_char(alloc, self.text, level, classes, self.levels(), line)
+        levels_per_char(alloc, self.text, para_level, classes, self.levels(), line)
     }
 
     /// Returns the level of each code unit of the text, and the level runs (BD7) of the line from left to right (L2).
@@ -117,27 +117,27 @@ impl<T: TextSource> Analysed<T> {
     pub fn visual_runs(
         &self,
         alloc: Global,
-        level: Level,
+        para_level: Level,
         line: Range<usize>,
     ) -> Result<(Vec<Level>, Vec<Range<usize>>), AllocError>
         requires is_line { IsLineOf (analysed self.now) line }
-        ensures levels { IfOk result (λ r. AreLevelsWithLine (analysed self.now) level line r.0.items) }
-        ensures runs { IfOk result (λ r. AreRunsOfLine (analysed self.now) level line (map run_of r.1.items)) }
+        ensures levels { IfOk result (λ r. AreLevelsWithLine (analysed self.now) para_level line r.0.items) }
+        ensures runs { IfOk result (λ r. AreRunsOfLine (analysed self.now) para_level line (map run_of r.1.items)) }
     {
-        levels_and_runs(alloc, level, self.original_classes(), self.levels(), line)
+        levels_and_runs(alloc, para_level, self.original_classes(), self.levels(), line)
     }
 
     /// Returns the level of each code unit of the line after L1.
-    pub fn line_levels(
+    pub fn levels_of_line(
         &self,
         alloc: Global,
-        level: Level,
+        para_level: Level,
         line: Range<usize>,
     ) -> Result<Vec<Level>, AllocError>
         requires { IsLineOf (analysed self.now) line }
-        ensures { IfOk result (λ v. AreLevelsOfLine (analysed self.now) level line v.items) }
+        ensures { IfOk result (λ v. AreLevelsOfLine (analysed self.now) para_level line v.items) }
     {
-        levels_of_line(alloc, level, self.original_classes(), self.levels(), line)
+        levels_of_line(alloc, para_level, self.original_classes(), self.levels(), line)
     }
 
     /// Returns the level runs (BD7) of the line from left to right (L2), as ranges of code units of the text.
@@ -146,16 +146,16 @@ impl<T: TextSource> Analysed<T> {
     pub fn line_runs(
         &self,
         alloc: Global,
-        level: Level,
+        para_level: Level,
         line: Range<usize>,
     ) -> Result<Vec<Range<usize>>, AllocError>
         requires { IsLineOf (analysed self.now) line }
-        ensures { IfOk result (λ v. AreRunsOfLine (analysed self.now) level line (map run_of v.items)) }
+        ensures { IfOk result (λ v. AreRunsOfLine (analysed self.now) para_level line (map run_of v.items)) }
     {
         let (start, end) = (line.start, line.end);
         let classes = &self.original_classes()[start..end];
-        let mut shown = ShownLevels::new(alloc);
-        shown.show(level, classes, &self.levels()[start..end])?;
+        let mut shown = LineLevels::new(alloc);
+        shown.show(para_level, classes, &self.levels()[start..end])?;
         visual_runs_of(alloc, shown.as_slice(), start)
     }
 }

@@ -8,7 +8,7 @@ pub mod analysed;
 pub mod level_direction;
 pub mod line_levels;
 pub mod line_text;
-pub mod shown_levels;
+pub mod reused_levels;
 pub mod shown_line;
 pub mod stored;
 pub mod visual_order;

@@ -126,14 +126,14 @@ fn next_break<C: ClassList>(classes: C, levels: &[Level], at: usize) -> usize
 
 /// Applies L1 to the levels of a line.
 ///
-/// `level` is the paragraph level. `classes` has the stored class of each code unit, and `levels` its stored
+/// `para_level` is the paragraph level. `classes` has the stored class of each code unit, and `levels` its stored
 /// level. Separators get the paragraph level. So do blanks before a separator or at the line's end. Any other
-/// code unit that X9 removes gets the level of the code unit before it, or `level` at the line's start.
-pub fn reset_levels<C: ClassList>(level: Level, classes: C, levels: &mut [Level])
+/// code unit that X9 removes gets the level of the code unit before it, or `para_level` at the line's start.
+pub fn reset_levels<C: ClassList>(para_level: Level, classes: C, levels: &mut [Level])
     requires { length levels.old ≡ length (C.classes classes) }
-    ensures { levels.new ≡ line_levels level (C.classes classes) levels.old }
+    ensures { levels.new ≡ line_levels para_level (C.classes classes) levels.old }
 {
-    let mut before = level;
+    let mut before = para_level;
     // There is no separator from here up to `at`.
     let mut start = 0;
     let mut at = 0;
@@ -143,8 +143,8 @@ pub fn reset_levels<C: ClassList>(level: Level, classes: C, levels: &mut [Level]
         let class = classes.class_at(at);
         if is_separator(class) {
             let blanks = blanks_start(classes, start, at);
-            write_level(levels, blanks, at + 1, level);
-            before = level;
+            write_level(levels, blanks, at + 1, para_level);
+            before = para_level;
             at += 1;
             start = at;
         } else if is_removed(class) {
@@ -157,7 +157,7 @@ pub fn reset_levels<C: ClassList>(level: Level, classes: C, levels: &mut [Level]
         }
     }
     let blanks = blanks_start(classes, start, at);
-    write_level(levels, blanks, at, level);
+    write_level(levels, blanks, at, para_level);
 }
 
 // Returns whether L1 resets a unit. `is_next_reset` says whether it resets the next unit, or the line ends there.
@@ -169,11 +169,11 @@ fn is_reset(class: BidiClass, is_next_reset: bool) -> bool
 
 // Returns whether a unit has an odd level after L1 by itself. A unit that X9 removes and L1 does not reset takes
 // the level of the unit before it, so it does not count.
-fn shows_rtl(level: Level, class: BidiClass, own: Level, is_reset: bool) -> bool
-    ensures { result ≡ (if is_reset then is_odd level else (not (is_removed class) && is_odd own)) }
+fn shows_rtl(para_level: Level, class: BidiClass, own: Level, is_reset: bool) -> bool
+    ensures { result ≡ (if is_reset then is_odd para_level else (not (is_removed class) && is_odd own)) }
 {
     if is_reset {
-        level.is_rtl()
+        para_level.is_rtl()
     } else {
         !is_removed(class) && own.is_rtl()
     }
@@ -191,13 +191,13 @@ fn starts_removed(classes: &[BidiClass]) -> bool
 
 /// Returns whether some unit of a line has an odd level after L1.
 ///
-/// `classes` and `levels` are the stored ones of the line's code units, and `level` is the paragraph level. Does
+/// `classes` and `levels` are the stored ones of the line's code units, and `para_level` is the paragraph level. Does
 /// not allocate.
-pub(crate) fn line_has_rtl(level: Level, classes: &[BidiClass], levels: &[Level]) -> bool
+pub(crate) fn line_has_rtl(para_level: Level, classes: &[BidiClass], levels: &[Level]) -> bool
     requires { length levels.now ≡ length classes.now }
-    ensures { result ≡ has_rtl (line_levels level classes.now levels.now) }
+    ensures { result ≡ has_rtl (line_levels para_level classes.now levels.now) }
 {
-    if level.is_ltr() && !has_rtl(levels) {
+    if para_level.is_ltr() && !has_rtl(levels) {
         return false;
     }
     let mut reset = true;
@@ -205,23 +205,23 @@ pub(crate) fn line_has_rtl(level: Level, classes: &[BidiClass], levels: &[Level]
     while at > 0 {
         at -= 1;
         reset = is_reset(classes[at], reset);
-        if shows_rtl(level, classes[at], levels[at], reset) {
+        if shows_rtl(para_level, classes[at], levels[at], reset) {
             return true;
         }
     }
     // At the line's start, units that X9 removes have the paragraph level.
-    level.is_rtl() && starts_removed(classes)
+    para_level.is_rtl() && starts_removed(classes)
 }
 
 // Applies L1 to one line of a text. `classes` and `levels` are the stored ones of the whole text.
-fn reset_line(level: Level, classes: &[BidiClass], levels: &mut [Level], line: Range<usize>)
+fn reset_line(para_level: Level, classes: &[BidiClass], levels: &mut [Level], line: Range<usize>)
     requires same_len { length levels.old ≡ length classes.now }
     requires ordered { line.start ≤ line.end }
     requires within { line.end ≤ length levels.old }
-    ensures { levels.new ≡ levels_with_line level classes.now levels.old line.start line.end }
+    ensures { levels.new ≡ levels_with_line para_level classes.now levels.old line.start line.end }
 {
     reset_levels(
-        level,
+        para_level,
         &classes[line.start..line.end],
         &mut levels[line.start..line.end],
     );
@@ -230,10 +230,10 @@ fn reset_line(level: Level, classes: &[BidiClass], levels: &mut [Level], line: R
 /// Returns the level of each code unit of a line after L1.
 ///
 /// `classes` and `levels` are the stored ones of the whole text. The line is the range `line` of its code units,
-/// and `level` is the level of the line's paragraph.
+/// and `para_level` is the level of the line's paragraph.
 pub fn levels_of_line(
     alloc: Global,
-    level: Level,
+    para_level: Level,
     classes: &[BidiClass],
     levels: &[Level],
     line: Range<usize>,
@@ -241,20 +241,20 @@ pub fn levels_of_line(
     requires same_len { length levels.now ≡ length classes.now }
     requires ordered { line.start ≤ line.end }
     requires within { line.end ≤ length levels.now }
-    ensures { IfOk result (λ v. v.items ≡ levels_of_line level classes.now levels.now line.start line.end) }
+    ensures { IfOk result (λ v. v.items ≡ levels_of_line para_level classes.now levels.now line.start line.end) }
 {
     let mut shown = Vec::from_slice(alloc, &levels[line.start..line.end])?;
-    reset_levels(level, &classes[line.start..line.end], shown.as_mut_slice());
+    reset_levels(para_level, &classes[line.start..line.end], shown.as_mut_slice());
     Ok(shown)
 }
 
 /// Returns the level of each code unit of a text: after L1 in the line, and as stored outside it.
 ///
 /// `classes` and `levels` are the stored ones of the whole text. The line is the range `line` of its code units,
-/// and `level` is the level of the line's paragraph.
+/// and `para_level` is the level of the line's paragraph.
 pub fn levels_with_line(
     alloc: Global,
-    level: Level,
+    para_level: Level,
     classes: &[BidiClass],
     levels: &[Level],
     line: Range<usize>,
@@ -262,10 +262,10 @@ pub fn levels_with_line(
     requires same_len { length levels.now ≡ length classes.now }
     requires ordered { line.start ≤ line.end }
     requires within { line.end ≤ length levels.now }
-    ensures { IfOk result (λ v. v.items ≡ levels_with_line level classes.now levels.now line.start line.end) }
+    ensures { IfOk result (λ v. v.items ≡ levels_with_line para_level classes.now levels.now line.start line.end) }
 {
     let mut shown = Vec::from_slice(alloc, levels)?;
-    reset_line(level, classes, shown.as_mut_slice(), line);
+    reset_line(para_level, classes, shown.as_mut_slice(), line);
     Ok(shown)
 }
 
@@ -332,11 +332,11 @@ pub fn first_units<T: TextSource>(text: T, mut levels: Vec<Level>) -> Vec<Level>
 /// Returns the level of each character of a text: after L1 in the line, and as stored outside it.
 ///
 /// A character has the level of its first code unit. `classes` and `levels` are the stored ones of the text's code
-/// units. `line` is a range of code units, and `level` is the level of its paragraph.
+/// units. `line` is a range of code units, and `para_level` is the level of its paragraph.
 pub fn levels_per_char<T: TextSource>(
     alloc: Global,
     text: T,
-    level: Level,
+    para_level: Level,
     classes: &[BidiClass],
     levels: &[Level],
     line: Range<usize>,
@@ -346,8 +346,8 @@ pub fn levels_per_char<T: TextSource>(
     requires ordered { line.start ≤ line.end }
     requires within { line.end ≤ length levels.now }
     ensures { IfOk result (λ v. v.items
-        ≡ per_char 0 (T.text text) (levels_with_line level classes.now levels.now line.start line.end)) }
+        ≡ per_char 0 (T.text text) (levels_with_line para_level classes.now levels.now line.start line.end)) }
 {
-    let shown = levels_with_line(alloc, level, classes, levels, line)?;
+    let shown = levels_with_line(alloc, para_level, classes, levels, line)?;
     Ok(first_units(text, shown))
 }

@@ -10,7 +10,7 @@ ghost use Rattle.bidi_lines.specs.Written.{line_units};
 
 use crate::analysed::Analysed;
 use crate::line_levels::line_has_rtl;
-use crate::shown_levels::ShownLevels;
+use crate::reused_levels::LineLevels;
 use crate::stored::{ClassList, LevelList};
 use crate::visual_runs::{LineRuns, first_run_end};
 use bidi_base::level::Level;
@@ -20,7 +20,7 @@ use std::ops::Range;
 
 mod chars;
 mod reversed;
-mod turned;
+mod reversed_utf8;
 mod utf16;
 mod utf8;
 
@@ -149,7 +149,7 @@ pub fn write_line<T: LineText, C: ClassList, L: LevelList>(
         text.copy_run(line, out);
         return Ok(());
     }
-    let mut shown = ShownLevels::new(alloc);
+    let mut shown = LineLevels::new(alloc);
     shown.show(stored.level, stored.classes, stored.levels)?;
     write_shown(alloc, text, line, shown.as_slice(), out)
 }
@@ -159,28 +159,28 @@ impl<T: LineText> Analysed<T> {
 
     // Returns the text of a line from left to right. If no level of the line is odd after L1, the line stays in order:
     // returns `None`, and does not allocate. `blank` may be any code unit.
-    fn turned_line(
+    fn reversed_line(
         &self,
         alloc: Global,
-        level: Level,
+        para_level: Level,
         line: Range<usize>,
         blank: T::Unit,
     ) -> Result<Option<Vec<T::Unit>>, AllocError>
         requires { IsLineOf (analysed self.now) line }
         ensures text { IfOk result (λ o. IfSome o (λ v.
-            v.items ≡ line_units T.encode (T.units_of (text_of self.now)) (analysed self.now) level line)) }
-        ensures still { IfOk result (λ o. IsNone o ↔ StaysInOrder (analysed self.now) level line) }
+            v.items ≡ line_units T.encode (T.units_of (text_of self.now)) (analysed self.now) para_level line)) }
+        ensures still { IfOk result (λ o. IsNone o ↔ StaysInOrder (analysed self.now) para_level line) }
     {
         let (start, end) = (line.start, line.end);
         let classes = &self.original_classes()[start..end];
         let levels = &self.levels()[start..end];
-        if !line_has_rtl(level, classes, levels) {
+        if !line_has_rtl(para_level, classes, levels) {
             return Ok(None);
         }
         let mut out = vec![in alloc; blank; end - start]?;
         let text = self.text();
         let stored = StoredLine {
-            level,
+            level: para_level,
             classes,
             levels,
         };

@@ -7,13 +7,13 @@ ghost use Rattle.bidi_base.specs.Levels.{has_rtl as has_rtl_of};
 ghost use Rattle.bidi_base.specs.Order.{visual_order};
 ghost use Rattle.bidi_base.specs.Texts.{per_char, text_len, HaveClass, HaveLevel, IsLine};
 ghost use Rattle.bidi_lines.specs.LineRuns.{runs as kept_runs};
-ghost use Rattle.bidi_lines.specs.ShownLevels.{levels as kept_levels};
+ghost use Rattle.bidi_lines.specs.LineLevels.{levels as kept_levels};
 ghost use Rattle.bidi_lines.specs.InText.{shown_units, AreRunsOfChars};
 
 use crate::analysed::Analysed;
 use crate::line_levels::write_first_units;
 use crate::line_text::{LineText, write_runs};
-use crate::shown_levels::ShownLevels;
+use crate::reused_levels::LineLevels;
 use crate::visual_order::write_visual_order;
 use crate::visual_runs::LineRuns;
 use bidi_base::char_data::BidiClass;
@@ -63,7 +63,7 @@ pub struct ShownLine<T: TextSource> {
     start: usize,
     end: usize,
     // The first `end - start` of these are the line's levels.
-    levels: ShownLevels,
+    levels: LineLevels,
     runs: LineRuns,
     has_rtl: bool,
     // A buffer for the levels of the line's characters.
@@ -89,7 +89,7 @@ impl<T: TextSource> ShownLine<T> {
             text,
             start: 0,
             end: 0,
-            levels: ShownLevels::new(alloc),
+            levels: LineLevels::new(alloc),
             runs: LineRuns::new(alloc),
             has_rtl: false,
             of_chars: Vec::new(alloc),
@@ -112,49 +112,49 @@ impl<T: TextSource> ShownLine<T> {
 
     /// Shows a line of an analysed text.
     ///
-    /// The line is a range of code units that cuts no character (see `is_line`), and `level` is the level of
+    /// The line is a range of code units that cuts no character (see `is_line`), and `para_level` is the level of
     /// its paragraph. Applies L1 once, and finds the runs by L2, in time linear in the line. If an allocation
     /// fails, the value shows the empty line at the start of that text.
     pub fn show(
         &mut self,
         analysed: &Analysed<T>,
-        level: Level,
+        para_level: Level,
         line: Range<usize>,
     ) -> Result<(), AllocError>
         requires { IsLineOf (analysed_of analysed.now) line }
         ensures text { text_of self.new ≡ analysed_text analysed.now }
-        ensures shows { OnOk result (Shows self.new (analysed_of analysed.now) level line) }
-        ensures empty { OnErr result (Shows self.new (analysed_of analysed.now) level (record { start = 0; end = 0 })) }
+        ensures shows { OnOk result (Shows self.new (analysed_of analysed.now) para_level line) }
+        ensures empty { OnErr result (Shows self.new (analysed_of analysed.now) para_level (record { start = 0; end = 0 })) }
     {
         let classes = analysed.original_classes();
-        self.show_lists(analysed.text(), classes, analysed.levels(), level, line)
+        self.show_lists(analysed.text(), classes, analysed.levels(), para_level, line)
     }
 
     /// Shows a line of a text, given the text's classes and levels.
     ///
     /// `classes` and `levels` have the stored class and the stored level of each code unit of the whole text, equal
-    /// within each character. `line`, `level`, the cost and the result of a failed allocation are those of
+    /// within each character. `line`, `para_level`, the cost and the result of a failed allocation are those of
     /// [`ShownLine::show`].
     pub fn show_lists(
         &mut self,
         text: T,
         classes: &[BidiClass],
         levels: &[Level],
-        level: Level,
+        para_level: Level,
         line: Range<usize>,
     ) -> Result<(), AllocError>
         requires line { IsLine (T.text text) line.start line.end }
         requires classes { HaveClass (T.text text) classes.now }
         requires levels { HaveLevel (T.text text) levels.now }
         ensures text { text_of self.new ≡ text }
-        ensures shows { OnOk result (Shows self.new (with_lists (T.text text) classes.now levels.now) level line) }
-        ensures empty { OnErr result (Shows self.new (with_lists (T.text text) classes.now levels.now) level
+        ensures shows { OnOk result (Shows self.new (with_lists (T.text text) classes.now levels.now) para_level line) }
+        ensures empty { OnErr result (Shows self.new (with_lists (T.text text) classes.now levels.now) para_level
             (record { start = 0; end = 0 })) }
     {
         let (start, end) = (line.start, line.end);
         self.clear(text);
         self.levels
-            .show(level, &classes[start..end], &levels[start..end])?;
+            .show(para_level, &classes[start..end], &levels[start..end])?;
         self.runs.find(self.levels.as_slice(), start)?;
         self.has_rtl = has_rtl(self.levels.as_slice());
         self.start = start;

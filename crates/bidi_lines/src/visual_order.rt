@@ -62,36 +62,36 @@ pub(crate) fn run_end<L: LevelList>(levels: L, from: usize) -> usize
     first_passing(OtherLevels { levels, level }, TESTED_SINGLY, from + 1, len)
 }
 
-/// The levels of a list, with a test for those that are at most `base`.
+/// The levels of a list, with a test for those that are at most `threshold`.
 #[derive(Clone, Copy, Debug)]
 struct LowLevels<L: LevelList> {
     levels: L,
-    base: u8,
+    threshold: u8,
 }
 
 impl<L: LevelList> Tested for LowLevels<L> {
     ghost count = { λ low. length (L.numbers low.levels) };
 
-    ghost passes = { λ low index. nat_le (slice_index (L.numbers low.levels) index) low.base };
+    ghost passes = { λ low index. nat_le (slice_index (L.numbers low.levels) index) low.threshold };
 
     fn len(self) -> usize {
         self.levels.len()
     }
 
     fn passes(self, index: usize) -> bool {
-        self.levels.number_at(index) <= self.base
+        self.levels.number_at(index) <= self.threshold
     }
 }
 
-// Returns the end of the stretch of items from `from` on that have levels above `base`.
-fn stretch_end<L: LevelList>(levels: L, from: usize, base: u8) -> usize
+// Returns the end of the stretch of items from `from` on that have levels above `threshold`.
+fn stretch_end<L: LevelList>(levels: L, from: usize, threshold: u8) -> usize
     requires { from ≤ length (L.numbers levels) }
     ensures begins { from ≤ result }
     ensures ends { result ≤ length (L.numbers levels) }
-    ensures above { (p : ℕ) → from ≤ p → p < result → base < slice_index (L.numbers levels) p }
-    ensures stops { result < length (L.numbers levels) → slice_index (L.numbers levels) result ≤ base }
+    ensures above { (p : ℕ) → from ≤ p → p < result → threshold < slice_index (L.numbers levels) p }
+    ensures stops { result < length (L.numbers levels) → slice_index (L.numbers levels) result ≤ threshold }
 {
-    first_passing(LowLevels { levels, base }, 0, from, levels.len())
+    first_passing(LowLevels { levels, threshold }, 0, from, levels.len())
 }
 
 // Returns the minimum level of the items from `from` up to `to`.
@@ -99,7 +99,7 @@ fn least_of<L: LevelList>(levels: L, from: usize, to: usize) -> u8
     requires some { from < to }
     requires within { to ≤ length (L.numbers levels) }
     ensures least { (p : ℕ) → from ≤ p → p < to → result ≤ slice_index (L.numbers levels) p }
-    ensures above { (base : ℕ) → ((p : ℕ) → from ≤ p → p < to → base < slice_index (L.numbers levels) p) → base < result }
+    ensures above { (threshold : ℕ) → ((p : ℕ) → from ≤ p → p < to → threshold < slice_index (L.numbers levels) p) → threshold < result }
 {
     let mut least = levels.number_at(from);
     for i in from + 1..to {
@@ -108,53 +108,53 @@ fn least_of<L: LevelList>(levels: L, from: usize, to: usize) -> u8
     least
 }
 
-// Returns the minimum level of the stretch above `base` that begins at `from`. L2 reverses the whole stretch once
-// for each level above `base` up to that one, so only an odd number of reversals changes it.
-fn least_above<L: LevelList>(levels: L, from: usize, base: u8) -> u8
+// Returns the minimum level of the stretch above `threshold` that begins at `from`. L2 reverses the whole stretch once
+// for each level above `threshold` up to that one, so only an odd number of reversals changes it.
+fn least_above<L: LevelList>(levels: L, from: usize, threshold: u8) -> u8
     requires begins { from < length (L.numbers levels) }
-    requires above { base < slice_index (L.numbers levels) from }
-    ensures above { base < result }
+    requires above { threshold < slice_index (L.numbers levels) from }
+    ensures above { threshold < result }
     ensures least { (end : ℕ) → end < length (L.numbers levels)
-        → ((p : ℕ) → from ≤ p → p ≤ end → base < slice_index (L.numbers levels) p)
+        → ((p : ℕ) → from ≤ p → p ≤ end → threshold < slice_index (L.numbers levels) p)
         → (p : ℕ) → from ≤ p → p ≤ end → result ≤ slice_index (L.numbers levels) p }
 {
-    if levels.number_at(from) == base + 1 {
-        return base + 1;
+    if levels.number_at(from) == threshold + 1 {
+        return threshold + 1;
     }
-    let end = stretch_end(levels, from, base);
+    let end = stretch_end(levels, from, threshold);
     least_of(levels, from, end)
 }
 
-// Arranges the stretch of items from `from` on that have levels of `base` or above, and returns its end.
-fn arrange<L: LevelList>(levels: L, order: &mut [usize], from: usize, base: u8) -> usize
+// Arranges the stretch of items from `from` on that have levels of `threshold` or above, and returns its end.
+fn arrange<L: LevelList>(levels: L, order: &mut [usize], from: usize, threshold: u8) -> usize
     requires same_len { length order.old ≡ length (L.numbers levels) }
     requires begins { from ≤ length (L.numbers levels) }
     requires untouched { (p : ℕ) → from ≤ p → p < length (L.numbers levels) → slice_index order.old p ≡ p }
     ensures begins { from ≤ result }
     ensures ends { result ≤ length (L.numbers levels) }
-    ensures progress { from < length (L.numbers levels) → base ≤ slice_index (L.numbers levels) from → from < result }
-    ensures stops { result < length (L.numbers levels) → slice_index (L.numbers levels) result < base }
-    ensures at_least { AtLeast (L.numbers levels) base from result }
+    ensures progress { from < length (L.numbers levels) → threshold ≤ slice_index (L.numbers levels) from → from < result }
+    ensures stops { result < length (L.numbers levels) → slice_index (L.numbers levels) result < threshold }
+    ensures at_least { AtLeast (L.numbers levels) threshold from result }
     ensures before { SameBelow order.old order.new from }
     ensures after { SameFrom order.old order.new result }
-    ensures arranged { IsArranged (L.numbers levels) base from result order.new }
+    ensures arranged { IsArranged (L.numbers levels) threshold from result order.new }
     ensures permutation { IsPermutation order.old order.new }
 {
     let mut at = from;
-    while at < levels.len() && levels.number_at(at) >= base {
+    while at < levels.len() && levels.number_at(at) >= threshold {
         let level = levels.number_at(at);
         let next = run_end(levels, at);
-        if level == base {
+        if level == threshold {
             at = next;
-        } else if next == levels.len() || levels.number_at(next) <= base {
-            if (level - base) % 2 == 1 {
+        } else if next == levels.len() || levels.number_at(next) <= threshold {
+            if (level - threshold) % 2 == 1 {
                 flip(order, at, next);
             }
             at = next;
         } else {
-            let least = least_above(levels, at, base);
+            let least = least_above(levels, at, threshold);
             let end = arrange(levels, order, at, least);
-            if (least - base) % 2 == 1 {
+            if (least - threshold) % 2 == 1 {
                 flip(order, at, end);
             }
             at = end;
@@ -215,7 +215,7 @@ pub fn reorder_visual(alloc: Global, levels: &[Level]) -> Result<Vec<usize>, All
 
 /// Returns the inverse of a list that has each index once.
 ///
-/// The inverse of a visual order has the visual place of each index. Takes time linear in the list.
+/// The inverse of a visual order has the visual index of each index. Takes time linear in the list.
 pub fn inverse(alloc: Global, order: &[usize]) -> Result<Vec<usize>, AllocError>
     requires { IsPermutation (indexes order.now) order.now }
     ensures { IfOk result (λ v. AreInverse order.now v.items) }

@@ -4,7 +4,7 @@ ghost use Rattle.std.specs.Prelude.{◌≡◌, ℕ, ◌∷◌, ◌+◌, ◌<◌,
 ghost use Rattle.bidi_base.specs.Display.{run_of, level_runs, run_level, visual_runs, AreVisualRuns};
 ghost use Rattle.bidi_base.specs.Line.{levels_of_line, levels_with_line};
 ghost use Rattle.bidi_base.specs.Order.{visual_order};
-ghost use Rattle.bidi_base.specs.Places.{at_places};
+ghost use Rattle.bidi_base.specs.Places.{at_indexes};
 ghost use Rattle.bidi_lines.specs.Runs.{IsFirstRunEnd, StartsInLine};
 
 use crate::line_levels::levels_with_line;
@@ -75,7 +75,7 @@ fn copy_in_order(
 ) -> Result<(), AllocError>
     requires { All (λ k. k < length runs.now) order.now }
     ensures runs { OnOk result (map run_of ordered.new.items
-        ≡ map run_of ordered.old.items ++ at_places (0, 0) (map run_of runs.now) order.now) }
+        ≡ map run_of ordered.old.items ++ at_indexes (0, 0) (map run_of runs.now) order.now) }
     ensures kept { OnErr result (ordered.new.items ≡ ordered.old.items) }
 {
     ordered.reserve(order.len())?;
@@ -256,7 +256,7 @@ pub fn visual_runs_of(
 /// The levels are those of [`levels_with_line`]. The runs are ranges of code units of the text.
 pub(crate) fn levels_and_runs(
     alloc: Global,
-    level: Level,
+    para_level: Level,
     classes: &[BidiClass],
     levels: &[Level],
     line: Range<usize>,
@@ -264,14 +264,14 @@ pub(crate) fn levels_and_runs(
     requires same_len { length levels.now ≡ length classes.now }
     requires ordered { line.start ≤ line.end }
     requires within { line.end ≤ length levels.now }
-    ensures levels { IfOk result (λ r. r.0.items ≡ levels_with_line level classes.now levels.now line.start line.end) }
+    ensures levels { IfOk result (λ r. r.0.items ≡ levels_with_line para_level classes.now levels.now line.start line.end) }
     ensures runs { IfOk result (λ r. map run_of r.1.items
-        ≡ visual_runs line.start (levels_of_line level classes.now levels.now line.start line.end)) }
+        ≡ visual_runs line.start (levels_of_line para_level classes.now levels.now line.start line.end)) }
     ensures visual { IfOk result (λ r. AreVisualRuns line.start
-        (levels_of_line level classes.now levels.now line.start line.end) (map run_of r.1.items)) }
+        (levels_of_line para_level classes.now levels.now line.start line.end) (map run_of r.1.items)) }
 {
     let (start, end) = (line.start, line.end);
-    let shown = levels_with_line(alloc, level, classes, levels, line)?;
+    let shown = levels_with_line(alloc, para_level, classes, levels, line)?;
     let runs = visual_runs_of(alloc, &shown.as_slice()[start..end], start)?;
     Ok((shown, runs))
 }

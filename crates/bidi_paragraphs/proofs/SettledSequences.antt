@@ -1,8 +1,8 @@
 -- The levels of a settled sequence can be read off its classes.
 use Rattle.bidi_base.proofs.Common.{◌≡◌, ℕ, zero, suc, ◌+◌, ◌-◌, ◌<◌, ◌≤◌, Bool, true, false, not, ◌&&◌, List, [], ◌∷◌, length, get_or, map, find, Some, refl, sym, ap, arith, nat_lt, All}
 use Rattle.bidi_base.proofs.Common.{list_all, cases_Bool, and_parts, and_from, All-head, All-tail, All-map, bounds, are_ordered, is_l_or_r, is_en, is_kept, is_nsm}
-use Rattle.bidi_base.proofs.Common.{is_kept_in_place, is_weak_resolved, in_context, w1_rule, w2_rule, w3_rule, w4_rule, w5_rule, w6_rule, w7_rule, weak_classes, class_at, at_places, text_len}
-use Rattle.bidi_base.proofs.Common.{place, in_runs, units_in_runs, chars_in_runs, kept_in_place, AreLines, is_per_char, IsPerChar, ◌⊎◌, inl, inr, get_or_past, first_or, indexes, n0, n1_rule}
+use Rattle.bidi_base.proofs.Common.{is_kept_in_place, is_weak_resolved, in_context, w1_rule, w2_rule, w3_rule, w4_rule, w5_rule, w6_rule, w7_rule, weak_classes, class_at, at_indexes, text_len}
+use Rattle.bidi_base.proofs.Common.{unit_index, in_runs, units_in_runs, chars_in_runs, kept_in_place, AreLines, is_per_char, IsPerChar, ◌⊎◌, inl, inr, get_or_past, first_or, indexes, n0, n1_rule}
 use Rattle.bidi_base.proofs.Common.{neutral_classes, ◌∙◌, level_at, direction_of, ◌==◌, filter_map, fold, Option, None, counted_brackets, bracket_at, with_closing, closed_pairs, bracket_limit}
 use Rattle.bidi_base.proofs.Common.{pairs_of, bracket_pairs}
 use Rattle.bidi_base.specs.declared.data_source.BidiMatchedOpeningBracket.{BidiMatchedOpeningBracket}
@@ -120,9 +120,9 @@ module _ (classes : List BidiClass) (brackets : List (Option BidiMatchedOpeningB
   same_n1 e sos eos before R after h = refl
   same_n1 e sos eos before c after h = absurd (cc h)
 
-  without_neutrals : (level : ℕ) (sos eos : BidiClass) (source : List BidiClass) → neutral_classes level sos eos source brackets classes ≡ classes
+  without_neutrals : (level : ℕ) (sos eos : BidiClass) (source_classes : List BidiClass) → neutral_classes level sos eos source_classes brackets classes ≡ classes
   unfolding neutral_classes n0
-  without_neutrals level sos eos source =
+  without_neutrals level sos eos source_classes =
       simp no_pairs (same-in_context (n1_rule (direction_of level) sos eos) is_l_or_r (same_n1 (direction_of level) sos eos) [] classes all)
 
 idle-directed : (cs : List BidiClass) → list_all is_l_or_r cs ≡ true → list_all is_idle cs ≡ true
@@ -131,33 +131,33 @@ idle-directed (L ∷ cs) all = idle-directed cs all
 idle-directed (R ∷ cs) all = idle-directed cs all
 idle-directed (c ∷ cs) all = absurd (cc (and_parts (is_l_or_r c) (list_all is_l_or_r cs) all).0)
 
-KeepLevels-directed : (level : ℕ) (sos eos : BidiClass) (source : List BidiClass) (brackets : List (Option BidiMatchedOpeningBracket)) (classes : List BidiClass)
-    → list_all is_l_or_r classes ≡ true → KeepLevels level sos eos source brackets classes
-KeepLevels-directed level sos eos source brackets classes all =
-    simp (weak_classes-idle sos classes (idle-directed classes all), without_neutrals classes brackets all level sos eos source)
+KeepLevels-directed : (level : ℕ) (sos eos : BidiClass) (source_classes : List BidiClass) (brackets : List (Option BidiMatchedOpeningBracket)) (classes : List BidiClass)
+    → list_all is_l_or_r classes ≡ true → KeepLevels level sos eos source_classes brackets classes
+KeepLevels-directed level sos eos source_classes brackets classes all =
+    simp (weak_classes-idle sos classes (idle-directed classes all), without_neutrals classes brackets all level sos eos source_classes)
 
 -- ---- the characters of a sequence
 
-pub lines-within : (len_of : ℕ → ℕ) (chars : List ℕ) (units : List BidiClass) (runs : List (ℕ × ℕ)) → length units ≡ text_len len_of chars
-    → AreLines len_of chars runs → All (λ r. r.1 ≤ length units) runs
-lines-within len_of chars units runs long lines = grind (arith, is_boundary-le)
+pub lines-within : (len_of : ℕ → ℕ) (chars : List ℕ) (classes : List BidiClass) (runs : List (ℕ × ℕ)) → length classes ≡ text_len len_of chars
+    → AreLines len_of chars runs → All (λ r. r.1 ≤ length classes) runs
+lines-within len_of chars classes runs long lines = grind (arith, is_boundary-le)
 
-list_all-at_places : (p : BidiClass → Bool) (units : List BidiClass) (ps : List ℕ) → All (λ u. p (class_at units u) ≡ true) ps → list_all p (at_places L units ps) ≡ true
-list_all-at_places p units [] a = refl
-list_all-at_places p units (q ∷ ps) a =
-    let passes = λ (u : ℕ). p (class_at units u) ≡ true in
-    grind (arith, and_from, list_all-at_places p units ps, All-head passes q ps a, All-tail passes q ps a)
+list_all-at_indexes : (p : BidiClass → Bool) (classes : List BidiClass) (ps : List ℕ) → All (λ u. p (class_at classes u) ≡ true) ps → list_all p (at_indexes L classes ps) ≡ true
+list_all-at_indexes p classes [] a = refl
+list_all-at_indexes p classes (q ∷ ps) a =
+    let passes = λ (u : ℕ). p (class_at classes u) ≡ true in
+    grind (arith, and_from, list_all-at_indexes p classes ps, All-head passes q ps a, All-tail passes q ps a)
 
-at_places-mapped : (f : BidiClass → BidiClass) (old new : List BidiClass) (ps : List ℕ) → All (λ u. class_at new u ≡ f (class_at old u)) ps → at_places L new ps ≡ map f (at_places L old ps)
-at_places-mapped f old new [] a = refl
-at_places-mapped f old new (p ∷ ps) a = simp (
+at_indexes-mapped : (f : BidiClass → BidiClass) (old new : List BidiClass) (ps : List ℕ) → All (λ u. class_at new u ≡ f (class_at old u)) ps → at_indexes L new ps ≡ map f (at_indexes L old ps)
+at_indexes-mapped f old new [] a = refl
+at_indexes-mapped f old new (p ∷ ps) a = simp (
   All-head (λ u. class_at new u ≡ f (class_at old u)) p ps a,
-  at_places-mapped f old new ps (All-tail (λ u. class_at new u ≡ f (class_at old u)) p ps a),
+  at_indexes-mapped f old new ps (All-tail (λ u. class_at new u ≡ f (class_at old u)) p ps a),
 )
 
-unmarked-places : (units : List BidiClass) (ps : List ℕ) → is_nsm (class_at units (first_or 0 ps)) ≡ false → begins_unmarked (at_places L units ps) ≡ true
-unmarked-places units [] h = refl
-unmarked-places units (p ∷ ps) h = grind arith
+unmarked-places : (classes : List BidiClass) (ps : List ℕ) → is_nsm (class_at classes (first_or 0 ps)) ≡ false → begins_unmarked (at_indexes L classes ps) ≡ true
+unmarked-places classes [] h = refl
+unmarked-places classes (p ∷ ps) h = grind arith
 
 -- the first of them
 found_first : (test : ℕ → Bool) (rs : List (ℕ × ℕ)) → nat_lt 0 (length rs) ≡ true → are_ordered rs ≡ true
@@ -169,13 +169,13 @@ found_first test (r ∷ rs) some ordered passes = by_length (r.1 - r.0) refl (gr
     by_length zero is positive = absurd (omega arith)
     by_length (suc n) is positive = simp (is, passes)
 
-module _ (len_of : ℕ → ℕ) (h : HasUnits len_of) (chars : List ℕ) (s : LentSequence) (levels : List ℕ) (units : List BidiClass)
-    (lines : AreLines len_of chars (map bounds (lent_runs s))) (per : is_per_char class_eq len_of chars units ≡ true) where
+module _ (len_of : ℕ → ℕ) (h : HasUnits len_of) (chars : List ℕ) (s : LentSequence) (levels : List ℕ) (classes : List BidiClass)
+    (lines : AreLines len_of chars (map bounds (lent_runs s))) (per : is_per_char class_eq len_of chars classes ≡ true) where
   abbrev rs : List (ℕ × ℕ)
   rs = map bounds (lent_runs s)
 
   abbrev places : List ℕ
-  places = map (place len_of chars) (kept_in_place len_of chars units rs)
+  places = map (unit_index len_of chars) (kept_in_place len_of chars classes rs)
 
   side : is_l_or_r (lent_sos s) ≡ true
   side = third (nat_lt 0 (length rs)) (are_ordered rs) (is_l_or_r s.sos) (is_l_or_r s.eos) s.well_formed
@@ -183,75 +183,75 @@ module _ (len_of : ℕ → ℕ) (h : HasUnits len_of) (chars : List ℕ) (s : Le
       third : (a b c d : Bool) → a && (b && (c && d)) ≡ true → c ≡ true
       third a b c d all = grind arith
 
-  at_kept : (P : ℕ → Type 0) → ((u : ℕ) → in_runs rs u ≡ true → is_kept_in_place (class_at units u) ≡ true → P u) → All P places
+  at_kept : (P : ℕ → Type 0) → ((u : ℕ) → in_runs rs u ≡ true → is_kept_in_place (class_at classes u) ≡ true → P u) → All P places
   unfolding kept_in_place
   at_kept P holds =
-      All-map P (place len_of chars) (kept_in_place len_of chars units rs)
-      (read_each (λ k. is_kept_in_place (class_at units (place len_of chars k))) (λ k. in_runs rs (place len_of chars k)) (λ k. P (place len_of chars k))
-      (λ k inside kept. holds (place len_of chars k) inside kept) (chars_in_runs len_of chars rs) (places_in_runs len_of h chars rs lines))
+      All-map P (unit_index len_of chars) (kept_in_place len_of chars classes rs)
+      (read_each (λ k. is_kept_in_place (class_at classes (unit_index len_of chars k))) (λ k. in_runs rs (unit_index len_of chars k)) (λ k. P (unit_index len_of chars k))
+      (λ k inside kept. holds (unit_index len_of chars k) inside kept) (chars_in_runs len_of chars rs) (places_in_runs len_of h chars rs lines))
 
   -- all classes that are kept pass a test
-  kept_pass : (test : BidiClass → Bool) → ((u : ℕ) → in_runs rs u ≡ true → is_kept_in_place (class_at units u) ≡ true → test (class_at units u) ≡ true) → list_all test (at_places L units places) ≡ true
-  kept_pass test passes = list_all-at_places test units places (at_kept (λ u. test (class_at units u) ≡ true) passes)
+  kept_pass : (test : BidiClass → Bool) → ((u : ℕ) → in_runs rs u ≡ true → is_kept_in_place (class_at classes u) ≡ true → test (class_at classes u) ≡ true) → list_all test (at_indexes L classes places) ≡ true
+  kept_pass test passes = list_all-at_indexes test classes places (at_kept (λ u. test (class_at classes u) ≡ true) passes)
 
   -- the first of its characters is the first unit
-  first-place : is_kept_in_place (class_at units (first_unit s)) ≡ true → first_or 0 places ≡ first_unit s
+  first-place : is_kept_in_place (class_at classes (first_unit s)) ≡ true → first_or 0 places ≡ first_unit s
   first-place kept =
       first-Some places (first_unit s)
-      (sym (first_kept-is len_of h chars units (IsPerChar-from_is_per_char class_eq class_test len_of h chars units per) rs lines)
-      ∙ sym (found_first (λ u. is_kept_in_place (class_at units u)) rs (and_parts _ _ s.well_formed).0 (and_parts _ _ (and_parts _ _ s.well_formed).1).0 kept))
+      (sym (first_kept-is len_of h chars classes (IsPerChar-from_is_per_char class_eq class_test len_of h chars classes per) rs lines)
+      ∙ sym (found_first (λ u. is_kept_in_place (class_at classes u)) rs (and_parts _ _ s.well_formed).0 (and_parts _ _ (and_parts _ _ s.well_formed).1).0 kept))
 
   -- the levels can be read off its classes
-  pub settled-keeps : (source : List BidiClass) (brackets : List (Option BidiMatchedOpeningBracket)) → HasOneDirection s levels units ⊎ HasNoNeutral s units
-      → list_all is_kept (at_places L units places) ≡ true → KeepLevels (level_at levels (first_or 0 places)) (lent_sos s) (lent_eos s) source brackets (at_places L units places)
-  settled-keeps source brackets (inl one) kept =
+  pub settled-keeps : (source_classes : List BidiClass) (brackets : List (Option BidiMatchedOpeningBracket)) → HasOneDirection s levels classes ⊎ HasNoNeutral s classes
+      → list_all is_kept (at_indexes L classes places) ≡ true → KeepLevels (level_at levels (first_or 0 places)) (lent_sos s) (lent_eos s) source_classes brackets (at_indexes L classes places)
+  settled-keeps source_classes brackets (inl one) kept =
       rw (sym (first-place one.kept)) at
-      (KeepLevels-one (level_at levels (first_unit s)) (lent_sos s) (lent_eos s) source brackets (at_places L units places) side
+      (KeepLevels-one (level_at levels (first_unit s)) (lent_sos s) (lent_eos s) source_classes brackets (at_indexes L classes places) side
       (elim one.sides [
         | inl before ↦ inl before
-        | inr behind ↦ inr (behind.0, unmarked-places units places (ap (λ u. is_nsm (class_at units u)) (first-place one.kept) ∙ behind.1))
+        | inr behind ↦ inr (behind.0, unmarked-places classes places (ap (λ u. is_nsm (class_at classes u)) (first-place one.kept) ∙ behind.1))
       ]) kept
       (kept_pass (λ c. not (raises (own_direction s levels) c)) (λ u inside kept. grind (arith, one.along u inside))))
-  settled-keeps source brackets (inr none) kept =
-      KeepLevels-directed (level_at levels (first_or 0 places)) (lent_sos s) (lent_eos s) source brackets (at_places L units places)
-      (kept_pass is_l_or_r (λ u inside kept. directed-only (class_at units u) (none u inside) kept))
+  settled-keeps source_classes brackets (inr none) kept =
+      KeepLevels-directed (level_at levels (first_or 0 places)) (lent_sos s) (lent_eos s) source_classes brackets (at_indexes L classes places)
+      (kept_pass is_l_or_r (λ u inside kept. directed-only (class_at classes u) (none u inside) kept))
 
   -- ---- L written over the European numbers
 
-  module _ (new : List BidiClass) (numbers : HasEuropeanNumbers s levels units) (written : AreNumbersWritten rs units new) where
-    written-at : at_places L new places ≡ map number_as_l (at_places L units places)
-    written-at = at_places-mapped number_as_l units new places (at_kept (λ u. class_at new u ≡ number_as_l (class_at units u)) (λ u inside kept. written.changed u inside))
+  module _ (new : List BidiClass) (numbers : HasEuropeanNumbers s levels classes) (written : AreNumbersWritten rs classes new) where
+    written-at : at_indexes L new places ≡ map number_as_l (at_indexes L classes places)
+    written-at = at_indexes-mapped number_as_l classes new places (at_kept (λ u. class_at new u ≡ number_as_l (class_at classes u)) (λ u inside kept. written.changed u inside))
 
     kept-number : (c : BidiClass) → is_kept_in_place c ≡ true → is_kept_in_place (number_as_l c) ≡ true
     kept-number c h = grind arith
 
-    pub written-kept : list_all is_kept_in_place (at_places L new places) ≡ true
-    written-kept = list_all-at_places is_kept_in_place new places (at_kept (λ u. is_kept_in_place (class_at new u) ≡ true) (λ u inside kept. ap is_kept_in_place (written.changed u inside) ∙ kept-number (class_at units u) kept))
+    pub written-kept : list_all is_kept_in_place (at_indexes L new places) ≡ true
+    written-kept = list_all-at_indexes is_kept_in_place new places (at_kept (λ u. is_kept_in_place (class_at new u) ≡ true) (λ u inside kept. ap is_kept_in_place (written.changed u inside) ∙ kept-number (class_at classes u) kept))
 
     -- the levels can be read off what is written
-    pub numbers-give : (source : List BidiClass) (brackets : List (Option BidiMatchedOpeningBracket)) → list_all is_kept (at_places L units places) ≡ true
-        → GiveLevels (level_at levels (first_or 0 places)) (lent_sos s) (lent_eos s) source brackets (at_places L units places) (at_places L new places)
-    numbers-give source brackets kept =
+    pub numbers-give : (source_classes : List BidiClass) (brackets : List (Option BidiMatchedOpeningBracket)) → list_all is_kept (at_indexes L classes places) ≡ true
+        → GiveLevels (level_at levels (first_or 0 places)) (lent_sos s) (lent_eos s) source_classes brackets (at_indexes L classes places) (at_indexes L new places)
+    numbers-give source_classes brackets kept =
         rw (written-at, first-place numbers.kept)
-        (GiveLevels-numbers (level_at levels (first_unit s)) (lent_sos s) (lent_eos s) source brackets (at_places L units places) (sym numbers.own) numbers.before kept
+        (GiveLevels-numbers (level_at levels (first_unit s)) (lent_sos s) (lent_eos s) source_classes brackets (at_indexes L classes places) (sym numbers.own) numbers.before kept
         (kept_pass (λ c. not (is_r_al_or_an c)) (λ u inside kept. ap not (numbers.along u inside))))
 
-    pub written-removed : (u : ℕ) → class_at units u ≡ BN → class_at new u ≡ BN
+    pub written-removed : (u : ℕ) → class_at classes u ≡ BN → class_at new u ≡ BN
     written-removed u gone = grind (arith, cases_Bool (in_runs rs u), written.changed u, written.same u)
 
     pub written-per_char : is_per_char class_eq len_of chars new ≡ true
-    written-per_char = is_per_char-from_IsPerChar class_eq class_test len_of chars new (IsPerChar-alike len_of chars new (written.long ∙ length-from_IsPerChar len_of chars units even) each)
+    written-per_char = is_per_char-from_IsPerChar class_eq class_test len_of chars new (IsPerChar-alike len_of chars new (written.long ∙ length-from_IsPerChar len_of chars classes even) each)
       where
-        even : IsPerChar len_of chars units
-        even = IsPerChar-from_is_per_char class_eq class_test len_of h chars units per
+        even : IsPerChar len_of chars classes
+        even = IsPerChar-from_is_per_char class_eq class_test len_of h chars classes per
 
-        each : (k : ℕ) → k < length chars → (u : ℕ) → place len_of chars k ≤ u → u < place len_of chars (k + 1) → class_at new u ≡ class_at new (place len_of chars k)
+        each : (k : ℕ) → k < length chars → (u : ℕ) → unit_index len_of chars k ≤ u → u < unit_index len_of chars (k + 1) → class_at new u ≡ class_at new (unit_index len_of chars k)
         each k fits u from below =
             grind (
               arith,
               in_runs-alike len_of h chars rs lines k u from below,
-              alike_class len_of h chars units even k u fits from below,
-              cases_Bool (in_runs rs (place len_of chars k)),
+              alike_class len_of h chars classes even k u fits from below,
+              cases_Bool (in_runs rs (unit_index len_of chars k)),
               written.changed,
               written.same,
             )

@@ -3,10 +3,10 @@ use Rattle.std.specs.Prelude.{ℕ, Bool, List, Option}
 use Rattle.bidi_base.specs.declared.char_data.BidiClass.{BidiClass}
 use Rattle.bidi_base.specs.Source.{Source}
 use Rattle.bidi_base.specs.Texts.{Encoding, Text}
-use Rattle.bidi_paragraphs.specs.FirstWalk as list
+use Rattle.bidi_paragraphs.specs.FirstPass as list
 use Rattle.bidi_paragraphs.specs.declared.class_set.ClassSet.{ClassSet}
-use Rattle.bidi_paragraphs.specs.declared.first_walk.progress.Progress.{Progress}
-use Rattle.bidi_paragraphs.specs.declared.first_walk.stop.Stop.{Stop}
+use Rattle.bidi_paragraphs.specs.declared.first_pass.progress.Progress.{Progress}
+use Rattle.bidi_paragraphs.specs.declared.first_pass.stop.Stop.{Stop}
 
 module _ {e : Encoding} (text : Text e) where
   -- the characters from a boundary on

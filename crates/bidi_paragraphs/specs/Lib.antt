@@ -1,5 +1,5 @@
 pub mod ClassSet
-pub mod FirstWalk
+pub mod FirstPass
 pub mod InText
 pub mod Paragraph
 pub mod ParagraphFlags

@@ -1,6 +1,6 @@
 //! What the later steps need to know of a paragraph's classes.
 ghost use Rattle.std.specs.Prelude.{◌≡◌, ◌||◌, not};
-ghost use Rattle.bidi_base.specs.Classes.{is_initiator, is_opener, is_removed};
+ghost use Rattle.bidi_base.specs.Classes.{is_isolate_initiator, is_opener, is_removed};
 ghost use Rattle.bidi_base.specs.Direction.{may_turn};
 ghost use Rattle.bidi_base.specs.Flat.{may_leave};
 ghost use Rattle.bidi_base.specs.declared.char_data.BidiClass.{BidiClass};
@@ -72,7 +72,7 @@ impl ParagraphFlags {
 
     /// Returns whether some character is an isolate initiator.
     pub(crate) fn has_isolates(self) -> bool
-        ensures { result ≡ any_of self.seen is_initiator }
+        ensures { result ≡ any_of self.seen is_isolate_initiator }
     {
         self.seen.meets(ClassSet::INITIATORS)
     }

@@ -121,9 +121,9 @@ module _ (classes : List BidiClass) (levels : List ℕ) where
 
   -- at the end these are the sequences
   pub IsStateAt-end : (out : List (List ℕ)) (waits : List (Option ℕ)) (last : Option (ℕ × ℕ)) → IsStateAt (length classes) out waits last
-      → (paragraph : ℕ) → map (with_ends paragraph classes levels) out ≡ sequences paragraph classes levels
-  IsStateAt-end out waits None h paragraph = ap (map (with_ends paragraph classes levels)) h.0 ∙ IsPass-end classes levels paragraph (length classes) [] [] [] (pass_none (length classes) h.2)
-  IsStateAt-end out waits (Some e) h paragraph = IsPass-end classes levels paragraph e.0 out h.stack (reverse waits) h.pass
+      → (para_level : ℕ) → map (with_ends para_level classes levels) out ≡ sequences para_level classes levels
+  IsStateAt-end out waits None h para_level = ap (map (with_ends para_level classes levels)) h.0 ∙ IsPass-end classes levels para_level (length classes) [] [] [] (pass_none (length classes) h.2)
+  IsStateAt-end out waits (Some e) h para_level = IsPass-end classes levels para_level e.0 out h.stack (reverse waits) h.pass
 
   begun : (p : ℕ) (out : List (List ℕ)) (waits : List (Option ℕ)) (last : Option (ℕ × ℕ)) → IsStateAt p out waits last → AllBegun classes levels out
   begun p out waits None h = simp h.0 tt

@@ -8,7 +8,7 @@ use crate::words::is_about_line;
 use bidi_base::data_source::BidiDataSource;
 use bidi_controls::displayed::{DisplayComparison, DisplayedLine};
 use bidi_controls::finding::Finding;
-use bidi_controls::lines::{first_line_len, own_chars};
+use bidi_controls::lines::{first_paragraph_len, own_chars};
 use bidi_terminal::Base;
 use std::alloc::{AllocError, Global};
 
@@ -23,7 +23,7 @@ fn paragraph_with<'t, D: BidiDataSource>(
     let mut rest = line;
     let mut at = place;
     while !rest.is_empty() {
-        let (paragraph, after) = rest.split_at(first_line_len(data_source, rest));
+        let (paragraph, after) = rest.split_at(first_paragraph_len(data_source, rest));
         if at < paragraph.len() {
             return paragraph;
         }

@@ -2,7 +2,7 @@
 use Rattle.bidi_base.proofs.Common.{◌≡◌, ℕ, zero, suc, ◌+◌, ◌-◌, ◌*◌, ◌<◌, ◌≤◌, List, [], ◌∷◌, length, true, false, get_or, take}
 use Rattle.bidi_base.proofs.Common.{drop, arith, length-append, length-take, length-drop, flat_map-append, All}
 use Rattle.bidi_base.proofs.Common.{slice_range, cond-true, cond-false, All-head, All-tail, char_index, IsLine, are_ordered, are_ordered_from, chars_in_runs, units_in_runs, AreLines, take_more}
-use Rattle.bidi_base.proofs.PlaceLemmas.{line_places, place-sum}
+use Rattle.bidi_base.proofs.UnitIndexLemmas.{line_unit_indexes, unit_index-sum}
 use Rattle.bidi_base.proofs.TextLemmas.{HasUnits, length-le-text_len}
 use Rattle.bidi_rules.specs.declared.weak.w2_w4_w5_w7.Walk.{Walk}
 use Rattle.bidi_rules.specs.WeakPass.{waits}
@@ -66,7 +66,7 @@ characters_within : (len_of : ℕ → ℕ) → HasUnits len_of → (chars : List
 characters_within len_of h chars start end line =
     let i = char_index len_of chars start in
     let j = char_index len_of chars end in
-    grind (arith, line_places len_of h chars start end line, place-sum len_of chars i j, length-le-text_len len_of h (slice_range chars i j), length-take (j - i) (drop i chars), length-drop i chars)
+    grind (arith, line_unit_indexes len_of h chars start end line, unit_index-sum len_of chars i j, length-le-text_len len_of h (slice_range chars i j), length-take (j - i) (drop i chars), length-drop i chars)
 
 pub characters-at_most : (len_of : ℕ → ℕ) → HasUnits len_of → (chars : List ℕ) (runs : List (ℕ × ℕ)) → AreLines len_of chars runs
     → length (chars_in_runs len_of chars runs) ≤ length (units_in_runs runs)

@@ -1,21 +1,21 @@
 -- N1 for the direction against the embedding one, in one walk: neutrals wait from a class of that direction to the next class with one.
 use Rattle.bidi_base.proofs.Common.{◌≡◌, ℕ, zero, suc, ◌+◌, ◌-◌, ◌<◌, ◌≤◌, Bool, true, false, not, ◌&&◌, List, [], ◌∷◌, ◌++◌, length, map, replicate, Some, refl, ap, ◌∙◌}
 use Rattle.bidi_base.proofs.Common.{arith, append_assoc, append-nil, ◌⊎◌, filter, list_all, range_with_len, cases_Bool, cases_lt, map-append, as_direction, is_l_or_r}
-use Rattle.bidi_base.proofs.Common.{is_neutral, is_weak_resolved, stands_for, nearest_direction, n1_n2, n2_rule, at_places, class_at, in_runs}
+use Rattle.bidi_base.proofs.Common.{is_ni, is_weak_resolved, stands_for, nearest_direction, n1_n2, n2_rule, at_indexes, class_at, in_runs}
 use Rattle.bidi_base.specs.declared.char_data.BidiClass.{BidiClass}
 use Rattle.bidi_base.specs.declared.char_data.BidiClass.TheVariants.{L}
 use Rattle.bidi_laws.proofs.NeutralBlocks.{common}
 use Rattle.bidi_laws.proofs.NeutralStretches.{n1_n2-neutrals, n1_n2-directed, n1_n2-last}
-use Rattle.bidi_laws.proofs.StoredLemmas.{at_places-append, length-at_places}
+use Rattle.bidi_laws.proofs.StoredLemmas.{at_indexes-append, length-at_indexes}
 use Rattle.bidi_rules.specs.JoinPass.{side_before, Unjoined, IsJoined}
-use Rattle.bidi_rules.specs.PairWalk.{opposite_of}
+use Rattle.bidi_rules.specs.PairPass.{opposite_of}
 use Rattle.bidi_explicit.specs.Written.{is_seen, IsWrittenOver}
 use Rattle.bidi_explicit.proofs.Marks.{marked, marked-parts, at_marked-same, at_marked-all}
 
 -- ---- classes
 
 -- what does not stand for the opposite direction stands for the embedding one, or is a neutral
-quiet : (e c : BidiClass) → is_l_or_r e ≡ true → (is_weak_resolved c && not (stands_for (opposite_of e) c)) ≡ true → (as_direction c ≡ Some e) ⊎ (is_neutral c ≡ true)
+quiet : (e c : BidiClass) → is_l_or_r e ≡ true → (is_weak_resolved c && not (stands_for (opposite_of e) c)) ≡ true → (as_direction c ≡ Some e) ⊎ (is_ni c ≡ true)
 quiet e c s h = grind arith
 
 pub opposite-directed : (e c : BidiClass) → stands_for (opposite_of e) c ≡ true → as_direction c ≡ Some (opposite_of e)
@@ -42,7 +42,7 @@ module _ (e eos : BidiClass) (side : is_l_or_r e ≡ true) where
   common_opposite : common e o o ≡ o
   common_opposite = grind arith
 
-  map-settled : (cs : List BidiClass) → list_all is_neutral cs ≡ true → map (n2_rule e) cs ≡ replicate (length cs) e
+  map-settled : (cs : List BidiClass) → list_all is_ni cs ≡ true → map (n2_rule e) cs ≡ replicate (length cs) e
   map-settled [] h = refl
   map-settled (c ∷ cs) h = grind (arith, map-settled cs)
 
@@ -59,12 +59,12 @@ module _ (e eos : BidiClass) (side : is_l_or_r e ≡ true) where
   near d c rest is = grind arith steps 400000
 
   -- neutrals that waited, before the embedding direction
-  turned : (cs rest : List BidiClass) (c : BidiClass) → list_all is_neutral cs ≡ true → as_direction c ≡ Some e → n1_n2 e o eos (cs ++ c ∷ rest) ≡ map (n2_rule e) cs ++ n1_n2 e e eos (c ∷ rest)
+  turned : (cs rest : List BidiClass) (c : BidiClass) → list_all is_ni cs ≡ true → as_direction c ≡ Some e → n1_n2 e o eos (cs ++ c ∷ rest) ≡ map (n2_rule e) cs ++ n1_n2 e e eos (c ∷ rest)
   turned cs rest c h is =
       simp (n1_n2-neutrals e o eos cs (c ∷ rest) h, near e c rest is, common_apart, map-settled cs h, n1_n2-directed e o e eos c rest is, n1_n2-directed e e e eos c rest is)
 
   -- neutrals between two of the opposite direction
-  between_two : (cs rest : List BidiClass) (c : BidiClass) → list_all is_neutral cs ≡ true → as_direction c ≡ Some o
+  between_two : (cs rest : List BidiClass) (c : BidiClass) → list_all is_ni cs ≡ true → as_direction c ≡ Some o
       → n1_n2 e o eos (cs ++ c ∷ rest) ≡ replicate (length cs) o ++ n1_n2 e o eos (c ∷ rest)
   between_two cs rest c h is = grind (arith, n1_n2-neutrals)
 
@@ -76,11 +76,11 @@ module _ (e eos : BidiClass) (side : is_l_or_r e ≡ true) where
 -- ---- the same at units
 
 module _ (mark : ℕ → Bool) (p : BidiClass → Bool) (old : List BidiClass) where
-  each : (low n : ℕ) → ((k : ℕ) → low ≤ k → k < low + n → mark k ≡ true → p (class_at old k) ≡ true) → list_all p (at_places L old (filter mark (range_with_len low n))) ≡ true
+  each : (low n : ℕ) → ((k : ℕ) → low ≤ k → k < low + n → mark k ≡ true → p (class_at old k) ≡ true) → list_all p (at_indexes L old (filter mark (range_with_len low n))) ≡ true
   each low zero h = refl
   each low (suc n) h = grind (arith, cases_Bool (mark low), h low, each (low + 1) n (λ k from below is. h k (omega arith) (omega arith) is))
 
-  pub at_marked-each : (low high : ℕ) → ((k : ℕ) → low ≤ k → k < high → mark k ≡ true → p (class_at old k) ≡ true) → list_all p (at_places L old (marked mark low high)) ≡ true
+  pub at_marked-each : (low high : ℕ) → ((k : ℕ) → low ≤ k → k < high → mark k ≡ true → p (class_at old k) ≡ true) → list_all p (at_indexes L old (marked mark low high)) ≡ true
   at_marked-each low high h = each low (high - low) (λ k from below is. h k from (omega arith) is)
 
 -- a unit keeps its class, or has one that was written over some units
@@ -102,7 +102,7 @@ module _ (s : Unjoined) where
   mark k = is_seen s.runs s.old k
 
   abbrev at_old : ℕ → ℕ → List BidiClass
-  at_old low high = at_places L s.old (marked mark low high)
+  at_old low high = at_indexes L s.old (marked mark low high)
 
   abbrev size : ℕ
   size = length s.old
@@ -111,16 +111,16 @@ module _ (s : Unjoined) where
   rest_of waits low = n1_n2 e (side_before s waits) s.eos (at_old low size)
 
   abbrev done_with : List BidiClass → ℕ → List BidiClass
-  done_with now high = map (n2_rule e) (at_places L now (marked mark 0 high))
+  done_with now high = map (n2_rule e) (at_indexes L now (marked mark 0 high))
 
   abbrev goal : List BidiClass
   goal = n1_n2 e s.sos s.eos (at_old 0 size)
 
-  split : (xs : List BidiClass) (low mid high : ℕ) → low ≤ mid → mid ≤ high → at_places L xs (marked mark low high) ≡ at_places L xs (marked mark low mid) ++ at_places L xs (marked mark mid high)
-  split xs low mid high a b = ap (at_places L xs) (marked-parts mark low mid high a b) ∙ at_places-append L xs (marked mark low mid) (marked mark mid high)
+  split : (xs : List BidiClass) (low mid high : ℕ) → low ≤ mid → mid ≤ high → at_indexes L xs (marked mark low high) ≡ at_indexes L xs (marked mark low mid) ++ at_indexes L xs (marked mark mid high)
+  split xs low mid high a b = ap (at_indexes L xs) (marked-parts mark low mid high a b) ∙ at_indexes-append L xs (marked mark low mid) (marked mark mid high)
 
-  done-more : (now : List BidiClass) (done to : ℕ) → done ≤ to → done_with now to ≡ done_with now done ++ map (n2_rule e) (at_places L now (marked mark done to))
-  done-more now done to a = ap (map (n2_rule e)) (split now 0 done to (omega arith) a) ∙ map-append (n2_rule e) (at_places L now (marked mark 0 done)) (at_places L now (marked mark done to))
+  done-more : (now : List BidiClass) (done to : ℕ) → done ≤ to → done_with now to ≡ done_with now done ++ map (n2_rule e) (at_indexes L now (marked mark done to))
+  done-more now done to a = ap (map (n2_rule e)) (split now 0 done to (omega arith) a) ∙ map-append (n2_rule e) (at_indexes L now (marked mark 0 done)) (at_indexes L now (marked mark done to))
 
   -- ---- a step that leaves the units of `now` from `done` on as they are, and reads those up to `to`
   read : (now : List BidiClass) (waits after : Bool) (done at to : ℕ) → done ≤ to → to ≤ size → IsJoined s now waits done at
@@ -130,12 +130,12 @@ module _ (s : Unjoined) where
 
   -- more neutrals, or units that are none of the sequence
   pub IsJoined-more : (now : List BidiClass) (waits : Bool) (done at to : ℕ) → at ≤ to
-      → ((k : ℕ) → at ≤ k → k < to → mark k ≡ true → is_neutral (class_at s.old k) ≡ true) → IsJoined s now waits done at
+      → ((k : ℕ) → at ≤ k → k < to → mark k ≡ true → is_ni (class_at s.old k) ≡ true) → IsJoined s now waits done at
       → IsJoined s now waits done to
   IsJoined-more now waits done at to upto more j = grind arith
 
-  waited : (now : List BidiClass) (waits : Bool) (done at : ℕ) → IsJoined s now waits done at → list_all is_neutral (at_old done at) ≡ true
-  waited now waits done at j = at_marked-each mark is_neutral s.old done at j.waiting
+  waited : (now : List BidiClass) (waits : Bool) (done at : ℕ) → IsJoined s now waits done at → list_all is_ni (at_old done at) ≡ true
+  waited now waits done at j = at_marked-each mark is_ni s.old done at j.waiting
 
   -- behind the embedding direction: units that don't stand for the opposite one
   pub IsJoined-quiet : (now : List BidiClass) (done at to : ℕ) → at ≤ to → to ≤ size
@@ -168,8 +168,8 @@ module _ (s : Unjoined) where
 
   -- what is written to units
   row-written : (now new : List BidiClass) (from to : ℕ) → IsWrittenOver mark against from to now new
-      → (done_with new from ≡ done_with now from) × (map (n2_rule e) (at_places L new (marked mark from to)) ≡ replicate (length (at_old from to)) against)
-  row-written now new from to w = grind (arith, at_marked-same, at_marked-all, length-at_places, map-opposite)
+      → (done_with new from ≡ done_with now from) × (map (n2_rule e) (at_indexes L new (marked mark from to)) ≡ replicate (length (at_old from to)) against)
+  row-written now new from to w = grind (arith, at_marked-same, at_marked-all, length-at_indexes, map-opposite)
 
   -- the opposite direction comes, and is written to what waits
   pub IsJoined-settled : (now new : List BidiClass) (done at : ℕ) → at < size → in_runs s.runs at ≡ true

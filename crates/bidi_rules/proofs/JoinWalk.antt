@@ -1,10 +1,10 @@
 -- The walk for N1 over the runs of a sequence.
 use Rattle.bidi_base.proofs.Common.{◌≡◌, ℕ, ◌+◌, ◌<◌, ◌≤◌, Bool, true, false, List, length, map, get_or, drop, Some, arith, add-one, inl, inr, ◌⊎◌, cases_Bool}
-use Rattle.bidi_base.proofs.Common.{as_direction, has_direction, is_kept_in_place, is_l_or_r, stands_for, n1_n2, n2_rule, at_places, class_at, in_runs}
+use Rattle.bidi_base.proofs.Common.{as_direction, has_direction, is_kept_in_place, is_l_or_r, stands_for, n1_n2, n2_rule, at_indexes, class_at, in_runs}
 use Rattle.bidi_base.specs.declared.char_data.BidiClass.{BidiClass}
 use Rattle.bidi_base.specs.declared.char_data.BidiClass.TheVariants.{L}
 use Rattle.bidi_rules.specs.JoinPass.{side_before, units_of, Unjoined, IsAtOpposite, IsJoined, IsUnderWay}
-use Rattle.bidi_rules.specs.PairWalk.{opposite_of}
+use Rattle.bidi_rules.specs.PairPass.{opposite_of}
 use Rattle.bidi_explicit.specs.Written.{is_seen, IsWrittenOver}
 use Rattle.bidi_rules.specs.declared.neutral.directions.Join.{Join}
 use Rattle.bidi_explicit.proofs.InRuns.{in_runs-at, in_runs-drop, start_or, gap_before, gap_after, next_start}
@@ -93,7 +93,7 @@ module _ (s : Unjoined) where
 
   -- the classes that N1 leaves for N2, once what waits is settled by the direction at the end
   pub record IsFinished (new : List BidiClass) : Type 0 where
-    pub answers : map (n2_rule s.e) (at_places L new (units_of s 0 size)) ≡ n1_n2 s.e s.sos s.eos (at_places L s.old (units_of s 0 size))
+    pub answers : map (n2_rule s.e) (at_indexes L new (units_of s 0 size)) ≡ n1_n2 s.e s.sos s.eos (at_indexes L s.old (units_of s 0 size))
     pub unseen : (k : ℕ) → is_seen s.runs s.old k ≡ false → class_at new k ≡ class_at s.old k
     pub own : (k : ℕ) → (class_at new k ≡ class_at s.old k) ⊎ (class_at new k ≡ opposite_of s.e)
 

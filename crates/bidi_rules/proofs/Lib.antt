@@ -13,7 +13,7 @@ mod PairPlaces
 mod PairSteps
 mod RowLemmas
 mod Settled
-mod Spots
+mod ListedUnitIndexes
 mod UnitBrackets
 mod WeakMarks
 mod WeakPassLemmas

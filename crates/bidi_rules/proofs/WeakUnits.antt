@@ -1,7 +1,7 @@
 -- The walk over units gives what W2 to W7 give the characters, repeated.
 use Rattle.bidi_base.proofs.Common.{◌≡◌, ℕ, zero, suc, ◌+◌, ◌-◌, ◌<◌, ◌≤◌, Bool, true, false, List, [], ◌∷◌, ◌++◌, length, map, get_or, replicate, refl, sym, ap}
 use Rattle.bidi_base.proofs.Common.{◌∙◌, arith, inl, inr, append-nil, append_assoc, length-append, All, range_with_len, cases_Bool, replicate-append-replicate}
-use Rattle.bidi_base.proofs.Common.{sum_by-append, sum_by-cons, All-head, All-tail, is_l, at_places, class_at, place, per_unit, text_len}
+use Rattle.bidi_base.proofs.Common.{sum_by-append, sum_by-cons, All-head, All-tail, is_l, at_indexes, class_at, unit_index, per_unit, text_len}
 use Rattle.bidi_base.specs.declared.char_data.BidiClass.{BidiClass}
 use Rattle.bidi_base.specs.declared.char_data.BidiClass.TheVariants.{L, ET, ON}
 use Rattle.bidi_laws.proofs.RepeatedPlaces.{AreIndexes, units_of_chars}
@@ -85,7 +85,7 @@ is_plain c strong before h idle = grind arith
 
 pub walked-plain : (classes : List BidiClass) (len : ℕ → ℕ) (us : List ℕ) → All (λ u. is_number (class_at classes u) ≡ false) us
     → (strong : BidiClass) (before : Before) (n : ℕ) → is_idle before ≡ true
-    → walked (class_at classes) len strong before 0 n us ≡ replicate n ON ++ map left_over (at_places L classes us)
+    → walked (class_at classes) len strong before 0 n us ≡ replicate n ON ++ map left_over (at_indexes L classes us)
 walked-plain classes len [] none strong before n idle = sym (append-nil (replicate n ON))
 walked-plain classes len (u ∷ us) none strong before n idle =
     let c = class_at classes u in
@@ -96,7 +96,7 @@ walked-plain classes len (u ∷ us) none strong before n idle =
       | inl joins' ↦ rw (
         joins',
         p.joined joins',
-      ) (later (suc n) p.next ∙ sym (replicate-onto ON n (map left_over (at_places L classes us))))
+      ) (later (suc n) p.next ∙ sym (replicate-onto ON n (map left_over (at_indexes L classes us))))
       | inr apart ↦ grind arith
     ]
 
@@ -113,23 +113,23 @@ per_unit-held len_of (c ∷ held) cs v xs =
     simp (per_unit-held len_of held cs v xs, sum_by-cons len_of c held, ← replicate-append-replicate (len_of c) (text_len len_of held) v, append_assoc)
 
 module _ (len_of : ℕ → ℕ) (h : HasUnits len_of) (chars : List ℕ) (classes : List BidiClass) (len : ℕ → ℕ)
-    (alike : (k j : ℕ) → k < length chars → j < len_of (get_or chars k 0) → class_at classes (place len_of chars k + j) ≡ class_at classes (place len_of chars k))
-    (long : (k : ℕ) → k < length chars → len (place len_of chars k) ≡ len_of (get_or chars k 0)) where
+    (alike : (k j : ℕ) → k < length chars → j < len_of (get_or chars k 0) → class_at classes (unit_index len_of chars k + j) ≡ class_at classes (unit_index len_of chars k))
+    (long : (k : ℕ) → k < length chars → len (unit_index len_of chars k) ≡ len_of (get_or chars k 0)) where
   -- the characters in `held` wait
   pub walked-chars : (ks : List ℕ) → AreIndexes chars ks → (held : List ℕ) (strong : BidiClass) (before : Before)
       → walked (class_at classes) len strong before 0 (text_len len_of held) (units_of_chars len_of chars ks)
-      ≡ per_unit len_of (held ++ at_places 0 chars ks) (after_w7 (is_l strong) before (length held) (after_w3 strong (at_places L classes (map (place len_of chars) ks))))
+      ≡ per_unit len_of (held ++ at_indexes 0 chars ks) (after_w7 (is_l strong) before (length held) (after_w3 strong (at_indexes L classes (map (unit_index len_of chars) ks))))
   walked-chars [] are held strong before =
       simp append-nil (simp append-nil at (sym (per_unit-held len_of held [] ON [])))
   walked-chars (k ∷ ks) are held strong before =
       let fits = All-head (λ (i : ℕ). i < length chars) k ks are in
       let rest = All-tail (λ (i : ℕ). i < length chars) k ks are in
-      let a = place len_of chars k in
+      let a = unit_index len_of chars k in
       let char = get_or chars k 0 in
       let m = len_of char - 1 in
       let size : len_of char ≡ suc m = omega (arith, h char) in
       let us = units_of_chars len_of chars ks in
-      let cs = at_places 0 chars ks in
+      let cs = at_indexes 0 chars ks in
       let n = text_len len_of held in
       let c = class_at classes a in
       let z = strengthened strong c in
@@ -137,7 +137,7 @@ module _ (len_of : ℕ → ℕ) (h : HasUnits len_of) (chars : List ℕ) (classe
       let now = strong_up_to strong c in
       let own = w7_by (is_l strong) (resolved z before) in
       let v = w7_by (is_l strong) (settled z before) in
-      let zs = after_w3 now (at_places L classes (map (place len_of chars) ks)) in
+      let zs = after_w3 now (at_indexes L classes (map (unit_index len_of chars) ks)) in
       let left = left-next strong c in
       let each : (u : ℕ) → a ≤ u → u < a + suc m → class_at classes u ≡ c =
       λ u from below. let at : u ≡ a + (u - a) = omega arith in ap (class_at classes) at ∙ alike k (u - a) fits (omega arith) in

@@ -1,12 +1,12 @@
 -- The steps of the walk over numbers, by stretches of units.
 use Rattle.bidi_base.proofs.Common.{◌≡◌, ℕ, zero, suc, ◌+◌, ◌-◌, ◌<◌, ◌≤◌, Bool, true, false, List, [], ◌∷◌, ◌++◌, length, get_or, map, take, drop, reverse, replicate, refl, sym, ap, ◌∙◌}
 use Rattle.bidi_base.proofs.Common.{arith, inl, inr, append-nil, append_assoc, length-append, get_or-drop, common_steps, All, range_with_len, cases_Bool, both_ways, and_left, and_right}
-use Rattle.bidi_base.proofs.Common.{map-append, length-range_with_len, Range, is_l, is_strong, is_kept_in_place, at_places, class_at, nearest, are_ordered, bounds, in_runs}
+use Rattle.bidi_base.proofs.Common.{map-append, length-range_with_len, Range, is_l, is_strong, is_kept_in_place, at_indexes, class_at, nearest, are_ordered, bounds, in_runs}
 use Rattle.std.proofs.Math.Numerals.{add-one}
 use Rattle.bidi_base.specs.declared.char_data.BidiClass.{BidiClass}
 use Rattle.bidi_base.specs.declared.char_data.BidiClass.TheVariants.{L, ON}
 use Rattle.bidi_base.proofs.PlacesLemmas.{nearest-more}
-use Rattle.bidi_laws.proofs.StoredLemmas.{at_places-append}
+use Rattle.bidi_laws.proofs.StoredLemmas.{at_indexes-append}
 use Rattle.bidi_rules.specs.declared.weak.w2_w4_w5_w7.Walk.{Walk}
 use Rattle.bidi_rules.specs.declared.weak.before.Before.{Before}
 use Rattle.bidi_rules.specs.declared.weak.before.Before.TheVariants.{Other}
@@ -55,7 +55,7 @@ module _ (p : Pass) (now : List BidiClass) (w : Walk) (i : ℕ) (h : IsUnderWay 
       let from = h.from in
       let start : from ≤ i = h.order in
       let nothing : units p i j ≡ [] = marked-empty (seen p) i j none in
-      let reads : map left_over (at_places L now (units p 0 from)) ++ rest w.strong w.before (length (units p from i)) j ≡ target = grind (arith, marked-parts (seen p) i j (length p.old)) in
+      let reads : map left_over (at_indexes L now (units p 0 from)) ++ rest w.strong w.before (length (units p from i)) j ≡ target = grind (arith, marked-parts (seen p) i j (length p.old)) in
       elim (cases_Bool (waits w.before)) [
         | inl wait ↦ waits-unseen j order fits none wait
         | inr free ↦
@@ -81,9 +81,9 @@ module _ (p : Pass) (now : List BidiClass) (w : Walk) (i : ℕ) (h : IsUnderWay 
 
   -- the final classes below i, once it has
   front-written : (v : BidiClass) (now1 : List BidiClass) → IsWrittenOver (seen p) v h.from i now now1 → left_over v ≡ v
-      → map left_over (at_places L now1 (units p 0 i)) ≡ map left_over (at_places L now (units p 0 h.from)) ++ replicate (length (units p h.from i)) v
+      → map left_over (at_indexes L now1 (units p 0 i)) ≡ map left_over (at_indexes L now (units p 0 h.from)) ++ replicate (length (units p h.from i)) v
   front-written v now1 s stays =
-      simp (marked-parts (seen p) 0 h.from i (omega arith) h.order, at_places-append, at_marked-same (seen p) now1 now 0 h.from (λ k a b t. s.below k b), at_marked-all (seen p) now1 v h.from i s.inside, map-append, stays-row (length (units p h.from i)) v stays)
+      simp (marked-parts (seen p) 0 h.from i (omega arith) h.order, at_indexes-append, at_marked-same (seen p) now1 now 0 h.from (λ k a b t. s.below k b), at_marked-all (seen p) now1 v h.from i s.inside, map-append, stays-row (length (units p h.from i)) v stays)
 
   -- the end, once what waits is neutral
   pub IsWalked-settled : (now1 : List BidiClass) → length p.old ≤ i → IsWrittenOver (seen p) ON h.from i now now1 → IsWalked p.len p.runs p.sos p.old now1
@@ -115,7 +115,7 @@ module _ (p : Pass) (now : List BidiClass) (w : Walk) (i : ℕ) (h : IsUnderWay 
     n = length (units p h.from i)
 
     abbrev front : List BidiClass
-    front = map left_over (at_places L now (units p 0 h.from))
+    front = map left_over (at_indexes L now (units p 0 h.from))
 
     -- how many units come behind the first
     abbrev m : ℕ
@@ -175,8 +175,8 @@ module _ (p : Pass) (now : List BidiClass) (w : Walk) (i : ℕ) (h : IsUnderWay 
           let order = h.order in
           let stays = at_marked-same (seen p) now2 now1 0 i (λ k a b u. below k b) in
           let settled_is = front-written v now1 t (settled-stays c w.strong (is_l w.strong) w.before) in
-          let up_to : map left_over (at_places L now2 (units p 0 j)) ≡ (front ++ replicate n v) ++ replicate (suc m) own =
-          simp (marked-parts (seen p) 0 i j (omega arith) (omega arith), at_places-append, map-append, stays, settled_is, stretch, row_left (suc m) i (λ k a b. written k a (omega arith))) in
+          let up_to : map left_over (at_indexes L now2 (units p 0 j)) ≡ (front ++ replicate n v) ++ replicate (suc m) own =
+          simp (marked-parts (seen p) 0 i j (omega arith) (omega arith), at_indexes-append, map-append, stays, settled_is, stretch, row_left (suc m) i (λ k a b. written k a (omega arith))) in
           record {
             from = j;
             answers = simp (up_to, marked-none (seen p) j j (omega arith), append_assoc)
@@ -190,7 +190,7 @@ module _ (p : Pass) (now : List BidiClass) (w : Walk) (i : ℕ) (h : IsUnderWay 
             long = long ∙ t.long ∙ h.long;
           }
         where
-          row_left : (l a : ℕ) → ((k : ℕ) → a ≤ k → k < a + l → left_over (class_at now2 k) ≡ own) → map left_over (at_places L now2 (range_with_len a l)) ≡ replicate l own
+          row_left : (l a : ℕ) → ((k : ℕ) → a ≤ k → k < a + l → left_over (class_at now2 k) ≡ own) → map left_over (at_indexes L now2 (range_with_len a l)) ≡ replicate l own
           row_left zero a each = refl
           row_left (suc l) a each = simp (each a (omega arith) (omega arith), row_left l (a + 1) (λ k from below. each k (omega arith) (omega arith)))
 

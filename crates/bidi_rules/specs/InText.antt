@@ -7,7 +7,7 @@ use Rattle.bidi_base.specs.Source.{Source}
 use Rattle.bidi_base.specs.Texts.{Encoding, Text}
 use Rattle.bidi_explicit.specs.declared.prepare.lent.LentSequence.{LentSequence}
 use Rattle.bidi_rules.specs.NeutralPass as neutral
-use Rattle.bidi_rules.specs.PairWalk as pairs
+use Rattle.bidi_rules.specs.PairPass as pairs
 use Rattle.bidi_rules.specs.WeakWalk as weak
 use Rattle.bidi_rules.specs.declared.neutral.pairs.Place.{Place}
 use Rattle.bidi_rules.specs.declared.neutral.pairs.Row.{Row}
@@ -33,35 +33,35 @@ module _ {e : Encoding} (text : Text e) where
 
   -- the brackets of some characters that count, each with its place
   abbrev pub placed_brackets : Source → List BidiClass → List ℕ → List Bracket
-  placed_brackets source units indexes = neutral.placed_brackets e.len_of text.chars source units indexes
+  placed_brackets source classes indexes = neutral.placed_brackets e.len_of text.chars source classes indexes
 
   -- pairs of places, from pairs of indexes into a list of characters
-  abbrev pub at_spots : List ℕ → List (ℕ × ℕ) → List (ℕ × ℕ)
-  at_spots ks indexes = pairs.at_spots e.len_of text.chars ks indexes
+  abbrev pub at_unit_indexes : List ℕ → List (ℕ × ℕ) → List (ℕ × ℕ)
+  at_unit_indexes ks indexes = pairs.at_unit_indexes e.len_of text.chars ks indexes
 
   abbrev pub IsReady : List (Range ℕ) → BidiClass → List BidiClass → Type 0
   IsReady runs sos old = neutral.IsReady e.len_of text.chars runs sos old
 
   abbrev pub IsPaired : List BidiClass → List BidiClass → List BidiClass → List (Range ℕ) → BidiClass → BidiClass → List (ℕ × ℕ) → Type 0
-  IsPaired original old mid runs embedding sos found = neutral.IsPaired e.len_of text.chars original old mid runs embedding sos found
+  IsPaired original_classes old mid runs embedding sos found = neutral.IsPaired e.len_of text.chars original_classes old mid runs embedding sos found
 
   abbrev pub IsMarksEnd : List (ℕ × ℕ) → List BidiClass → List BidiClass → ℕ → ℕ → Type 0
-  IsMarksEnd runs original units from end = pairs.IsMarksEnd e.len_of text.chars runs original units from end
+  IsMarksEnd runs original_classes classes from end = pairs.IsMarksEnd e.len_of text.chars runs original_classes classes from end
 
   abbrev pub IsPlace : List (ℕ × ℕ) → Place → Type 0
   IsPlace runs bracket = pairs.IsPlace e.len_of text.chars runs bracket
 
   abbrev pub IsBracket : List (ℕ × ℕ) → List BidiClass → List BidiClass → Place → Type 0
-  IsBracket runs original units bracket = pairs.IsBracket e.len_of text.chars runs original units bracket
+  IsBracket runs original_classes classes bracket = pairs.IsBracket e.len_of text.chars runs original_classes classes bracket
 
   abbrev pub IsBracketAfter : List (ℕ × ℕ) → List BidiClass → List BidiClass → Row → Place → Type 0
-  IsBracketAfter runs original units row bracket = pairs.IsBracketAfter e.len_of text.chars runs original units row bracket
+  IsBracketAfter runs original_classes classes row bracket = pairs.IsBracketAfter e.len_of text.chars runs original_classes classes row bracket
 
   abbrev pub IsSetUpTo : List (ℕ × ℕ) → List BidiClass → BidiClass → ℕ → ℕ → ℕ → List BidiClass → List BidiClass → Type 0
-  IsSetUpTo runs original d bracket k end old new = pairs.IsSetUpTo e.len_of text.chars runs original d bracket k end old new
+  IsSetUpTo runs original_classes d bracket k end old new = pairs.IsSetUpTo e.len_of text.chars runs original_classes d bracket k end old new
 
   abbrev pub IsSet : List (ℕ × ℕ) → List BidiClass → BidiClass → ℕ → ℕ → List BidiClass → List BidiClass → Type 0
-  IsSet runs original d bracket k old new = pairs.IsSet e.len_of text.chars runs original d bracket k old new
+  IsSet runs original_classes d bracket k old new = pairs.IsSet e.len_of text.chars runs original_classes d bracket k old new
 
   abbrev pub IsRow : List (ℕ × ℕ) → List BidiClass → List BidiClass → Row → Type 0
-  IsRow runs original units row = pairs.IsRow e.len_of text.chars runs original units row
+  IsRow runs original_classes classes row = pairs.IsRow e.len_of text.chars runs original_classes classes row

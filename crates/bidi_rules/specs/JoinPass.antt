@@ -2,11 +2,11 @@
 use Rattle.std.specs.Prelude.{◌≡◌, ◌⊎◌, ℕ, ◌<◌, ◌≤◌, Bool, true, false, if◌then◌else◌, List, ◌++◌, length, map, filter, drop}
 use Rattle.bidi_base.specs.declared.char_data.BidiClass.{BidiClass}
 use Rattle.bidi_base.specs.declared.char_data.BidiClass.TheVariants.{L}
-use Rattle.bidi_base.specs.Classes.{is_l_or_r, is_neutral, is_weak_resolved, stands_for}
+use Rattle.bidi_base.specs.Classes.{is_l_or_r, is_ni, is_weak_resolved, stands_for}
 use Rattle.bidi_base.specs.Neutral.{n1_n2, n2_rule}
-use Rattle.bidi_base.specs.Places.{at_places, between, class_at}
+use Rattle.bidi_base.specs.Places.{at_indexes, between, class_at}
 use Rattle.bidi_base.specs.Units.{are_ordered, in_runs}
-use Rattle.bidi_rules.specs.PairWalk.{opposite_of}
+use Rattle.bidi_rules.specs.PairPass.{opposite_of}
 use Rattle.bidi_explicit.specs.Written.{is_seen}
 use Rattle.bidi_rules.specs.declared.neutral.directions.Join.{Join}
 
@@ -31,10 +31,10 @@ side_before s waits = if waits then opposite_of s.e else s.e
 
 -- the units below `done` are as N1 leaves them but for N2; those from there up to `at` are neutrals
 pub record IsJoined (s : Unjoined) (now : List BidiClass) (waits : Bool) (done at : ℕ) : Type 0 where
-  pub written : map (n2_rule s.e) (at_places L now (units_of s 0 done))
-      ++ n1_n2 s.e (side_before s waits) s.eos (at_places L s.old (units_of s done (length s.old)))
-      ≡ n1_n2 s.e s.sos s.eos (at_places L s.old (units_of s 0 (length s.old)))
-  pub waiting : (k : ℕ) → done ≤ k → k < at → is_seen s.runs s.old k ≡ true → is_neutral (class_at s.old k) ≡ true
+  pub written : map (n2_rule s.e) (at_indexes L now (units_of s 0 done))
+      ++ n1_n2 s.e (side_before s waits) s.eos (at_indexes L s.old (units_of s done (length s.old)))
+      ≡ n1_n2 s.e s.sos s.eos (at_indexes L s.old (units_of s 0 (length s.old)))
+  pub waiting : (k : ℕ) → done ≤ k → k < at → is_seen s.runs s.old k ≡ true → is_ni (class_at s.old k) ≡ true
   pub unwritten : (k : ℕ) → done ≤ k → class_at now k ≡ class_at s.old k
   pub unseen : (k : ℕ) → is_seen s.runs s.old k ≡ false → class_at now k ≡ class_at s.old k
   pub own : (k : ℕ) → (class_at now k ≡ class_at s.old k) ⊎ (class_at now k ≡ opposite_of s.e)

@@ -6,7 +6,7 @@ use Rattle.std.specs.declared.ops.Range.{Range}
 use Rattle.bidi_base.specs.declared.char_data.BidiClass.{BidiClass}
 use Rattle.bidi_base.specs.declared.char_data.BidiClass.TheVariants.{L}
 use Rattle.bidi_base.specs.Classes.{is_kept_in_place}
-use Rattle.bidi_base.specs.Places.{at_places, class_at}
+use Rattle.bidi_base.specs.Places.{at_indexes, class_at}
 use Rattle.bidi_base.specs.Text.{char_at}
 use Rattle.bidi_base.specs.InPlace.{AreWeakTypesResolved, CanResolveWeakTypes}
 use Rattle.bidi_base.specs.Units.{bounds, chars_in_runs, in_runs, units_in_runs}
@@ -20,7 +20,7 @@ use Rattle.bidi_rules.specs.WeakPass.{after_w1, strengthened, next_before, waits
 
 -- the classes of a range of units, as far as there are any
 abbrev pub part_of : List BidiClass → ℕ × ℕ → List BidiClass
-part_of units r = let end = min r.1 (length units) in slice_range units (min r.0 end) end
+part_of classes r = let end = min r.1 (length classes) in slice_range classes (min r.0 end) end
 
 -- one of some classes passes the test
 abbrev pub is_any_of : (BidiClass → Bool) → List BidiClass → Bool
@@ -28,24 +28,24 @@ is_any_of test classes = fold (λ found class. found || test class) false classe
 
 -- one in some ranges passes the test
 abbrev pub is_any : (BidiClass → Bool) → List (Range ℕ) → List BidiClass → Bool
-is_any test runs units = list_any (λ run. is_any_of test (part_of units (bounds run))) runs
+is_any test runs classes = list_any (λ run. is_any_of test (part_of classes (bounds run))) runs
 
 -- the classes of a range; where it has 32 or more, those of the units behind it too, up to a multiple of 32 in all
 abbrev pub wide_part_of : List BidiClass → ℕ × ℕ → List BidiClass
-wide_part_of units r =
-    let end = min r.1 (length units) in
+wide_part_of classes r =
+    let end = min r.1 (length classes) in
     let start = min r.0 end in
-    let wide = min (start + (end - start + 31) / 32 * 32) (length units) in
-    slice_range units start (if nat_lt (end - start) 32 then end else wide)
+    let wide = min (start + (end - start + 31) / 32 * 32) (length classes) in
+    slice_range classes start (if nat_lt (end - start) 32 then end else wide)
 
 abbrev pub is_any_wide : (BidiClass → Bool) → List (Range ℕ) → List BidiClass → Bool
-is_any_wide test runs units = list_any (λ run. is_any_of test (wide_part_of units (bounds run))) runs
+is_any_wide test runs classes = list_any (λ run. is_any_of test (wide_part_of classes (bounds run))) runs
 
 -- W1 is done for the seen units below i, where the next mark takes `mark`
 pub record AreMarked (runs : List (ℕ × ℕ)) (sos : BidiClass) (old now : List BidiClass) (mark : BidiClass) (i : ℕ) : Type 0 where
-  pub answers : at_places L now (seen_from runs old 0 i)
-      ++ after_w1 mark (at_places L old (seen_from runs old i (length old)))
-      ≡ after_w1 sos (at_places L old (seen_units runs old))
+  pub answers : at_indexes L now (seen_from runs old 0 i)
+      ++ after_w1 mark (at_indexes L old (seen_from runs old i (length old)))
+      ≡ after_w1 sos (at_indexes L old (seen_units runs old))
   pub unread : (k : ℕ) → i ≤ k → class_at now k ≡ class_at old k
   pub unseen : (k : ℕ) → is_seen runs old k ≡ false → class_at now k ≡ class_at old k
   pub kept : (k : ℕ) → is_kept_in_place (class_at now k) ≡ is_kept_in_place (class_at old k)
@@ -61,7 +61,7 @@ Marks start end before last now new =
 
 -- W1 is done
 pub record IsMarked (runs : List (ℕ × ℕ)) (sos : BidiClass) (old new : List BidiClass) : Type 0 where
-  pub answers : at_places L new (seen_units runs old) ≡ after_w1 sos (at_places L old (seen_units runs old))
+  pub answers : at_indexes L new (seen_units runs old) ≡ after_w1 sos (at_indexes L old (seen_units runs old))
   pub unseen : (k : ℕ) → is_seen runs old k ≡ false → class_at new k ≡ class_at old k
   pub kept : (k : ℕ) → is_kept_in_place (class_at new k) ≡ is_kept_in_place (class_at old k)
   pub long : length new ≡ length old
@@ -85,7 +85,7 @@ units p low high = seen_from p.runs p.old low high
 
 -- the units from one up to another have the class of the first
 abbrev pub AreAlike : List BidiClass → ℕ → ℕ → Type 0
-AreAlike units from to = (k : ℕ) → from ≤ k → k < to → class_at units k ≡ class_at units from
+AreAlike classes from to = (k : ℕ) → from ≤ k → k < to → class_at classes k ≡ class_at classes from
 
 -- two for each code unit of some runs: the most iterations of a loop over the runs and their units, and the most units that
 -- a search looks at
@@ -119,7 +119,7 @@ pub record AreHeld (p : Pass) (w : Walk) (from : ℕ) : Type 0 where
 -- is to give
 pub record IsUnderWay (p : Pass) (now : List BidiClass) (w : Walk) (i : ℕ) : Type 0 where
   pub from : ℕ
-  pub answers : map left_over (at_places L now (units p 0 from))
+  pub answers : map left_over (at_indexes L now (units p 0 from))
       ++ walked (class_at p.old) p.len w.strong w.before 0 (length (units p from i)) (units p i (length p.old))
       ≡ walked (class_at p.old) p.len p.sos Other 0 0 (units p 0 (length p.old))
   pub unwritten : (k : ℕ) → from ≤ k → class_at now k ≡ class_at p.old k
@@ -176,7 +176,7 @@ settled_to w u = if waits w.before then w.first else u
 
 -- W2, W4, W5 and W7 are done, but for what W3 and W6 make of what is left
 pub record IsWalked (len : ℕ → ℕ) (runs : List (ℕ × ℕ)) (sos : BidiClass) (old new : List BidiClass) : Type 0 where
-  pub answers : map left_over (at_places L new (seen_units runs old))
+  pub answers : map left_over (at_indexes L new (seen_units runs old))
       ≡ walked (class_at old) len sos Other 0 0 (seen_units runs old)
   pub unseen : (k : ℕ) → is_seen runs old k ≡ false → class_at new k ≡ class_at old k
   pub long : length new ≡ length old

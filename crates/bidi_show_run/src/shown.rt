@@ -241,13 +241,13 @@ pub fn show<D: BidiDataSource>(
     alloc: Global,
     data_source: &D,
     text: &str,
-    base: Option<Level>,
+    base_level: Option<Level>,
     view: View,
 ) -> Result<String, AllocError>
-    requires { IfSome base (λ level. level ≤ 125) }
-    ensures { IfOk result (λ out. string_bytes out ≡ shown_text view (D.source data_source.now) base text.now) }
+    requires { IfSome base_level (λ level. level ≤ 125) }
+    ensures { IfOk result (λ out. string_bytes out ≡ shown_text view (D.source data_source.now) base_level text.now) }
 {
-    let info = BidiInfo::new_with_data_source(alloc, data_source, text, base)?;
+    let info = BidiInfo::new_with_data_source(alloc, data_source, text, base_level)?;
     let mut out = String::new(alloc);
     push_paragraphs(alloc, &mut out, data_source, &info, info.paragraphs(), view)?;
     Ok(out)

@@ -3,7 +3,7 @@
 use bidi_base::char_data::BidiClass::{L, R};
 use bidi_base::char_data::{BidiClass, is_rtl};
 use bidi_base::classes::{
-    as_direction, is_blank, is_embedding, is_initiator, is_neutral, is_nsm, is_paragraph_separator,
+    as_direction, is_blank, is_embedding_initiator, is_isolate_initiator, is_ni, is_nsm, is_paragraph_separator,
     is_pdi, is_removed, is_separator, is_strong, may_turn, stands_for,
 };
 use bidi_base::data_source::BidiDataSource;
@@ -165,15 +165,15 @@ pub fn run_format(
 fn is_in_group(test: &str, class: BidiClass) -> Option<bool> {
     let is_in = match test {
         "is_strong" => is_strong(class),
-        "is_initiator" => is_initiator(class),
-        "is_embedding" => is_embedding(class),
+        "is_initiator" => is_isolate_initiator(class),
+        "is_embedding" => is_embedding_initiator(class),
         "is_pdi" => is_pdi(class),
         "is_nsm" => is_nsm(class),
         "is_paragraph_separator" => is_paragraph_separator(class),
         "is_separator" => is_separator(class),
         "is_removed" => is_removed(class),
         "is_blank" => is_blank(class),
-        "is_neutral" => is_neutral(class),
+        "is_neutral" => is_ni(class),
         "may_turn" => may_turn(class),
         "is_rtl" => is_rtl(class),
         _ => return is_in_direction(test, class),

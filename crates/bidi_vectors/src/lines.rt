@@ -89,7 +89,7 @@ macro_rules! check_line {
         $tally.agree(row, "runs", "line_runs", all_runs(alloc, $text, runs));
         let levels = $info.reordered_levels(alloc, $($para,)? start..end);
         let wanted = levels_between(alloc, levels, (start, end));
-        let came = char_levels(alloc, $info.line_levels(alloc, $($para,)? start..end));
+        let came = char_levels(alloc, $info.levels_of_line(alloc, $($para,)? start..end));
         $tally.same(row, "line_levels", wanted, came);
         if start < end {
             let answer = $info.visual_runs(alloc, $($para,)? start..end);

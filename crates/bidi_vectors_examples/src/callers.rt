@@ -52,7 +52,7 @@ pub fn visual_runs<'t>(
         IfOk result (λ shown. map (λ run. (run.0.now, run.1)) shown.items ≡ runs) }
 {
     let text = info.text();
-    let levels = info.line_levels(alloc, paragraph, line.start..line.end)?;
+    let levels = info.levels_of_line(alloc, paragraph, line.start..line.end)?;
     let mut runs = Vec::new(alloc);
     for run in &info.line_runs(alloc, paragraph, line.start..line.end)? {
         let level = levels[run.start - line.start].number();

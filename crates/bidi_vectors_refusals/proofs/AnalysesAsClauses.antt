@@ -33,16 +33,16 @@ IsBounded levels p = All (λ level. (p.1 ≤ level) × (level ≤ 126)) (slice_r
 
 -- ---- the clauses of the records
 
-module _ (source : Source) (base : Option ℕ) (rule : Option SplitRule) (len_of : ℕ → ℕ) (chars : List ℕ) (classes : List BidiClass) (ranges : List (ℕ × ℕ))
+module _ (source : Source) (base_level : Option ℕ) (rule : Option SplitRule) (len_of : ℕ → ℕ) (chars : List ℕ) (classes : List BidiClass) (ranges : List (ℕ × ℕ))
     (para_levels : List ℕ) where
   abbrev pieces : List (List ℕ)
   pieces = pieces_by rule source chars
 
   -- before any level is resolved
-  pub paragraphs-clauses : AreParagraphs source base rule len_of chars classes ranges para_levels
+  pub paragraphs-clauses : AreParagraphs source base_level rule len_of chars classes ranges para_levels
       ↔ (classes ≡ per_unit len_of chars (text_classes source pieces))
       × (ranges ≡ ranges_from len_of 0 pieces)
-      × (para_levels ≡ paragraph_levels source base pieces)
+      × (para_levels ≡ paragraph_levels source base_level pieces)
       × IfSome rule (λ r. AreParagraphRanges r source len_of chars ranges)
       × (rule ≡ None → ranges ≡ (0, text_len len_of chars) ∷ [])
       × (per_char L len_of chars classes ≡ text_classes source pieces)
@@ -63,13 +63,13 @@ module _ (source : Source) (base : Option ℕ) (rule : Option SplitRule) (len_of
   -- with the stored levels
   pub analysis-clauses : (levels : List ℕ) →
       let a : AnalysedText = record { len_of = len_of; chars = chars; classes = classes; levels = levels } in
-      IsAnalysis source base rule a ranges para_levels
-      ↔ AreParagraphs source base rule len_of chars classes ranges para_levels
-      × (levels ≡ per_unit len_of chars (text_levels source base pieces))
-      × (per_char 0 len_of chars levels ≡ text_levels source base pieces)
+      IsAnalysis source base_level rule a ranges para_levels
+      ↔ AreParagraphs source base_level rule len_of chars classes ranges para_levels
+      × (levels ≡ per_unit len_of chars (text_levels source base_level pieces))
+      × (per_char 0 len_of chars levels ≡ text_levels source base_level pieces)
       × IsTrue (is_per_char level_eq len_of chars levels)
       × All (IsBounded levels) (zip ranges para_levels)
-      × All (IsOwn len_of chars (stored_levels source base) levels) ranges
+      × All (IsOwn len_of chars (stored_levels source base_level) levels) ranges
   analysis-clauses levels = (
     λ all. (all.paragraphs, all.levels, all.by_characters, all.per_char, all.bounded, all.each_by_itself),
     λ all. record {
@@ -83,8 +83,8 @@ module _ (source : Source) (base : Option ℕ) (rule : Option SplitRule) (len_of
   )
 
 -- the laws of levels
-pub laws-clauses : (source : Source) (base : Option ℕ) → ObeysLaws source base ↔ BoundaryNeutralsAreAlike source base × StaysLeftToRight source base
-laws-clauses source base =
+pub laws-clauses : (source : Source) (base_level : Option ℕ) → ObeysLaws source base_level ↔ BoundaryNeutralsAreAlike source base_level × StaysLeftToRight source base_level
+laws-clauses source base_level =
     (λ all. (all.boundary_neutrals_alike, all.stays_left_to_right), λ all. record { boundary_neutrals_alike = all.0; stays_left_to_right = all.1 })
 
 -- ---- the ranges of paragraphs, as they were stated before
@@ -134,9 +134,9 @@ module _ (levels : List ℕ) where
       All-cons IsBoundedParagraph p ps (All-head (IsBounded levels) ((p.range.start, p.range.end), p.level) (zip (ranges_of ps) (levels_of ps)) h)
       (bounded-unzip ps (All-tail (IsBounded levels) ((p.range.start, p.range.end), p.level) (zip (ranges_of ps) (levels_of ps)) h))
 
-module _ (source : Source) (base : Option ℕ) (a : AnalysedText) (ps : List ParagraphInfo) where
+module _ (source : Source) (base_level : Option ℕ) (a : AnalysedText) (ps : List ParagraphInfo) where
   -- `engine::analyse_with_rule`, and `BidiInfo::new_with_rule` in each encoding
-  pub analysed_by-law : (rule : Option SplitRule) → IsAnalysis source base rule a (ranges_of ps) (levels_of ps) → IsAnalysedBy source base rule a ps
+  pub analysed_by-law : (rule : Option SplitRule) → IsAnalysis source base_level rule a (ranges_of ps) (levels_of ps) → IsAnalysedBy source base_level rule a ps
   analysed_by-law rule h = record {
     analysis = record { classes = h.paragraphs.classes; levels = h.levels; ranges = h.paragraphs.ranges; paragraph_levels = h.paragraphs.para_levels };
     parted = ranges-rule source a.len_of a.chars (ranges_of ps) rule h.paragraphs.partition;
@@ -148,7 +148,7 @@ module _ (source : Source) (base : Option ℕ) (a : AnalysedText) (ps : List Par
   }
 
   -- `engine::analyse`, and with `split` true `BidiInfo::new_with_data_source` in each encoding
-  pub analysed-law : (split : Bool) → IsAnalysis source base (then_some split EachSeparator) a (ranges_of ps) (levels_of ps) → IsAnalysed source base split a ps
+  pub analysed-law : (split : Bool) → IsAnalysis source base_level (then_some split EachSeparator) a (ranges_of ps) (levels_of ps) → IsAnalysed source base_level split a ps
   analysed-law true h = record {
     analysis = record { classes = h.paragraphs.classes; levels = h.levels; ranges = h.paragraphs.ranges; paragraph_levels = h.paragraphs.para_levels };
     parted = λ is. ranges-separated source a.len_of a.chars (ranges_of ps) h.paragraphs.partition;
@@ -169,40 +169,40 @@ module _ (source : Source) (base : Option ℕ) (a : AnalysedText) (ps : List Par
   }
 
   -- `Analyser::analyse`
-  pub analysed_text-law : (rule : Option SplitRule) → IsAnalysis source base rule a (ranges_of ps) (levels_of ps) → IsAnalysedText source base rule a ps
+  pub analysed_text-law : (rule : Option SplitRule) → IsAnalysis source base_level rule a (ranges_of ps) (levels_of ps) → IsAnalysedText source base_level rule a ps
   analysed_text-law rule h =
       let all = analysed_by-law rule h in
       record { analysis = all.analysis; per_char = all.per_char; bounded = all.bounded }
 
 -- `ParagraphBidiInfo::new_with_data_source` in each encoding
-module _ (source : Source) (base : Option ℕ) (a : AnalysedText) (level : ℕ) (h : IsAnalysis source base None a ((0, text_len a.len_of a.chars) ∷ []) (level ∷ [])) where
+module _ (source : Source) (base_level : Option ℕ) (a : AnalysedText) (level : ℕ) (h : IsAnalysis source base_level None a ((0, text_len a.len_of a.chars) ∷ []) (level ∷ [])) where
   one_level : length a.levels ≡ text_len a.len_of a.chars
   one_level =
       ap length h.levels
-      ∙ length-per_unit a.len_of a.chars (text_levels source base (a.chars ∷ [])) (length-text_levels source base (a.chars ∷ []) a.chars (pieces_by-joined None source a.chars))
+      ∙ length-per_unit a.len_of a.chars (text_levels source base_level (a.chars ∷ [])) (length-text_levels source base_level (a.chars ∷ []) a.chars (pieces_by-joined None source a.chars))
 
   all_levels : slice_range a.levels 0 (text_len a.len_of a.chars) ≡ a.levels
   all_levels = grind (arith, one_level, take_all)
 
-  pub analysed_as_one-law : (pure : Bool) → pure ≡ is_pure_ltr (map source.class_of a.chars) → IsAnalysedAsOne source base a level pure
+  pub analysed_as_one-law : (pure : Bool) → pure ≡ is_pure_ltr (map source.class_of a.chars) → IsAnalysedAsOne source base_level a level pure
   analysed_as_one-law pure is_pure = record {
     analysis = record {
-      classes = classes-one source base a _ _ h;
-      levels = levels-one source base a _ _ h;
-      paragraph_level = cc (para_level-one source base a _ _ h);
+      classes = classes-one source base_level a _ _ h;
+      levels = levels-one source base_level a _ _ h;
+      paragraph_level = cc (para_level-one source base_level a _ _ h);
       pure_ltr = is_pure;
     };
     per_char = record { classes = h.paragraphs.per_char; levels = h.per_char };
     bounded = rw all_levels at (All-head (IsBounded a.levels) ((0, text_len a.len_of a.chars), level) [] h.bounded);
   }
 
-module _ (source : Source) (base : Option ℕ) (len_of : ℕ → ℕ) (chars : List ℕ) (stored : List BidiClass) (ps : List ParagraphInfo) where
-  -- `first_walk::walk`
-  pub walked-law : (rule : Option SplitRule) → AreParagraphs source base rule len_of chars stored (ranges_of ps) (levels_of ps) → IsWalked source base rule len_of chars stored ps
+module _ (source : Source) (base_level : Option ℕ) (len_of : ℕ → ℕ) (chars : List ℕ) (stored : List BidiClass) (ps : List ParagraphInfo) where
+  -- `first_pass::walk`
+  pub walked-law : (rule : Option SplitRule) → AreParagraphs source base_level rule len_of chars stored (ranges_of ps) (levels_of ps) → IsWalked source base_level rule len_of chars stored ps
   walked-law rule h = record { classes = h.classes; ranges = h.ranges; levels = h.para_levels }
 
   -- `InitialInfo::new_with_data_source` in each encoding
-  pub has_paragraphs-law : AreParagraphs source base (Some EachSeparator) len_of chars stored (ranges_of ps) (levels_of ps) → HasParagraphs source base len_of chars stored ps
+  pub has_paragraphs-law : AreParagraphs source base_level (Some EachSeparator) len_of chars stored (ranges_of ps) (levels_of ps) → HasParagraphs source base_level len_of chars stored ps
   has_paragraphs-law h = record {
     classes = h.classes;
     ranges = h.ranges;

@@ -63,39 +63,39 @@ pub record HasCharValues (a : AnalysedText) (char_classes : List BidiClass) (cha
 
 -- a text that is cut into these pieces has its stored classes and levels, and these are the ranges and the levels of its
 -- paragraphs
-pub record IsAnalysisOf (source : Source) (base : Option ℕ) (pieces : List (List ℕ)) (a : AnalysedText)
+pub record IsAnalysisOf (source : Source) (base_level : Option ℕ) (pieces : List (List ℕ)) (a : AnalysedText)
     (own_ranges : List (ℕ × ℕ)) (own_levels : List ℕ) : Type 0 where
   pub classes : a.classes ≡ per_unit a.len_of a.chars (text_classes source pieces)
-  pub levels : a.levels ≡ per_unit a.len_of a.chars (text_levels source base pieces)
+  pub levels : a.levels ≡ per_unit a.len_of a.chars (text_levels source base_level pieces)
   pub ranges : own_ranges ≡ ranges_from a.len_of 0 pieces
-  pub paragraph_levels : own_levels ≡ paragraph_levels source base pieces
+  pub paragraph_levels : own_levels ≡ paragraph_levels source base_level pieces
 
-module _ (source : Source) (base : Option ℕ) where
+module _ (source : Source) (base_level : Option ℕ) where
   -- an analysed text: with `split` each separator ends a paragraph, and without it the whole text is one
   pub record IsAnalysed (split : Bool) (a : AnalysedText) (paragraphs : List ParagraphInfo) : Type 0 where
-    pub analysis : IsAnalysisOf source base (pieces_of split source a.chars) a (ranges_of paragraphs) (levels_of paragraphs)
+    pub analysis : IsAnalysisOf source base_level (pieces_of split source a.chars) a (ranges_of paragraphs) (levels_of paragraphs)
     pub parted : split ≡ true → AreSeparatedRanges source a.len_of a.chars (ranges_of paragraphs)
     pub whole : split ≡ false → ranges_of paragraphs ≡ (0, text_len a.len_of a.chars) ∷ []
     pub per_char : IsPerCharText a
-    pub by_characters : let pieces = pieces_of split source a.chars in HasCharValues a (text_classes source pieces) (text_levels source base pieces)
+    pub by_characters : let pieces = pieces_of split source a.chars in HasCharValues a (text_classes source pieces) (text_levels source base_level pieces)
     pub bounded : All (λ p. AreLevelsFrom (level_of p) (slice_range a.levels (range_of p).start (range_of p).end)) paragraphs
-    pub each_by_itself : All (HasOwnUnits a.len_of (stored_levels source base) a.chars a.levels) (ranges_of paragraphs)
+    pub each_by_itself : All (HasOwnUnits a.len_of (stored_levels source base_level) a.chars a.levels) (ranges_of paragraphs)
 
   -- an analysed text whose paragraphs end where a rule says; without a rule, the whole text is one paragraph
   pub record IsAnalysedBy (rule : Option SplitRule) (a : AnalysedText) (paragraphs : List ParagraphInfo) : Type 0 where
-    pub analysis : IsAnalysisOf source base (pieces_by rule source a.chars) a (ranges_of paragraphs) (levels_of paragraphs)
+    pub analysis : IsAnalysisOf source base_level (pieces_by rule source a.chars) a (ranges_of paragraphs) (levels_of paragraphs)
     pub parted : IfSome rule (λ r. AreParagraphRangesBy r source a.len_of a.chars (ranges_of paragraphs))
     pub whole : rule ≡ None → ranges_of paragraphs ≡ (0, text_len a.len_of a.chars) ∷ []
     pub per_char : IsPerCharText a
-    pub by_characters : let pieces = pieces_by rule source a.chars in HasCharValues a (text_classes source pieces) (text_levels source base pieces)
+    pub by_characters : let pieces = pieces_by rule source a.chars in HasCharValues a (text_classes source pieces) (text_levels source base_level pieces)
     pub bounded : All (λ p. AreLevelsFrom (level_of p) (slice_range a.levels (range_of p).start (range_of p).end)) paragraphs
-    pub each_by_itself : All (HasOwnUnits a.len_of (stored_levels source base) a.chars a.levels) (ranges_of paragraphs)
+    pub each_by_itself : All (HasOwnUnits a.len_of (stored_levels source base_level) a.chars a.levels) (ranges_of paragraphs)
 
   -- a text that is one paragraph
   pub record IsParagraphAnalysis (a : AnalysedText) (level : ℕ) (pure : Bool) : Type 0 where
     pub classes : a.classes ≡ per_unit a.len_of a.chars (stored_classes (map source.class_of a.chars))
-    pub levels : a.levels ≡ per_unit a.len_of a.chars (stored_levels source base a.chars)
-    pub paragraph_level : level ≡ paragraph_level base (map source.class_of a.chars)
+    pub levels : a.levels ≡ per_unit a.len_of a.chars (stored_levels source base_level a.chars)
+    pub paragraph_level : level ≡ paragraph_level base_level (map source.class_of a.chars)
     pub pure_ltr : pure ≡ is_pure_ltr (map source.class_of a.chars)
 
   pub record IsAnalysedAsOne (a : AnalysedText) (level : ℕ) (pure : Bool) : Type 0 where
@@ -107,18 +107,18 @@ module _ (source : Source) (base : Option ℕ) where
   pub record HasParagraphs (len_of : ℕ → ℕ) (chars : List ℕ) (stored : List BidiClass) (paragraphs : List ParagraphInfo) : Type 0 where
     pub classes : stored ≡ per_unit len_of chars (text_classes source (pieces_of true source chars))
     pub ranges : ranges_of paragraphs ≡ ranges_from len_of 0 (pieces_of true source chars)
-    pub levels : levels_of paragraphs ≡ paragraph_levels source base (pieces_of true source chars)
+    pub levels : levels_of paragraphs ≡ paragraph_levels source base_level (pieces_of true source chars)
     pub parted : AreSeparatedRanges source len_of chars (ranges_of paragraphs)
     pub per_char : HaveClass len_of chars stored
 
-  -- the clauses of `first_walk::walk`
+  -- the clauses of `first_pass::walk`
   pub record IsWalked (rule : Option SplitRule) (len_of : ℕ → ℕ) (chars : List ℕ) (stored : List BidiClass) (paragraphs : List ParagraphInfo) : Type 0 where
     pub classes : stored ≡ per_unit len_of chars (text_classes source (pieces_by rule source chars))
     pub ranges : ranges_of paragraphs ≡ ranges_from len_of 0 (pieces_by rule source chars)
-    pub levels : levels_of paragraphs ≡ paragraph_levels source base (pieces_by rule source chars)
+    pub levels : levels_of paragraphs ≡ paragraph_levels source base_level (pieces_by rule source chars)
 
   -- the clauses of `Analyser::analyse`
   pub record IsAnalysedText (rule : Option SplitRule) (a : AnalysedText) (paragraphs : List ParagraphInfo) : Type 0 where
-    pub analysis : IsAnalysisOf source base (pieces_by rule source a.chars) a (ranges_of paragraphs) (levels_of paragraphs)
+    pub analysis : IsAnalysisOf source base_level (pieces_by rule source a.chars) a (ranges_of paragraphs) (levels_of paragraphs)
     pub per_char : IsPerCharText a
     pub bounded : All (λ p. AreLevelsFrom (level_of p) (slice_range a.levels (range_of p).start (range_of p).end)) paragraphs

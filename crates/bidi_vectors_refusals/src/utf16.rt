@@ -74,7 +74,7 @@ fn try_line_alone(
     tried!(
         rt,
         "utf16::BidiInfo::line_levels",
-        info.line_levels(alloc, para, line.start..line.end)
+        info.levels_of_line(alloc, para, line.start..line.end)
     );
     tried!(
         rt,
@@ -157,7 +157,7 @@ fn try_whole_line_alone(
     tried!(
         rt,
         "utf16::ParagraphBidiInfo::line_levels",
-        info.line_levels(alloc, line.start..line.end)
+        info.levels_of_line(alloc, line.start..line.end)
     );
     tried!(
         rt,

@@ -74,7 +74,7 @@ fn try_line_alone(
     tried!(
         rt,
         "BidiInfo::line_levels",
-        info.line_levels(alloc, para, line.start..line.end)
+        info.levels_of_line(alloc, para, line.start..line.end)
     );
     tried!(
         rt,
@@ -190,7 +190,7 @@ fn try_whole_line_alone(
     tried!(
         rt,
         "ParagraphBidiInfo::line_levels",
-        info.line_levels(alloc, line.start..line.end)
+        info.levels_of_line(alloc, line.start..line.end)
     );
     tried!(
         rt,

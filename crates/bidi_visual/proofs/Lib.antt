@@ -3,4 +3,4 @@ pub mod FirstLemmas
 pub mod QuietLemmas
 mod ShownLemmas
 mod TabLemmas
-mod TurnedLemmas
+mod ReversedLemmas

@@ -29,15 +29,15 @@ with_marks is_mark marks (c ∷ before) =
     if is_mark c then with_marks is_mark (c ∷ marks) before else (c ∷ marks) ++ with_marks is_mark [] before
 
 -- the characters of a run of an odd level, from left to right
-abbrev pub turned : Source → List ℕ → List ℕ
-turned source chars = with_marks (λ c. is_nsm (source.class_of c)) [] (reverse chars)
+abbrev pub reversed_with_marks : Source → List ℕ → List ℕ
+reversed_with_marks source chars = with_marks (λ c. is_nsm (source.class_of c)) [] (reverse chars)
 
 -- a run of a line as it is shown: at an odd level from right to left, mirrored and with its marks behind their
 -- letters, or plainly turned round
 abbrev pub shown_run : Source → Bool → Bool → List ℕ → List ℕ
 shown_run source plain odd chars =
     if odd then (if plain then flat_map encode_utf8 (reverse chars)
-    else flat_map (λ c. encode_utf8 (mirror c)) (turned source chars))
+    else flat_map (λ c. encode_utf8 (mirror c)) (reversed_with_marks source chars))
     else flat_map encode_utf8 chars
 
 abbrev pub run_at : Source → Bool → List ℕ → List ℕ → Run → List ℕ
@@ -54,9 +54,9 @@ tabbed_line source plain chars levels = shown_line source plain (spread 0 chars)
 
 -- the levels of the line of a paragraph that goes from one character up to another, after L1
 unfoldable pub shown_levels : Source → Option ℕ → List ℕ → ℕ → ℕ → List ℕ
-shown_levels source base chars start end =
+shown_levels source base_level chars start end =
     let classes = map source.class_of chars in
-    levels_of_line (paragraph_level base classes) (stored_classes classes) (stored_levels source base chars) start end
+    levels_of_line (paragraph_level base_level classes) (stored_classes classes) (stored_levels source base_level chars) start end
 
 -- the lines of a paragraph, as ranges of its bytes in UTF-8: all of it, or those of so many columns
 abbrev pub shown_ranges : Source → Option ℕ → List ℕ → List Run

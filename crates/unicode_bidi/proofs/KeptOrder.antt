@@ -1,8 +1,8 @@
 -- Lists of indexes that are kept only if they differ from the indexes in their own order.
 use Rattle.bidi_base.proofs.Common.{◌≡◌, ◌≢◌, ℕ, ◌+◌, ◌<◌, List, Option, length, get_or, slice_get, Some, None, refl, sym, ap, ◌∙◌, arith, inl, inr, cases_lt, slice_get-get_or}
-use Rattle.bidi_base.proofs.Common.{length_permutation, length-range_with_len, get_or-range_with_len, same_number_lists, indexes, IsVisualOrder, visual_places, IfSome, slice_get_within}
+use Rattle.bidi_base.proofs.Common.{length_permutation, length-range_with_len, get_or-range_with_len, same_number_lists, indexes, IsVisualOrder, visual_indexes, IfSome, slice_get_within}
 use Rattle.bidi_base.proofs.Common.{get_or_from_slice_get, range_with_len, AreInverse}
-use Rattle.bidi_laws.proofs.LayoutLemmas.{visual_places-inverse}
+use Rattle.bidi_laws.proofs.LayoutLemmas.{visual_indexes-inverse}
 use Rattle.unicode_bidi.specs.KeptOrder.{entries}
 
 -- the indexes in their own order, looked up
@@ -64,6 +64,6 @@ module _ (levels order : List ℕ) (visual : IsVisualOrder levels order) where
   pub still-indexes : order ≡ indexes order → order ≡ indexes levels
   still-indexes e = e ∙ ap (range_with_len 0) order-long
 
--- the visual place of each index of a line that stays in order
-pub places-in_order : (levels : List ℕ) → IsVisualOrder levels (indexes levels) → indexes levels ≡ visual_places levels
-places-in_order levels visual = visual_places-inverse levels (indexes levels) visual (indexes levels) (range-inverse (length levels))
+-- the visual index of each index of a line that stays in order
+pub places-in_order : (levels : List ℕ) → IsVisualOrder levels (indexes levels) → indexes levels ≡ visual_indexes levels
+places-in_order levels visual = visual_indexes-inverse levels (indexes levels) visual (indexes levels) (range-inverse (length levels))

@@ -1,6 +1,6 @@
 -- The search for a base direction, step by step, finds what the walk over a whole text finds.
 use Rattle.bidi_base.proofs.Common.{◌≡◌, ◌∙◌, ap, sym, ℕ, zero, suc, ◌+◌, ◌-◌, ◌≤◌, replicate, Bool, true, false, not, ◌&&◌, ◌||◌, ◌==◌, if◌then◌else◌, List, [], ◌∷◌, ◌++◌, length, map, list_any, refl}
-use Rattle.bidi_base.proofs.Common.{◌<◌, append-nil, Some, direction_by, arith, cases_Bool, is_strong, is_initiator, is_pdi, is_paragraph_separator, ne_eqb, base_direction, paragraphs_of}
+use Rattle.bidi_base.proofs.Common.{◌<◌, append-nil, Some, direction_by, arith, cases_Bool, is_strong, is_isolate_initiator, is_pdi, is_paragraph_separator, ne_eqb, base_direction, paragraphs_of}
 use Rattle.bidi_base.proofs.Common.{each_separator, Source, full_base_direction}
 use Rattle.bidi_base.specs.declared.char_data.BidiClass.{BidiClass}
 use Rattle.bidi_base.specs.declared.char_data.BidiClass.TheVariants.{R, L, LRI, PDI}
@@ -8,7 +8,7 @@ use Rattle.bidi_base.specs.declared.char_data.Direction.{Direction}
 use Rattle.bidi_base.specs.declared.char_data.Direction.TheVariants.{Mixed}
 use Rattle.bidi_laws.proofs.DirectionWalk.{direction_from, direction_from-classes, direction_from-is}
 use Rattle.bidi_laws.proofs.IsolateWalk.{is_zero, depth_by, kind_of, initiator-kind, pdi-kind}
-use Rattle.bidi_paragraphs.specs.FirstWalk.{depth_after}
+use Rattle.bidi_paragraphs.specs.FirstPass.{depth_after}
 use Rattle.unicode_bidi.specs.DirectionSearch.{direction_after, direction_with, IsSearched, direction_found}
 use Rattle.unicode_bidi.specs.declared.direction_search.DirectionSearch.{DirectionSearch}
 use Rattle.unicode_bidi.specs.declared.direction_search.DirectionSearch.TheVariants.{Found, Open}
@@ -163,7 +163,7 @@ search_in-over full d (c ∷ cs) =
 
 -- no more isolates are open than characters were read
 pub depth_after-le : (d : ℕ) (c : BidiClass) → depth_after c d ≤ d + 1
-depth_after-le d c = grind (arith, cases_Bool (is_initiator c), cases_Bool (is_pdi c))
+depth_after-le d c = grind (arith, cases_Bool (is_isolate_initiator c), cases_Bool (is_pdi c))
 
 pub step-le : (full : Bool) (d : ℕ) (c : BidiClass) (e : ℕ) → search_step full d c ≡ Open e → e ≤ d + 1
 step-le full d c e is = grind (arith, depth_after-le d c)

@@ -3,13 +3,13 @@ use Rattle.std.specs.Prelude.{◌≡◌, ℕ, List, Option, IfOk, Result}
 use Rattle.bidi_base.specs.Laws.{BoundaryNeutralsAreAlike, StaysLeftToRight}
 use Rattle.bidi_base.specs.Source.{Source}
 
-module _ (source : Source) (base : Option ℕ) where
+module _ (source : Source) (base_level : Option ℕ) where
   -- laws of the levels of every paragraph
   pub record ObeysLaws : Type 0 where
     -- replacing a character of class BN by another of class BN changes no level of its paragraph
-    pub boundary_neutrals_alike : BoundaryNeutralsAreAlike source base
+    pub boundary_neutrals_alike : BoundaryNeutralsAreAlike source base_level
     -- if no class in a paragraph of level 0 can change the direction, all its levels are 0
-    pub stays_left_to_right : StaysLeftToRight source base
+    pub stays_left_to_right : StaysLeftToRight source base_level
 
   -- what a constructor establishes: if it succeeds, the result has the text and is its analysis; the laws hold even if it
   -- fails

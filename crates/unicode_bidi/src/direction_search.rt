@@ -3,11 +3,11 @@ ghost use Rattle.std.specs.Prelude.{◌≡◌, ◌+◌, ◌<◌, ◌^◌, [], �
 ghost use Rattle.bidi_base.specs.Direction.{direction_by, base_direction, full_base_direction};
 ghost use Rattle.bidi_base.specs.Paragraphs.{paragraphs_of, each_separator};
 ghost use Rattle.bidi_base.specs.Texts.{text_len};
-ghost use Rattle.bidi_paragraphs.specs.FirstWalk.{depth_after as depth_after_of};
+ghost use Rattle.bidi_paragraphs.specs.FirstPass.{depth_after as depth_after_of};
 ghost use Rattle.unicode_bidi.specs.DirectionSearch.{IsSearched, direction_found};
 
 use bidi_base::char_data::{BidiClass, Direction};
-use bidi_base::classes::{is_initiator, is_paragraph_separator, is_pdi, is_strong};
+use bidi_base::classes::{is_isolate_initiator, is_paragraph_separator, is_pdi, is_strong};
 use bidi_base::data_source::BidiDataSource;
 use bidi_text::text::TextSource;
 
@@ -37,7 +37,7 @@ fn depth_after(depth: usize, class: BidiClass) -> usize
     requires { depth + 1 < 2 ^ 64 }
     ensures { result ≡ depth_after_of class depth }
 {
-    if is_initiator(class) {
+    if is_isolate_initiator(class) {
         depth + 1
     } else if is_pdi(class) {
         depth.saturating_sub(1)

@@ -18,7 +18,7 @@ use bidi_base::data_source::BidiDataSource;
 use bidi_base::level::{LTR_LEVEL, Level};
 use bidi_base::split_rule::SplitRule;
 use bidi_lines::line_levels::levels_with_line;
-use bidi_paragraphs::first_walk::{self, FoundParagraphs};
+use bidi_paragraphs::first_pass::{self, FoundParagraphs};
 pub use bidi_paragraphs::paragraph_flags::ParagraphFlags;
 use bidi_paragraphs::paragraph_info::ParagraphInfo;
 use bidi_paragraphs::paragraph_levels::{ClassifiedParagraph, LevelResolver};
@@ -173,7 +173,7 @@ impl Analyser {
     /// Finds the paragraphs of a text, and the class and the level of each character (P1 to I2), in the caller's
     /// lists.
     ///
-    /// `base` is the level of every paragraph, at most 125. If it is `None`, each paragraph gets its level from its
+    /// `base_level` is the level of every paragraph, at most 125. If it is `None`, each paragraph gets its level from its
     /// characters (P2, P3). `rule` says where paragraphs end. Without a rule the whole text is one paragraph.
     /// Writes the class of each code unit to `classes` and its level to `levels`, which both have one entry a
     /// code unit. [`Analyser::paragraphs`] then returns the paragraphs, and [`Analyser::flags`] their classes. If an
@@ -183,15 +183,15 @@ impl Analyser {
         alloc: Global,
         data_source: &D,
         text: T,
-        base: Option<Level>,
+        base_level: Option<Level>,
         rule: Option<SplitRule>,
         classes: &mut [BidiClass],
         levels: &mut [Level],
     ) -> Result<(), AllocError>
-        requires low { IfSome base (λ level. level ≤ 125) }
+        requires low { IfSome base_level (λ level. level ≤ 125) }
         requires class_room { length classes.old ≡ text_len (T.text text) }
         requires level_room { length levels.old ≡ text_len (T.text text) }
-        ensures analysis { OnOk result (IsAnalysis (D.source data_source.now) base rule
+        ensures analysis { OnOk result (IsAnalysis (D.source data_source.now) base_level rule
             (with_lists (T.text text) classes.new levels.new) (ranges_of (found_paragraphs self.new))
             (levels_of (found_paragraphs self.new))) }
         ensures flags { let pieces = pieces_by rule (D.source data_source.now) (T.text text).chars in
@@ -200,7 +200,7 @@ impl Analyser {
         ensures no_flags { OnErr result (found_flags self.new ≡ []) }
     {
         let memory = mem::replace(&mut self.found, FoundParagraphs::new(alloc));
-        let found = first_walk::walk(data_source, text, base, rule, classes, memory)?;
+        let found = first_pass::walk(data_source, text, base_level, rule, classes, memory)?;
         let classified = ClassifiedText {
             data_source,
             text,
@@ -224,11 +224,11 @@ pub(crate) fn analyse_by<D: BidiDataSource, T: TextSource>(
     alloc: Global,
     data_source: &D,
     text: T,
-    base: Option<Level>,
+    base_level: Option<Level>,
     rule: Option<SplitRule>,
 ) -> Result<Analysis, AllocError>
-    requires { IfSome base (λ level. level ≤ 125) }
-    ensures analysis { IfOk result (λ a. IsAnalysis (D.source data_source.now) base rule
+    requires { IfSome base_level (λ level. level ≤ 125) }
+    ensures analysis { IfOk result (λ a. IsAnalysis (D.source data_source.now) base_level rule
         (with_analysis (T.text text) a) (ranges_of (paragraphs_of_analysis a))
         (levels_of (paragraphs_of_analysis a))) }
     ensures flags { let pieces = pieces_by rule (D.source data_source.now) (T.text text).chars in
@@ -241,7 +241,7 @@ pub(crate) fn analyse_by<D: BidiDataSource, T: TextSource>(
         alloc,
         data_source,
         text,
-        base,
+        base_level,
         rule,
         original_classes.as_mut_slice(),
         levels.as_mut_slice(),
@@ -257,44 +257,44 @@ pub(crate) fn analyse_by<D: BidiDataSource, T: TextSource>(
 
 /// Finds the paragraphs of a text, and the class and the level of each character (P1 to I2).
 ///
-/// `base` is the level of every paragraph, at most 125. If it is `None`, each paragraph gets its level from its
+/// `base_level` is the level of every paragraph, at most 125. If it is `None`, each paragraph gets its level from its
 /// characters (P2, P3). Each FSI is resolved (X5c). With `split` false the whole text is one paragraph, even an
 /// empty text.
 pub fn analyse<D: BidiDataSource, T: TextSource>(
     alloc: Global,
     data_source: &D,
     text: T,
-    base: Option<Level>,
+    base_level: Option<Level>,
     split: bool,
 ) -> Result<Analysis, AllocError>
-    requires { IfSome base (λ level. level ≤ 125) }
-    ensures { IfOk result (λ a. IsAnalysis (D.source data_source.now) base (then_some split SplitRule.EachSeparator)
+    requires { IfSome base_level (λ level. level ≤ 125) }
+    ensures { IfOk result (λ a. IsAnalysis (D.source data_source.now) base_level (then_some split SplitRule.EachSeparator)
         (with_analysis (T.text text) a) (ranges_of (paragraphs_of_analysis a))
         (levels_of (paragraphs_of_analysis a))) }
 {
     let rule = split.then_some(SplitRule::EachSeparator);
-    analyse_by(alloc, data_source, text, base, rule)
+    analyse_by(alloc, data_source, text, base_level, rule)
 }
 
 /// Finds the paragraphs of a text, which end where `rule` says, and the class and the level of each character (P1 to
 /// I2).
 ///
-/// `base` is the level of every paragraph, at most 125. If it is `None`, each paragraph gets its level from its
+/// `base_level` is the level of every paragraph, at most 125. If it is `None`, each paragraph gets its level from its
 /// characters (P2, P3). Each FSI is resolved (X5c). Without a rule the whole text is one paragraph, even an empty
 /// text.
 pub fn analyse_with_rule<D: BidiDataSource, T: TextSource>(
     alloc: Global,
     data_source: &D,
     text: T,
-    base: Option<Level>,
+    base_level: Option<Level>,
     rule: Option<SplitRule>,
 ) -> Result<Analysis, AllocError>
-    requires { IfSome base (λ level. level ≤ 125) }
-    ensures { IfOk result (λ a. IsAnalysis (D.source data_source.now) base rule
+    requires { IfSome base_level (λ level. level ≤ 125) }
+    ensures { IfOk result (λ a. IsAnalysis (D.source data_source.now) base_level rule
         (with_analysis (T.text text) a) (ranges_of (paragraphs_of_analysis a))
         (levels_of (paragraphs_of_analysis a))) }
 {
-    analyse_by(alloc, data_source, text, base, rule)
+    analyse_by(alloc, data_source, text, base_level, rule)
 }
 
 /// Returns the level of each code unit of a text: after L1 in the line, and as analysed outside it.

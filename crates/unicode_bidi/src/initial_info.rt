@@ -8,7 +8,7 @@ use bidi_base::char_data::BidiClass;
 use bidi_base::data_source::BidiDataSource;
 use bidi_base::level::Level;
 use bidi_base::split_rule::SplitRule;
-use bidi_paragraphs::first_walk::{FoundParagraphs, walk};
+use bidi_paragraphs::first_pass::{FoundParagraphs, walk};
 use bidi_paragraphs::paragraph_info::ParagraphInfo;
 use bidi_text::text::TextSource;
 use smallvec::SmallVec;

@@ -4,20 +4,20 @@ ghost use Rattle.std.specs.Prelude.{◌≡◌, ◌≢◌, ℕ, ◌<◌, true, fa
 ghost use Rattle.std.specs.List.{range_with_len};
 ghost use Rattle.bidi_base.specs.Analysed.{IsLineOf, line_levels_per_char};
 ghost use Rattle.bidi_base.specs.Display.{run_of};
-ghost use Rattle.bidi_base.specs.Layout.{line_length, line_ranges, visual_places, AreInverse};
+ghost use Rattle.bidi_base.specs.Layout.{line_length, line_ranges, visual_indexes, AreInverse};
 ghost use Rattle.bidi_base.specs.Order.{visual_order};
 ghost use Rattle.bidi_base.specs.Places.{indexes};
 ghost use Rattle.bidi_base.specs.Paragraphs.{IsPartition};
 ghost use Rattle.bidi_base.specs.Text.{per_char, text_len};
-ghost use Rattle.bidi_base.specs.Texts.{place, IsLine};
-ghost use Rattle.bidi_lines.specs.ShownLevels.{levels as kept_levels};
+ghost use Rattle.bidi_base.specs.Texts.{unit_index, IsLine};
+ghost use Rattle.bidi_lines.specs.LineLevels.{levels as kept_levels};
 ghost use Rattle.unicode_bidi.specs.BidiInfo.{analysed as analysed_of};
 ghost use Rattle.unicode_bidi.specs.KeptOrder.{entries};
 ghost use Rattle.bidi_paragraphs.specs.ParagraphInfo.{level_of, range_of};
 
 use crate::utf8::BidiInfo;
 use bidi_base::level::{Level, has_rtl};
-use bidi_lines::shown_levels::ShownLevels;
+use bidi_lines::reused_levels::LineLevels;
 use bidi_lines::visual_order::inverse;
 use bidi_paragraphs::paragraph_info::ParagraphInfo;
 use bidi_rules::prepare::LevelRun;
@@ -37,7 +37,7 @@ pub trait CharWidth {
 
 // Returns how many code units the first line of a text takes: as many characters as fit, and at least one.
 fn first_line_len<T: TextSource, W: CharWidth>(text: T, widths: &W, limit: usize) -> usize
-    ensures { result ≡ place (T.text text) (line_length (W.width_of widths.now) limit (T.text text).chars) }
+    ensures { result ≡ unit_index (T.text text) (line_length (W.width_of widths.now) limit (T.text text).chars) }
 {
     let mut left = limit;
     for (at, c) in text.char_indices() {
@@ -110,13 +110,13 @@ fn char_levels(
     info: &BidiInfo<'_>,
     para: &ParagraphInfo,
     line: Range<usize>,
-) -> Result<ShownLevels, AllocError>
+) -> Result<LineLevels, AllocError>
     requires { IsLineOf (analysed_of info.now) line }
     ensures { IfOk result (λ s. kept_levels s ≡ line_levels_per_char (analysed_of info.now) (level_of para.now) line) }
 {
     let text = StrText::new(info.text()).subrange(line.start..line.end);
     let classes = &info.original_classes()[line.start..line.end];
-    let mut shown = ShownLevels::new(alloc);
+    let mut shown = LineLevels::new(alloc);
     shown.show(para.level(), classes, &info.levels()[line.start..line.end])?;
     shown.keep_first_units(text);
     Ok(shown)
@@ -150,7 +150,7 @@ fn entry_at(list: &[usize], len: usize, index: usize) -> Option<usize>
 
 /// Where each character of a line is displayed, and which character is displayed at each place (L2).
 ///
-/// Characters and visual places are counted from 0, visual places from the left.
+/// Characters and visual indexes are counted from 0, visual indexes from the left.
 #[derive(PartialEq, Debug, Drop)]
 pub struct LineMap {
     len: usize,
@@ -180,7 +180,7 @@ impl LineMap {
     // Returns the map of a line, given the levels of its characters after L1.
     fn of_levels(alloc: Global, levels: &[Level]) -> Result<LineMap, AllocError>
         ensures order { IfOk result (λ m. order_of m ≡ visual_order levels.now) }
-        ensures places { IfOk result (λ m. places_of m ≡ visual_places levels.now) }
+        ensures places { IfOk result (λ m. places_of m ≡ visual_indexes levels.now) }
     {
         let len = levels.len();
         if !has_rtl(levels) {
@@ -209,13 +209,13 @@ impl LineMap {
         ensures order { IfOk result (λ m. order_of m
             ≡ visual_order (line_levels_per_char (analysed_of info.now) (level_of para.now) line)) }
         ensures places { IfOk result (λ m. places_of m
-            ≡ visual_places (line_levels_per_char (analysed_of info.now) (level_of para.now) line)) }
+            ≡ visual_indexes (line_levels_per_char (analysed_of info.now) (level_of para.now) line)) }
     {
         let levels = char_levels(alloc, info, para, line)?;
         LineMap::of_levels(alloc, levels.as_slice())
     }
 
-    /// Returns the number of characters, which is the number of visual places.
+    /// Returns the number of characters, which is the number of visual indexes.
     pub fn len(&self) -> usize
         ensures order { result ≡ length (order_of self.now) }
         ensures places { result ≡ length (places_of self.now) }
@@ -223,7 +223,7 @@ impl LineMap {
         self.len
     }
 
-    /// Returns the character at a visual place, or `None` from `len()` on.
+    /// Returns the character at a visual index, or `None` from `len()` on.
     pub fn visual_to_logical(&self, visual: usize) -> Option<usize>
         ensures found { result ≡ slice_get (order_of self.now) visual }
         ensures back { IfSome result (λ logical. slice_get (places_of self.now) logical ≡ Some visual) }
@@ -231,7 +231,7 @@ impl LineMap {
         entry_at(self.order.as_slice(), self.len, visual)
     }
 
-    /// Returns the visual place of a character, or `None` from `len()` on.
+    /// Returns the visual index of a character, or `None` from `len()` on.
     pub fn logical_to_visual(&self, logical: usize) -> Option<usize>
         ensures found { result ≡ slice_get (places_of self.now) logical }
         ensures back { IfSome result (λ visual. slice_get (order_of self.now) visual ≡ Some logical) }

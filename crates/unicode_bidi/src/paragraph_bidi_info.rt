@@ -177,17 +177,17 @@ impl<T: TextSource> ParagraphBidiInfo<T> {
     /// Returns the level of each code unit of the line after L1, that of `line.start` first.
     ///
     /// Takes time linear in the line. `reordered_levels` takes time linear in the text.
-    pub fn line_levels(&self, alloc: Global, line: Range<usize>) -> Result<Vec<Level>, AllocError>
+    pub fn levels_of_line(&self, alloc: Global, line: Range<usize>) -> Result<Vec<Level>, AllocError>
         requires { IsLineOf (analysed_of self.now) line }
         ensures { IfOk result (λ v. AreLevelsOfLine (analysed_of self.now) (paragraph_level self.now) line v.items) }
     {
         self.paragraph
-            .line_levels(alloc, self.paragraph_level, line)
+            .levels_of_line(alloc, self.paragraph_level, line)
     }
 
     /// Returns the level runs (BD7) of the line after L1, from left to right (L2).
     ///
-    /// Runs are ranges of code units of the text. An empty line has none. `line_levels` has the level of each.
+    /// Runs are ranges of code units of the text. An empty line has none. `levels_of_line` has the level of each.
     /// Takes time linear in the line. `visual_runs` takes time linear in the text.
     pub fn line_runs(
         &self,

@@ -3,7 +3,7 @@
 ghost use Rattle.std.specs.Prelude.{◌≡◌, ℕ, ◌<◌, ◌≤◌, ◌+◌, ◌^◌, [], ◌∷◌, true, false, length, map, reverse, Some, None, unwrap_or, if◌then◌else◌};
 ghost use Rattle.std.specs.Result.{OkIff};
 ghost use Rattle.bidi_base.specs.declared.char_data.BidiClass.TheVariants.{BN};
-ghost use Rattle.bidi_base.specs.Classes.{is_initiator, is_kept, is_removed};
+ghost use Rattle.bidi_base.specs.Classes.{is_isolate_initiator, is_kept, is_removed};
 ghost use Rattle.bidi_base.specs.Explicit.{asked_level, override_of};
 ghost use Rattle.bidi_base.specs.StatusMachine.{State, start, answer_class, answer_level, entered, closed, step, fits_in, close_isolate, close_embedding, drop_isolate, counted, IsWithinDepth, IsPoppable};
 ghost use Rattle.bidi_explicit.specs.Control.{is_control};
@@ -277,7 +277,7 @@ impl StatusStack {
     fn enter(&mut self, class: BidiClass, is_isolate: bool)
         requires depth { (paragraph : ℕ) × IsWithinDepth paragraph self.old }
         requires counts { counted self.old + 1 < 2 ^ 64 }
-        requires isolate { is_isolate ≡ is_initiator class }
+        requires isolate { is_isolate ≡ is_isolate_initiator class }
         ensures { self.new ≡ entered class self.old }
     {
         if let Some(level) = self.taken_level(class) {

@@ -20,7 +20,7 @@ use super::{
 use crate::characters::end_within;
 use crate::leveled_text::LeveledText;
 use bidi_base::char_data::BidiClass;
-use bidi_base::classes::{is_initiator, is_pdi};
+use bidi_base::classes::{is_isolate_initiator, is_pdi};
 use bidi_base::level::Level;
 use bidi_base::search::{Among, ClassTest, end_of_last_passing, first_passing};
 use bidi_text::text::TextSource;
@@ -71,7 +71,7 @@ pub(super) fn level_after(
     requires { end ≤ length levels.now }
     ensures { result ≡ level_after_run para_level class levels.now end }
 {
-    if is_initiator(class) || end == levels.len() {
+    if is_isolate_initiator(class) || end == levels.len() {
         para_level
     } else {
         levels[end]

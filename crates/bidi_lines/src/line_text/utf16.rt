@@ -60,17 +60,17 @@ impl<'t> Analysed<Utf16Text<'t>> {
     pub fn reorder_line(
         &self,
         alloc: Global,
-        level: Level,
+        para_level: Level,
         line: Range<usize>,
     ) -> Result<CowSlice<'t, u16>, AllocError>
         requires { IsLineOf (analysed self.now) line }
         ensures text { IfOk result (λ c. IsTextOfLine encode_utf16 (text_of self.now).units.now (analysed self.now)
-            level line (cow_slice_items c)) }
-        ensures borrowed { IfOk result (λ c. IsBorrowedSlice c ↔ StaysInOrder (analysed self.now) level line) }
+            para_level line (cow_slice_items c)) }
+        ensures borrowed { IfOk result (λ c. IsBorrowedSlice c ↔ StaysInOrder (analysed self.now) para_level line) }
     {
         let text = self.text().units();
         let units = line.start..line.end;
-        match self.turned_line(alloc, level, units, 0)? {
+        match self.reversed_line(alloc, para_level, units, 0)? {
             Some(turned) => Ok(CowSlice::Owned(turned)),
             None => Ok(CowSlice::Borrowed(&text[line])),
         }

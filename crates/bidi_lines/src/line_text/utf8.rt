@@ -5,7 +5,7 @@ ghost use Rattle.std.specs.Str.{chars};
 ghost use Rattle.bidi_base.specs.Analysed.{IsLineOf, IsTextOfLine, StaysInOrder};
 
 use super::LineText;
-use super::turned::{are_short, turn_round};
+use super::reversed_utf8::{are_short, turn_round};
 use crate::analysed::Analysed;
 use bidi_base::level::Level;
 use bidi_text::text::{StrText, TextSource};
@@ -58,17 +58,17 @@ impl<'t> Analysed<StrText<'t>> {
     pub fn reorder_line(
         &self,
         alloc: Global,
-        level: Level,
+        para_level: Level,
         line: Range<usize>,
     ) -> Result<CowStr<'t>, AllocError>
         requires { IsLineOf (analysed self.now) line }
         ensures text { IfOk result (λ c. IsTextOfLine encode_utf8 (text_of self.now).text.now (analysed self.now)
-            level line (cow_str_bytes c)) }
-        ensures borrowed { IfOk result (λ c. IsBorrowedStr c ↔ StaysInOrder (analysed self.now) level line) }
+            para_level line (cow_str_bytes c)) }
+        ensures borrowed { IfOk result (λ c. IsBorrowedStr c ↔ StaysInOrder (analysed self.now) para_level line) }
     {
         let text = self.text().as_str();
         let units = line.start..line.end;
-        match self.turned_line(alloc, level, units, 0)? {
+        match self.reversed_line(alloc, para_level, units, 0)? {
             // This skips the test for UTF-8: the proof shows that the bytes are UTF-8.
             Some(turned) => Ok(CowStr::Owned(unsafe { String::from_utf8_unchecked(turned) })),
             None => Ok(CowStr::Borrowed(&text[line])),

@@ -7,7 +7,7 @@ ghost use Rattle.bidi_base.specs.Explicit.{asked_level, override_of, status_insi
 ghost use Rattle.bidi_base.specs.Openers.{outside_isolate, left_open, then_open};
 
 use bidi_base::char_data::{BidiClass, is_rtl};
-use bidi_base::classes::{is_embedding, is_initiator, is_removed};
+use bidi_base::classes::{is_embedding_initiator, is_isolate_initiator, is_removed};
 use bidi_base::level::{Error, Level};
 use std::alloc::{AllocError, Global};
 use std::marker::Model;
@@ -70,13 +70,13 @@ struct Openers {
 impl Model for Openers {
     ghost use Rattle.std.specs.Prelude.{◌≡◌, List, reverse, count_by};
     ghost use Rattle.bidi_base.specs.declared.char_data.BidiClass.{BidiClass};
-    ghost use Rattle.bidi_base.specs.Classes.{is_initiator};
+    ghost use Rattle.bidi_base.specs.Classes.{is_isolate_initiator};
 
     ghost Value = { List BidiClass };
 
     ghost view = { λ o. reverse o.classes.items };
 
-    ghost invariant = { λ o. o.isolates ≡ count_by is_initiator (reverse o.classes.items) };
+    ghost invariant = { λ o. o.isolates ≡ count_by is_isolate_initiator (reverse o.classes.items) };
 }
 
 /// The level inside an initiator, if `level` is the one before it. Returns an error exactly if it would be
@@ -127,7 +127,7 @@ fn close_isolate(classes: &mut Vec<BidiClass>)
     ensures { reverse classes.new.items ≡ outside_isolate (reverse classes.old.items) }
 {
     while let Some(opener) = classes.pop() {
-        if is_initiator(opener) {
+        if is_isolate_initiator(opener) {
             break;
         }
     }
@@ -157,7 +157,7 @@ impl Openers {
             }
             BidiClass::PDF => {
                 if let Some(opener) = self.classes.last()
-                    && !is_initiator(*opener)
+                    && !is_isolate_initiator(*opener)
                 {
                     self.classes.pop();
                 }
@@ -170,10 +170,10 @@ impl Openers {
     fn open(&mut self, class: BidiClass) -> Result<(), AllocError>
         ensures { IfOk result (λ _. self.new ≡ then_open class self.old) }
     {
-        if is_initiator(class) {
+        if is_isolate_initiator(class) {
             self.classes.push(class)?;
             self.isolates += 1;
-        } else if is_embedding(class) {
+        } else if is_embedding_initiator(class) {
             self.classes.push(class)?;
         }
         Ok(())

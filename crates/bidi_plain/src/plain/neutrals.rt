@@ -3,13 +3,13 @@
 
 ghost use Rattle.std.specs.Prelude.{◌≡◌, ◌<◌, ◌≤◌, length, vec_len, slice_index_or, IsTrue, IfOk, unwrap_or};
 ghost use Rattle.std.specs.List.{list_all, prefix_len};
-ghost use Rattle.bidi_base.specs.Classes.{as_direction, has_direction, is_kept, is_l_or_r, is_neutral, is_weak_resolved};
+ghost use Rattle.bidi_base.specs.Classes.{as_direction, has_direction, is_kept, is_l_or_r, is_ni, is_weak_resolved};
 ghost use Rattle.bidi_base.specs.Brackets.{ArePairsWithin};
 ghost use Rattle.bidi_base.specs.Neutral.{n0, n1_n2, neutral_classes, pair_direction};
 
 use super::bracket_pairs::pairs;
 use bidi_base::char_data::BidiClass;
-use bidi_base::classes::{as_direction, is_neutral};
+use bidi_base::classes::{as_direction, is_ni};
 use bidi_base::data_source::BidiMatchedOpeningBracket;
 use bidi_base::level::Level;
 use bidi_base::neutrals::{
@@ -143,12 +143,12 @@ fn apply_n1_n2(
 
 /// The number of neutrals at the start of the list.
 fn neutrals(classes: &[BidiClass]) -> usize
-    ensures count { result ≡ prefix_len is_neutral classes.now }
+    ensures count { result ≡ prefix_len is_ni classes.now }
     ensures within { result ≤ length classes.now }
 {
     classes
         .iter()
-        .take_while(|class| is_neutral(**class))
+        .take_while(|class| is_ni(**class))
         .count()
 }
 

@@ -6,7 +6,7 @@ ghost use Rattle.bidi_base.specs.Sequences.{level_or, kept_before, next_kept, st
 ghost use Rattle.bidi_base.specs.SequencePass.{waits_before, choice_at, with_entry, index_of, ArePlaces};
 
 use bidi_base::char_data::BidiClass;
-use bidi_base::classes::{is_initiator, is_removed};
+use bidi_base::classes::{is_isolate_initiator, is_removed};
 use bidi_base::isolates::{WaitingSequences, read_class, waiting_for};
 use bidi_base::level::Level;
 use std::alloc::{AllocError, Global};
@@ -198,7 +198,7 @@ fn end_class(para_level: Level, classes: &[BidiClass], levels: &[Level], last: u
     requires last { last < length classes.now }
     ensures { result ≡ end_class para_level classes.now levels.now last }
 {
-    let neighbor = if is_initiator(classes[last]) {
+    let neighbor = if is_isolate_initiator(classes[last]) {
         None
     } else {
         next_kept(classes, last)

@@ -3,17 +3,17 @@
 ghost use Rattle.std.specs.Prelude.{◌≡◌, ◌⊎◌, ℕ, ◌<◌, ◌≤◌, true, false, length, map, get_or, drop, All, IsTrue};
 ghost use Rattle.bidi_base.specs.Classes.{is_l_or_r, is_weak_resolved, stands_for};
 ghost use Rattle.bidi_base.specs.Neutral.{n1_n2, n2_rule};
-ghost use Rattle.bidi_base.specs.Places.{at_places, class_at};
+ghost use Rattle.bidi_base.specs.Places.{at_indexes, class_at};
 ghost use Rattle.bidi_base.specs.Search.{IsFirst, passing};
 ghost use Rattle.bidi_base.specs.declared.char_data.BidiClass.TheVariants.{L};
 ghost use Rattle.bidi_base.specs.Units.{bounds, are_ordered, in_runs};
 ghost use Rattle.bidi_rules.specs.JoinPass.{IsAtOpposite, IsJoined, IsUnderWay, Unjoined};
-ghost use Rattle.bidi_rules.specs.PairWalk.{opposite_of};
+ghost use Rattle.bidi_rules.specs.PairPass.{opposite_of};
 ghost use Rattle.bidi_explicit.specs.Written.{is_seen, seen_units, IsWrittenOver, KeepsAround, KeepsOutside};
 
 use super::class_tests::{AnyDirection, For, KeptNotFor, first_standing_for};
 use bidi_base::char_data::BidiClass::{self, L, R};
-use bidi_base::classes::{is_neutral, stands_for};
+use bidi_base::classes::{is_ni, stands_for};
 use bidi_base::search::{Among, first_passing};
 use bidi_explicit::prepare::LevelRun;
 use bidi_explicit::written::write_over_runs;
@@ -53,8 +53,8 @@ pub fn resolve_opposite(directions: Directions, runs: &[LevelRun], classes: &mut
     requires resolved { (u : ℕ) → is_seen (map bounds runs.now) classes.old u ≡ true
         → is_weak_resolved (class_at classes.old u) ≡ true }
     ensures kept { let units = seen_units (map bounds runs.now) classes.old in
-        map (n2_rule directions.embedding) (at_places L classes.new units)
-        ≡ n1_n2 directions.embedding directions.sos directions.eos (at_places L classes.old units) }
+        map (n2_rule directions.embedding) (at_indexes L classes.new units)
+        ≡ n1_n2 directions.embedding directions.sos directions.eos (at_indexes L classes.old units) }
     ensures others { (u : ℕ) → is_seen (map bounds runs.now) classes.old u ≡ false
         → class_at classes.new u ≡ class_at classes.old u }
     ensures own { (u : ℕ)
@@ -255,5 +255,5 @@ fn settle_run(embedding: BidiClass, run: &LevelRun, classes: &mut [BidiClass])
 fn settled(embedding: BidiClass, class: BidiClass) -> BidiClass
     ensures { result ≡ n2_rule embedding class }
 {
-    if is_neutral(class) { embedding } else { class }
+    if is_ni(class) { embedding } else { class }
 }

@@ -4,7 +4,7 @@ ghost use Rattle.std.specs.Prelude.{◌≡◌, ◌≤◌, length, map, find, All
 ghost use Rattle.bidi_base.specs.Classes.{is_kept_in_place};
 ghost use Rattle.bidi_base.specs.Places.{class_at};
 ghost use Rattle.bidi_base.specs.Units.{bounds, are_ordered, units_in_runs};
-ghost use Rattle.bidi_rules.specs.PairWalk.{IsFirstFor, IsNearestBefore, IsRunOf};
+ghost use Rattle.bidi_rules.specs.PairPass.{IsFirstFor, IsNearestBefore, IsRunOf};
 
 use super::class_tests::first_standing_for;
 use bidi_base::char_data::BidiClass;

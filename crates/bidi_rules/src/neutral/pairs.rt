@@ -4,12 +4,12 @@ ghost use Rattle.std.specs.Prelude.{◌≡◌, ℕ, ◌+◌, ◌<◌, ◌≤◌,
 ghost use Rattle.bidi_base.specs.Brackets.{AreNestedPairs};
 ghost use Rattle.bidi_base.specs.Classes.{is_kept_in_place, is_l_or_r};
 ghost use Rattle.bidi_base.specs.Places.{class_at};
-ghost use Rattle.bidi_base.specs.Texts.{is_boundary, kept_in_place, place, text_len, AreLines};
+ghost use Rattle.bidi_base.specs.Texts.{is_boundary, kept_in_place, unit_index, text_len, AreLines};
 ghost use Rattle.bidi_base.specs.Units.{bounds, are_ordered};
-ghost use Rattle.bidi_rules.specs.InText.{at_spots, IsBracket, IsBracketAfter, IsMarksEnd, IsPaired, IsPlace, IsReady, IsRow, IsSet, IsSetUpTo};
-ghost use Rattle.bidi_rules.specs.PairWalk.{opposite_of, IsAsked};
-ghost use Rattle.bidi_rules.specs.PairWalk.{IsRunOf};
-ghost use Rattle.bidi_rules.specs.PairWalk.{IsTaken, IsUnmarked};
+ghost use Rattle.bidi_rules.specs.InText.{at_unit_indexes, IsBracket, IsBracketAfter, IsMarksEnd, IsPaired, IsPlace, IsReady, IsRow, IsSet, IsSetUpTo};
+ghost use Rattle.bidi_rules.specs.PairPass.{opposite_of, IsAsked};
+ghost use Rattle.bidi_rules.specs.PairPass.{IsRunOf};
+ghost use Rattle.bidi_rules.specs.PairPass.{IsTaken, IsUnmarked};
 ghost use Rattle.bidi_explicit.specs.Written.{is_seen, IsWrittenOver};
 
 use super::directions::{Directions, opposite_of};
@@ -54,13 +54,13 @@ pub fn resolve_pairs<T: TextSource>(
         × AreNestedPairs
         (length (kept_in_place (T.text text) classes.old (map bounds sequence.runs.now))) found
         × (pairs.now
-        ≡ at_spots (T.text text)
+        ≡ at_unit_indexes (T.text text)
         (kept_in_place (T.text text) classes.old (map bounds sequence.runs.now)) found) }
     ensures { (found : List (ℕ × ℕ))
         → AreNestedPairs
         (length (kept_in_place (T.text text) classes.old (map bounds sequence.entry.runs.now))) found
         → pairs.now
-        ≡ at_spots (T.text text)
+        ≡ at_unit_indexes (T.text text)
         (kept_in_place (T.text text) classes.old (map bounds sequence.entry.runs.now)) found
         → IsPaired (T.text text) sequence.entry.original_classes.now classes.old classes.new
         sequence.entry.runs.now directions.embedding directions.sos found }
@@ -69,7 +69,7 @@ pub fn resolve_pairs<T: TextSource>(
         runs,
         original_classes,
     } = sequence;
-    let mut walk = PairWalk::new(directions.embedding);
+    let mut walk = PairPass::new(directions.embedding);
     let mut row = Row::new(directions.embedding);
     // A bracket is mostly in the run of the opening bracket before it.
     let mut near = 0;
@@ -161,21 +161,21 @@ impl Next {
 
 /// The next code units of both directions, while the pass goes over the pairs.
 #[derive(Clone, Copy, Debug)]
-struct PairWalk {
+struct PairPass {
     embedding: Next,
     opposite: Next,
 }
 
-impl PairWalk {
+impl PairPass {
     /// Before the first pair.
-    fn new(embedding: BidiClass) -> PairWalk
+    fn new(embedding: BidiClass) -> PairPass
         ensures { result
             ≡ record {
               embedding = record { direction = embedding; unit = 0 };
               opposite = record { direction = opposite_of embedding; unit = 0 };
             } }
     {
-        PairWalk {
+        PairPass {
             embedding: Next {
                 direction: embedding,
                 unit: 0,
@@ -254,7 +254,7 @@ impl Row {
     )
         requires { IsBracketAfter (T.text text) (map bounds sequence.runs.now) sequence.original_classes.now
             classes.old self.old bracket }
-        ensures set { (k : ℕ) → k < length (T.text text).chars → bracket.unit ≡ place (T.text text) k
+        ensures set { (k : ℕ) → k < length (T.text text).chars → bracket.unit ≡ unit_index (T.text text) k
             → IsSet (T.text text) (map bounds sequence.entry.runs.now)
             sequence.entry.original_classes.now direction bracket.unit (k + 1) classes.old classes.new }
         ensures row { IsRow (T.text text) (map bounds sequence.entry.runs.now)
@@ -284,7 +284,7 @@ fn set_direction<T: TextSource>(
 ) -> usize
     requires { IsBracket (T.text text) (map bounds sequence.runs.now) sequence.original_classes.now
         classes.old bracket }
-    ensures { (k : ℕ) → k < length (T.text text).chars → bracket.unit ≡ place (T.text text) k
+    ensures { (k : ℕ) → k < length (T.text text).chars → bracket.unit ≡ unit_index (T.text text) k
         → IsSetUpTo (T.text text) (map bounds sequence.entry.runs.now)
         sequence.entry.original_classes.now direction bracket.unit (k + 1) result classes.old classes.new }
 {

@@ -1,5 +1,5 @@
 use Rattle.bidi_base.proofs.Common.{◌≡◌, ◌+◌, ◌≤◌, Range, ℕ, List, arith, length, sym, refl, get_or, get_or_default, is_odd, run_of, run_level}
-use Rattle.bidi_base.proofs.PlaceLemmas.{line_places}
+use Rattle.bidi_base.proofs.UnitIndexLemmas.{line_unit_indexes}
 use Rattle.bidi_base.proofs.UnitsLemmas.{length-from_IsPerChar}
 use Rattle.bidi_lines.proofs.WrittenRuns.{written_run}
 use Rattle.bidi_calls.proofs.OrderOfRuns.{run_indexes, count-is, index-after, char_index-zero, zero-boundary, range-IsLine, range-begins, run-fits, run-more, run_indexes-is, all-written}
@@ -61,7 +61,7 @@ loop-run-preserved g c =
     let begins = range-begins len g.T.TextSource.encoding.positive cs c.args.levels.now c.requires.even c.args.runs.now c.requires.runs k d c.loop-run-test.true in
     let front = c.first_index-first.ensures in
     let own = count-is len g.T.TextSource.encoding.positive cs run.start run.end c.count_in-count.result line c.count_in-count.ensures in
-    let ordered = (line_places len g.T.TextSource.encoding.positive cs run.start run.end line).ordered in
+    let ordered = (line_unit_indexes len g.T.TextSource.encoding.positive cs run.start run.end line).ordered in
     let room = run-fits len g.T.TextSource.encoding.positive cs c.args.levels.now c.requires.even c.args.runs.now c.requires.runs k d c.loop-run-test.true in
     let more = run-more len g.T.TextSource.encoding.positive cs c.args.levels.now c.requires.even c.args.runs.now c.requires.runs k d c.loop-run-test.true in
     let fits : c.loop-run.at ≤ length c.loop-run.out = omega (arith, c.loop-run.invariant.so_far, room, c.requires.room, c.loop-run.auto.out) in

@@ -1,6 +1,6 @@
 use Rattle.bidi_base.proofs.Common.{◌<◌, ◌∙◌, arith, rules, length_push}
 use Rattle.bidi_base.proofs.TextLemmas.{length-le-text_len}
-use Rattle.bidi_base.proofs.PlaceLemmas.{length_turn, length_end}
+use Rattle.bidi_base.proofs.UnitIndexLemmas.{length_turn, length_end}
 use Rattle.bidi_calls.proofs.counted.count_one_by_one.Goals as goal
 
 pub overflow_add-count : goal.overflow_add-count

@@ -1,5 +1,5 @@
 use Rattle.bidi_base.proofs.Common.{◌≤◌, length, ap, arith, text_len}
-use Rattle.bidi_lines.specs.ShownLevels.{levels as levels_of}
+use Rattle.bidi_lines.specs.LineLevels.{levels as levels_of}
 use Rattle.bidi_calls.proofs.CountLemmas.{per_char-plain}
 use Rattle.bidi_calls.proofs.show.keep_characters.Goals as goal
 

@@ -1,7 +1,7 @@
 use Rattle.bidi_base.proofs.Common.{length, ap, sym, ◌∙◌}
 use Rattle.bidi_base.proofs.PerUnit.{length-per_char}
 use Rattle.bidi_base.proofs.UnitsLemmas.{length-from_IsPerChar}
-use Rattle.bidi_lines.specs.ShownLevels.{levels as levels_of}
+use Rattle.bidi_lines.specs.LineLevels.{levels as levels_of}
 use Rattle.bidi_calls.proofs.show.write_order.Goals as goal
 
 pub keep_characters-requires-clause-units : goal.keep_characters-requires-clause-units

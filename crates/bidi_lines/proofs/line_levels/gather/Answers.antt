@@ -1,7 +1,7 @@
 use Rattle.bidi_base.proofs.Common.{◌≡◌, ◌∙◌, ℕ, ◌+◌, ◌<◌, List, length, inl, inr, get_or, ap, sym, subst, arith, rules, common_steps, cases_Bool, le_refl, get_or_default, length_push, text_len}
-use Rattle.bidi_base.proofs.Common.{place, is_boundary, slice_set}
+use Rattle.bidi_base.proofs.Common.{unit_index, is_boundary, slice_set}
 use Rattle.bidi_base.proofs.TextLemmas.{HasUnits, length-le-text_len}
-use Rattle.bidi_base.proofs.PlaceLemmas.{length_turn, length_end}
+use Rattle.bidi_base.proofs.UnitIndexLemmas.{length_turn, length_end}
 use Rattle.bidi_lines.proofs.Gathered.{IsGathered-more, IsGathered-end, IsTaken, IsTaken-inside, IsTaken-more, IsTaken-end, IsTaken-le, IsSwept, IsSwept-next, taken-all}
 use Rattle.bidi_lines.proofs.line_levels.gather.Goals as goal
 
@@ -69,7 +69,7 @@ loop-at-2-preserved g c =
     let cs : List ℕ = (g.T.TextSource.text c.args.text).chars in
     let w = length_turn len cs c.indices_lengths-at-items.ensures c.into_iter-at-iterator.ensures.into_iter_gives c.loop-at-2.yielded _ c.loop-at-2.yielded_by _ _ c.in-Some.at c.in-Some.field-0-1 c.in-Some.is c.next.ensures.steps in
     let inside : c.in-Some.at < length c.loop-at-2.levels = omega (arith, w.long, w.fits, c.requires, g.T.TextSource.encoding.positive (get_or cs (length c.loop-at-2.yielded) 0)) in
-    let here : c.in-Some.at ≡ place len cs c.loop-at-2.index = w.turn.at_place ∙ ap (place len cs) (sym c.loop-at-2.invariant.2) in (
+    let here : c.in-Some.at ≡ unit_index len cs c.loop-at-2.index = w.turn.at_place ∙ ap (unit_index len cs) (sym c.loop-at-2.invariant.2) in (
       c.in-Some.ensures.goes.keeps,
       (c.in-Some.ensures.goes.on c.loop-at-2.invariant.1).1,
       omega (arith, c.loop-at-2.invariant.2, length_push c.loop-at-2.yielded (c.in-Some.at, c.in-Some.field-0-1)),

@@ -1,6 +1,6 @@
 use Rattle.bidi_base.proofs.Common.{◌≡◌, ◌∙◌, append_assoc, sym, ap, arith, len_utf8, chars, text_len, subrange, levels_of_line, IsLine, slice_range, AnalysedText, AreLevelsOfLine, List, ℕ, Range, IsUtf8, IsUtf8-between}
 use Rattle.bidi_base.proofs.PerUnit.{length-per_char}
-use Rattle.bidi_lines.specs.ShownLevels.{levels as kept_levels}
+use Rattle.bidi_lines.specs.LineLevels.{levels as kept_levels}
 use Rattle.bidi_text.proofs.StrLemmas.{has_units, subrange-from_str}
 use Rattle.bidi_lines.proofs.StoredLine.{same_len, within, length-shown, per_char-shown, of_line}
 use Rattle.bidi_shown.specs.Paragraph.{analysed_in}

@@ -1,7 +1,7 @@
-use Rattle.bidi_base.proofs.Common.{Bool, ◌≡◌, ◌∙◌, ◌+◌, ◌≤◌, ◌∷◌, ◌++◌, [], ℕ, List, length, drop, map, sym, ap, arith, rules, length_push, drop_all, place}
+use Rattle.bidi_base.proofs.Common.{Bool, ◌≡◌, ◌∙◌, ◌+◌, ◌≤◌, ◌∷◌, ◌++◌, [], ℕ, List, length, drop, map, sym, ap, arith, rules, length_push, drop_all, unit_index}
 use Rattle.bidi_base.specs.declared.char_data.BidiClass.{BidiClass}
 use Rattle.bidi_base.proofs.TextLemmas.{length-le-text_len}
-use Rattle.bidi_base.proofs.PlaceLemmas.{char_turn, char_end, CharTurn}
+use Rattle.bidi_base.proofs.UnitIndexLemmas.{char_turn, char_end, CharTurn}
 use Rattle.unicode_bidi.proofs.SearchLemmas.{step-le, searched-step, over_with, searched-front}
 use Rattle.unicode_bidi.specs.declared.direction_search.DirectionSearch.{DirectionSearch}
 use Rattle.unicode_bidi.specs.declared.direction_search.DirectionSearch.TheVariants.{Open}
@@ -12,7 +12,7 @@ use Rattle.unicode_bidi.proofs.direction_search.search_direction.Goals.{In-Some}
 
 -- the character that comes
 turn_of : (g : Over) (c : In-Some g)
-    → CharTurn g.T.TextSource.encoding.len_of (g.T.TextSource.text c.args.text).chars (length c.loop-c.yielded) (place g.T.TextSource.encoding.len_of (g.T.TextSource.text c.args.text).chars (length c.loop-c.yielded)) c.in-Some.c
+    → CharTurn g.T.TextSource.encoding.len_of (g.T.TextSource.text c.args.text).chars (length c.loop-c.yielded) (unit_index g.T.TextSource.encoding.len_of (g.T.TextSource.text c.args.text).chars (length c.loop-c.yielded)) c.in-Some.c
 turn_of g c = search (rules, char_turn)
 
 pub search_class-requires : goal.search_class-requires

@@ -1,6 +1,6 @@
 use Rattle.bidi_base.proofs.Common.{◌∙◌, length, arith, rules, length_push}
-use Rattle.bidi_laws.proofs.LayoutLemmas.{first_line-one, first_line-stops, first_line-all, place-turn}
-use Rattle.bidi_base.proofs.PlaceLemmas.{CharTurn, index_turn, index_end}
+use Rattle.bidi_laws.proofs.LayoutLemmas.{first_line-one, first_line-stops, first_line-all, unit_index-turn}
+use Rattle.bidi_base.proofs.UnitIndexLemmas.{CharTurn, index_turn, index_end}
 use Rattle.unicode_bidi.proofs.layout.first_line_len.Goals as goal
 use Rattle.unicode_bidi.proofs.layout.first_line_len.Goals.{In-Some, then-at-eq0, else-at-eq0}
 use Rattle.unicode_bidi.proofs.layout.first_line_len.Given.{Over}
@@ -23,7 +23,7 @@ returns-then-width-left g c =
 
 pub loop-at-preserved : goal.loop-at-preserved
 loop-at-preserved g c =
-    let next = place-turn (g.W.CharWidth.width_of c.args.widths.now) g.T.TextSource.encoding.len_of (g.T.TextSource.text c.args.text).chars (length c.loop-at.yielded) _ _ (turn_of g (goal.at.loop-at-preserved g c).In-Some) in (
+    let next = unit_index-turn (g.W.CharWidth.width_of c.args.widths.now) g.T.TextSource.encoding.len_of (g.T.TextSource.text c.args.text).chars (length c.loop-at.yielded) _ _ (turn_of g (goal.at.loop-at-preserved g c).In-Some) in (
       c.in-Some.ensures.goes.keeps,
       (c.in-Some.ensures.goes.on c.loop-at.invariant.1).1,
       rw (length_push c.loop-at.yielded (c.in-Some.at, c.in-Some.c))

@@ -27,11 +27,11 @@ loop-rest-preserved g c =
     let paragraph : List ℕ = c.split_at.result.0.now in
     let after : List ℕ = c.split_at.result.1.now in
     let fits : length rest ≤ length c.args.line.now.chars.now = c.loop-rest.invariant.fits in
-    let within : c.first_line_len.result ≤ length rest = c.first_line_len.ensures.within in
-    let front_len : length paragraph ≡ c.first_line_len.result = ap length c.split_at.ensures.front ∙ length-take-le c.first_line_len.result rest within in
-    let back_len : length after ≡ length rest - c.first_line_len.result = ap length c.split_at.ensures.back ∙ length-drop c.first_line_len.result rest in
+    let within : c.first_paragraph_len.result ≤ length rest = c.first_paragraph_len.ensures.within in
+    let front_len : length paragraph ≡ c.first_paragraph_len.result = ap length c.split_at.ensures.front ∙ length-take-le c.first_paragraph_len.result rest within in
+    let back_len : length after ≡ length rest - c.first_paragraph_len.result = ap length c.split_at.ensures.back ∙ length-drop c.first_paragraph_len.result rest in
     let first : paragraphs_in source rest ≡ paragraph ∷ paragraphs_in source after =
-    c.first_line_len.ensures.first ∙ ap₂ (λ p a. p ∷ paragraphs_in source a) (sym c.split_at.ensures.front) (sym c.split_at.ensures.back) in
+    c.first_paragraph_len.ensures.first ∙ ap₂ (λ p a. p ∷ paragraphs_in source a) (sym c.split_at.ensures.front) (sym c.split_at.ensures.back) in
     record {
       fits = omega (arith, fits, back_len, within);
       found = with_paragraph source c.args.wanted c.args.line.now.number (length c.args.line.now.chars.now - length rest) (length c.args.line.now.chars.now - length after) rest paragraph after _ _ _ first

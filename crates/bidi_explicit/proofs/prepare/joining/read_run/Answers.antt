@@ -10,13 +10,13 @@ use Rattle.bidi_explicit.proofs.prepare.joining.read_run.Goals as goal
 use Rattle.bidi_explicit.proofs.prepare.joining.read_run.Goals.{else-loop-at-test, then-loop-at-test+then-control-end}
 
 -- the run lies within
-within : (len_of : ℕ → ℕ) → HasUnits len_of → (chars : List ℕ) (units : List BidiClass) (start end : ℕ)
-    → is_per_char ghosts.eq len_of chars units ≡ true → IsLine len_of chars start end → end ≤ length units
-within len_of h chars units start end whole line = grind (arith, length-from_is_per_char, class_test, is_boundary-le) steps 400000
+within : (len_of : ℕ → ℕ) → HasUnits len_of → (chars : List ℕ) (classes : List BidiClass) (start end : ℕ)
+    → is_per_char ghosts.eq len_of chars classes ≡ true → IsLine len_of chars start end → end ≤ length classes
+within len_of h chars classes start end whole line = grind (arith, length-from_is_per_char, class_test, is_boundary-le) steps 400000
 
 -- a unit has a class
-long : (len_of : ℕ → ℕ) → HasUnits len_of → (chars : List ℕ) (units : List BidiClass) → is_per_char ghosts.eq len_of chars units ≡ true → length units ≡ text_len len_of chars
-long len_of h chars units whole = length-from_is_per_char ghosts.eq class_test len_of h chars units whole
+long : (len_of : ℕ → ℕ) → HasUnits len_of → (chars : List ℕ) (classes : List BidiClass) → is_per_char ghosts.eq len_of chars classes ≡ true → length classes ≡ text_len len_of chars
+long len_of h chars classes whole = length-from_is_per_char ghosts.eq class_test len_of h chars classes whole
 
 pub next_control-control-requires-clause-within : goal.next_control-control-requires-clause-within
 next_control-control-requires-clause-within g c = search (arith, within)

@@ -1,5 +1,5 @@
 use Rattle.bidi_base.proofs.Common.{◌≡◌, ◌-◌, ℕ, [], List, refl, ap, sym, subst, ◌∙◌, arith, length, take, has_rtl, IsLine, visual_runs, levels_of_line, AreLevelsOfLine}
-use Rattle.bidi_lines.specs.ShownLevels.{levels as kept_levels}
+use Rattle.bidi_lines.specs.LineLevels.{levels as kept_levels}
 use Rattle.bidi_lines.specs.Analysed.{with_lists}
 use Rattle.bidi_lines.specs.Written.{AreRunsOfChars}
 use Rattle.bidi_lines.proofs.StoredLine.{same_len, within}
@@ -16,7 +16,7 @@ pub slice_bounds-show-end-2 : goal.slice_bounds-show-end-2
 slice_bounds-show-end-2 g c = grind (arith, within)
 
 -- the levels after L1
-is : (g : Over) (c : In_ok-show g) → let a = with_lists (g.T.TextSource.text c.args.text) c.args.classes.now c.args.levels.now in kept_levels c.show.new.self ≡ levels_of_line c.args.level a.classes a.levels c.args.line.start c.args.line.end
+is : (g : Over) (c : In_ok-show g) → let a = with_lists (g.T.TextSource.text c.args.text) c.args.classes.now c.args.levels.now in kept_levels c.show.new.self ≡ levels_of_line c.args.para_level a.classes a.levels c.args.line.start c.args.line.end
 is g c = grind arith
 
 pub returns-in_err-show-clause-empty : goal.returns-in_err-show-clause-empty
@@ -28,12 +28,12 @@ returns-in_err-show-clause-empty g c =
       chars = ap (λ t. (g.T.TextSource.text t).chars) (sym (c.clear.ensures.text));
       start = c.clear.ensures.start;
       end = c.clear.ensures.end;
-      levels = subst (AreLevelsOfLine a c.args.level (record { start = 0; end = 0 })) (sym (none-shown a.len_of [] s.start s.end c.clear.ensures.start c.clear.ensures.end _)) (empty-levels a c.args.level);
+      levels = subst (AreLevelsOfLine a c.args.para_level (record { start = 0; end = 0 })) (sym (none-shown a.len_of [] s.start s.end c.clear.ensures.start c.clear.ensures.end _)) (empty-levels a c.args.para_level);
     })
 
 pub find-requires : goal.find-requires
 find-requires g c =
-    let all = stored-levels g.T.TextSource.encoding.len_of g.T.TextSource.encoding.positive (g.T.TextSource.text c.args.text).chars c.args.level c.args.classes.now c.args.levels.now c.args.line c.requires.classes c.requires.levels c.requires.line _
+    let all = stored-levels g.T.TextSource.encoding.len_of g.T.TextSource.encoding.positive (g.T.TextSource.text c.args.text).chars c.args.para_level c.args.classes.now c.args.levels.now c.args.line c.requires.classes c.requires.levels c.requires.line _
     (is g (goal.at.find-requires g c).In_ok-show) in
     omega (arith, all.one_a_unit, ap length c.as_slice.ensures)
 
@@ -57,7 +57,7 @@ returns-in_err-find-clause-empty g c =
       chars = ap (λ t. (g.T.TextSource.text t).chars) (sym (c.clear.ensures.text));
       start = c.clear.ensures.start;
       end = c.clear.ensures.end;
-      levels = subst (AreLevelsOfLine a c.args.level (record { start = 0; end = 0 })) (sym (none-shown a.len_of [] s.start s.end c.clear.ensures.start c.clear.ensures.end _)) (empty-levels a c.args.level);
+      levels = subst (AreLevelsOfLine a c.args.para_level (record { start = 0; end = 0 })) (sym (none-shown a.len_of [] s.start s.end c.clear.ensures.start c.clear.ensures.end _)) (empty-levels a c.args.para_level);
     })
 
 pub invariant_of-self-2 : goal.invariant_of-self-2
@@ -66,9 +66,9 @@ invariant_of-self-2 g c =
     let some = g.T.TextSource.encoding.positive in
     let chars : List ℕ = (g.T.TextSource.text c.args.text).chars in
     let levels = is g (goal.at.invariant_of-self-2 g c).In_ok-show in
-    let all = stored-all len some chars c.args.level c.args.classes.now c.args.levels.now c.args.line c.requires.classes c.requires.levels c.requires.line _ levels in
-    let each = stored-levels len some chars c.args.level c.args.classes.now c.args.levels.now c.args.line c.requires.classes c.requires.levels c.requires.line _ levels in
-    let runs = stored-runs_of_chars len some chars c.args.level c.args.classes.now c.args.levels.now c.args.line c.requires.classes c.requires.levels c.requires.line _ levels in
+    let all = stored-all len some chars c.args.para_level c.args.classes.now c.args.levels.now c.args.line c.requires.classes c.requires.levels c.requires.line _ levels in
+    let each = stored-levels len some chars c.args.para_level c.args.classes.now c.args.levels.now c.args.line c.requires.classes c.requires.levels c.requires.line _ levels in
+    let runs = stored-runs_of_chars len some chars c.args.para_level c.args.classes.now c.args.levels.now c.args.line c.requires.classes c.requires.levels c.requires.line _ levels in
     let text = c.clear.ensures.text in
     record {
       is_line = subst (λ t. IsLine len (g.T.TextSource.text t).chars c.args.line.start c.args.line.end) (sym text) c.requires.line;
@@ -84,12 +84,12 @@ returns-clause-shows g c =
     let some = g.T.TextSource.encoding.positive in
     let chars : List ℕ = (g.T.TextSource.text c.args.text).chars in
     let levels = is g (goal.at.returns-clause-shows g c).In_ok-show in
-    let all = stored-all len some chars c.args.level c.args.classes.now c.args.levels.now c.args.line c.requires.classes c.requires.levels c.requires.line _ levels in
-    let each = stored-levels len some chars c.args.level c.args.classes.now c.args.levels.now c.args.line c.requires.classes c.requires.levels c.requires.line _ levels in
+    let all = stored-all len some chars c.args.para_level c.args.classes.now c.args.levels.now c.args.line c.requires.classes c.requires.levels c.requires.line _ levels in
+    let each = stored-levels len some chars c.args.para_level c.args.classes.now c.args.levels.now c.args.line c.requires.classes c.requires.levels c.requires.line _ levels in
     record {
       len_of = refl;
       chars = ap (λ t. (g.T.TextSource.text t).chars) (sym (c.clear.ensures.text));
       start = refl;
       end = refl;
-      levels = subst (AreLevelsOfLine (with_lists (g.T.TextSource.text c.args.text) c.args.classes.now c.args.levels.now) c.args.level c.args.line) (sym all) each;
+      levels = subst (AreLevelsOfLine (with_lists (g.T.TextSource.text c.args.text) c.args.classes.now c.args.levels.now) c.args.para_level c.args.line) (sym all) each;
     }

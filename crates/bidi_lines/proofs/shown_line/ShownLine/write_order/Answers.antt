@@ -1,6 +1,6 @@
 use Rattle.bidi_base.proofs.Common.{◌-◌, ◌∙◌, ap, sym, visual_order, length-take-le}
-use Rattle.bidi_base.proofs.PlaceLemmas.{text_len-subrange}
-use Rattle.bidi_lines.specs.ShownLevels.{levels as kept_levels}
+use Rattle.bidi_base.proofs.UnitIndexLemmas.{text_len-subrange}
+use Rattle.bidi_lines.specs.LineLevels.{levels as kept_levels}
 use Rattle.bidi_lines.specs.ShownLine.{text_of}
 use Rattle.bidi_lines.proofs.ShownLines.{on_ok, chars_of_shown}
 use Rattle.bidi_lines.proofs.shown_line.ShownLine.write_order.Goals as goal

@@ -1,7 +1,7 @@
 use Rattle.bidi_base.proofs.Common.{◌≡◌, length, map, true, if◌then◌else◌, refl, sym, ◌∙◌, arith, length-map, is_l_or_r, stands_for, bounds}
 use Rattle.bidi_base.specs.declared.char_data.BidiClass.{BidiClass}
 use Rattle.bidi_rules.specs.JoinPass.{Unjoined, IsUnderWay}
-use Rattle.bidi_rules.specs.PairWalk.{opposite_of}
+use Rattle.bidi_rules.specs.PairPass.{opposite_of}
 use Rattle.bidi_explicit.proofs.InRuns.{start_or-at, start_or-past}
 use Rattle.bidi_rules.proofs.JoinWalk.{IsUnderWay-start, IsUnderWay-gap, IsFinished, IsFinished-embedding, IsFinished-opposite}
 use Rattle.bidi_rules.proofs.neutral.directions.resolve_opposite.Goals as goal

@@ -1,6 +1,6 @@
-use Rattle.bidi_base.proofs.Common.{◌≡◌, ◌+◌, ◌≤◌, ℕ, List, length, map, get_or, sym, ap, subst, ◌∙◌, arith, length-map, take_all, is_nsm, place, text_len, bounds, kept_in_place}
-use Rattle.bidi_base.proofs.PlaceLemmas.{place-mono}
-use Rattle.bidi_rules.specs.PairWalk.{spot, IsSet}
+use Rattle.bidi_base.proofs.Common.{◌≡◌, ◌+◌, ◌≤◌, ℕ, List, length, map, get_or, sym, ap, subst, ◌∙◌, arith, length-map, take_all, is_nsm, unit_index, text_len, bounds, kept_in_place}
+use Rattle.bidi_base.proofs.UnitIndexLemmas.{unit_index-mono}
+use Rattle.bidi_rules.specs.PairPass.{unit_index_at, IsSet}
 use Rattle.bidi_rules.proofs.NeutralSteps.{runs-within}
 use Rattle.bidi_rules.proofs.PairPlaces.{pair_at}
 use Rattle.bidi_rules.proofs.PairSteps.{IsWalkedTo-start, IsWalkedTo-none, IsWalkedTo-set, IsAnswered-taken, Stands, stands}
@@ -48,7 +48,7 @@ pair_direction-taken-requires-clause-runs g c =
 pub pair_direction-taken-requires-clause-inside : goal.pair_direction-taken-requires-clause-inside
 pair_direction-taken-requires-clause-inside g c =
     let st = here g (goal.at.pair_direction-taken-requires-clause-inside g c).In-loop-pair in
-    grind (arith, st.first_place, c.place_of-first.ensures.is.ends _ st.first_within (c.place_of-first.ensures.unit ∙ st.first_place), place-mono g.T.TextSource.encoding.len_of (g.T.TextSource.text c.args.text).chars)
+    grind (arith, st.first_place, c.place_of-first.ensures.is.ends _ st.first_within (c.place_of-first.ensures.unit ∙ st.first_place), unit_index-mono g.T.TextSource.encoding.len_of (g.T.TextSource.text c.args.text).chars)
 
 pub pair_direction-taken-requires-clause-closing : goal.pair_direction-taken-requires-clause-closing
 pair_direction-taken-requires-clause-closing g c =
@@ -106,7 +106,7 @@ loop-pair-preserved g c = (
       let st = stands len_of h chars original runs sos old ready e side long found nested a.pairs.now is k c.loop-pair-test.true in
       let w = s.invariant.0 h ready side long found nested is in
       let opening = c.place_of-first.ensures in
-      let inside : c.place_of-first.result.end ≡ place len_of chars (get_or ks i 0 + 1) = opening.is.ends (get_or ks i 0) st.first_within (opening.unit ∙ st.first_place) in
+      let inside : c.place_of-first.result.end ≡ unit_index len_of chars (get_or ks i 0 + 1) = opening.is.ends (get_or ks i 0) st.first_within (opening.unit ∙ st.first_place) in
       let answer = IsAnswered-taken len_of h chars original runs sos old ready e side long found nested s.classes k st.fits s.walk c.pair_direction-taken.new.self w c.pair_direction-taken.result
       (rw (sym st.first, sym st.last, sym inside, sym (c.is_nsm.ensures ∙ ap is_nsm (sym st.class_is))) c.pair_direction-taken.ensures.taken) in
       elim c.match-taken.branch [
@@ -134,5 +134,5 @@ returns g c = λ found nested is.
     let a = c.args in
     let ks = kept_in_place len_of chars a.classes.now (map bounds a.sequence.runs.now) in
     let w = c.loop-pair.invariant.0 g.T.TextSource.encoding.positive c.requires.ready c.requires.side c.requires.original found nested is in
-    let all : length found ≤ c.loop-pair.pair-index = omega (arith, ap length is, length-map found (λ (p : ℕ × ℕ). let q : ℕ × ℕ = (spot len_of chars ks p.0, spot len_of chars ks p.1) in q), c.loop-pair-test.false) in
+    let all : length found ≤ c.loop-pair.pair-index = omega (arith, ap length is, length-map found (λ (p : ℕ × ℕ). let q : ℕ × ℕ = (unit_index_at len_of chars ks p.0, unit_index_at len_of chars ks p.1) in q), c.loop-pair-test.false) in
     simp (take_all c.loop-pair.pair-index found all) at w.done

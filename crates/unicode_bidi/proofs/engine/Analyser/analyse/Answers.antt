@@ -10,7 +10,7 @@ write_paragraphs-requires-clause-paragraphs g c =
     let source = g.D.BidiDataSource.source c.args.data_source.now in
     let cs : List ℕ = (g.T.TextSource.text c.args.text).chars in
     rw c.as_slice.ensures
-    (paragraphs-CanWrite source c.args.base _ g.T.TextSource.encoding.positive _ _ (pieces_by-joined c.args.rule source cs)
+    (paragraphs-CanWrite source c.args.base_level _ g.T.TextSource.encoding.positive _ _ (pieces_by-joined c.args.rule source cs)
     c.in_ok-found.found.paragraphs.items c.in_ok-found.ensures.paragraphs.ranges c.in_ok-found.ensures.paragraphs.para_levels _ c.in_ok-found.ensures.paragraphs.classes c.requires.low)
 
 pub write_paragraphs-requires-clause-flags : goal.write_paragraphs-requires-clause-flags
@@ -19,7 +19,7 @@ write_paragraphs-requires-clause-flags g c =
     let cs : List ℕ = (g.T.TextSource.text c.args.text).chars in
     rw (c.as_slice.ensures, c.as_slice-2.ensures)
     (c.in_ok-found.ensures.flags
-    ∙ paragraphs-flags source c.args.base _ g.T.TextSource.encoding.positive _ _ (pieces_by-joined c.args.rule source cs)
+    ∙ paragraphs-flags source c.args.base_level _ g.T.TextSource.encoding.positive _ _ (pieces_by-joined c.args.rule source cs)
     c.in_ok-found.found.paragraphs.items c.in_ok-found.ensures.paragraphs.ranges c.in_ok-found.ensures.paragraphs.para_levels)
 
 pub write_paragraphs-requires-clause-follow : goal.write_paragraphs-requires-clause-follow
@@ -27,7 +27,7 @@ write_paragraphs-requires-clause-follow g c =
     let source = g.D.BidiDataSource.source c.args.data_source.now in
     let cs : List ℕ = (g.T.TextSource.text c.args.text).chars in
     rw c.as_slice.ensures
-    (paragraphs-Follow source c.args.base _ g.T.TextSource.encoding.positive _ _ (pieces_by-joined c.args.rule source cs)
+    (paragraphs-Follow source c.args.base_level _ g.T.TextSource.encoding.positive _ _ (pieces_by-joined c.args.rule source cs)
     c.in_ok-found.found.paragraphs.items c.in_ok-found.ensures.paragraphs.ranges c.in_ok-found.ensures.paragraphs.para_levels)
 
 pub invariant_of-classified : goal.invariant_of-classified
@@ -37,7 +37,7 @@ pub returns-clause-analysis : goal.returns-clause-analysis
 returns-clause-analysis g c =
     let source = g.D.BidiDataSource.source c.args.data_source.now in
     let cs : List ℕ = (g.T.TextSource.text c.args.text).chars in
-    IsAnalysis-found source c.args.base c.args.rule _ c.in_ok-found.found.paragraphs.items g.T.TextSource.encoding.positive c.requires.low c.in_ok-found.ensures.paragraphs
+    IsAnalysis-found source c.args.base_level c.args.rule _ c.in_ok-found.found.paragraphs.items g.T.TextSource.encoding.positive c.requires.low c.in_ok-found.ensures.paragraphs
     ((rw c.as_slice.ensures at c.in_ok-write_paragraphs.ensures)
-    ∙ paragraphs-levels source c.args.base _ g.T.TextSource.encoding.positive _ _ (pieces_by-joined c.args.rule source cs)
+    ∙ paragraphs-levels source c.args.base_level _ g.T.TextSource.encoding.positive _ _ (pieces_by-joined c.args.rule source cs)
     c.in_ok-found.found.paragraphs.items c.in_ok-found.ensures.paragraphs.ranges c.in_ok-found.ensures.paragraphs.para_levels)

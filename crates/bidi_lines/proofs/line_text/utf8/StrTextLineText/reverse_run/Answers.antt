@@ -1,8 +1,8 @@
 use Rattle.bidi_base.proofs.Common.{◌≡◌, ℕ, ◌+◌, List, length, reverse, flat_map, ap, ◌∙◌, arith, chars, subrange, IsLine, IsUtf8, len_utf8}
 use Rattle.std.specs.Char.{encode_utf8}
-use Rattle.bidi_base.proofs.PlaceLemmas.{text_len-subrange}
+use Rattle.bidi_base.proofs.UnitIndexLemmas.{text_len-subrange}
 use Rattle.bidi_text.proofs.StrLemmas.{has_units, text_len-chars}
-use Rattle.bidi_lines.proofs.TurnedText.{turned-chars}
+use Rattle.bidi_lines.proofs.ReversedUtf8.{turned-chars}
 use Rattle.bidi_lines.proofs.line_text.utf8.StrTextLineText.reverse_run.Goals as goal
 
 -- the run has as many bytes as the range

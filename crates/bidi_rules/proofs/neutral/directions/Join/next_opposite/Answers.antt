@@ -1,6 +1,6 @@
 use Rattle.bidi_base.proofs.Common.{◌≡◌, ◌≤◌, ◌<◌, ℕ, length, true, false, sym, ap, subst, ◌∙◌, arith, inl, inr, cases_lt, stands_for, class_at}
 use Rattle.bidi_base.specs.declared.char_data.BidiClass.{BidiClass}
-use Rattle.bidi_rules.specs.PairWalk.{opposite_of}
+use Rattle.bidi_rules.specs.PairPass.{opposite_of}
 use Rattle.bidi_rules.proofs.JoinWalk.{IsAtOpposite-settled, IsAtOpposite-quiet, IsUnderWay-turned}
 use Rattle.bidi_rules.proofs.neutral.directions.Join.next_opposite.Goals as goal
 use Rattle.bidi_rules.proofs.neutral.directions.Join.next_opposite.Goals.{then-self+else-next-end+else-stands_for, else-self}

@@ -1,0 +1,6 @@
+-- The levels that are kept of a line.
+use Rattle.std.specs.Prelude.{ℕ, if◌then◌else◌, List, take}
+use Rattle.bidi_lines.specs.declared.reused_levels.LineLevels.{LineLevels}
+
+abbrev pub levels : LineLevels → List ℕ
+levels s = take s.len (if s.are_many then s.many.items else s.few)
