@@ -60,7 +60,7 @@ fn report_argument(rt: &(impl Eprint + AllocGlobal), argument: &[u8]) -> Result<
     Ok(())
 }
 
-// Tells why there are no arguments.
+// Reports why there are no arguments.
 fn refuse_arguments(rt: &(impl Env + Eprint + AllocGlobal), error: &io::Error) -> Status {
     if error.kind() != ErrorKind::InvalidData {
         let _ = eprintln!(rt; "bidi: the arguments could not be read: {error}");
@@ -72,7 +72,7 @@ fn refuse_arguments(rt: &(impl Env + Eprint + AllocGlobal), error: &io::Error) -
     Status::Refused
 }
 
-// Tells why the arguments are none of the program's forms.
+// Reports why the arguments are none of the program's forms.
 fn refuse(rt: &(impl Eprint + AllocGlobal), refusal: &Refusal<'_>) -> Result<(), AllocError> {
     let text = format!(in rt.alloc(); "{refusal}")?;
     let shown = shown_name(rt.alloc(), text.as_str())?;

@@ -219,7 +219,7 @@ fn check_all(
     }
 }
 
-// Searches all of that, and writes what stands before and after the findings.
+// Searches all of that, and writes what is before and after the findings.
 fn report_all(
     rt: &(impl Files + Input + Print + Eprint + AllocGlobal),
     run: &mut Run<'_, '_, '_>,

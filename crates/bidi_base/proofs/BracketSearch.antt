@@ -152,7 +152,7 @@ module _ (counted : List (Option BidiMatchedOpeningBracket)) where
         inside = omega arith;
       }
 
-  -- what stands at i once the openings without a closing are left out
+  -- what is at i once the openings without a closing are left out
   abbrev kept_at : List (ℕ × ℕ) → ℕ → Option (ℕ × ℕ)
   kept_at pairs i = cond (opens counted i) (cond (ltb (pair_at pairs i).0 (pair_at pairs i).1) (Some (pair_at pairs i)) None) None
 

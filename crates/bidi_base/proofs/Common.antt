@@ -57,7 +57,7 @@ pub use Rattle.std.specs.Str.Lossy.{utf8_valid_len}
 pub use Rattle.std.specs.Str.Parse.{digits_value}
 pub use Rattle.std.specs.declared.ops.Range.{Range}
 pub use Rattle.std.specs.declared.str.CharIndices.{CharIndices}
-pub use Rattle.bidi_base.specs.Analysed.{AnalysedText, AreParagraphs, IsAnalysis, IsPerCharText, line_levels_per_char, AreLevelsOfLine, AreRunsOfLine, IsTextOfLine, StaysInOrder}
+pub use Rattle.bidi_base.specs.AnalysedText.{AnalysedText, AreParagraphs, IsAnalysis, IsPerCharText, line_levels_per_char, AreLevelsOfLine, AreRunsOfLine, IsTextOfLine, StaysInOrder}
 unfoldable pub use Rattle.bidi_base.specs.Brackets.{available, bracket_limit, bracket_pairs, closed_pairs, pairs_of, partner, with_closing}
 pub use Rattle.bidi_base.specs.Brackets.{AreNestedPairs, IsBehindOrWithin, bracket_at, counted_bracket, counted_brackets, is_available, is_closing, is_opening, is_same_bracket, is_taken}
 pub use Rattle.bidi_base.specs.Brackets.{max_open_brackets}
@@ -70,8 +70,8 @@ pub use Rattle.bidi_base.specs.Display.{AreVisualRuns, IsLevelRun, Run, level_ru
 unfoldable pub use Rattle.bidi_base.specs.Embeddings.{closing_pdf, is_embedded, is_level_with, is_open_at, open_at, shares_isolates}
 pub use Rattle.bidi_base.specs.Embeddings.{is_embedding_level_with, is_pdf_level_with}
 unfoldable pub use Rattle.bidi_base.specs.Explicit.{explicit_class, explicit_classes, explicit_level, explicit_levels, processing_class, processing_classes, status_at, status_inside}
-pub use Rattle.bidi_base.specs.Explicit.{Status, asked_level, override_of}
-pub use Rattle.bidi_base.specs.Flat.{hidden, is_flat, kept_of, may_leave, run_levels, keeps_to}
+pub use Rattle.bidi_base.specs.Explicit.{Status, next_level, override_of}
+pub use Rattle.bidi_base.specs.WithoutOpeners.{hidden, is_flat, kept_of, may_leave, run_levels, keeps_to}
 unfoldable pub use Rattle.bidi_base.specs.FoundBrackets.{found_brackets}
 pub use Rattle.bidi_base.specs.FoundBrackets.{ArePairsOf, brackets_from}
 pub use Rattle.bidi_base.specs.Implicit.{implicit_level, implicit_levels}
@@ -93,8 +93,8 @@ unfoldable pub use Rattle.bidi_base.specs.Order.{index_at_visual, least_between,
 pub use Rattle.bidi_base.specs.Order.{IsVisualOrder, least}
 pub use Rattle.bidi_base.specs.PairSearch.{AreWithin, HasRead, IsAt, IsUnderWay, closed_before}
 pub use Rattle.bidi_base.specs.Paragraphs.{IsPartition, SplitTest, begins_with_line_feed, cr_lf_together, cut_after, each_separator, ends_with_separator, ends_after, ends_by, paragraphs_of, pieces_by, ranges_from}
-pub use Rattle.bidi_base.specs.Places.{at_indexes, between, chain, class_at, count_between, find_last, first_or, holds_number, in_context, indexes, last_or, nearest, nearest_is}
-pub use Rattle.bidi_base.specs.Reading.{decided_by, filled, innermost, is_fsi, met_units, opened_by, outer}
+pub use Rattle.bidi_base.specs.Indexes.{at_indexes, between, chain, class_at, count_between, find_last, first_or, holds_number, in_context, indexes, last_or, nearest, nearest_is}
+pub use Rattle.bidi_base.specs.OpenIsolates.{decided_by, filled, innermost, is_fsi, met_units, opened_by, outer}
 pub use Rattle.bidi_base.specs.Search.{IsFirst, passing}
 pub use Rattle.bidi_base.specs.SequencePass.{index_of, read_class, waiting_for, with_entry}
 unfoldable pub use Rattle.bidi_base.specs.Sequences.{begins_run, end_class, is_first, kept_before, kept_indexes, next_kept, resumed_at, run_starts, sequence_from, sequences, start_class, successor}

@@ -46,7 +46,7 @@ direction_past_isolates : base_direction ((LRI ∷ R ∷ PDI ∷ L ∷ []) ∷ [
 unfolding opened
 direction_past_isolates = refl
 
--- a sequence goes on behind an isolate, whose content is a sequence of its own (BD13, X10)
+-- a sequence goes on after an isolate, whose content is a sequence of its own (BD13, X10)
 sequences_round_an_isolate : sequences 0 (L ∷ R ∷ LRI ∷ L ∷ PDI ∷ ON ∷ R ∷ ON ∷ []) (0 ∷ 0 ∷ 0 ∷ 2 ∷ 0 ∷ 0 ∷ 0 ∷ 0 ∷ [])
     ≡ record { places = 0 ∷ 1 ∷ 2 ∷ 4 ∷ 5 ∷ 6 ∷ 7 ∷ []; sos = L; eos = L } ∷ record { places = 3 ∷ []; sos = L; eos = L } ∷ []
 unfolding opened
@@ -62,7 +62,7 @@ crossed_brackets : bracket_pairs (ON ∷ ON ∷ ON ∷ ON ∷ []) (opening 40 �
 unfolding opened
 crossed_brackets = refl
 
--- brackets round R after R become R, and a mark behind the closing one with them (N0)
+-- brackets round R after R become R, and a mark after the closing one with them (N0)
 brackets_and_a_mark : neutral_classes 0 L L (R ∷ ON ∷ R ∷ ON ∷ NSM ∷ []) (None ∷ opening 40 ∷ None ∷ closing 40 ∷ None ∷ []) (R ∷ ON ∷ R ∷ ON ∷ ON ∷ []) ≡ R ∷ R ∷ R ∷ R ∷ R ∷ []
 unfolding opened
 brackets_and_a_mark = refl
@@ -72,7 +72,7 @@ implicit_at_the_greatest : implicit_levels 125 (L ∷ R ∷ AN ∷ EN ∷ []) �
 unfolding opened
 implicit_at_the_greatest = refl
 
--- a mark behind a removed character belongs to the letter before both, and the removed one has the letter's level (X9, W1)
+-- a mark after a removed character belongs to the letter before both, and the removed one has the letter's level (X9, W1)
 mark_behind_a_removed_one : levels_in 0 (R ∷ BN ∷ NSM ∷ L ∷ []) (None ∷ None ∷ None ∷ None ∷ []) ≡ 1 ∷ 1 ∷ 1 ∷ 0 ∷ []
 unfolding opened
 mark_behind_a_removed_one = refl
@@ -91,7 +91,7 @@ numbers_by_reversals : order_by_reversals (0 ∷ 0 ∷ 0 ∷ 1 ∷ 1 ∷ 1 ∷ 2
 unfolding opened
 numbers_by_reversals = refl
 
--- Latin behind Hebrew: two runs, the Latin one first, of a line that starts at the unit 0
+-- Latin after Hebrew: two runs, the Latin one first, of a line that starts at the unit 0
 latin_behind_hebrew : visual_runs 0 (1 ∷ 1 ∷ 1 ∷ 1 ∷ 1 ∷ 1 ∷ 2 ∷ 2 ∷ 2 ∷ []) ≡ (6, 9) ∷ (0, 6) ∷ []
 unfolding opened
 latin_behind_hebrew = refl

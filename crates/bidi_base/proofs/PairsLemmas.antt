@@ -79,7 +79,7 @@ module _ (brackets : List (Option BidiMatchedOpeningBracket)) where
   pub closed_before-closed : (j : ℕ) → AllClosedBefore j (closed_before brackets j)
   closed_before-closed j = AreInOrder-closed j (closed_before brackets j) (closed_before-in_order j)
 
-  -- what is closed later is added behind
+  -- what is closed later is added after
   closed_before-split : (k n : ℕ) → (later : List (ℕ × ℕ)) × (closed_before brackets (k + n) ≡ closed_before brackets k ++ later) × AreClosedFrom k later
   closed_before-split k zero = let same : k + 0 ≡ k = omega arith in ([], simp (same, append-nil), tt)
   closed_before-split k (suc n) =

@@ -7,7 +7,7 @@ use Rattle.bidi_base.specs.declared.char_data.Direction.{Direction}
 use Rattle.bidi_base.specs.declared.char_data.Direction.TheVariants.{Ltr, Rtl, Mixed}
 use Rattle.bidi_base.specs.Levels.{is_odd, is_even}
 use Rattle.bidi_base.specs.Isolates.{deciding_class}
-use Rattle.bidi_base.specs.Places.{first_or}
+use Rattle.bidi_base.specs.Indexes.{first_or}
 
 -- the direction that a deciding character gives
 abbrev pub direction_by : Option BidiClass → Direction

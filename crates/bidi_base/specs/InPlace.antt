@@ -9,7 +9,7 @@ use Rattle.bidi_base.specs.Explicit.{explicit_levels, processing_classes}
 use Rattle.bidi_base.specs.Levels.{direction_of}
 use Rattle.bidi_base.specs.Neutral.{n2_rule, neutral_classes}
 use Rattle.bidi_base.specs.PerChar.{HaveClass}
-use Rattle.bidi_base.specs.Places.{at_indexes, class_at, first_or}
+use Rattle.bidi_base.specs.Indexes.{at_indexes, class_at, first_or}
 use Rattle.bidi_base.specs.Sequences.{level_at}
 use Rattle.bidi_base.specs.Source.{Source}
 use Rattle.bidi_base.specs.Text.{per_char, per_unit, unit_index}

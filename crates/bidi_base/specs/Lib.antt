@@ -1,4 +1,4 @@
-pub mod Analysed
+pub mod AnalysedText
 pub mod Brackets
 pub mod ClassParagraphs
 pub mod Classes
@@ -7,7 +7,7 @@ pub mod Display
 pub mod Embeddings
 pub mod Errors
 pub mod Explicit
-pub mod Flat
+pub mod WithoutOpeners
 pub mod FoundBrackets
 pub mod Implicit
 pub mod InPlace
@@ -23,8 +23,8 @@ pub mod Order
 pub mod PairSearch
 pub mod Paragraphs
 pub mod PerChar
-pub mod Places
-pub mod Reading
+pub mod Indexes
+pub mod OpenIsolates
 pub mod Search
 pub mod RunSequences
 pub mod SequencePass

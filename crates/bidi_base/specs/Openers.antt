@@ -6,12 +6,12 @@ use Rattle.bidi_base.specs.declared.char_data.BidiClass.{BidiClass}
 use Rattle.bidi_base.specs.declared.char_data.BidiClass.TheVariants.{PDF, PDI}
 use Rattle.bidi_base.specs.Classes.{is_isolate_initiator, is_opener}
 
--- what stands outside the innermost isolate
+-- what is outside the innermost isolate
 abbrev pub outside_isolate : List BidiClass → List BidiClass
 outside_isolate [] = []
 outside_isolate (opener ∷ openers) = if is_isolate_initiator opener then openers else outside_isolate openers
 
--- what stands outside the innermost opener, where that is an embedding: a PDF closes no isolate
+-- what is outside the innermost opener, where that is an embedding: a PDF closes no isolate
 abbrev pub outside_embedding : List BidiClass → List BidiClass
 outside_embedding [] = []
 outside_embedding (opener ∷ openers) = if is_isolate_initiator opener then opener ∷ openers else openers

@@ -21,7 +21,7 @@ abbrev pub opening_of : Option BidiMatchedOpeningBracket → ℕ
 opening_of None = 0
 opening_of (Some b) = b.opening
 
--- the pass has read what stands before j: the stack holds what waits there, and had room for each opening
+-- the pass has read what is before j: the stack holds what waits there, and had room for each opening
 pub record IsUnderWay (brackets : List (Option BidiMatchedOpeningBracket)) (j : ℕ) (waiting : List ℕ) : Type 0 where
   pub waits : waiting ≡ available brackets (closed_before brackets j) j
   pub room : (k : ℕ) → k < j → is_opening (bracket_at brackets k) ≡ true
@@ -42,7 +42,7 @@ pair_at pairs i = (i, unwrap_or (closing_in pairs i) i)
 abbrev pub entry_of : List (Option BidiMatchedOpeningBracket) → ℕ → Waiting
 entry_of counted i = record { opening = opening_of (bracket_at counted i); pair = length (openings counted i) }
 
--- what stands before j is read
+-- what is before j is read
 pub record IsPairing (counted : List (Option BidiMatchedOpeningBracket)) (slots : List (ℕ × ℕ))
     (waiting : List Waiting) (j : ℕ) : Type 0 where
   pub places : List ℕ
@@ -51,7 +51,7 @@ pub record IsPairing (counted : List (Option BidiMatchedOpeningBracket)) (slots 
   pub found : slots ≡ map (pair_at (closed_before counted j)) (openings counted j)
   pub inside : j ≤ length counted
 
--- what stands before a place is read, and these brackets are still to come
+-- what is before a place is read, and these brackets are still to come
 pub record IsAt (counted : List (Option BidiMatchedOpeningBracket)) (slots : List (ℕ × ℕ)) (waiting : List Waiting)
     (rest : List Bracket) : Type 0 where
   pub place : ℕ
@@ -66,7 +66,7 @@ AreWithin n waiting = All (λ (e : Waiting). e.pair < n) waiting
 abbrev pub closed_slots : List (ℕ × ℕ) → List (ℕ × ℕ)
 closed_slots slots = filter (λ p. nat_lt p.0 p.1) slots
 
--- a search that has read these brackets, whatever comes behind them
+-- a search that has read these brackets, whatever comes after them
 pub record HasRead (s : PairSearch) (read : List Bracket) : Type 0 where
   pub within : AreWithin (length s.pairs.items) s.waiting.items
   pub goes_on : s.is_over ≡ false → (counted : List (Option BidiMatchedOpeningBracket)) (rest : List Bracket)

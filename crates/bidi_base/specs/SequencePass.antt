@@ -3,7 +3,7 @@
 use Rattle.std.specs.Prelude.{ℕ, ◌-◌, ◌<◌, ◌==◌, if◌then◌else◌, Bool, List, [], ◌∷◌, ◌++◌, length, take, get_or, slice_set, Option, Some, None}
 use Rattle.bidi_base.specs.declared.char_data.BidiClass.{BidiClass}
 use Rattle.bidi_base.specs.Classes.{is_isolate_initiator, is_pdi}
-use Rattle.bidi_base.specs.Places.{class_at, first_or, last_or}
+use Rattle.bidi_base.specs.Indexes.{class_at, first_or, last_or}
 use Rattle.bidi_base.specs.Sequences.{level_at}
 
 -- what waits once a character of this class was read, the innermost last: an initiator adds what waits for its PDI

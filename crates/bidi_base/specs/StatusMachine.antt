@@ -4,8 +4,8 @@ use Rattle.std.specs.Prelude.{ℕ, zero, suc, ◌+◌, ◌-◌, ◌<◌, ◌≤�
 use Rattle.bidi_base.specs.declared.char_data.BidiClass.{BidiClass}
 use Rattle.bidi_base.specs.Classes.{is_isolate_initiator, is_opener, is_pdi, is_pdf, is_paragraph_separator, is_removed}
 use Rattle.bidi_base.specs.Levels.{max_depth}
-use Rattle.bidi_base.specs.Places.{class_at}
-use Rattle.bidi_base.specs.Explicit.{Status, override_of, asked_level}
+use Rattle.bidi_base.specs.Indexes.{class_at}
+use Rattle.bidi_base.specs.Explicit.{Status, override_of, next_level}
 
 -- what holds inside an opener that was taken
 pub record Entry : Type 0 where
@@ -35,13 +35,13 @@ start para_level =
 
 -- the opener fits: the level that it asks for is no greater than the greatest, and nothing that is open has overflowed
 abbrev pub fits_in : BidiClass → State → Bool
-fits_in c s = nat_le (asked_level c s.top.status.level) max_depth && s.overflow_isolates == 0 && s.overflow_embeddings == 0
+fits_in c s = nat_le (next_level c s.top.status.level) max_depth && s.overflow_isolates == 0 && s.overflow_embeddings == 0
 
 -- the entry that it pushes
 abbrev pub entry_of : BidiClass → State → Entry
 entry_of c s =
     record {
-      status = record { level = asked_level c s.top.status.level; override = override_of c };
+      status = record { level = next_level c s.top.status.level; override = override_of c };
       is_isolate = is_isolate_initiator c;
     }
 

@@ -7,7 +7,7 @@ ghost use Rattle.bidi_base.specs.declared.data_source.BidiMatchedOpeningBracket.
 ghost use Rattle.bidi_base.specs.declared.brackets.Bracket.{Bracket};
 ghost use Rattle.bidi_base.specs.Brackets.{max_open_brackets, pairs_of};
 ghost use Rattle.bidi_base.specs.PairSearch.{closed_slots, AreWithin, IsAt};
-ghost use Rattle.bidi_base.specs.Places.{find_last};
+ghost use Rattle.bidi_base.specs.Indexes.{find_last};
 ghost use Rattle.bidi_base.specs.FoundBrackets.{ArePairsOf};
 
 use arrayvec::ArrayVec;

@@ -4,7 +4,7 @@ ghost use Rattle.std.specs.Prelude.{◌≡◌, ◌==◌, ◌||◌, ◌<◌, ◌�
 ghost use Rattle.std.specs.List.{list_any, prefix_len};
 ghost use Rattle.bidi_base.specs.Classes.{has_direction, is_nsm, same_class, stands_for};
 ghost use Rattle.bidi_base.specs.Neutral.{is_mark_after, nearest_direction};
-ghost use Rattle.bidi_base.specs.Places.{class_at, indexes};
+ghost use Rattle.bidi_base.specs.Indexes.{class_at, indexes};
 
 use crate::char_data::BidiClass;
 use crate::classes::{as_direction, stands_for};

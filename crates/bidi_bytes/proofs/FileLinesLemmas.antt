@@ -41,7 +41,7 @@ before_line_feed-decoded (b ∷ bytes) =
 ends-decoded : (a : ℕ) (bytes : List ℕ) → ends_file_line a (utf8_decoded bytes) ≡ ends_file_line a bytes
 ends-decoded a bytes = ap (λ t. a == 0x0A || (a == 0x0D && not t)) (before_line_feed-decoded bytes)
 
--- bytes that are cut behind the end of a line
+-- bytes that are cut after the end of a line
 pub decoded-cut : (before : List ℕ) (a : ℕ) (after : List ℕ) → is_break a ≡ true → ends_file_line a after ≡ true
     → file_lines_of (utf8_decoded (before ++ a ∷ after)) ≡ file_lines_of (utf8_decoded (before ++ a ∷ [])) ++ file_lines_of (utf8_decoded after)
 decoded-cut before a after h ends =
@@ -160,7 +160,7 @@ module _ (bytes : List ℕ) (at : ℕ) (within : at < length bytes) (is : is_bre
     one-pair h =
         rw (front-pair ∙ append_assoc (take at bytes) (0x0D ∷ []) (0x0A ∷ [])) (decoded-one_pair (take at bytes) h)
 
-  -- the bytes are cut there, whatever follows, if there is a byte behind the index
+  -- the bytes are cut there, whatever follows, if there is a byte after the index
   pub cut-at : at + 1 < length bytes → (more : List ℕ)
       → file_lines_of (utf8_decoded (bytes ++ more)) ≡ file_lines_of (utf8_decoded (take (break_end bytes at) bytes)) ++ file_lines_of (utf8_decoded (drop (break_end bytes at) bytes ++ more))
   cut-at more_within more = elim (cases_Bool (a == 0x0D && next == 0x0A)) [

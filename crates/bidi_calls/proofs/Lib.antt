@@ -5,11 +5,11 @@ mod EvenSteps
 mod EvenText
 mod FirstDirectionLemmas
 mod FoundText
-mod KeptLines
-mod KeptText
+mod CallerLines
+mod CallerText
 mod OneUnit
 mod OrderOfRuns
-mod ShownLine
-mod ShownRuns
+mod PartsOfLine
+mod RunStructs
 mod Utf8Fronts
 mod WrittenChars

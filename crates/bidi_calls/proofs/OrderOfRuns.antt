@@ -16,7 +16,7 @@ use Rattle.bidi_lines.proofs.CharRuns.{units_of, place_from, run_level-units, vi
 use Rattle.bidi_lines.proofs.RunLengths.{length-visual_order}
 use Rattle.bidi_lines.proofs.RunText.{flat_map-same_on}
 use Rattle.bidi_lines.proofs.WrittenRuns.{ranges_at_boundaries}
-use Rattle.bidi_calls.proofs.ShownRuns.{runs_within}
+use Rattle.bidi_calls.proofs.RunStructs.{runs_within}
 
 -- the indexes of a run's characters from left to right
 abbrev pub run_indexes : (ℕ → ℕ) → List ℕ → List ℕ → Run → List ℕ

@@ -19,7 +19,7 @@ is_decided source full chars =
     || (not full && list_any (λ c. is_paragraph_separator (source.class_of c)) chars)
 
 -- the direction of a text that begins with these characters. They are the whole text, or a fault follows them,
--- which is told only if they do not decide.
+-- which is reported only if they do not decide.
 abbrev pub direction_or : Source → Bool → List ℕ → Bool → Fault → Result ℕ Fault
 direction_or source full chars whole fault =
     if whole || is_decided source full chars then Ok (direction_in source full chars) else Err fault

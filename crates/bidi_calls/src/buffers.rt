@@ -1,5 +1,5 @@
 //! What a caller passes for an answer of several parts: the settings of an analysis, and the buffers that a call fills.
-use bidi_numbers::rows::{Paragraph, Run};
+use bidi_numbers::structs::{Paragraph, Run};
 
 /// The settings of an analysis, as numbers.
 ///

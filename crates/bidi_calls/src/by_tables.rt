@@ -7,7 +7,7 @@ ghost use Rattle.std.specs.Str.{chars};
 ghost use Rattle.bidi_base.specs.Text.{one_unit};
 ghost use Rattle.bidi_base.specs.Utf16.{utf16_text, utf16_len};
 ghost use Rattle.bidi_numbers.specs.Faults.{FaultsAs, fault_unless};
-ghost use Rattle.bidi_calls.specs.Kept.{TellsNotUtf8ByTables, analysis_by, analysis_fault, WritesAnalysis};
+ghost use Rattle.bidi_calls.specs.Buffers.{ReportsNotUtf8ByTables, analysis_by, analysis_fault, WritesAnalysis};
 ghost use Rattle.bidi_numbers.specs.Numbers.{direction_in};
 ghost use Rattle.bidi_numbers.specs.Tables.{tables_fault, rows_source};
 ghost use Rattle.bidi_numbers.specs.Texts.{is_scalar};
@@ -15,7 +15,7 @@ ghost use Rattle.bidi_numbers.specs.Texts.{is_scalar};
 use crate::buffers::{AnalysisBuffers, Settings};
 use crate::{utf8, utf16, utf32};
 use bidi_numbers::fault::Fault;
-use bidi_numbers::rows::{BracketPair, ClassRange};
+use bidi_numbers::structs::{BracketPair, ClassRange};
 use bidi_numbers::tables::Tables;
 use std::alloc::Global;
 
@@ -31,7 +31,7 @@ pub fn analyse_utf8(
     settings: Settings,
     out: &mut AnalysisBuffers<'_>,
 ) -> Result<usize, Fault>
-    ensures not_utf8 { TellsNotUtf8ByTables result ranges.now brackets.now text.now }
+    ensures not_utf8 { ReportsNotUtf8ByTables result ranges.now brackets.now text.now }
     ensures fault { let found = analysis_by (rows_source ranges.now brackets.now) settings len_utf8 (chars text.now) in
         IsUtf8 text.now
         → FaultsAs result (option_or (tables_fault ranges.now brackets.now)
@@ -57,7 +57,7 @@ pub fn base_direction_utf8(
     text: &[u8],
     full: bool,
 ) -> Result<usize, Fault>
-    ensures not_utf8 { TellsNotUtf8ByTables result ranges.now brackets.now text.now }
+    ensures not_utf8 { ReportsNotUtf8ByTables result ranges.now brackets.now text.now }
     ensures fault { IsUtf8 text.now → FaultsAs result (tables_fault ranges.now brackets.now) }
     ensures direction { IfOk result (λ n. n ≡ direction_in (rows_source ranges.now brackets.now) full (chars text.now)) }
 {

@@ -2,10 +2,10 @@
 ghost use Rattle.std.specs.Prelude.{◌≡◌, ◌+◌, ◌≤◌, if◌then◌else◌, IsTrue, length, map, reverse};
 ghost use Rattle.bidi_base.specs.Display.{run_of, visual_runs};
 ghost use Rattle.bidi_base.specs.Order.{visual_order};
-ghost use Rattle.bidi_base.specs.Places.{between};
+ghost use Rattle.bidi_base.specs.Indexes.{between};
 ghost use Rattle.bidi_base.specs.Text.{text_len};
 ghost use Rattle.bidi_base.specs.Texts.{char_index, is_boundary, per_char, subrange, IsLine, IsPerChar};
-ghost use Rattle.bidi_calls.specs.Everything.{AreCharsIf};
+ghost use Rattle.bidi_calls.specs.LineParts.{AreCharsIf};
 
 use crate::counted::CountedText;
 use std::ops::Range;

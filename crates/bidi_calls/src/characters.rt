@@ -12,12 +12,12 @@ ghost use Rattle.bidi_base.specs.Source.{Source};
 ghost use Rattle.bidi_base.specs.Texts.{text_len};
 ghost use Rattle.bidi_base.specs.Utf16.{utf16_text, utf16_len};
 ghost use Rattle.bidi_calls.specs.Characters.{bracket_number, class_number_in, bracket_number_in, if_scalar, numbers_of, numbered_source};
-ghost use Rattle.bidi_calls.specs.Kept.{WritesList};
+ghost use Rattle.bidi_calls.specs.Buffers.{WritesList};
 ghost use Rattle.bidi_numbers.specs.Faults.{fault_unless};
 ghost use Rattle.bidi_numbers.specs.Numbers.{is_class, direction_in};
 ghost use Rattle.bidi_numbers.specs.Texts.{is_scalar};
 
-use crate::checked::number_of_direction;
+use crate::analysis::number_of_direction;
 use bidi_base::data_source::BidiMatchedOpeningBracket;
 use bidi_numbers::fault::{Fault, check};
 use bidi_numbers::numbers::{check_classes, class_of as class_numbered, number_of};

@@ -4,7 +4,7 @@ ghost use Rattle.std.specs.List.{count_by};
 ghost use Rattle.std.specs.Str.{chars};
 ghost use Rattle.bidi_base.specs.Texts.{text_len};
 ghost use Rattle.bidi_base.specs.Utf16.{utf16_text};
-ghost use Rattle.bidi_calls.specs.Everything.{begins_character};
+ghost use Rattle.bidi_calls.specs.LineParts.{begins_character};
 ghost use Rattle.bidi_calls.specs.declared.counted.TheConstants.{FEW_BYTES};
 
 use bidi_lines::line_text::LineText;

@@ -7,7 +7,7 @@ ghost use Rattle.bidi_calls.specs.FirstDirection.{is_decided, first_direction_ut
 ghost use Rattle.bidi_numbers.specs.Numbers.{direction_in};
 ghost use Rattle.bidi_numbers.specs.Texts.{is_scalar};
 
-use crate::checked::number_of_direction;
+use crate::analysis::number_of_direction;
 use bidi_numbers::fault::Fault;
 use bidi_numbers::texts::{char_of, is_scalar};
 use unicode_bidi::direction_search::{DirectionSearch, search_class, search_direction};

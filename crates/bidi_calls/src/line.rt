@@ -8,15 +8,15 @@ ghost use Rattle.bidi_base.specs.Text.{unit_index, per_char};
 ghost use Rattle.bidi_base.specs.Texts.{text_len};
 ghost use Rattle.bidi_lines.specs.LineLevels.{levels as levels_of};
 ghost use Rattle.bidi_numbers.specs.Faults.{FaultsAs, fault_unless, has_room_or_none};
-ghost use Rattle.bidi_calls.specs.Kept.{written, written_if_room, WritesList};
-ghost use Rattle.bidi_calls.specs.Lines.{lies_in, IsSound, IsAsLongAs, own_classes, own_levels, line_fault, levels_fault, runs_fault, order_fault, shown_levels};
+ghost use Rattle.bidi_calls.specs.Buffers.{written, written_if_room, WritesList};
+ghost use Rattle.bidi_calls.specs.CallerLine.{lies_in, IsValid, IsAsLongAs, own_classes, own_levels, line_fault, levels_fault, runs_fault, order_fault, caller_line_levels};
 ghost use Rattle.bidi_numbers.specs.Numbers.{class_numbered, is_class, is_level};
-ghost use Rattle.bidi_calls.specs.Shown.{is_even, order_of_line, map_fault};
-ghost use Rattle.bidi_lines.specs.InText.{shown_units};
-ghost use Rattle.bidi_numbers.specs.Rows.{run_row};
+ghost use Rattle.bidi_calls.specs.LineText.{is_even, order_of_line, map_fault};
+ghost use Rattle.bidi_lines.specs.InText.{visual_units};
+ghost use Rattle.bidi_numbers.specs.Structs.{run_struct};
 
-use crate::checked::write_levels;
-use crate::run_rows::put_runs;
+use crate::analysis::write_levels;
+use crate::run_structs::put_runs;
 use bidi_lines::line_text::{LineText, StoredLine, write_line};
 use bidi_lines::reused_levels::LineLevels;
 use bidi_lines::visual_order::write_visual_order;
@@ -24,7 +24,7 @@ use bidi_lines::visual_runs::LineRuns;
 use bidi_numbers::class_numbers::ClassNumbers;
 use bidi_numbers::fault::{Fault, check, check_room_or_none};
 use bidi_numbers::numbers::{all_below, check_classes};
-use bidi_numbers::rows::{Paragraph, Run};
+use bidi_numbers::structs::{Paragraph, Run};
 use std::alloc::{AllocError, Global};
 use std::ops::Range;
 use unicode_bidi::{Level, TextSource};
@@ -34,7 +34,7 @@ use unicode_bidi::{Level, TextSource};
 /// `classes` and `levels` have the number of the stored class and the stored level of each code unit of a text.
 /// `paragraph` is a paragraph of the text, and the line is its code units from `start` up to `end`.
 #[derive(Clone, Copy, Debug)]
-pub struct KeptLine<'t> {
+pub struct CallerLine<'t> {
     pub classes: &'t [u8],
     pub levels: &'t [u8],
     pub paragraph: &'t Paragraph,
@@ -49,11 +49,11 @@ fn lies_in(paragraph: &Paragraph, start: usize, end: usize, units: usize) -> boo
     paragraph.start <= start && start <= end && end <= paragraph.end && paragraph.end <= units
 }
 
-impl<'t> KeptLine<'t> {
+impl<'t> CallerLine<'t> {
     /// Checks that the range is a line of its paragraph, and that its classes and levels are valid.
     pub fn check(&self) -> Result<(), Fault>
         ensures fault { result_err result ≡ line_fault self.now }
-        ensures sound { OnOk result (IsSound self.now) }
+        ensures valid { OnOk result (IsValid self.now) }
     {
         let units = self.levels.len();
         check(self.classes.len() == units, Fault::UnequalLengths)?;
@@ -71,7 +71,7 @@ impl<'t> KeptLine<'t> {
 
     /// Returns the level of the paragraph.
     pub fn level(&self) -> Level
-        requires { IsSound self.now }
+        requires { IsValid self.now }
         ensures { result ≡ self.now.paragraph.now.level }
     {
         match Level::new(self.paragraph.level) {
@@ -82,7 +82,7 @@ impl<'t> KeptLine<'t> {
 
     /// Returns the numbers of the line's stored classes.
     pub fn class_numbers(&self) -> &'t [u8]
-        requires { IsSound self.now }
+        requires { IsValid self.now }
         ensures { result.now ≡ own_classes self.now }
     {
         &self.classes[self.start..self.end]
@@ -90,22 +90,22 @@ impl<'t> KeptLine<'t> {
 
     /// Returns the numbers of the line's stored levels.
     pub fn level_numbers(&self) -> &'t [u8]
-        requires { IsSound self.now }
+        requires { IsValid self.now }
         ensures { result.now ≡ own_levels self.now }
     {
         &self.levels[self.start..self.end]
     }
 
     /// Returns the level of each code unit of the line after L1. A line of up to 256 code units needs no allocation.
-    pub fn shown(&self, alloc: Global) -> Result<LineLevels, AllocError>
-        requires { IsSound self.now }
-        ensures levels { IfOk result (λ s. levels_of s ≡ shown_levels self.now) }
+    pub fn after_l1(&self, alloc: Global) -> Result<LineLevels, AllocError>
+        requires { IsValid self.now }
+        ensures levels { IfOk result (λ s. levels_of s ≡ caller_line_levels self.now) }
         ensures units { IfOk result (λ s. length (levels_of s) + self.now.start ≡ self.now.end) }
     {
         let classes = ClassNumbers::new(self.class_numbers());
-        let mut shown = LineLevels::new(alloc);
-        shown.show(self.level(), classes, self.level_numbers())?;
-        Ok(shown)
+        let mut after_l1 = LineLevels::new(alloc);
+        after_l1.show(self.level(), classes, self.level_numbers())?;
+        Ok(after_l1)
     }
 }
 
@@ -116,14 +116,14 @@ impl<'t> KeptLine<'t> {
 pub fn write_text<T: LineText>(
     alloc: Global,
     text: T,
-    line: &KeptLine<'_>,
+    line: &CallerLine<'_>,
     out: &mut [T::Unit],
 ) -> Result<(), AllocError>
-    requires sound { IsSound line.now }
+    requires valid { IsValid line.now }
     requires even { is_even T.encoding.len_of (T.text text).chars line.now ≡ true }
     requires units { IsAsLongAs T.encoding.len_of (T.text text).chars line.now }
     requires room { length out.old ≡ text_len (T.text text) }
-    ensures text { OnOk result (out.new ≡ shown_units (T.text text) T.encode (T.units_of text) 0 (shown_levels line.now)) }
+    ensures text { OnOk result (out.new ≡ visual_units (T.text text) T.encode (T.units_of text) 0 (caller_line_levels line.now)) }
     ensures kept { OnErr result (out.new ≡ out.old) }
 {
     let units = 0..out.len();
@@ -138,40 +138,40 @@ pub fn write_text<T: LineText>(
 }
 
 /// Writes the level of each code unit of a line after L1, and returns their number. Writes nothing after a fault.
-pub fn line_levels(alloc: Global, line: &KeptLine<'_>, out: &mut [u8]) -> Result<usize, Fault>
+pub fn line_levels(alloc: Global, line: &CallerLine<'_>, out: &mut [u8]) -> Result<usize, Fault>
     ensures fault { FaultsAs result (levels_fault line.now (length out.old)) }
     ensures kept { OnErr result (out.new ≡ out.old) }
-    ensures levels { OnOk result (out.new ≡ written (shown_levels line.now) out.old) }
+    ensures levels { OnOk result (out.new ≡ written (caller_line_levels line.now) out.old) }
     ensures count { IfOk result (λ count. count ≡ line.now.end - line.now.start) }
 {
     line.check()?;
     let count = line.end - line.start;
     check(count <= out.len(), Fault::NoRoom)?;
-    let shown = line.shown(alloc)?;
-    write_levels(&mut out[..count], shown.as_slice());
+    let after_l1 = line.after_l1(alloc)?;
+    write_levels(&mut out[..count], after_l1.as_slice());
     Ok(count)
 }
 
 /// Writes the visual runs of a line to `out`, and returns their number.
 ///
 /// If `out` is empty, only counts them. Writes nothing after a fault.
-pub fn line_runs(alloc: Global, line: &KeptLine<'_>, out: &mut [Run]) -> Result<usize, Fault>
+pub fn line_runs(alloc: Global, line: &CallerLine<'_>, out: &mut [Run]) -> Result<usize, Fault>
     ensures fault { FaultsAs result (runs_fault line.now (length out.old)) }
     ensures kept { OnErr result (out.new ≡ out.old) }
     ensures runs { OnOk result (out.new
         ≡ written_if_room
-        (map (run_row line.now.start (shown_levels line.now))
-        (visual_runs line.now.start (shown_levels line.now)))
+        (map (run_struct line.now.start (caller_line_levels line.now))
+        (visual_runs line.now.start (caller_line_levels line.now)))
         out.old) }
-    ensures count { IfOk result (λ count. count ≡ length (visual_runs line.now.start (shown_levels line.now))) }
+    ensures count { IfOk result (λ count. count ≡ length (visual_runs line.now.start (caller_line_levels line.now))) }
 {
     line.check()?;
-    let shown = line.shown(alloc)?;
+    let after_l1 = line.after_l1(alloc)?;
     let mut found = LineRuns::new(alloc);
-    found.find(shown.as_slice(), 0)?;
+    found.find(after_l1.as_slice(), 0)?;
     let runs = found.as_slice();
     check_room_or_none(runs.len(), out.len())?;
-    put_runs(out, shown.as_slice(), line.start, runs);
+    put_runs(out, after_l1.as_slice(), line.start, runs);
     Ok(runs.len())
 }
 
@@ -181,17 +181,17 @@ pub fn line_runs(alloc: Global, line: &KeptLine<'_>, out: &mut [Run]) -> Result<
 pub fn map_characters<T: TextSource>(
     alloc: Global,
     text: T,
-    line: &KeptLine<'_>,
+    line: &CallerLine<'_>,
     out: &mut [usize],
 ) -> Result<usize, Fault>
-    requires sound { IsSound line.now }
+    requires valid { IsValid line.now }
     requires units { IsAsLongAs T.encoding.len_of (T.text text).chars line.now }
     ensures fault { FaultsAs result (map_fault T.encoding.len_of (T.text text).chars line.now (length out.old)) }
     ensures writes { WritesList (order_of_line T.encoding.len_of (T.text text).chars line.now) result out.old out.new }
 {
-    let mut shown = line.shown(alloc)?;
-    shown.keep_first_units(text);
-    let levels = shown.as_slice();
+    let mut after_l1 = line.after_l1(alloc)?;
+    after_l1.keep_first_units(text);
+    let levels = after_l1.as_slice();
     let characters = levels.len();
     check(characters <= out.len(), Fault::NoRoom)?;
     write_visual_order(levels, &mut out[..characters]);
@@ -199,17 +199,17 @@ pub fn map_characters<T: TextSource>(
 }
 
 /// Writes the visual order of a line's code units, each of which is a character (L2), and returns their number.
-pub fn order_units(alloc: Global, line: &KeptLine<'_>, out: &mut [usize]) -> Result<usize, Fault>
-    requires { IsSound line.now }
+pub fn order_units(alloc: Global, line: &CallerLine<'_>, out: &mut [usize]) -> Result<usize, Fault>
+    requires { IsValid line.now }
     ensures fault { FaultsAs result (fault_unless (nat_le (line.now.end - line.now.start) (length out.old)) Fault.NoRoom) }
     ensures kept { OnErr result (out.new ≡ out.old) }
-    ensures order { OnOk result (out.new ≡ written (visual_order_of (shown_levels line.now)) out.old) }
+    ensures order { OnOk result (out.new ≡ written (visual_order_of (caller_line_levels line.now)) out.old) }
     ensures count { IfOk result (λ count. count ≡ line.now.end - line.now.start) }
 {
     let units = line.end - line.start;
     check(units <= out.len(), Fault::NoRoom)?;
-    let shown = line.shown(alloc)?;
-    write_visual_order(shown.as_slice(), &mut out[..units]);
+    let after_l1 = line.after_l1(alloc)?;
+    write_visual_order(after_l1.as_slice(), &mut out[..units]);
     Ok(units)
 }
 

@@ -4,18 +4,18 @@ ghost use Rattle.std.specs.Char.Escape.{encode_utf16};
 ghost use Rattle.bidi_base.specs.Text.{is_boundary};
 ghost use Rattle.bidi_base.specs.Utf16.{utf16_text, utf16_len};
 ghost use Rattle.bidi_numbers.specs.Faults.{FaultsAs};
-ghost use Rattle.bidi_calls.specs.Everything.{everything, everything_fault, WritesLine};
-ghost use Rattle.bidi_calls.specs.Kept.{analysis_by, analysis_fault, WritesAnalysis, WritesList};
-ghost use Rattle.bidi_calls.specs.Lines.{IsSound, line_fault};
+ghost use Rattle.bidi_calls.specs.LineParts.{everything, everything_fault, WritesLine};
+ghost use Rattle.bidi_calls.specs.Buffers.{analysis_by, analysis_fault, WritesAnalysis, WritesList};
+ghost use Rattle.bidi_calls.specs.CallerLine.{IsValid, line_fault};
 ghost use Rattle.bidi_numbers.specs.Numbers.{direction_in};
-ghost use Rattle.bidi_calls.specs.Shown.{own_units, fault_of_line, reordered, text_fault, cuts_utf16, shown_fault, order_of_line, map_fault};
+ghost use Rattle.bidi_calls.specs.LineText.{own_units, fault_of_line, reordered, text_fault, cuts_utf16, reordered_fault, order_of_line, map_fault};
 ghost use Rattle.std.specs.Option.{option_or};
 ghost use Rattle.std.specs.Result.{result_err};
 
 use crate::buffers::{AnalysisBuffers, LineBuffers, Settings};
-use crate::checked;
-use crate::even::is_even_utf16;
-use crate::line::{KeptLine, map_characters, write_text};
+use crate::analysis;
+use crate::per_char::is_even_utf16;
+use crate::line::{CallerLine, map_characters, write_text};
 use crate::show::show_text;
 use bidi_numbers::fault::{Fault, check};
 use std::alloc::Global;
@@ -38,7 +38,7 @@ pub fn analyse<D: BidiDataSource>(
     ensures writes { WritesAnalysis (analysis_by (D.source data_source.now) settings utf16_len (utf16_text text.now))
         result out.old out.new }
 {
-    checked::analyse(alloc, data_source, Utf16Text::new(text), settings, out)
+    analysis::analyse(alloc, data_source, Utf16Text::new(text), settings, out)
 }
 
 /// Returns the number of a text's base direction: 0 for left to right, 1 for right to left, 2 for mixed.
@@ -47,7 +47,7 @@ pub fn analyse<D: BidiDataSource>(
 pub fn base_direction<D: BidiDataSource>(data_source: &D, text: &[u16], full: bool) -> usize
     ensures { result ≡ direction_in (D.source data_source.now) full (utf16_text text.now) }
 {
-    checked::base_direction(data_source, Utf16Text::new(text), full)
+    analysis::base_direction(data_source, Utf16Text::new(text), full)
 }
 
 // Returns whether the unit at an index does not continue a character.
@@ -58,7 +58,7 @@ fn is_boundary(text: &[u16], index: usize) -> bool
 }
 
 // Checks that there is one entry for each code unit of the text, and that the line cuts no character.
-pub fn check_text(text: &[u16], line: &KeptLine<'_>) -> Result<(), Fault>
+pub fn check_text(text: &[u16], line: &CallerLine<'_>) -> Result<(), Fault>
     ensures { result_err result ≡ text_fault text.now line.now (cuts_utf16 text.now line.now) }
 {
     check(text.len() == line.levels.len(), Fault::UnequalLengths)?;
@@ -72,12 +72,12 @@ pub fn check_text(text: &[u16], line: &KeptLine<'_>) -> Result<(), Fault>
 fn reorder(
     alloc: Global,
     text: &[u16],
-    line: &KeptLine<'_>,
+    line: &CallerLine<'_>,
     out: &mut [u16],
 ) -> Result<usize, Fault>
-    requires sound { IsSound line.now }
+    requires valid { IsValid line.now }
     requires units { length text.now + line.now.start ≡ line.now.end }
-    ensures fault { FaultsAs result (shown_fault utf16_len encode_utf16 (utf16_text text.now) text.now line.now (length out.old)) }
+    ensures fault { FaultsAs result (reordered_fault utf16_len encode_utf16 (utf16_text text.now) text.now line.now (length out.old)) }
     ensures writes { WritesList (reordered utf16_len encode_utf16 (utf16_text text.now) text.now line.now)
         result out.old out.new }
 {
@@ -93,13 +93,13 @@ fn reorder(
 pub fn reorder_line(
     alloc: Global,
     text: &[u16],
-    line: &KeptLine<'_>,
+    line: &CallerLine<'_>,
     out: &mut [u16],
 ) -> Result<usize, Fault>
     ensures fault { let units = own_units text.now line.now in
-        let told = fault_of_line text.now line.now (cuts_utf16 text.now line.now)
-        (shown_fault utf16_len encode_utf16 (utf16_text units) units line.now (length out.old)) in
-        FaultsAs result told }
+        let fault = fault_of_line text.now line.now (cuts_utf16 text.now line.now)
+        (reordered_fault utf16_len encode_utf16 (utf16_text units) units line.now (length out.old)) in
+        FaultsAs result fault }
     ensures writes { let units = own_units text.now line.now in
         WritesList (reordered utf16_len encode_utf16 (utf16_text units) units line.now) result out.old out.new }
 {
@@ -112,13 +112,13 @@ pub fn reorder_line(
 pub fn line_map(
     alloc: Global,
     text: &[u16],
-    line: &KeptLine<'_>,
+    line: &CallerLine<'_>,
     out: &mut [usize],
 ) -> Result<usize, Fault>
     ensures fault { let units = own_units text.now line.now in
-        let told = fault_of_line text.now line.now (cuts_utf16 text.now line.now)
+        let fault = fault_of_line text.now line.now (cuts_utf16 text.now line.now)
         (map_fault utf16_len (utf16_text units) line.now (length out.old)) in
-        FaultsAs result told }
+        FaultsAs result fault }
     ensures writes { let units = own_units text.now line.now in
         WritesList (order_of_line utf16_len (utf16_text units) line.now) result out.old out.new }
 {
@@ -132,10 +132,10 @@ pub fn line_map(
 fn show(
     alloc: Global,
     text: &[u16],
-    line: &KeptLine<'_>,
+    line: &CallerLine<'_>,
     out: &mut LineBuffers<'_, u16>,
 ) -> Result<usize, Fault>
-    requires sound { IsSound line.now }
+    requires valid { IsValid line.now }
     requires units { length text.now + line.now.start ≡ line.now.end }
     ensures fault { FaultsAs result (everything_fault utf16_len encode_utf16 (utf16_text text.now) text.now
         line.now out.old) }
@@ -155,13 +155,13 @@ fn show(
 pub fn show_line(
     alloc: Global,
     text: &[u16],
-    line: &KeptLine<'_>,
+    line: &CallerLine<'_>,
     out: &mut LineBuffers<'_, u16>,
 ) -> Result<usize, Fault>
     ensures fault { let units = own_units text.now line.now in
-        let told = fault_of_line text.now line.now (cuts_utf16 text.now line.now)
+        let fault = fault_of_line text.now line.now (cuts_utf16 text.now line.now)
         (everything_fault utf16_len encode_utf16 (utf16_text units) units line.now out.old) in
-        FaultsAs result told }
+        FaultsAs result fault }
     ensures writes { let units = own_units text.now line.now in
         WritesLine (everything utf16_len encode_utf16 (utf16_text units) units line.now) result out.old out.new }
 {

@@ -4,16 +4,16 @@ ghost use Rattle.std.specs.List.{list_all};
 ghost use Rattle.std.specs.Option.{option_or};
 ghost use Rattle.bidi_base.specs.Text.{one_unit};
 ghost use Rattle.bidi_numbers.specs.Faults.{FaultsAs, fault_unless};
-ghost use Rattle.bidi_calls.specs.Everything.{everything_of_chars, room_fault, WritesLine};
-ghost use Rattle.bidi_calls.specs.Kept.{written, analysis_by, analysis_fault, WritesAnalysis, WritesList};
-ghost use Rattle.bidi_calls.specs.Lines.{IsSound, line_fault};
+ghost use Rattle.bidi_calls.specs.LineParts.{everything_of_chars, room_fault, WritesLine};
+ghost use Rattle.bidi_calls.specs.Buffers.{written, analysis_by, analysis_fault, WritesAnalysis, WritesList};
+ghost use Rattle.bidi_calls.specs.CallerLine.{IsValid, line_fault};
 ghost use Rattle.bidi_numbers.specs.Numbers.{direction_in};
-ghost use Rattle.bidi_calls.specs.Shown.{own_units, fault_of_line, reordered_chars, chars_fault, text_fault, order_of_line, map_fault};
+ghost use Rattle.bidi_calls.specs.LineText.{own_units, fault_of_line, reordered_chars, chars_fault, text_fault, order_of_line, map_fault};
 ghost use Rattle.bidi_numbers.specs.Texts.{is_scalar};
 
 use crate::buffers::{AnalysisBuffers, LineBuffers, Settings};
-use crate::checked;
-use crate::line::{KeptLine, order_units};
+use crate::analysis;
+use crate::line::{CallerLine, order_units};
 use crate::show::{show_chars, write_chars};
 use bidi_lines::visual_runs::LineRuns;
 use bidi_numbers::fault::{Fault, check};
@@ -42,7 +42,7 @@ pub fn analyse<D: BidiDataSource>(
     check(all_scalar(text), Fault::NotScalar)?;
     let chars = chars_of(alloc, text)?;
     let text = CharsText::new(chars.as_slice());
-    checked::analyse(alloc, data_source, text, settings, out)
+    analysis::analyse(alloc, data_source, text, settings, out)
 }
 
 /// Returns the number of a text's base direction: 0 for left to right, 1 for right to left, 2 for mixed.
@@ -60,17 +60,17 @@ pub fn base_direction<D: BidiDataSource>(
 {
     check(all_scalar(text), Fault::NotScalar)?;
     let chars = chars_of(alloc, text)?;
-    Ok(checked::base_direction(data_source, CharsText::new(chars.as_slice()), full))
+    Ok(analysis::base_direction(data_source, CharsText::new(chars.as_slice()), full))
 }
 
 // Writes the characters of a line from left to right, and returns their number.
 fn reorder(
     alloc: Global,
     chars: &[u32],
-    line: &KeptLine<'_>,
+    line: &CallerLine<'_>,
     out: &mut [u32],
 ) -> Result<usize, Fault>
-    requires sound { IsSound line.now }
+    requires valid { IsValid line.now }
     requires units { length chars.now + line.now.start ≡ line.now.end }
     ensures fault { FaultsAs result (chars_fault chars.now (length out.old)) }
     ensures kept { OnErr result (out.new ≡ out.old) }
@@ -79,12 +79,12 @@ fn reorder(
 {
     check(all_scalar(chars), Fault::NotScalar)?;
     check(chars.len() <= out.len(), Fault::NoRoom)?;
-    let shown = line.shown(alloc)?;
+    let after_l1 = line.after_l1(alloc)?;
     let mut runs = LineRuns::new(alloc);
-    runs.find(shown.as_slice(), 0)?;
+    runs.find(after_l1.as_slice(), 0)?;
     write_chars(
         chars,
-        shown.as_slice(),
+        after_l1.as_slice(),
         runs.as_slice(),
         &mut out[..chars.len()],
     );
@@ -95,7 +95,7 @@ fn reorder(
 pub fn reorder_line(
     alloc: Global,
     text: &[u32],
-    line: &KeptLine<'_>,
+    line: &CallerLine<'_>,
     out: &mut [u32],
 ) -> Result<usize, Fault>
     ensures fault { let chars = own_units text.now line.now in
@@ -113,7 +113,7 @@ pub fn reorder_line(
 pub fn line_map(
     alloc: Global,
     text: &[u32],
-    line: &KeptLine<'_>,
+    line: &CallerLine<'_>,
     out: &mut [usize],
 ) -> Result<usize, Fault>
     ensures fault { let chars = own_units text.now line.now in
@@ -135,7 +135,7 @@ pub fn line_map(
 pub fn show_line(
     alloc: Global,
     text: &[u32],
-    line: &KeptLine<'_>,
+    line: &CallerLine<'_>,
     out: &mut LineBuffers<'_, u32>,
 ) -> Result<usize, Fault>
     ensures fault { let chars = own_units text.now line.now in

@@ -3,18 +3,18 @@ ghost use Rattle.std.specs.Prelude.{◌≡◌, ◌+◌, ◌-◌, ◌≤◌, nat_
 ghost use Rattle.std.specs.Char.{len_utf8};
 ghost use Rattle.std.specs.Str.{chars};
 ghost use Rattle.bidi_numbers.specs.Faults.{FaultsAs};
-ghost use Rattle.bidi_calls.specs.Everything.{everything, everything_fault, WritesLine};
-ghost use Rattle.bidi_calls.specs.Kept.{analysis_by, analysis_fault, WritesAnalysis, WritesList};
-ghost use Rattle.bidi_calls.specs.Lines.{IsSound, line_fault};
+ghost use Rattle.bidi_calls.specs.LineParts.{everything, everything_fault, WritesLine};
+ghost use Rattle.bidi_calls.specs.Buffers.{analysis_by, analysis_fault, WritesAnalysis, WritesList};
+ghost use Rattle.bidi_calls.specs.CallerLine.{IsValid, line_fault};
 ghost use Rattle.bidi_numbers.specs.Numbers.{direction_in};
-ghost use Rattle.bidi_calls.specs.Shown.{own_units, fault_of_line, TellsNotUtf8, reordered, text_fault, cuts_utf8, is_even, shown_fault, order_of_line, map_fault};
+ghost use Rattle.bidi_calls.specs.LineText.{own_units, fault_of_line, ReportsNotUtf8, reordered, text_fault, cuts_utf8, is_even, reordered_fault, order_of_line, map_fault};
 ghost use Rattle.std.specs.Option.{option_or};
 ghost use Rattle.std.specs.Result.{result_err};
 
 use crate::buffers::{AnalysisBuffers, LineBuffers, Settings};
-use crate::checked;
-use crate::even::is_even_utf8;
-use crate::line::{KeptLine, map_characters, write_text};
+use crate::analysis;
+use crate::per_char::is_even_utf8;
+use crate::line::{CallerLine, map_characters, write_text};
 use crate::show::show_text;
 use bidi_numbers::fault::{Fault, check};
 use bidi_numbers::texts::{goes_on, utf8};
@@ -40,7 +40,7 @@ pub fn analyse<D: BidiDataSource>(
         result out.old out.new }
 {
     let text = StrText::new(utf8(text)?);
-    checked::analyse(alloc, data_source, text, settings, out)
+    analysis::analyse(alloc, data_source, text, settings, out)
 }
 
 /// Returns the number of a text's base direction: 0 for left to right, 1 for right to left, 2 for mixed.
@@ -57,11 +57,11 @@ pub fn base_direction<D: BidiDataSource>(
         (λ fault. (fault ≡ Fault.NotUtf8) × ¬ (IsUtf8 text.now)) }
 {
     let text = StrText::new(utf8(text)?);
-    Ok(checked::base_direction(data_source, text, full))
+    Ok(analysis::base_direction(data_source, text, full))
 }
 
 // Checks that there is one entry for each byte of the text, and that the line cuts no character.
-pub fn check_text(text: &[u8], line: &KeptLine<'_>) -> Result<(), Fault>
+pub fn check_text(text: &[u8], line: &CallerLine<'_>) -> Result<(), Fault>
     ensures { result_err result ≡ text_fault text.now line.now (cuts_utf8 text.now line.now) }
 {
     check(text.len() == line.levels.len(), Fault::UnequalLengths)?;
@@ -72,10 +72,10 @@ pub fn check_text(text: &[u8], line: &KeptLine<'_>) -> Result<(), Fault>
 }
 
 // Writes the text of a line from left to right, and returns its length.
-fn reorder(alloc: Global, text: &str, line: &KeptLine<'_>, out: &mut [u8]) -> Result<usize, Fault>
-    requires sound { IsSound line.now }
+fn reorder(alloc: Global, text: &str, line: &CallerLine<'_>, out: &mut [u8]) -> Result<usize, Fault>
+    requires valid { IsValid line.now }
     requires units { length text.now + line.now.start ≡ line.now.end }
-    ensures fault { FaultsAs result (shown_fault len_utf8 encode_utf8 (chars text.now) text.now line.now (length out.old)) }
+    ensures fault { FaultsAs result (reordered_fault len_utf8 encode_utf8 (chars text.now) text.now line.now (length out.old)) }
     ensures writes { WritesList (reordered len_utf8 encode_utf8 (chars text.now) text.now line.now)
         result out.old out.new }
 {
@@ -91,14 +91,14 @@ fn reorder(alloc: Global, text: &str, line: &KeptLine<'_>, out: &mut [u8]) -> Re
 pub fn reorder_line(
     alloc: Global,
     text: &[u8],
-    line: &KeptLine<'_>,
+    line: &CallerLine<'_>,
     out: &mut [u8],
 ) -> Result<usize, Fault>
-    ensures not_utf8 { TellsNotUtf8 result text.now line.now }
+    ensures not_utf8 { ReportsNotUtf8 result text.now line.now }
     ensures fault { let units = own_units text.now line.now in
-        let told = fault_of_line text.now line.now (cuts_utf8 text.now line.now)
-        (shown_fault len_utf8 encode_utf8 (chars units) units line.now (length out.old)) in
-        IsUtf8 units → FaultsAs result told }
+        let fault = fault_of_line text.now line.now (cuts_utf8 text.now line.now)
+        (reordered_fault len_utf8 encode_utf8 (chars units) units line.now (length out.old)) in
+        IsUtf8 units → FaultsAs result fault }
     ensures writes { let units = own_units text.now line.now in
         WritesList (reordered len_utf8 encode_utf8 (chars units) units line.now) result out.old out.new }
 {
@@ -112,14 +112,14 @@ pub fn reorder_line(
 pub fn line_map(
     alloc: Global,
     text: &[u8],
-    line: &KeptLine<'_>,
+    line: &CallerLine<'_>,
     out: &mut [usize],
 ) -> Result<usize, Fault>
-    ensures not_utf8 { TellsNotUtf8 result text.now line.now }
+    ensures not_utf8 { ReportsNotUtf8 result text.now line.now }
     ensures fault { let units = own_units text.now line.now in
-        let told = fault_of_line text.now line.now (cuts_utf8 text.now line.now)
+        let fault = fault_of_line text.now line.now (cuts_utf8 text.now line.now)
         (map_fault len_utf8 (chars units) line.now (length out.old)) in
-        IsUtf8 units → FaultsAs result told }
+        IsUtf8 units → FaultsAs result fault }
     ensures writes { let units = own_units text.now line.now in
         WritesList (order_of_line len_utf8 (chars units) line.now) result out.old out.new }
 {
@@ -133,10 +133,10 @@ pub fn line_map(
 fn show(
     alloc: Global,
     text: &str,
-    line: &KeptLine<'_>,
+    line: &CallerLine<'_>,
     out: &mut LineBuffers<'_, u8>,
 ) -> Result<usize, Fault>
-    requires sound { IsSound line.now }
+    requires valid { IsValid line.now }
     requires units { length text.now + line.now.start ≡ line.now.end }
     ensures fault { FaultsAs result (everything_fault len_utf8 encode_utf8 (chars text.now) text.now
         line.now out.old) }
@@ -156,14 +156,14 @@ fn show(
 pub fn show_line(
     alloc: Global,
     text: &[u8],
-    line: &KeptLine<'_>,
+    line: &CallerLine<'_>,
     out: &mut LineBuffers<'_, u8>,
 ) -> Result<usize, Fault>
-    ensures not_utf8 { TellsNotUtf8 result text.now line.now }
+    ensures not_utf8 { ReportsNotUtf8 result text.now line.now }
     ensures fault { let units = own_units text.now line.now in
-        let told = fault_of_line text.now line.now (cuts_utf8 text.now line.now)
+        let fault = fault_of_line text.now line.now (cuts_utf8 text.now line.now)
         (everything_fault len_utf8 encode_utf8 (chars units) units line.now out.old) in
-        IsUtf8 units → FaultsAs result told }
+        IsUtf8 units → FaultsAs result fault }
     ensures writes { let units = own_units text.now line.now in
         WritesLine (everything len_utf8 encode_utf8 (chars units) units line.now) result out.old out.new }
 {

@@ -15,7 +15,7 @@ use unicode_width::UnicodeWidthChar;
 pub struct Cluster {
     /// The offset of its first byte.
     pub start: usize,
-    /// The offset behind its last byte.
+    /// The offset after its last byte.
     pub end: usize,
     /// The columns that it takes if it is no tab; `u16::MAX` also stands for more.
     pub width: u16,

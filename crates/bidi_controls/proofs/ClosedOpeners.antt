@@ -114,7 +114,7 @@ module _ (classes : List BidiClass) where
   pub IsCloser-closed_opener : (p q : ℕ) → is_opener (class_at classes q) ≡ true → closer_of classes q ≡ Some p → closed_opener classes p (openers_read classes p) ≡ Some q
   IsCloser-closed_opener p q opener e = grind (arith, matched_isolate, matched_embedding)
 
-  -- a match stands behind what it closes, in the line
+  -- a match stands after what it closes, in the line
   pub closer_of-within : (q m : ℕ) → closer_of classes q ≡ Some m → (q < m) × (m < length classes)
   unfolding closing_pdf
   closer_of-within q m e =

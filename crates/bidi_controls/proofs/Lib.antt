@@ -4,5 +4,5 @@ pub mod IndexLemmas
 mod LineLevels
 mod LinesLemmas
 mod OpenersLemmas
-pub mod QuietLines
+pub mod LinesWithoutControls
 mod UnmatchedPass

@@ -7,7 +7,7 @@ use Rattle.bidi_laws.proofs.LevelLaws.{length-stored_levels}
 use Rattle.bidi_laws.proofs.StoredSteps.{length-stored_classes}
 use Rattle.bidi_laws.proofs.VisualOrderLemmas.{all_below}
 use Rattle.bidi_lines.proofs.LineLevels.{length-line_levels}
-use Rattle.bidi_base.specs.Analysed.{IsAnalysis}
+use Rattle.bidi_base.specs.AnalysedText.{IsAnalysis}
 use Rattle.bidi_controls.specs.Displayed.{displayed_levels}
 
 module _ (source : Source) (base_level : Option ℕ) (chars : List ℕ) (classes : List BidiClass) (levels own : List ℕ) (ranges : List (ℕ × ℕ))

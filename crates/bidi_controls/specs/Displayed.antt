@@ -7,7 +7,7 @@ use Rattle.std.specs.List.{list_any}
 use Rattle.bidi_base.specs.Isolates.{paragraph_level, stored_classes}
 use Rattle.bidi_base.specs.Line.{line_levels}
 use Rattle.bidi_base.specs.Order.{visual_order}
-use Rattle.bidi_base.specs.Places.{at_indexes}
+use Rattle.bidi_base.specs.Indexes.{at_indexes}
 use Rattle.bidi_base.specs.Source.{Source}
 use Rattle.bidi_base.specs.Stored.{stored_levels}
 use Rattle.bidi_controls.specs.Matches.{is_control}

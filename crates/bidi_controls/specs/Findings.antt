@@ -1,9 +1,9 @@
--- What `check` finds in a text, and how it is told.
+-- What `check` finds in a text, and how it is reported.
 use Rattle.std.specs.Prelude.{ℕ, ◌+◌, Bool, true, false, ◌&&◌, ◌||◌, if◌then◌else◌, List, [], ◌∷◌, ◌++◌, get_or, length, map, flat_map, position, codes, decimal, Option, None, option_map}
 use Rattle.std.specs.Option.{option_to_list}
 use Rattle.bidi_base.specs.declared.char_data.BidiClass.{BidiClass}
 use Rattle.bidi_base.specs.Classes.{is_opener}
-use Rattle.bidi_base.specs.Places.{indexes, class_at, holds_number}
+use Rattle.bidi_base.specs.Indexes.{indexes, class_at, holds_number}
 use Rattle.bidi_base.specs.Source.{Source}
 use Rattle.bidi_controls.specs.Controls.{control_of, control_name}
 use Rattle.bidi_controls.specs.Displayed.{is_displayed_differently}
@@ -104,7 +104,7 @@ findings_from source wanted line (chars ∷ lines) =
 unfoldable pub findings_of : Source → Wanted → List ℕ → List Finding
 findings_of source wanted chars = findings_from source wanted 1 (file_lines_of chars)
 
--- ---- how a finding is told
+-- ---- how a finding is reported
 
 abbrev pub trouble_text : Trouble → List ℕ
 trouble_text NotClosed = codes "is not closed on its line"

@@ -4,7 +4,7 @@ use Rattle.std.specs.Prelude.{ℕ, Bool, not, ◌&&◌, ◌||◌, if◌then◌el
 use Rattle.std.specs.List.{list_any}
 use Rattle.bidi_base.specs.declared.char_data.BidiClass.{BidiClass}
 use Rattle.bidi_base.specs.Classes.{is_opener, is_pdi, is_pdf}
-use Rattle.bidi_base.specs.Places.{between, class_at, holds_number}
+use Rattle.bidi_base.specs.Indexes.{between, class_at, holds_number}
 use Rattle.bidi_base.specs.Isolates.{is_isolate_initiator_at, matching_pdi}
 use Rattle.bidi_base.specs.Embeddings.{closing_pdf}
 

@@ -1,7 +1,7 @@
 //! Lines that are displayed differently from how they read.
 ghost use Rattle.std.specs.Prelude.{◌≡◌, ◌<◌, All, length, OnOk, IfOk};
 ghost use Rattle.bidi_base.specs.Order.{visual_order, IsVisualOrder};
-ghost use Rattle.bidi_base.specs.Places.{at_indexes, first_or};
+ghost use Rattle.bidi_base.specs.Indexes.{at_indexes, first_or};
 ghost use Rattle.bidi_controls.specs.Displayed.{displayed_levels, displayed_order, displayed, displayed_text, visible_ascii, are_same};
 ghost use Rattle.bidi_controls.specs.Displayed.{without_controls as without_controls_of, has_control as has_control_of};
 ghost use Rattle.bidi_controls.specs.Displayed.{is_reordered as is_reordered_by, is_displayed_differently as is_displayed_differently_by};

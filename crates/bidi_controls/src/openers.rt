@@ -56,7 +56,7 @@ impl Openers {
         self.isolates = 0;
     }
 
-    /// Takes away the innermost isolate and all that was opened inside it, and tells its place.
+    /// Takes away the innermost isolate and all that was opened inside it, and returns its place.
     fn take_isolate(entries: &mut Vec<Opener>) -> Option<usize>
         ensures place { result ≡ innermost_isolate (reverse entries.old.items) }
         ensures left { reverse entries.new.items ≡ outside_isolate (reverse entries.old.items) }
@@ -95,7 +95,7 @@ impl Openers {
         Some(innermost.place)
     }
 
-    /// Closes what a character of this class closes, and tells the place of what it closed.
+    /// Closes what a character of this class closes, and returns the place of what it closed.
     pub fn close(&mut self, class: BidiClass) -> Option<usize>
         ensures place { result ≡ closed_place class self.old }
         ensures left { self.new ≡ left_open class self.old }

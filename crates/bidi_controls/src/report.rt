@@ -1,4 +1,4 @@
-//! How findings are told.
+//! How findings are reported.
 ghost use Rattle.std.specs.Prelude.{◌≡◌, ◌++◌, IfOk, OnOk, string_bytes};
 ghost use Rattle.bidi_controls.specs.Findings.{finding_line, place_text, report_of};
 

@@ -11,7 +11,7 @@ use Rattle.bidi_base.specs.Layout.{visual_indexes}
 use Rattle.bidi_base.specs.Line.{levels_of_line}
 use Rattle.bidi_base.specs.Neutral.{neutral_classes}
 use Rattle.bidi_base.specs.Order.{visual_order}
-use Rattle.bidi_base.specs.Places.{at_indexes, first_or}
+use Rattle.bidi_base.specs.Indexes.{at_indexes, first_or}
 use Rattle.bidi_base.specs.Sequences.{RunSequence, level_at, sequences}
 use Rattle.bidi_base.specs.Source.{Source}
 use Rattle.bidi_base.specs.Stored.{stored_levels}

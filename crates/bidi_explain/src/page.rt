@@ -17,7 +17,7 @@ use std::alloc::{AllocError, Global};
 /// How many columns a block of a page may have.
 const PAGE_COLUMNS: usize = 30;
 
-/// Appends what stands for a character, between tags: what could begin or end one as its reference.
+/// Appends what is for a character, between tags: what could begin or end one as its reference.
 fn push_escaped(out: &mut String, class: BidiClass, c: char) -> Result<(), AllocError>
     ensures text { OnOk result (string_bytes out.new ≡ string_bytes out.old ++ escaped class c) }
     ensures harmless { list_all is_text_byte (escaped class c) ≡ true }

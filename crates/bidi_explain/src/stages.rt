@@ -1,7 +1,7 @@
 //! The results of the rules for a paragraph, stage by stage.
 ghost use Rattle.std.specs.Prelude.{◌≡◌, ◌<◌, ◌≤◌, None, map, length, vec_len, zip, All, IfOk, IfSome};
 ghost use Rattle.bidi_base.specs.Isolates.{stored_classes};
-ghost use Rattle.bidi_base.specs.Places.{at_indexes, first_or};
+ghost use Rattle.bidi_base.specs.Indexes.{at_indexes, first_or};
 ghost use Rattle.bidi_base.specs.declared.char_data.BidiClass.TheVariants.{L};
 ghost use Rattle.bidi_base.specs.Sequences.{level_at};
 ghost use Rattle.bidi_explain.specs.Stages.{weak_in, neutral_in, written, row_of, CanResolveIn, HasOneEach, StagesFrom, AreStages};

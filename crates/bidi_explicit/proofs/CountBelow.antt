@@ -2,7 +2,7 @@
 use Rattle.bidi_base.proofs.Common.{◌≡◌, ℕ, ◌+◌, ◌-◌, ◌<◌, ◌≤◌, min, List, [], ◌∷◌, length, true, get_or, take, drop, refl, sym, arith}
 use Rattle.bidi_base.proofs.Common.{length-range_with_len, sum_by-cons, sum_by-append, between, are_ordered_from, take_more}
 use Rattle.std.proofs.lemmas.List.Sums.{sum_by-take-drop}
-use Rattle.bidi_explicit.specs.Written.{count_below}
+use Rattle.bidi_explicit.specs.SequenceUnits.{count_below}
 use Rattle.bidi_explicit.proofs.WalkLemmas.{are_ordered-front}
 
 pub length-between : (low high : ℕ) → length (between low high) ≡ high - low

@@ -16,12 +16,12 @@ use Rattle.bidi_base.proofs.TextLemmas.{length-le-text_len}
 use Rattle.bidi_base.proofs.UnitsLemmas.{length-from_IsPerChar, per_unit-from_IsPerChar}
 use Rattle.bidi_text.proofs.PerCharTests.{class_test}
 use Rattle.bidi_base.specs.contracts.char_data.BidiClassPartialEq.TheImpl.{ghosts}
-use Rattle.bidi_explicit.specs.ExplicitPass.{IsCutTo, filled, differs, runs_before, run_start}
+use Rattle.bidi_explicit.specs.RunCutting.{IsCutTo, filled, differs, runs_before, run_start}
 use Rattle.bidi_explicit.specs.Control.{is_control}
-use Rattle.bidi_explicit.specs.ExplicitStretches.{overridden, put_over, run_met, runs_met, IsOverridden, Paragraph, stored, levels_of, classes_of, IsReadTo}
-use Rattle.bidi_explicit.specs.Stride.{count_to, count_of}
-use Rattle.bidi_explicit.specs.declared.explicit.Stride.{Stride}
-use Rattle.bidi_explicit.specs.declared.explicit.Stride.TheVariants.{Character, CodeUnit}
+use Rattle.bidi_explicit.specs.ExplicitStretches.{overridden, put_over, open_run_after, runs_after, IsOverridden, Paragraph, stored, levels_of, classes_of, IsReadTo}
+use Rattle.bidi_explicit.specs.StepUnit.{count_to, count_of}
+use Rattle.bidi_explicit.specs.declared.explicit.StepUnit.{StepUnit}
+use Rattle.bidi_explicit.specs.declared.explicit.StepUnit.TheVariants.{Character, CodeUnit}
 use Rattle.bidi_explicit.specs.declared.explicit.stretches.OpenRun.{OpenRun}
 use Rattle.bidi_explicit.proofs.ExplicitUnits.{CanRead, can_read, length-filled, processing_class-is, level_at as level_of_next, put_at, next_at, text_len-some}
 use Rattle.bidi_explicit.proofs.RunCutting.{IsCutTo-start, IsCutTo-removed, IsCutTo-kept, IsCutTo-end, IsCutTo-none}
@@ -87,7 +87,7 @@ module _ (len_of : ℕ → ℕ) (chars : List ℕ) (classes : List BidiClass) (l
   same_level : (level : ℕ) → differs (Some level) level ≡ false
   same_level level = ap not (eq-eqb level level refl)
 
-  -- those behind a kept one at the same level go with its run
+  -- those after a kept one at the same level go with its run
   cut-same : (i j : ℕ) (runs : List (ℕ × ℕ)) (from level : ℕ) → i ≤ j → ((k : ℕ) → i ≤ k → k < j → level ≡ level_at levels k)
       → IsCutTo len_of chars classes levels i runs from (Some level) → IsCutTo len_of chars classes levels j runs from (Some level)
   cut-same i j runs from level order one = kept_on (λ k. IsCutTo len_of chars classes levels k runs from (Some level)) i (j - i) j (omega arith) (λ k a b h. elim (cases_Bool (is_kept_at classes k)) [
@@ -122,7 +122,7 @@ module _ {encoding : Encoding} (p : Paragraph encoding) (whole : IsPerChar p.tex
   class-at_place : (k : ℕ) → k < length p.text.chars → class_at p.original (place_of k) ≡ class_at (stored p) k
   class-at_place k fits = simp add-zero at (class-at_unit k 0 fits (omega (arith, encoding.positive (get_or p.text.chars k 0))))
 
-  -- what stands at a unit of a character
+  -- what is at a unit of a character
   of_unit : {X : Type 0} (d : X) (values : List X) (v : ℕ) (w : UnitOf encoding.len_of p.text.chars v) → length values ≡ length p.text.chars → get_or (per_unit p.text values) v d ≡ get_or values w.index d
   of_unit d values v w long = ap (λ u. get_or (per_unit p.text values) u d) w.at_place ∙ get_or-per_unit p.text values w.index w.offset 0 d long w.within w.below
 
@@ -133,7 +133,7 @@ module _ {encoding : Encoding} (p : Paragraph encoding) (whole : IsPerChar p.tex
   unit-to : (j v : ℕ) → v < place_of j → (w : UnitOf encoding.len_of p.text.chars v) → w.index < j
   unit-to j v below w = grind (arith, unit_index-mono)
 
-  -- a character that begins at unit u, behind others, or the end
+  -- a character that begins at unit u, after others, or the end
   record BeginsFrom (i u : ℕ) : Type 0 where
     index : ℕ
     order : i ≤ index
@@ -195,7 +195,7 @@ first-is_boundary p whole test from to u begins ends fits first = elim (cases_lt
   | inr past ↦ let same : u ≡ to = omega (arith, first.ends) in ap (is_boundary p.text) same ∙ ends
 ]
 
--- a search may begin behind a unit that does not pass
+-- a search may begin after a unit that does not pass
 pub IsFirst-from_next : (test : ℕ → Bool) (from to u : ℕ) → test from ≡ false → IsFirst test (from + 1) to u → IsFirst test from to u
 IsFirst-from_next test from to u fails first = record {
   begins = omega (arith, first.begins);
@@ -204,7 +204,7 @@ IsFirst-from_next test from to u fails first = record {
   at = first.at;
 }
 
--- and it ends behind that unit
+-- and it ends after that unit
 pub IsFirst-advances : (test : ℕ → Bool) (from to u : ℕ) → test from ≡ false → from < to → IsFirst test from to u → from < u
 IsFirst-advances test from to u fails some first = grind (arith, cases_eq u from, first.at, first.begins)
 
@@ -324,9 +324,9 @@ module _ {encoding : Encoding} (p : Paragraph encoding) (from to : ℕ) (stack :
   module _ (level : ℕ) (override : Option BidiClass) (now_levels : List ℕ) (now_classes : List BidiClass) (level_is : level ≡ stack.top.status.level)
       (override_is : override ≡ stack.top.status.override)
       (filled_is : now_levels ≡ filled from (to - from) level levels) (over : IsOverridden override from to classes now_classes) (v : ℕ) (first : IsFirst (passing is_kept_in_place p.original) from to v) where
-    -- its first kept character, if there is one, meets the run
+    -- its first kept character, if there is one, extends the run
     pub stretch-met : (some : Bool) → (some ≡ true → v < to) → (some ≡ false → to ≤ v) → (kept : Option ℕ) → kept ≡ then_some some v
-        → IsReadTo p to stack now_levels now_classes (runs_met kept level run runs) (run_met kept level run)
+        → IsReadTo p to stack now_levels now_classes (runs_after kept level run runs) (open_run_after kept level run)
     stretch-met some inside past kept kept_is = elim (cases_Bool some) [
       | inl set ↦ simp (kept_is, set) (stretch-read level override now_levels now_classes _ _ level_is override_is filled_is over (cut-some v level level_is first (inside set)))
       | inr none ↦ simp (kept_is, none) (stretch-read level override now_levels now_classes runs run level_is override_is filled_is over (cut-before end.index to end.there end.order
@@ -394,9 +394,9 @@ module _ {encoding : Encoding} (p : Paragraph encoding) (at : ℕ) (stack : Stat
           one w.index first last,
         )) cut
 
-    -- it meets the run, if it is kept
-    pub control-met : (kept : Option ℕ) → kept ≡ then_some (is_kept (class_at p.original at)) at → IsReadTo p next now now_levels now_classes (runs_met kept level run runs) (run_met kept level run)
-    control-met kept kept_is = elim (cases_Bool (is_kept (class_at p.original at))) [
+    -- it extends the run, if it is kept
+    pub control-after : (kept : Option ℕ) → kept ≡ then_some (is_kept (class_at p.original at)) at → IsReadTo p next now now_levels now_classes (runs_after kept level run runs) (open_run_after kept level run)
+    control-after kept kept_is = elim (cases_Bool (is_kept (class_at p.original at))) [
       | inl set ↦ simp (kept_is, set) (control-read _ _ (simp h.begins (IsCutTo-kept encoding.len_of p.text.chars (stored p) (levels_of p) h.index runs run.start run.last_level level (ap is_kept (sym control-class) ∙ set) level-at_control h.cut)))
       | inr gone ↦ simp (kept_is, gone) (control-read runs run (IsCutTo-removed encoding.len_of p.text.chars (stored p) (levels_of p) h.index runs run.start run.last_level (ap is_kept (sym control-class) ∙ gone) h.cut))
     ]
@@ -419,7 +419,7 @@ module _ {encoding : Encoding} (p : Paragraph encoding) (at : ℕ) (stack : Stat
   pub read-all : char_index p.text at ≡ length p.text.chars
   read-all = read-index p at stack levels classes runs run h ∙ all_read ∙ stored_long p h.per_char
 
-  pub read-count : (stride : Stride) → count_to stride p.text at ≡ count_of stride (length p.original) (length p.text.chars)
+  pub read-count : (step_unit : StepUnit) → count_to step_unit p.text at ≡ count_of step_unit (length p.original) (length p.text.chars)
   read-count CodeUnit = grind (arith, h.begins, h.within, unit_index-le p.text h.index, original_long p h.per_char)
   read-count Character = read-all
 

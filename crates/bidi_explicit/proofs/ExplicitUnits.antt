@@ -13,7 +13,7 @@ use Rattle.bidi_base.proofs.UnitsLemmas.{is_per_char-per_unit}
 use Rattle.bidi_text.proofs.PerCharTests.{level_eq}
 use Rattle.bidi_laws.proofs.StatusMachine.{answer_class-explicit_class, answer_level-explicit_level}
 use Rattle.bidi_laws.proofs.StatusBounds.{state_at-IsPoppable, closed-IsWithinDepth, closed-counted, state_at-more}
-use Rattle.bidi_explicit.specs.ExplicitPass.{filled}
+use Rattle.bidi_explicit.specs.RunCutting.{filled}
 
 pub processing_class-is : (para_level : ℕ) (classes : List BidiClass) (k : ℕ) → k < length classes
     → (if is_removed (class_at classes k) then BN else if is_paragraph_separator (class_at classes k) || is_removed (class_at classes k) then class_at classes k else unwrap_or (closed (class_at classes k) (state_at para_level classes k)).top.status.override (class_at classes k))

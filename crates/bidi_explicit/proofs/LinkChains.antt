@@ -41,7 +41,7 @@ map-range-suc : {X : Type 0} (f : ℕ → X) (low n : ℕ) → map f (range_with
 map-range-suc f low zero = refl
 map-range-suc {X = X} f low (suc n) = simp (add-one low) (ap {B = List X} (λ ys. f (suc low) ∷ ys) (rw (← add-one low) (map-range-suc f (low + 1) n)))
 
--- a list is what stands at its indexes
+-- a list is what is at its indexes
 map-indexes : {X : Type 0} (xs : List X) (d : X) → map (λ k. get_or xs k d) (indexes xs) ≡ xs
 map-indexes [] d = refl
 map-indexes {X = X} (x ∷ xs) d = ap {B = List X} (λ ys. x ∷ ys) (map-range-suc (λ k. get_or (x ∷ xs) k d) 0 (length xs) ∙ map-indexes xs d)

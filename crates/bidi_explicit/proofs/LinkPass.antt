@@ -185,9 +185,9 @@ module _ (classes : List BidiClass) (levels : List ℕ) where
         (wait opens, h.waiting) (sym (reverse-append waits (w ∷ []))))
     | inr other ↦ elim (cases_Bool (is_pdi_at classes m)) [
       | inl closes ↦ rw (other, closes) (popped other closes h.stack (reverse waits) refl h.isolates h.waiting)
-      | inr quiet ↦
-          rw (other, quiet)
-          (finish waits h.stack (reverse waits) (IsReadStack-stay (is_isolate_initiator_at classes) (is_pdi_at classes) m h.stack h.isolates other (inl quiet)) h.waiting refl)
+      | inr inert ↦
+          rw (other, inert)
+          (finish waits h.stack (reverse waits) (IsReadStack-stay (is_isolate_initiator_at classes) (is_pdi_at classes) m h.stack h.isolates other (inl inert)) h.waiting refl)
     ]
   ]
     where
@@ -211,11 +211,11 @@ module _ (classes : List BidiClass) (levels : List ℕ) where
   IsOpen-skip zero m n waits h none = subst (λ (x : ℕ). IsOpen x n waits) (omega arith) h
   IsOpen-skip (suc k) m n waits h none =
       let gone = none m (omega arith) (omega arith) in
-      let quiet : is_isolate_initiator_at classes m ≡ false = grind (arith, is_kept-initiator (class_at classes m)) in
+      let inert : is_isolate_initiator_at classes m ≡ false = grind (arith, is_kept-initiator (class_at classes m)) in
       let calm : is_pdi_at classes m ≡ false = grind (arith, is_kept-pdi (class_at classes m)) in
       let next : IsOpen (m + 1) n waits = record {
         stack = h.stack;
-        isolates = IsReadStack-stay (is_isolate_initiator_at classes) (is_pdi_at classes) m h.stack h.isolates quiet (inl calm);
+        isolates = IsReadStack-stay (is_isolate_initiator_at classes) (is_pdi_at classes) m h.stack h.isolates inert (inl calm);
         waiting = h.waiting;
       } in
       subst (λ (x : ℕ). IsOpen x n waits) (omega arith) (IsOpen-skip k (m + 1) n waits next (λ j low high. none j (omega arith) (omega arith)))
@@ -308,7 +308,7 @@ module _ (classes : List BidiClass) (levels : List ℕ) where
     pub sides_are : AreSides para_level n sides
     pub is_open : IsOpen (cut classes levels n) n waits
     pub level_before : before ≡ level_or para_level levels (kept_before classes (cut classes levels n))
-    pub fresh : cut classes levels n ≡ 0 → (n ≡ 0) × (waits ≡ [])
+    pub at_start : cut classes levels n ≡ 0 → (n ≡ 0) × (waits ≡ [])
 
   pub IsLinkedTo-start : (para_level : ℕ) → IsLinkedTo para_level 0 [] [] [] para_level
   IsLinkedTo-start para_level = record {
@@ -317,7 +317,7 @@ module _ (classes : List BidiClass) (levels : List ℕ) where
     sides_are = record { long = refl; is = λ r below. absurd (omega arith) };
     is_open = rw (cut-zero classes levels) IsOpen-start;
     level_before = rw (cut-zero classes levels) (sym (ap (level_or para_level levels) (kept_before-is_None classes 0 (λ k below. absurd (omega arith)))));
-    fresh = λ e. (refl, refl);
+    at_start = λ e. (refl, refl);
   }
 
   -- one more run with a kept character comes: the first of them is f, the last l
@@ -355,7 +355,7 @@ module _ (classes : List BidiClass) (levels : List ℕ) where
     open_at = subst (λ (x : ℕ). IsOpen x n waits) (omega (arith, first.from)) (IsOpen-skip (f - a) a n waits linked.is_open (λ j low high. first.none j low (omega (arith, first.from))))
 
     waits_for : g ≡ waiting_for (class_at classes f) waits
-    waits_for = grind (arith, first_at classes levels para_level a b f range first, linked.fresh)
+    waits_for = grind (arith, first_at classes levels para_level a b f range first, linked.at_start)
 
     choice : Begins f g ⊎ Continues n f g
     choice =
@@ -419,5 +419,5 @@ module _ (classes : List BidiClass) (levels : List ℕ) where
         sides_are = AreSides-more para_level n sides (sides_of g sos eos) linked.sides_are side_is;
         is_open = read_more now read;
         level_before = level_is ∙ sym (ap (level_or para_level levels) (kept_before-next_run classes levels para_level a b l last));
-        fresh = λ e. absurd (omega (arith, e, range.not_empty));
+        at_start = λ e. absurd (omega (arith, e, range.not_empty));
       }

@@ -4,7 +4,7 @@ use Rattle.bidi_base.proofs.Common.{reverse-append, map-append, filter-append, i
 use Rattle.bidi_base.proofs.Common.{level_run_ranges, option_map}
 use Rattle.bidi_base.specs.declared.char_data.BidiClass.{BidiClass}
 use Rattle.bidi_base.proofs.PlacesLemmas.{range_with_len-more}
-use Rattle.bidi_explicit.specs.ExplicitPass.{IsCutTo, differs, runs_before, run_start}
+use Rattle.bidi_explicit.specs.RunCutting.{IsCutTo, differs, runs_before, run_start}
 
 -- one more cut
 pub ranges_between-push : (x : ℕ) (xs : List ℕ) (y end : ℕ) → ranges_between (x ∷ xs ++ y ∷ []) end ≡ ranges_between (x ∷ xs) y ++ (y, end) ∷ []

@@ -23,7 +23,7 @@ use Rattle.bidi_explicit.proofs.RunJoining.{IsFirst, first_of, level_beyond}
 use Rattle.bidi_explicit.proofs.LinkChains.{linked-sequences, linked-runs, linked-lines, linked-AreLinked}
 use Rattle.bidi_explicit.proofs.LinkPass.{IsLinkedTo, IsLinkedTo-start, IsLinkedTo-more, waiting-fits}
 use Rattle.bidi_explicit.proofs.RunMembers.{count}
-use Rattle.bidi_explicit.proofs.RunRemoved.{IsAllRemoved, all_removed, sequences-none, run_starts-removed, read_range-quiet}
+use Rattle.bidi_explicit.proofs.RunRemoved.{IsAllRemoved, all_removed, sequences-none, run_starts-removed, read_range-inert}
 
 -- classes and levels of a text, one entry a unit, and its level runs
 pub record AreRunsOf {encoding : Encoding} (text : Text encoding) (units : List BidiClass) (unit_levels : List ℕ) (runs : List (Range ℕ)) : Type 0 where
@@ -42,7 +42,7 @@ cut text classes unit_levels n = get_or (cuts (per_char L text classes) (per_cha
 pub record AreLinkedSoFar {encoding : Encoding} (text : Text encoding) (classes : List BidiClass) (unit_levels : List ℕ) (para_level : ℕ) (reads : Bool)
     (came : List (Range ℕ)) (links : RunLinks) (before : ℕ) : Type 0 where
   pub so_far : IsLinkedTo (per_char L text classes) (per_char 0 text unit_levels) para_level (length came) links.next.items links.sides.items links.waiting before
-  pub quiet : reads ≡ false → links.waiting ≡ []
+  pub inert : reads ≡ false → links.waiting ≡ []
 
 -- what holds when all runs have come
 pub record AreSequences {encoding : Encoding} (text : Text encoding) (classes : List BidiClass) (unit_levels : List ℕ) (para_level : ℕ) (runs : List (Range ℕ)) (links : RunLinks) : Type 0 where
@@ -144,7 +144,7 @@ module _ {encoding : Encoding} (text : Text encoding) (units : List BidiClass) (
   module _ (para_level : ℕ) where
     pub AreLinkedSoFar-start : (reads : Bool) (links : RunLinks) → links.next.items ≡ [] → links.sides.items ≡ [] → links.waiting ≡ []
         → AreLinkedSoFar text units unit_levels para_level reads [] links para_level
-    AreLinkedSoFar-start reads links next sides waiting = record { so_far = rw (next, sides, waiting) (IsLinkedTo-start classes levels para_level); quiet = λ _. waiting }
+    AreLinkedSoFar-start reads links next sides waiting = record { so_far = rw (next, sides, waiting) (IsLinkedTo-start classes levels para_level); inert = λ _. waiting }
 
     -- a run with a kept character comes
     module _ (reads : Bool) (came : List (Range ℕ)) (run : Range ℕ) (links : RunLinks) (before kept_end : ℕ) (g : Option ℕ)
@@ -189,10 +189,10 @@ module _ {encoding : Encoding} (text : Text encoding) (units : List BidiClass) (
         linked_with : more.waiting ≡ read_range (per_char L text units) (last.index + 1) (length came) (cut text units unit_levels (length came)) (cut text units unit_levels (length came + 1)) links.waiting
             → (reads ≡ false → more.waiting ≡ [])
             → AreLinkedSoFar text units unit_levels para_level reads (came ++ run ∷ []) more level
-        linked_with read quiet = record {
+        linked_with read inert = record {
           so_far = rw (length-append came (run ∷ []), next_is, sides_are)
               (IsLinkedTo-more classes levels para_level (length came) links.next.items links.sides.items links.waiting before g first.0 last.index within state.so_far first.1 last.unit.is_last g_at level after sos eos level_at_last after_at sos_is eos_is more.waiting read);
-          quiet = quiet;
+          inert = inert;
         }
 
         -- its characters were read
@@ -209,7 +209,7 @@ module _ {encoding : Encoding} (text : Text encoding) (units : List BidiClass) (
         pub AreLinkedSoFar-unread : reads ≡ false → (list_any is_isolate_initiator units ≡ true → reads ≡ true) → more.waiting ≡ links.waiting
             → AreLinkedSoFar text units unit_levels para_level reads (came ++ run ∷ []) more level
         AreLinkedSoFar-unread off any kept =
-            linked_with (kept ∙ simp (state.quiet off, read_range-quiet classes (last.index + 1) (length came) a b none)) (λ _. kept ∙ state.quiet off)
+            linked_with (kept ∙ simp (state.inert off, read_range-inert classes (last.index + 1) (length came) a b none)) (λ _. kept ∙ state.inert off)
           where
             none : (m : ℕ) → is_isolate_initiator_at (per_char L text units) m ≡ false
             none m =
@@ -252,7 +252,7 @@ module _ {encoding : Encoding} (text : Text encoding) (units : List BidiClass) (
         gone = all_removed classes levels para_level (cut text units unit_levels (length came)) (cut text units unit_levels (length came + 1)) next.at.range none_here
 
         none_came : length came ≡ 0
-        none_came = (state.so_far.fresh gone.front).0
+        none_came = (state.so_far.at_start gone.front).0
 
         new_next : new.next.items ≡ 0 ∷ []
         new_next = next_is ∙ ap {B = List ℕ} (λ xs. xs ++ 0 ∷ []) (nil_from_length links.next.items (state.so_far.links.long ∙ none_came))

@@ -121,12 +121,12 @@ module _ {encoding : Encoding} (text : Text encoding) (classes : List BidiClass)
   IsReadTo-jump at next old waits r f = grind (arith, jump (final - r.index) r.index next old waits)
 
   -- what the code asks of the character at hand
-  pub record IsAsked (at : ℕ) : Type 0 where
+  pub record IsTested (at : ℕ) : Type 0 where
     pub begins : is_boundary text at ≡ true
     pub inside : at < text_len text
 
-  pub IsReadTo-asked : (old waits : List (Option ℕ)) (at : ℕ) → at < end → ReadTo old waits at → IsAsked at
-  IsReadTo-asked old waits at below r = grind (arith, line_unit_indexes, is_boundary-unit_index, unit_index-le)
+  pub IsReadTo-tested : (old waits : List (Option ℕ)) (at : ℕ) → at < end → ReadTo old waits at → IsTested at
+  IsReadTo-tested old waits at below r = grind (arith, line_unit_indexes, is_boundary-unit_index, unit_index-le)
 
   -- one character
   pub IsReadTo-more : (old waits now : List (Option ℕ)) (at behind : ℕ) (wait : Option ℕ) → at < end → ((k : ℕ) → k < length text.chars → at ≡ unit_index text k → behind ≡ unit_index text (k + 1))

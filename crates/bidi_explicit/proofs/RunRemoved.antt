@@ -31,12 +31,12 @@ unfolding begins_run
 run_starts-removed classes levels some none = grind (arith, run_starts-some, filter_range-none)
 
 -- where no class opens an isolate nothing ever waits
-pub read_range-quiet : (classes : List BidiClass) (last s a b : ℕ) → ((m : ℕ) → is_isolate_initiator_at classes m ≡ false) → read_range classes last s a b [] ≡ []
-read_range-quiet classes last s a b none = quiet (between a b)
+pub read_range-inert : (classes : List BidiClass) (last s a b : ℕ) → ((m : ℕ) → is_isolate_initiator_at classes m ≡ false) → read_range classes last s a b [] ≡ []
+read_range-inert classes last s a b none = inert (between a b)
   where
     one : (c : BidiClass) (w : Option ℕ) → is_isolate_initiator c ≡ false → read_class c w [] ≡ []
     one c w other = grind arith
 
-    quiet : (ms : List ℕ) → fold (λ ws m. read_class (class_at classes m) (cond (eqb (m + 1) last) (Some s) None) ws) [] ms ≡ []
-    quiet [] = refl
-    quiet (m ∷ ms) = simp (one (class_at classes m) (cond (eqb (m + 1) last) (Some s) None) (none m)) (quiet ms)
+    inert : (ms : List ℕ) → fold (λ ws m. read_class (class_at classes m) (cond (eqb (m + 1) last) (Some s) None) ws) [] ms ≡ []
+    inert [] = refl
+    inert (m ∷ ms) = simp (one (class_at classes m) (cond (eqb (m + 1) last) (Some s) None) (none m)) (inert ms)

@@ -62,7 +62,7 @@ module _ {encoding : Encoding} (text : Text encoding) (classes : List BidiClass)
     pub level_of_unit : (m : ℕ) → m < length text.chars → get_or unit_levels (unit_index text m) 0 ≡ level_at levels m
     level_of_unit m fits = ap (λ us. get_or us (unit_index text m) 0) levels_is ∙ get_or-per_unit-unit_index text levels m 0 same fits
 
-    -- what stands before `last`, the end of the last kept unit of the run
+    -- what is before `last`, the end of the last kept unit of the run
     pub record IsLastUnit (a b last l : ℕ) : Type 0 where
       pub is_last : IsLast classes a b l
       pub at_end : last ≡ unit_index text (l + 1)

@@ -9,8 +9,8 @@ use Rattle.bidi_base.proofs.TextLemmas.{HasUnits}
 use Rattle.bidi_base.proofs.UnitsLemmas.{length-from_IsPerChar}
 use Rattle.bidi_laws.proofs.Repeated.{HaveUnits-every, HaveUnits}
 use Rattle.bidi_laws.proofs.RepeatedPlaces.{read_units-old, read_units-rule, read_units-per_char}
-use Rattle.bidi_explicit.specs.Written.{seen_units}
-use Rattle.bidi_explicit.specs.Written.{is_seen}
+use Rattle.bidi_explicit.specs.SequenceUnits.{seen_units}
+use Rattle.bidi_explicit.specs.SequenceUnits.{is_seen}
 use Rattle.bidi_explicit.proofs.InRuns.{in_run-above, gap_before}
 use Rattle.bidi_explicit.proofs.Marks.{marked, marked-parts, marked-empty, marked-one}
 use Rattle.bidi_explicit.proofs.PassOverText.{in_runs-within}
@@ -50,7 +50,7 @@ module _ (classes : List BidiClass) where
   pub seen_units-is : (runs : List (ℕ × ℕ)) → are_ordered runs ≡ true → All (λ r. r.1 ≤ length classes) runs → seen_units runs classes ≡ filter kept_at (units_in_runs runs)
   seen_units-is runs ordered within = seen-from 0 runs (omega arith) ordered within
 
-  -- one of them stands behind those below it
+  -- one of them stands after those below it
   pub seen_at : (runs : List (ℕ × ℕ)) (u : ℕ) → u < length classes → is_seen runs classes u ≡ true
       → seen_units runs classes ≡ marked (is_seen runs classes) 0 u ++ u ∷ marked (is_seen runs classes) (u + 1) (length classes)
   seen_at runs u fits here =

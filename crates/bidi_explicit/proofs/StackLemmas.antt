@@ -1,7 +1,7 @@
 -- What the operations of the machine do to a stack of entries.
 use Rattle.bidi_base.proofs.Common.{◌≡◌, ℕ, ◌+◌, ◌-◌, ◌<◌, ◌≤◌, true, false, cond, List, [], ◌∷◌, ◌++◌, length, map, reverse, Option, Some, None, refl, sym, ap, ◌∙◌, arith, common_steps, cond-true}
 use Rattle.bidi_base.proofs.Common.{cond-false, reverse-append, length-reverse, length-map, is_isolate_initiator, is_opener, is_pdi, is_pdf, State, entry_of, taken, refused}
-use Rattle.bidi_base.proofs.Common.{entered, fits_in, drop_isolate, close_isolate, close_embedding, closed, opened, asked_level, override_of, IsWithinDepth}
+use Rattle.bidi_base.proofs.Common.{entered, fits_in, drop_isolate, close_isolate, close_embedding, closed, opened, next_level, override_of, IsWithinDepth}
 use Rattle.std.specs.Prelude.{IsSome}
 use Rattle.std.specs.Option.{option_to_list}
 use Rattle.bidi_base.specs.declared.char_data.BidiClass.{BidiClass}
@@ -75,7 +75,7 @@ unfolding entered
 entered_pushed c s x y old new i e v w is last pushed fits same more = rw (ap below_last pushed ∙ below_last-push old y ∙ last) (simp (← is) (grind (arith, common_steps)))
 
 -- the entry that it pushes
-pub entry-is : (c : BidiClass) (s : State) (entry : StatusEntry) → entry.level ≡ asked_level c s.top.status.level → entry.override_class ≡ override_of c → entry.is_isolate ≡ is_isolate_initiator c
+pub entry-is : (c : BidiClass) (s : State) (entry : StatusEntry) → entry.level ≡ next_level c s.top.status.level → entry.override_class ≡ override_of c → entry.is_isolate ≡ is_isolate_initiator c
     → seen entry ≡ entry_of c s
 entry-is c s entry level override isolate = grind arith
 

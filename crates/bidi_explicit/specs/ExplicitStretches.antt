@@ -4,10 +4,10 @@ use Rattle.bidi_base.specs.declared.char_data.BidiClass.{BidiClass}
 use Rattle.bidi_base.specs.declared.char_data.BidiClass.TheVariants.{L}
 use Rattle.bidi_base.specs.Classes.{is_kept_in_place}
 use Rattle.bidi_base.specs.Explicit.{explicit_levels, processing_classes}
-use Rattle.bidi_base.specs.Places.{class_at}
+use Rattle.bidi_base.specs.Indexes.{class_at}
 use Rattle.bidi_base.specs.StatusMachine.{State, state_at}
 use Rattle.bidi_base.specs.Texts.{Encoding, Text, unit_index, text_len, per_char, per_unit, IsPerChar}
-use Rattle.bidi_explicit.specs.ExplicitPass.{runs_before, run_start, IsCutTo}
+use Rattle.bidi_explicit.specs.RunCutting.{runs_before, run_start, IsCutTo}
 use Rattle.bidi_explicit.specs.declared.explicit.stretches.OpenRun.{OpenRun}
 use Rattle.bidi_explicit.specs.declared.explicit.stretches.Progress.{Progress}
 
@@ -68,17 +68,17 @@ pub record IsReadTo {encoding : Encoding} (p : Paragraph encoding) (u : ℕ) (st
 
 -- the level runs that have ended once the first kept unit of what was read, if there is one, met the run that
 -- is open, and that one then
-abbrev pub runs_met : Option ℕ → ℕ → OpenRun → List (ℕ × ℕ) → List (ℕ × ℕ)
-runs_met None level run runs = runs
-runs_met (Some unit) level run runs = runs_before run.last_level level run.start unit runs
+abbrev pub runs_after : Option ℕ → ℕ → OpenRun → List (ℕ × ℕ) → List (ℕ × ℕ)
+runs_after None level run runs = runs
+runs_after (Some unit) level run runs = runs_before run.last_level level run.start unit runs
 
-abbrev pub run_met : Option ℕ → ℕ → OpenRun → OpenRun
-run_met None level run = run
-run_met (Some unit) level run = record { start = run_start run.last_level level run.start unit; last_level = Some level }
+abbrev pub open_run_after : Option ℕ → ℕ → OpenRun → OpenRun
+open_run_after None level run = run
+open_run_after (Some unit) level run = record { start = run_start run.last_level level run.start unit; last_level = Some level }
 
 -- from a unit on a stretch or a control is read, whatever runs came before
 abbrev pub ReadsOn : {encoding : Encoding} → Paragraph encoding → ℕ → State → List ℕ → List BidiClass → Progress → State → List ℕ → List BidiClass → Type 0
 ReadsOn p from stack levels classes read stack_now levels_now classes_now =
     (runs : List (ℕ × ℕ)) (run : OpenRun) → IsReadTo p from stack levels classes runs run
-    → IsReadTo p read.end stack_now levels_now classes_now (runs_met read.first_kept read.level run runs)
-    (run_met read.first_kept read.level run)
+    → IsReadTo p read.end stack_now levels_now classes_now (runs_after read.first_kept read.level run runs)
+    (open_run_after read.first_kept read.level run)

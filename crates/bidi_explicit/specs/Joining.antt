@@ -4,7 +4,7 @@ use Rattle.std.specs.List.{fold}
 use Rattle.bidi_base.specs.declared.char_data.BidiClass.{BidiClass}
 use Rattle.bidi_base.specs.declared.char_data.BidiClass.TheVariants.{L}
 use Rattle.bidi_base.specs.Classes.{is_isolate_initiator, is_pdi}
-use Rattle.bidi_base.specs.Places.{between, class_at}
+use Rattle.bidi_base.specs.Indexes.{between, class_at}
 use Rattle.bidi_base.specs.Sequences.{RunSequence, level_at}
 use Rattle.bidi_base.specs.SequencePass.{read_class}
 use Rattle.bidi_base.specs.Text.{char_index, per_char}

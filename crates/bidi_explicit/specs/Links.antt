@@ -5,7 +5,7 @@ use Rattle.bidi_base.specs.declared.char_data.BidiClass.TheVariants.{L}
 use Rattle.std.specs.Global.{Vec}
 use Rattle.std.specs.List.{range_with_len}
 use Rattle.std.specs.declared.ops.Range.{Range}
-use Rattle.bidi_base.specs.Places.{chain, last_or}
+use Rattle.bidi_base.specs.Indexes.{chain, last_or}
 use Rattle.bidi_base.specs.Sequences.{RunSequence, has_places}
 use Rattle.bidi_base.specs.Units.{bounds, is_run_sequence}
 use Rattle.bidi_explicit.specs.Joining.{JoinedRuns, characters_of}

@@ -2,13 +2,13 @@
 use Rattle.std.specs.Prelude.{◌≡◌, ℕ, ◌+◌, Bool, false, List, [], length, map, IsTrue}
 use Rattle.std.specs.declared.ops.Range.{Range}
 use Rattle.bidi_base.specs.declared.char_data.BidiClass.{BidiClass}
-use Rattle.bidi_base.specs.Places.{class_at}
+use Rattle.bidi_base.specs.Indexes.{class_at}
 use Rattle.bidi_base.specs.Search.{passing, IsFirst}
 use Rattle.bidi_base.specs.Texts.{Text, char_index, is_boundary, AreExplicitLevels, IsNextPlace}
 use Rattle.bidi_base.specs.Units.{bounds}
 use Rattle.bidi_explicit.specs.Control.{is_control}
 use Rattle.bidi_explicit.specs.ExplicitStretches.{Paragraph as SeenParagraph, paragraph_of}
-use Rattle.bidi_explicit.specs.Stride.{count_of, count_to, least_of}
+use Rattle.bidi_explicit.specs.StepUnit.{count_of, count_to, least_of}
 use Rattle.bidi_explicit.specs.declared.explicit.stretches.Paragraph.{Paragraph}
 
 module _ {T C I L : Type 0} {t : _} {c : _} {i : _} {l : _} (paragraph : Paragraph T C I L t c i l) where
@@ -54,11 +54,11 @@ module _ {T C I L : Type 0} {t : _} {c : _} {i : _} {l : _} (paragraph : Paragra
 
   -- how many steps the pass takes at least: one for each character, if it goes from character to character
   abbrev pub least_count : ℕ
-  least_count = least_of paragraph.stride (length text_of.chars)
+  least_count = least_of paragraph.step_unit (length text_of.chars)
 
-  -- how many characters, or how many code units, the paragraph has: the paragraph's stride says which
+  -- how many characters, or how many code units, the paragraph has: the paragraph's step unit says which
   abbrev pub whole_count : ℕ
-  whole_count = count_of paragraph.stride (length paragraph.original_classes.now) (length text_of.chars)
+  whole_count = count_of paragraph.step_unit (length paragraph.original_classes.now) (length text_of.chars)
 
   -- how many characters are before a code unit
   abbrev pub chars_to : ℕ → ℕ
@@ -66,11 +66,11 @@ module _ {T C I L : Type 0} {t : _} {c : _} {i : _} {l : _} (paragraph : Paragra
 
   -- how many steps it takes at least for what is before a code unit
   abbrev pub least_to : ℕ → ℕ
-  least_to u = least_of paragraph.stride (chars_to u)
+  least_to u = least_of paragraph.step_unit (chars_to u)
 
-  -- how many characters, or how many code units, are before a code unit: the paragraph's stride says which
+  -- how many characters, or how many code units, are before a code unit: the paragraph's step unit says which
   abbrev pub counted_to : ℕ → ℕ
-  counted_to u = count_to paragraph.stride text_of u
+  counted_to u = count_to paragraph.step_unit text_of u
 
   -- a count went up by one for each character from one place to another
   abbrev pub AreCharsCounted : ℕ → ℕ → ℕ → ℕ → Type 0

@@ -2,12 +2,12 @@
 use Rattle.std.specs.Prelude.{ℕ, List, ◌++◌, filter, map, reverse}
 use Rattle.std.specs.declared.ops.Range.{Range}
 use Rattle.bidi_base.specs.declared.char_data.BidiClass.{BidiClass}
-use Rattle.bidi_base.specs.Places.{between}
+use Rattle.bidi_base.specs.Indexes.{between}
 use Rattle.bidi_base.specs.Sequences.{RunSequence, has_places}
 use Rattle.bidi_base.specs.Units.{bounds, units_in_runs}
 use Rattle.bidi_explicit.specs.Joining.{JoinedRuns, characters_of}
 use Rattle.bidi_explicit.specs.declared.prepare.sequence.IsolatingRunSequence.{IsolatingRunSequence}
-use Rattle.bidi_explicit.specs.declared.prepare.lent.LentSequence.{LentSequence}
+use Rattle.bidi_explicit.specs.declared.prepare.borrowed.BorrowedSequence.{BorrowedSequence}
 use Rattle.bidi_explicit.specs.declared.prepare.sequence.ForwardsFrom.{ForwardsFrom}
 use Rattle.bidi_explicit.specs.declared.prepare.sequence.BackwardsFrom.{BackwardsFrom}
 
@@ -26,18 +26,18 @@ sos s = s.sos
 abbrev pub eos : IsolatingRunSequence → BidiClass
 eos s = s.eos
 
--- the same of a sequence whose runs are lent
-abbrev pub lent_runs : LentSequence → List (Range ℕ)
-lent_runs s = s.runs.now
+-- the same of a sequence whose runs are borrowed
+abbrev pub borrowed_runs : BorrowedSequence → List (Range ℕ)
+borrowed_runs s = s.runs.now
 
-abbrev pub lent_sos : LentSequence → BidiClass
-lent_sos s = s.sos
+abbrev pub borrowed_sos : BorrowedSequence → BidiClass
+borrowed_sos s = s.sos
 
-abbrev pub lent_eos : LentSequence → BidiClass
-lent_eos s = s.eos
+abbrev pub borrowed_eos : BorrowedSequence → BidiClass
+borrowed_eos s = s.eos
 
-abbrev pub lent_joined : LentSequence → JoinedRuns
-lent_joined s = record { runs = map bounds s.runs.now; sos = s.sos; eos = s.eos }
+abbrev pub borrowed_joined : BorrowedSequence → JoinedRuns
+borrowed_joined s = record { runs = map bounds s.runs.now; sos = s.sos; eos = s.eos }
 
 -- a sequence's runs, with the classes at both ends
 abbrev pub joined : IsolatingRunSequence → JoinedRuns

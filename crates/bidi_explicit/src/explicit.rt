@@ -5,7 +5,7 @@ ghost use Rattle.std.specs.Prelude.{◌≡◌, ℕ, ◌+◌, ◌*◌, ◌-◌, �
 ghost use Rattle.bidi_base.specs.Texts.{AreExplicitLevels, CanFindExplicitLevels};
 ghost use Rattle.bidi_base.specs.Units.{bounds};
 ghost use Rattle.bidi_explicit.specs.Paragraph.{AreLevelsOf, CanFindLevels, least_count, whole_count};
-ghost use Rattle.bidi_explicit.specs.ExplicitPass.{filled, runs_before, run_start as run_start_after};
+ghost use Rattle.bidi_explicit.specs.RunCutting.{filled, runs_before, run_start as run_start_after};
 
 mod overrides;
 mod status;
@@ -25,7 +25,7 @@ use stretches::{OpenRun, is_control};
 
 /// How the pass goes through a stretch without controls, and what it counts there.
 #[derive(Clone, Copy, Debug)]
-pub enum Stride {
+pub enum StepUnit {
     /// From character to character. The text says where each ends.
     Character,
     /// From code unit to code unit. The pass reads the text only at controls, and looks for the next control
@@ -230,7 +230,7 @@ pub fn compute_counted<T: TextSource, S: Ledger>(
     ensures at_least { OnOk result (steps.old + length (T.text text).chars ≤ steps.new) }
     ensures at_most { OnOk result (steps.new ≤ steps.old + 4 * length (T.text text).chars) }
 {
-    let paragraph = Paragraph::new(text, para_level, Stride::Character, original_classes);
+    let paragraph = Paragraph::new(text, para_level, StepUnit::Character, original_classes);
     find_levels_counted(&paragraph, levels, processing_classes, runs, steps)
 }
 
@@ -241,8 +241,8 @@ pub fn compute_counted<T: TextSource, S: Ledger>(
 /// stored classes, and gets the classes under overrides. `runs` must be empty, and gets the level runs. If an
 /// allocation fails, returns an error, and all three may hold anything.
 ///
-/// With [`Stride::Character`] there is at least one iteration for each character, and at most four. With
-/// [`Stride::CodeUnit`] there are at most four for each code unit. No lower bound holds there, because a search tests
+/// With [`StepUnit::Character`] there is at least one iteration for each character, and at most four. With
+/// [`StepUnit::CodeUnit`] there are at most four for each code unit. No lower bound holds there, because a search tests
 /// sixteen code units in one iteration. The iterations that pop the status stack at a PDI are charged to the
 /// initiators that filled it. Calls of the text and of the library count as no iterations. After an error nothing is
 /// promised about the count.
@@ -272,7 +272,7 @@ pub fn find_levels_counted<T: TextSource, S: Ledger>(
             write_level(levels, at, stretch.end, stretch.level);
             stretch
         };
-        run.meet(runs, &progress)?;
+        run.extend(runs, &progress)?;
         at = progress.end;
     }
     if units > 0 {

@@ -5,7 +5,7 @@ ghost use Rattle.bidi_base.specs.Classes.{is_removed, is_kept};
 
 mod gathered;
 mod joining;
-mod lent;
+mod borrowed;
 mod links;
 mod sequence;
 mod waiting;
@@ -15,7 +15,7 @@ use bidi_base::classes::is_removed;
 pub use bidi_base::steps::Steps;
 pub use gathered::GatheredSequence;
 pub use joining::isolating_run_sequences;
-pub use lent::LentSequence;
+pub use borrowed::BorrowedSequence;
 pub use links::RunLinks;
 pub use sequence::{BackwardsFrom, ForwardsFrom, IsolatingRunSequence};
 use std::ops::Range;

@@ -1,7 +1,7 @@
 //! Searches of the code units of level runs.
 
 ghost use Rattle.std.specs.Prelude.{◌≡◌, ℕ, ◌<◌, ◌≤◌, true, false, length, map, All, IsTrue};
-ghost use Rattle.bidi_base.specs.Places.{class_at};
+ghost use Rattle.bidi_base.specs.Indexes.{class_at};
 ghost use Rattle.bidi_base.specs.Units.{bounds, in_runs};
 
 use crate::prepare::LevelRun;

@@ -3,9 +3,9 @@
 
 ghost use Rattle.std.specs.Prelude.{◌≡◌, ◌+◌, ◌-◌, ◌*◌, ◌<◌, ◌≤◌, ◌&&◌, nat_lt, length, map, get_or, if◌then◌else◌, IsTrue};
 ghost use Rattle.bidi_base.specs.Classes.{is_kept_in_place};
-ghost use Rattle.bidi_base.specs.Places.{class_at};
+ghost use Rattle.bidi_base.specs.Indexes.{class_at};
 ghost use Rattle.bidi_base.specs.Units.{bounds, are_ordered};
-ghost use Rattle.bidi_explicit.specs.Written.{count_below, IsWrittenOver, WritesInRuns};
+ghost use Rattle.bidi_explicit.specs.SequenceUnits.{count_below, IsWrittenOver, WritesInRuns};
 
 use crate::prepare::{LevelRun, Steps};
 use bidi_base::char_data::BidiClass::{self, BN};

@@ -4,4 +4,4 @@
 pub mod entries;
 pub mod input;
 pub mod status;
-pub mod told;
+pub mod line_reports;

@@ -1,20 +1,20 @@
 -- Bounds on explicit levels.
 use Rattle.bidi_base.proofs.Common.{◌≡◌, ℕ, ◌<◌, ◌≤◌, List, [], ◌∷◌, length, arith, le_refl, leb-true, cond-true, le-leb}
-use Rattle.bidi_base.proofs.Common.{class_at, level_at, Status, override_of, asked_level, status_inside, status_at}
+use Rattle.bidi_base.proofs.Common.{class_at, level_at, Status, override_of, next_level, status_inside, status_at}
 use Rattle.bidi_base.proofs.Common.{explicit_level, explicit_class, explicit_levels, explicit_classes, processing_class, processing_classes, length-map-range_with_len, get_or-map-range_with_len}
 use Rattle.bidi_base.specs.declared.char_data.BidiClass.{BidiClass}
 
 -- an opener asks for a level that is one or two above
-pub asked_level-above : (opener : BidiClass) (level : ℕ) → level < asked_level opener level
-asked_level-above opener level = grind arith
+pub next_level-above : (opener : BidiClass) (level : ℕ) → level < next_level opener level
+next_level-above opener level = grind arith
 
 -- an opener that is taken, and the first that is not
-pub status_inside-taken : (status : Status) (opener : BidiClass) (openers : List BidiClass) → asked_level opener status.level ≤ 125
-    → status_inside status (opener ∷ openers) ≡ status_inside (record { level = asked_level opener status.level; override = override_of opener }) openers
+pub status_inside-taken : (status : Status) (opener : BidiClass) (openers : List BidiClass) → next_level opener status.level ≤ 125
+    → status_inside status (opener ∷ openers) ≡ status_inside (record { level = next_level opener status.level; override = override_of opener }) openers
 unfolding status_inside
 status_inside-taken status opener openers fits = cond-true _ _ _ (le-leb _ _ fits)
 
-pub status_inside-refused : (status : Status) (opener : BidiClass) (openers : List BidiClass) → (asked_level opener status.level ≤ 125 → ⊥) → status_inside status (opener ∷ openers) ≡ status
+pub status_inside-refused : (status : Status) (opener : BidiClass) (openers : List BidiClass) → (next_level opener status.level ≤ 125 → ⊥) → status_inside status (opener ∷ openers) ≡ status
 unfolding status_inside
 status_inside-refused status opener openers high = grind arith
 
@@ -27,7 +27,7 @@ pub status_inside-IsWithin : (status : Status) (openers : List BidiClass) → st
 unfolding status_inside
 status_inside-IsWithin status [] fits = record { above = le_refl _; below = fits }
 status_inside-IsWithin status (opener ∷ openers) fits =
-    grind (arith, leb-true, asked_level-above opener status.level, status_inside-IsWithin (record { level = asked_level opener status.level; override = override_of opener }) openers)
+    grind (arith, leb-true, next_level-above opener status.level, status_inside-IsWithin (record { level = next_level opener status.level; override = override_of opener }) openers)
 
 pub explicit_level-IsWithin : (para_level : ℕ) (classes : List BidiClass) (p : ℕ) → para_level ≤ 125 → IsWithin para_level (explicit_level para_level classes p)
 unfolding explicit_level status_at

@@ -8,7 +8,7 @@ use Rattle.bidi_base.proofs.Common.{sequence_from, sequences, neutral_classes, r
 use Rattle.bidi_base.specs.declared.char_data.BidiClass.{BidiClass}
 use Rattle.bidi_base.specs.declared.char_data.BidiClass.TheVariants.{L, BN}
 use Rattle.bidi_base.specs.declared.data_source.BidiMatchedOpeningBracket.{BidiMatchedOpeningBracket}
-use Rattle.bidi_base.specs.Flat.{whole_run}
+use Rattle.bidi_base.specs.WithoutOpeners.{whole_run}
 use Rattle.bidi_base.proofs.ChainLemmas.{chain-None, filter_range-none, filter_range-agree, filter_chain_from}
 use Rattle.bidi_laws.proofs.ExplicitLemmas.{length-explicit_levels, level_at-explicit_levels, length-explicit_classes}
 use Rattle.bidi_laws.proofs.ExplicitLemmas.{class_at-explicit_classes, length-processing_classes, class_at-processing_classes}
@@ -29,7 +29,7 @@ opens_nothing c h = or_parts (is_isolate_initiator c) (is_embedding_initiator c)
 stored_class-flat : (classes : List BidiClass) (q : ℕ) (c : BidiClass) → is_opener c ≡ false → stored_class classes q c ≡ c
 stored_class-flat classes q c h = grind arith
 
--- ---- what stands at the kept places
+-- ---- what is at the kept places
 
 at_indexes-later : {X : Type 0} (d x : X) (xs : List X) (test : ℕ → Bool) (low m : ℕ)
     → at_indexes d (x ∷ xs) (filter test (range_with_len (low + 1) m)) ≡ at_indexes d xs (filter (λ p. test (p + 1)) (range_with_len low m))

@@ -122,7 +122,7 @@ unfolding matching_pdi match_of
 matching_pdi-end_from classes q =
     grind (arith, count_between-none, length-drop (q + 1) classes, find_end classes q (q + 1) 0 (drop (q + 1) classes) refl)
 
--- ---- what stands in an isolate
+-- ---- what is in an isolate
 
 -- a walk that starts later finds only later ends
 end_from-from : (d u k : ℕ) (xs : List BidiClass) → end_from d u xs ≡ Some k → u ≤ k
@@ -198,7 +198,7 @@ not_not : (b : Bool) → not (not b) ≡ b
 not_not true = refl
 not_not false = refl
 
--- a search takes what stands first, or goes on
+-- a search takes what is first, or goes on
 find_step : (test : ℕ → Bool) (f : ℕ → BidiClass) (p n : ℕ) (b : Bool) (c : BidiClass) (later : Option BidiClass) → test p ≡ b → f p ≡ c → option_map f (find test (range_with_len (p + 1) n)) ≡ later
     → option_map f (find test (range_with_len p (suc n))) ≡ cond b (Some c) later
 find_step test f p n true c later here is on = grind arith
@@ -227,7 +227,7 @@ deciding_class-from classes = find_deciding classes 0 classes refl
 
 -- ---- what an FSI becomes (X5c)
 
--- the deciding character of what stands before the first end
+-- the deciding character of what is before the first end
 resolved : (d u n : ℕ) (xs : List BidiClass) → u + length xs ≤ n → deciding_from d (take (unwrap_or (end_from d u xs) n - u) xs) ≡ resolving_from d xs
 resolved d u n [] fits = grind (arith, take-nil)
 resolved d u n (x ∷ xs) fits = elim (cases_Bool (ends_by (kind_of x) d)) [

@@ -26,7 +26,7 @@ module _ (e sos eos : BidiClass) where
 
   module _ (old now : List BidiClass) (left right : BidiClass) (start n : ℕ) (resolved : list_all is_weak_resolved old ≡ true) (h : IsAtNeutrals old now left start) (fits : start ≤ length old)
       (block : IsBlock is_ni old start n) (next : right ≡ unwrap_or (as_direction (get_or now (start + n) ON)) eos) where
-    -- the class behind the block has a direction
+    -- the class after the block has a direction
     is_directed : start + n < length old → has_direction (get_or old (start + n) L) ≡ true
     is_directed more = grind (arith, block.behind more, list_all_at is_weak_resolved old (start + n) L more)
 

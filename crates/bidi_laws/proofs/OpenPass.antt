@@ -21,7 +21,7 @@ module _ (classes : List BidiClass) (levels : List ℕ) where
         (finish (waits ++ w ∷ []) (m ∷ h.stack) (w ∷ reverse waits) (IsPass-initiator classes levels a m out h.stack (reverse waits) w h.pass opens (wait opens)) (sym (reverse-append waits (w ∷ []))))
     | inr other ↦ elim (cases_Bool (is_pdi_at classes m)) [
       | inl closes ↦ rw (other, closes) (popped other closes h.stack (reverse waits) refl h.pass)
-      | inr quiet ↦ rw (other, quiet) (finish waits h.stack (reverse waits) (IsPass-stay classes levels a m out h.stack (reverse waits) h.pass other (inl quiet)) refl)
+      | inr inert ↦ rw (other, inert) (finish waits h.stack (reverse waits) (IsPass-stay classes levels a m out h.stack (reverse waits) h.pass other (inl inert)) refl)
     ]
   ]
     where

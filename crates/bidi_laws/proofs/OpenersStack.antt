@@ -13,7 +13,7 @@ use Rattle.bidi_laws.proofs.IsolatesLemmas.{initiators_apart}
 use Rattle.bidi_laws.proofs.EmbeddingsLemmas.{same_if, list_all-range_with_len, list_all-from_each, is_level_with-each, is_level_with-same, is_level_with-refl}
 use Rattle.bidi_laws.proofs.ReadStack.{Member, read_closed, IsReadStack, IsReadStack-start, IsReadStack-more, IsReadStack-open, IsReadStack-complete}
 
--- what stands below the innermost isolate initiator of a stack, or `whole` where there is none
+-- what is below the innermost isolate initiator of a stack, or `whole` where there is none
 abbrev pub below_isolate : List BidiClass → List ℕ → List ℕ → List ℕ
 below_isolate classes whole [] = whole
 below_isolate classes whole (q ∷ stack) = cond (is_isolate_initiator_at classes q) stack (below_isolate classes whole stack)
@@ -90,7 +90,7 @@ module _ (classes : List BidiClass) where
   HasNoEmbeddingOnTop [] = ⊤
   HasNoEmbeddingOnTop (q ∷ stack) = is_isolate_initiator_at classes q ≡ true
 
-  -- of a stack p leaves what stands below its innermost isolate, what stands below an embedding on top, or the whole
+  -- of a stack p leaves what is below its innermost isolate, what is below an embedding on top, or the whole
   pub data Leaves (p : ℕ) : List ℕ → List ℕ → Type 0 where
     closes_isolate : (stack : List ℕ) (x : ℕ) → is_pdi_at classes p ≡ true → initiators stack ≡ x ∷ initiators (left_at x) → Leaves p stack (left_at x)
     closes_embedding : (q : ℕ) (stack : List ℕ) → is_pdf (class_at classes p) ≡ true → is_isolate_initiator_at classes q ≡ false → Leaves p (q ∷ stack) stack
@@ -197,7 +197,7 @@ module _ (classes : List BidiClass) where
     initiators-IsReadStack (suc p),
   )
 
-  -- an isolate that goes on to p holds what stands before p
+  -- an isolate that goes on to p holds what is before p
   pub is_inside-sooner : (r k p : ℕ) → is_inside classes r p ≡ true → r < k → k ≤ p → is_inside classes r k ≡ true
   unfolding is_inside
   is_inside-sooner r k p inside from to = grind arith
@@ -213,7 +213,7 @@ module _ (classes : List BidiClass) where
     abbrev level : List ℕ → List ℕ
     level stack = filter (is_embedding_level_with classes c) stack
 
-    -- what stands in an isolate x, and c not, or c and not it, is not level with c
+    -- what is in an isolate x, and c not, or c and not it, is not level with c
     apart_level : (x q : ℕ) → x < length classes → (is_inside classes x c ≡ is_inside classes x q → ⊥) → is_embedding_level_with classes c q ≡ false
     apart_level x q within differ = and_right _ _ (false_from_ne_true (is_level_with classes c q) (λ e. absurd (differ (is_level_with-each classes c q e x within))))
 

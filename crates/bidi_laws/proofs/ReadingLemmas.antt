@@ -9,7 +9,7 @@ use Rattle.bidi_base.proofs.PerUnit.{per_unit-append, take-per_unit, drop-per_un
 use Rattle.bidi_base.proofs.TextLemmas.{HasUnits}
 use Rattle.bidi_laws.proofs.StoredSteps.{met_by}
 
--- what stands at the end of a list is innermost
+-- what is at the end of a list is innermost
 pub innermost-last : {X : Type 0} (xs : List X) → slice_get xs (length xs - 1) ≡ innermost xs
 innermost-last [] = refl
 innermost-last (x ∷ []) = refl

@@ -1,4 +1,4 @@
--- The units of some characters: what stands at them is what stands at the characters, repeated; and the units that a pass reads are those of the characters that it reads.
+-- The units of some characters: what is at them is what is at the characters, repeated; and the units that a pass reads are those of the characters that it reads.
 use Rattle.bidi_base.proofs.Common.{◌≡◌, ◌≢◌, ◌⊎◌, ℕ, zero, suc, ◌+◌, ◌-◌, ◌<◌, ◌≤◌, Bool, true, List, [], ◌∷◌, ◌++◌, length, map, get_or, replicate, refl, sym, ap, ◌∙◌, arith, inl, inr, filter}
 use Rattle.bidi_base.proofs.Common.{range_with_len, cases_eq, flat_map-append, All-nil, All-cons, All-head, All-tail, All-append, All-filter, filter-append, length-map, ext_get_or}
 use Rattle.bidi_base.proofs.Common.{is_kept_in_place, between, class_at, at_indexes, text_len, unit_index, per_unit, per_char, IsPerChar, IsLine, char_index, chars_in_runs, kept_in_place, units_in_runs}
@@ -24,7 +24,7 @@ units_of_chars len_of chars ks = flat_map (units_of_char len_of chars) ks
 abbrev pub AreIndexes : List ℕ → List ℕ → Type 0
 AreIndexes chars ks = All (λ k. k < length chars) ks
 
--- ---- what stands there
+-- ---- what is there
 
 row_of : {X : Type 0} (d v : X) (units : List X) (u n : ℕ) → ((p : ℕ) → u ≤ p → p < u + n → get_or units p d ≡ v) → at_indexes d units (range_with_len u n) ≡ replicate n v
 row_of d v units u zero each = refl

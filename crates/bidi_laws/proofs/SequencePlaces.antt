@@ -9,7 +9,7 @@ use Rattle.bidi_laws.proofs.LevelTableLemmas.{count_at-range, count_at-in}
 abbrev pub times_in : List ℕ → ℕ → ℕ
 times_in ps p = count_by (λ q. eqb q p) ps
 
--- what stands in a part of a range that was kept
+-- what is in a part of a range that was kept
 pub times_in-kept : (keep : ℕ → Bool) (p low m : ℕ) → 0 < times_in (filter keep (range_with_len low m)) p → (keep p ≡ true) × (p < low + m)
 times_in-kept keep p low zero there = absurd (omega arith)
 times_in-kept keep p low (suc m) there = grind (arith, sum_by-cons, times_in-kept keep p (low + 1) m)

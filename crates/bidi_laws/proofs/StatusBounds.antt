@@ -1,5 +1,5 @@
 -- The status stack holds at most 126 entries, and each count is at most the number of characters read.
-use Rattle.bidi_base.proofs.Common.{◌≡◌, ℕ, ◌+◌, ◌<◌, ◌≤◌, List, [], ◌∷◌, length, arith, class_at, asked_level, Entry, State, drop_isolate, closed, step, state_at, IsWithinDepth, counted, IsPoppable}
+use Rattle.bidi_base.proofs.Common.{◌≡◌, ℕ, ◌+◌, ◌<◌, ◌≤◌, List, [], ◌∷◌, length, arith, class_at, next_level, Entry, State, drop_isolate, closed, step, state_at, IsWithinDepth, counted, IsPoppable}
 use Rattle.bidi_base.specs.declared.char_data.BidiClass.{BidiClass}
 use Rattle.bidi_laws.proofs.OpenersStack.{left_at, IsPushed, left_at-IsPushed}
 use Rattle.bidi_base.specs.StatusMachine.{AreBelow}
@@ -10,7 +10,7 @@ length_below para_level level [] order h = omega arith
 length_below para_level level (e ∷ es) order h = grind (arith, length_below para_level e.status.level es h.0 h.2)
 
 -- an opener that is taken finds room
-pub IsTaken-room : (para_level : ℕ) (c : BidiClass) (s : State) → IsWithinDepth para_level s → asked_level c s.top.status.level ≤ 125 → length (s.top ∷ s.below) < 126
+pub IsTaken-room : (para_level : ℕ) (c : BidiClass) (s : State) → IsWithinDepth para_level s → next_level c s.top.status.level ≤ 125 → length (s.top ∷ s.below) < 126
 IsTaken-room para_level c s h fits = grind (arith, length_below)
 
 entered-IsWithinDepth : (para_level : ℕ) (c : BidiClass) (s t : State) → EnteredAs c s t → IsWithinDepth para_level s → IsWithinDepth para_level t

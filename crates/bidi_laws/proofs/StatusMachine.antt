@@ -1,6 +1,6 @@
 -- The directional status stack answers at each character the level and the class that the definitions give.
 use Rattle.bidi_base.proofs.Common.{◌≡◌, ℕ, zero, suc, ◌+◌, ◌<◌, ◌≤◌, Bool, true, false, not, ◌&&◌, cond, leb, eqb, List, [], ◌∷◌, ◌++◌, common_steps, length, map, reverse, refl, ap, ◌∙◌, arith}
-use Rattle.bidi_base.proofs.Common.{◌⊎◌, inl, inr, eq-eqb, cases_Bool, cases_eq, both_ways, cond-true, cond-false, is_isolate_initiator, class_at, Status, override_of, asked_level, status_inside}
+use Rattle.bidi_base.proofs.Common.{◌⊎◌, inl, inr, eq-eqb, cases_Bool, cases_eq, both_ways, cond-true, cond-false, is_isolate_initiator, class_at, Status, override_of, next_level, status_inside}
 use Rattle.bidi_base.proofs.Common.{status_at, explicit_level, explicit_class, State, start, fits_in, entry_of, taken, refused, entered, drop_isolate, close_isolate, close_embedding, closed}
 use Rattle.bidi_base.proofs.Common.{opened, state_at, nat_le, if◌then◌else◌, answer_level, answer_class}
 use Rattle.bidi_base.specs.declared.char_data.BidiClass.{BidiClass}
@@ -15,7 +15,7 @@ state_of para_level classes (q ∷ stack) = entered (class_at classes q) (state_
 
 -- an opener is taken
 pub record IsTaken (c : BidiClass) (s : State) : Type 0 where
-  pub asked : asked_level c s.top.status.level ≤ 125
+  pub level_fits : next_level c s.top.status.level ≤ 125
   pub no_isolates : s.overflow_isolates ≡ 0
   pub no_embeddings : s.overflow_embeddings ≡ 0
 
@@ -101,22 +101,22 @@ close_embedding-start para_level = refl
 abbrev pub is_cut : Status → List BidiClass → Bool
 is_cut status [] = false
 is_cut status (c ∷ openers) =
-    if nat_le (asked_level c status.level) max_depth then is_cut (record { level = asked_level c status.level; override = override_of c }) openers else true
+    if nat_le (next_level c status.level) max_depth then is_cut (record { level = next_level c status.level; override = override_of c }) openers else true
 
 -- the status inside one opener more, where those before it were cut off or not
 abbrev inside_one : BidiClass → Bool → Status → Status
 inside_one c cut status =
-    if not cut && nat_le (asked_level c status.level) max_depth then record { level = asked_level c status.level; override = override_of c } else status
+    if not cut && nat_le (next_level c status.level) max_depth then record { level = next_level c status.level; override = override_of c } else status
 
 abbrev fits_after : BidiClass → Bool → Status → Bool
-fits_after c cut status = not cut && leb (asked_level c status.level) 125
+fits_after c cut status = not cut && leb (next_level c status.level) 125
 
 status_inside-more : (status : Status) (openers : List BidiClass) (c : BidiClass) → (status_inside status (openers ++ c ∷ []) ≡ inside_one c (is_cut status openers) (status_inside status openers))
     × (not (is_cut status (openers ++ c ∷ [])) ≡ fits_after c (is_cut status openers) (status_inside status openers))
 unfolding status_inside
 status_inside-more status [] c = grind arith
-status_inside-more status (o ∷ openers) c = elim (cases_Bool (leb (asked_level o status.level) 125)) [
-  | inl fits ↦ rw fits (status_inside-more (record { level = asked_level o status.level; override = override_of o }) openers c)
+status_inside-more status (o ∷ openers) c = elim (cases_Bool (leb (next_level o status.level) 125)) [
+  | inl fits ↦ rw fits (status_inside-more (record { level = next_level o status.level; override = override_of o }) openers c)
   | inr high ↦ rw high (refl, refl)
 ]
 
@@ -131,7 +131,7 @@ entered-status c s t (as_isolate high isolate) = grind arith
 entered-status c s t (as_embedding high other none) = grind arith
 entered-status c s t (as_unseen high other some) = grind arith
 
-fits_in-clear : (c : BidiClass) (s : State) → fits_in c s ≡ (is_clear s && leb (asked_level c s.top.status.level) 125)
+fits_in-clear : (c : BidiClass) (s : State) → fits_in c s ≡ (is_clear s && leb (next_level c s.top.status.level) 125)
 fits_in-clear c s = grind arith
 
 module _ (para_level : ℕ) (classes : List BidiClass) where
@@ -143,7 +143,7 @@ module _ (para_level : ℕ) (classes : List BidiClass) where
   unfolding state_of
   state_of-EnteredAs q stack = entered_as (class_at classes q) (inside_all stack)
 
-  -- a stack has no isolate, or its state is inside that of what stands below its innermost isolate
+  -- a stack has no isolate, or its state is inside that of what is below its innermost isolate
   abbrev pub SplitState : List ℕ → Type 0
   SplitState stack =
       (((whole : List ℕ) → below_isolate classes whole stack ≡ whole) × ((inside_all stack).overflow_isolates ≡ 0) × ((inside_all stack).valid_isolates ≡ 0))

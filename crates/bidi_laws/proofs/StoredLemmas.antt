@@ -1,7 +1,7 @@
 -- What the rules of a sequence are given: the classes and levels of a paragraph at the places of its sequences.
 use Rattle.bidi_base.proofs.Common.{◌≡◌, ℕ, zero, suc, ◌<◌, ◌≤◌, Bool, true, cond, eqb, List, [], ◌∷◌, ◌++◌, length, get_or, unwrap_or, refl, ap, arith, leb, common_steps}
 use Rattle.bidi_base.proofs.Common.{list_all, cond_both, and_from, sum_by-cons, get_or-map-range_with_len, is_kept, class_at, at_indexes, stored_class, stored_classes, Status}
-use Rattle.bidi_base.proofs.Common.{override_of, asked_level, status_inside, status_at, explicit_class, explicit_levels, explicit_classes, is_kept_at, level_at}
+use Rattle.bidi_base.proofs.Common.{override_of, next_level, status_inside, status_at, explicit_class, explicit_levels, explicit_classes, is_kept_at, level_at}
 use Rattle.bidi_base.specs.declared.char_data.BidiClass.{BidiClass}
 use Rattle.bidi_laws.proofs.ExplicitLemmas.{explicit_level-IsWithin, level_at-explicit_levels, class_at-explicit_classes}
 use Rattle.bidi_laws.proofs.SequencePlaces.{times_in}
@@ -23,8 +23,8 @@ status_inside-kept : (status : Status) (openers : List BidiClass) (c : BidiClass
 unfolding status_inside
 status_inside-kept status [] c own h = h
 status_inside-kept status (opener ∷ openers) c own h =
-    let inner : Status = record { level = asked_level opener status.level; override = override_of opener } in
-    cond_both (leb (asked_level opener status.level) 125) (status_inside inner openers) status (λ (s : Status). is_kept (unwrap_or s.override c) ≡ true)
+    let inner : Status = record { level = next_level opener status.level; override = override_of opener } in
+    cond_both (leb (next_level opener status.level) 125) (status_inside inner openers) status (λ (s : Status). is_kept (unwrap_or s.override c) ≡ true)
     (λ e. status_inside-kept inner openers c own (grind arith))
     (λ e. h)
 
@@ -55,7 +55,7 @@ pub at_indexes-append : {X : Type 0} (d : X) (xs : List X) (ps qs : List ℕ) �
 at_indexes-append d xs [] qs = refl
 at_indexes-append {X} d xs (p ∷ ps) qs = ap {B = List X} (λ ys. get_or xs p d ∷ ys) (at_indexes-append d xs ps qs)
 
--- what stands in a list, and is its first or a later one
+-- what is in a list, and is its first or a later one
 pub times_in-first : (p : ℕ) (ps : List ℕ) → 0 < times_in (p ∷ ps) p
 times_in-first p ps = grind (arith, common_steps)
 

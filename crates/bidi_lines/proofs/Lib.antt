@@ -6,7 +6,7 @@ mod Gathered
 mod Least
 pub mod LineInText
 pub mod LineLevels
-mod LineShown
+mod LineByLevels
 mod LineText
 mod LineUnits
 mod LineUtf8
@@ -17,7 +17,7 @@ pub mod RunLengths
 pub mod RunText
 pub mod RunsLemmas
 mod ShownLines
-pub mod ShownUnits
+pub mod VisualUnits
 pub mod StillLine
 pub mod StoredLine
 mod Stretches

@@ -6,7 +6,7 @@ use Rattle.std.specs.Char.{encode_utf8}
 use lib.Utf8.{scalar, scalars}
 use Rattle.bidi_lines.specs.ReversedUtf8.{reversed_byte, reversed_byte_at, behind_two}
 
--- the bytes behind two others, each with what stands in its place when they are turned round
+-- the bytes after two others, each with what is in its place when they are turned round
 abbrev reversed_bytes : ℕ → ℕ → List ℕ → List ℕ
 reversed_bytes far near [] = []
 reversed_bytes far near (b ∷ bs) = reversed_byte far near b (get_or bs 0 0) (get_or bs 1 0) ∷ reversed_bytes near b bs
@@ -23,7 +23,7 @@ get_or-reversed_bytes far near [] j fits = absurd (omega arith)
 get_or-reversed_bytes far near (b ∷ bs) zero fits = refl
 get_or-reversed_bytes far near (b ∷ bs) (suc j) fits = simp (get_or-reversed_bytes near b bs j (omega arith), later far (near ∷ b ∷ bs) j 1, later far (near ∷ b ∷ bs) j 2, later far (near ∷ b ∷ bs) j 3, later far (near ∷ b ∷ bs) j 4)
 
--- ---- what stands in the place of a byte
+-- ---- what is in the place of a byte
 
 first_of_three : (far near x next later : ℕ) → 0xE0 ≤ x → reversed_byte far near x next later ≡ later
 first_of_three far near x next later big = grind arith
@@ -65,7 +65,7 @@ record Ended (far near : ℕ) : Type 0 where
   low : far < 0xE0
   inside : near < 0xC0
 
--- the bytes of a character are turned, whatever stands behind them
+-- the bytes of a character are turned, whatever stands after them
 record AreReversed (far near : ℕ) (bytes rest : List ℕ) : Type 0 where
   last_but_one : ℕ
   last : ℕ

@@ -10,7 +10,7 @@ use Rattle.bidi_base.proofs.TextLemmas.{HasUnits}
 use Rattle.bidi_base.proofs.UnitIndexLemmas.{unit_index-zero, unit_index-more, unit_index-mono, char_index-unit_index}
 use Rattle.bidi_base.proofs.Lists.{map-reverse}
 use Rattle.bidi_lines.proofs.Pieces.{All-between, length-between, get_or-between}
-use Rattle.bidi_lines.specs.Arranged.{NoneIsOdd}
+use Rattle.bidi_lines.specs.ArrangedItems.{NoneIsOdd}
 use Rattle.bidi_lines.proofs.Ordered.{visual_order-still}
 use Rattle.bidi_lines.proofs.VisualRuns.{visual_runs-are}
 use Rattle.std.proofs.Math.Nat.{sub_self}

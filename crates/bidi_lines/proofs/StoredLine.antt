@@ -1,7 +1,7 @@
 -- A line of a text whose stored classes and levels pass the test `is_per_char`, as those of the info types do.
 use Rattle.bidi_base.proofs.Common.{◌≡◌, ℕ, ◌≤◌, List, length, refl, ◌∙◌, arith, IsTrue, slice_range, Range, AnalysedText, line_levels_per_char, has_rtl, levels_of_line, levels_with_line}
 use Rattle.bidi_base.proofs.Common.{char_levels_of_line, char_levels_with_line, text_len, subrange, per_char, is_per_char, IsLine, IsPerChar, AreLevelsOfLine, IsTextOfLine, StaysInOrder}
-use Rattle.bidi_base.specs.Analysed.{AreLevelsWithLine, levels_with_line_per_char}
+use Rattle.bidi_base.specs.AnalysedText.{AreLevelsWithLine, levels_with_line_per_char}
 use Rattle.bidi_base.specs.declared.char_data.BidiClass.{BidiClass}
 use Rattle.bidi_base.proofs.PerUnit.{length-per_char, per_char-per_unit}
 use Rattle.bidi_base.proofs.UnitIndexLemmas.{line_unit_indexes, text_len-subrange}
@@ -9,7 +9,7 @@ use Rattle.bidi_text.proofs.PerCharTests.{class_eq, class_test, level_eq, level_
 use Rattle.bidi_base.proofs.TextLemmas.{HasUnits}
 use Rattle.bidi_base.proofs.UnitsLemmas.{IsPerChar-from_is_per_char, length-from_IsPerChar}
 use Rattle.bidi_lines.proofs.LineInText.{length-part, length-line}
-use Rattle.bidi_lines.specs.Written.{line_units}
+use Rattle.bidi_lines.specs.LineUnits.{line_units}
 use Rattle.bidi_lines.proofs.TextOfLine as line_of
 
 module _ (len_of : ℕ → ℕ) (some : HasUnits len_of) (chars : List ℕ) where

@@ -1,7 +1,7 @@
 -- Parts of a line that stand arranged: seen from a lower level, turned round, and joined.
 use Rattle.bidi_base.proofs.Common.{◌≡◌, ℕ, ◌+◌, ◌-◌, ◌<◌, ◌≤◌, List, length, slice_index, arith, inl, inr, ◌∙◌, rules, IsPermutation, cases_lt, IsPermutation-trans, least_between}
 use Rattle.bidi_laws.proofs.OrderLemmas.{least_between-le}
-use Rattle.bidi_lines.specs.Arranged.{IsEven, IsOdd, IsArranged, AtLeast}
+use Rattle.bidi_lines.specs.ArrangedItems.{IsEven, IsOdd, IsArranged, AtLeast}
 use Rattle.bidi_lines.proofs.Least.{least_between-is}
 
 -- what is arranged above a higher level that no item is below
@@ -52,7 +52,7 @@ arranged-joined levels threshold from at end order new fits all parted before ol
   ];
 }
 
--- the places from `from` to `at` are arranged, and what stands elsewhere is as it was; what follows is above `threshold` only after an item at `threshold`
+-- the places from `from` to `at` are arranged, and what is elsewhere is as it was; what follows is above `threshold` only after an item at `threshold`
 pub record IsArrangedTo (levels : List ℕ) (threshold from : ℕ) (old new : List ℕ) (at : ℕ) : Type 0 where
   pub begins : from ≤ at
   pub ends : at ≤ length levels

@@ -1,6 +1,6 @@
 -- What is stored of a text.
 use Rattle.std.specs.Prelude.{ℕ, List}
-use Rattle.bidi_base.specs.Analysed.{AnalysedText}
+use Rattle.bidi_base.specs.AnalysedText.{AnalysedText}
 use Rattle.bidi_base.specs.Texts.{Encoding, Text}
 use Rattle.bidi_base.specs.declared.char_data.BidiClass.{BidiClass}
 use Rattle.bidi_lines.specs.declared.analysed.Analysed.{Analysed}

@@ -2,7 +2,7 @@
 use Rattle.std.specs.Prelude.{ℕ, List}
 use Rattle.bidi_base.specs.Display.{Run}
 use Rattle.bidi_base.specs.Texts.{Encoding, Text}
-use Rattle.bidi_lines.specs.Written as list
+use Rattle.bidi_lines.specs.LineUnits as list
 
 module _ {e : Encoding} (text : Text e) where
   -- a level run of a line, read in the whole text: an even run as its units, an odd one as its characters, last first
@@ -10,8 +10,8 @@ module _ {e : Encoding} (text : Text e) where
   run_units encode units from levels = list.run_units e.len_of encode text.chars units from levels
 
   -- the runs of a line from left to right (L2), one after the other, from the levels of its units after L1
-  abbrev pub shown_units : {X : Type 0} → (ℕ → List X) → List X → ℕ → List ℕ → List X
-  shown_units encode units start shown = list.shown_units e.len_of encode text.chars units start shown
+  abbrev pub visual_units : {X : Type 0} → (ℕ → List X) → List X → ℕ → List ℕ → List X
+  visual_units encode units start shown = list.visual_units e.len_of encode text.chars units start shown
 
   -- the visual runs of a line cut no character
   abbrev pub AreRunsOfChars : ℕ → List ℕ → Type 0

@@ -2,7 +2,7 @@
 use Rattle.std.specs.Prelude.{◌≡◌, ℕ, false, List}
 use Rattle.bidi_base.specs.Levels.{has_rtl}
 use Rattle.bidi_base.specs.Order.{visual_order, IsVisualOrder, order_by_reversals}
-use Rattle.bidi_base.specs.Places.{indexes}
+use Rattle.bidi_base.specs.Indexes.{indexes}
 
 -- for each place from the left, the index of the item there, from the level of each item after L1
 pub record IsLineOrder (levels items : List ℕ) : Type 0 where

@@ -1,8 +1,8 @@
 -- The units of a text whose characters stand last first, each with its units in their own order.
 use Rattle.std.specs.Prelude.{ℕ, ◌+◌, ◌&&◌, nat_le, nat_lt, if◌then◌else◌, List, ◌∷◌, slice_index_or}
 
--- what stands in the place of a byte when the list is turned round: the byte itself, or the one with which it changes
--- places, which is one or two before or behind it. `far` and `near` stand before it, `next` and `later` behind it
+-- what is in the place of a byte when the list is turned round: the byte itself, or the one with which it changes
+-- places, which is one or two before or after it. `far` and `near` stand before it, `next` and `later` after it
 abbrev pub reversed_byte : ℕ → ℕ → ℕ → ℕ → ℕ → ℕ
 reversed_byte far near byte next later =
     if nat_le 0xE0 byte then later

@@ -1,7 +1,7 @@
 -- What a shown line holds, and which line of a text it shows.
 use Rattle.std.specs.Prelude.{◌≡◌, ℕ, ◌-◌, List, length, take, drop}
 use Rattle.std.specs.declared.ops.Range.{Range}
-use Rattle.bidi_base.specs.Analysed.{AnalysedText, AreLevelsOfLine, IsTextOfLine}
+use Rattle.bidi_base.specs.AnalysedText.{AnalysedText, AreLevelsOfLine, IsTextOfLine}
 use Rattle.bidi_base.specs.Display.{Run}
 use Rattle.bidi_lines.specs.LineRuns as line_runs
 use Rattle.bidi_lines.specs.LineLevels as line_levels

@@ -1,6 +1,6 @@
 //! A text in any encoding, with its stored classes and levels, and what its lines show.
 ghost use Rattle.std.specs.Prelude.{◌≡◌, ◌<◌, IfOk, map};
-ghost use Rattle.bidi_base.specs.Analysed.{IsLineOf, AreLevelsWithLine, AreLevelsOfLine, AreRunsOfLine, levels_with_line_per_char};
+ghost use Rattle.bidi_base.specs.AnalysedText.{IsLineOf, AreLevelsWithLine, AreLevelsOfLine, AreRunsOfLine, levels_with_line_per_char};
 ghost use Rattle.bidi_base.specs.Direction.{direction_of_levels};
 ghost use Rattle.bidi_base.specs.Display.{run_of};
 ghost use Rattle.bidi_base.specs.Levels.{has_rtl as has_rtl_of};
@@ -154,8 +154,8 @@ impl<T: TextSource> Analysed<T> {
     {
         let (start, end) = (line.start, line.end);
         let classes = &self.original_classes()[start..end];
-        let mut shown = LineLevels::new(alloc);
-        shown.show(para_level, classes, &self.levels()[start..end])?;
-        visual_runs_of(alloc, shown.as_slice(), start)
+        let mut after_l1 = LineLevels::new(alloc);
+        after_l1.show(para_level, classes, &self.levels()[start..end])?;
+        visual_runs_of(alloc, after_l1.as_slice(), start)
     }
 }

@@ -10,6 +10,6 @@ pub mod line_levels;
 pub mod line_text;
 pub mod reused_levels;
 pub mod shown_line;
-pub mod stored;
+pub mod lists;
 pub mod visual_order;
 pub mod visual_runs;

@@ -4,13 +4,13 @@ ghost use Rattle.std.specs.Prelude.{◌≡◌, ℕ, ◌+◌, ◌-◌, ◌<◌, �
 ghost use Rattle.bidi_base.specs.Classes.{is_removed, is_separator};
 ghost use Rattle.bidi_base.specs.Levels.{is_odd, has_rtl};
 ghost use Rattle.bidi_base.specs.Line.{is_blank, line_levels, levels_of_line, levels_with_line};
-ghost use Rattle.bidi_base.specs.Places.{class_at};
+ghost use Rattle.bidi_base.specs.Indexes.{class_at};
 ghost use Rattle.bidi_base.specs.Search.{IsFirst};
 ghost use Rattle.bidi_base.specs.Texts.{text_len, per_char};
-ghost use Rattle.bidi_lines.specs.Arranged.{SameBelow, SameFrom};
-ghost use Rattle.bidi_lines.specs.Stops.{is_break, is_break_at};
+ghost use Rattle.bidi_lines.specs.ArrangedItems.{SameBelow, SameFrom};
+ghost use Rattle.bidi_lines.specs.ResetStops.{is_break, is_break_at};
 
-use crate::stored::ClassList;
+use crate::lists::ClassList;
 use bidi_base::char_data::BidiClass;
 use bidi_base::classes::{is_blank, is_removed, is_separator};
 use bidi_base::level::{Level, has_rtl};
@@ -243,9 +243,9 @@ pub fn levels_of_line(
     requires within { line.end ≤ length levels.now }
     ensures { IfOk result (λ v. v.items ≡ levels_of_line para_level classes.now levels.now line.start line.end) }
 {
-    let mut shown = Vec::from_slice(alloc, &levels[line.start..line.end])?;
-    reset_levels(para_level, &classes[line.start..line.end], shown.as_mut_slice());
-    Ok(shown)
+    let mut after_l1 = Vec::from_slice(alloc, &levels[line.start..line.end])?;
+    reset_levels(para_level, &classes[line.start..line.end], after_l1.as_mut_slice());
+    Ok(after_l1)
 }
 
 /// Returns the level of each code unit of a text: after L1 in the line, and as stored outside it.
@@ -264,9 +264,9 @@ pub fn levels_with_line(
     requires within { line.end ≤ length levels.now }
     ensures { IfOk result (λ v. v.items ≡ levels_with_line para_level classes.now levels.now line.start line.end) }
 {
-    let mut shown = Vec::from_slice(alloc, levels)?;
-    reset_line(para_level, classes, shown.as_mut_slice(), line);
-    Ok(shown)
+    let mut after_l1 = Vec::from_slice(alloc, levels)?;
+    reset_line(para_level, classes, after_l1.as_mut_slice(), line);
+    Ok(after_l1)
 }
 
 // Moves the level of each character's first unit to the character's index, and returns the number of characters.
@@ -348,6 +348,6 @@ pub fn levels_per_char<T: TextSource>(
     ensures { IfOk result (λ v. v.items
         ≡ per_char 0 (T.text text) (levels_with_line para_level classes.now levels.now line.start line.end)) }
 {
-    let shown = levels_with_line(alloc, para_level, classes, levels, line)?;
-    Ok(first_units(text, shown))
+    let after_l1 = levels_with_line(alloc, para_level, classes, levels, line)?;
+    Ok(first_units(text, after_l1))
 }

@@ -1,17 +1,17 @@
 //! The text of a line from left to right (L2), written to a slice.
 ghost use Rattle.std.specs.Prelude.{◌≡◌, ℕ, ◌+◌, ◌-◌, ◌<◌, ◌≤◌, List, length, slice_range, reverse, flat_map, map, sum_by, IfOk, IfSome, OnOk, OnErr, IsNone, IsTrue, All, ◌↔◌};
-ghost use Rattle.bidi_base.specs.Analysed.{IsLineOf, StaysInOrder};
+ghost use Rattle.bidi_base.specs.AnalysedText.{IsLineOf, StaysInOrder};
 ghost use Rattle.bidi_base.specs.Display.{run_of};
 ghost use Rattle.bidi_base.specs.Texts.{subrange, IsLine};
 ghost use Rattle.bidi_base.specs.Line.{line_levels};
 ghost use Rattle.bidi_lines.specs.Runs.{StartsInLine};
-ghost use Rattle.bidi_lines.specs.InText.{run_units, shown_units, AreRunsOfChars};
-ghost use Rattle.bidi_lines.specs.Written.{line_units};
+ghost use Rattle.bidi_lines.specs.InText.{run_units, visual_units, AreRunsOfChars};
+ghost use Rattle.bidi_lines.specs.LineUnits.{line_units};
 
 use crate::analysed::Analysed;
 use crate::line_levels::line_has_rtl;
 use crate::reused_levels::LineLevels;
-use crate::stored::{ClassList, LevelList};
+use crate::lists::{ClassList, LevelList};
 use crate::visual_runs::{LineRuns, first_run_end};
 use bidi_base::level::Level;
 use bidi_text::text::TextSource;
@@ -83,7 +83,7 @@ pub fn write_runs<T: LineText>(
 
 // Writes the text of a line from left to right (L2), given its levels after L1. If an allocation fails, writes
 // nothing.
-fn write_shown<T: LineText>(
+fn write_line_units<T: LineText>(
     alloc: Global,
     text: T,
     line: Range<usize>,
@@ -94,7 +94,7 @@ fn write_shown<T: LineText>(
     requires levels { length levels.now + line.start ≡ line.end }
     requires room { length out.old ≡ length levels.now }
     requires runs { AreRunsOfChars (T.text text) line.start levels.now }
-    ensures text { OnOk result (out.new ≡ shown_units (T.text text) T.encode (T.units_of text) line.start levels.now) }
+    ensures text { OnOk result (out.new ≡ visual_units (T.text text) T.encode (T.units_of text) line.start levels.now) }
     ensures kept { OnErr result (out.new ≡ out.old) }
 {
     let start = line.start;
@@ -141,7 +141,7 @@ pub fn write_line<T: LineText, C: ClassList, L: LevelList>(
     requires room { length out.old ≡ length (L.numbers stored.now.levels) }
     requires runs { AreRunsOfChars (T.text text) line.start
         (line_levels stored.now.level (C.classes stored.now.classes) (L.numbers stored.now.levels)) }
-    ensures text { OnOk result (out.new ≡ shown_units (T.text text) T.encode (T.units_of text) line.start
+    ensures text { OnOk result (out.new ≡ visual_units (T.text text) T.encode (T.units_of text) line.start
         (line_levels stored.now.level (C.classes stored.now.classes) (L.numbers stored.now.levels))) }
     ensures kept { OnErr result (out.new ≡ out.old) }
 {
@@ -149,9 +149,9 @@ pub fn write_line<T: LineText, C: ClassList, L: LevelList>(
         text.copy_run(line, out);
         return Ok(());
     }
-    let mut shown = LineLevels::new(alloc);
-    shown.show(stored.level, stored.classes, stored.levels)?;
-    write_shown(alloc, text, line, shown.as_slice(), out)
+    let mut after_l1 = LineLevels::new(alloc);
+    after_l1.show(stored.level, stored.classes, stored.levels)?;
+    write_line_units(alloc, text, line, after_l1.as_slice(), out)
 }
 
 impl<T: LineText> Analysed<T> {

@@ -6,7 +6,7 @@ ghost use Rattle.bidi_base.specs.Line.{line_levels};
 ghost use Rattle.bidi_lines.specs.declared.reused_levels.TheConstants.{FEW_UNITS};
 
 use crate::line_levels::{gather, reset_levels};
-use crate::stored::{ClassList, LevelList};
+use crate::lists::{ClassList, LevelList};
 use bidi_base::level::{LTR_LEVEL, Level};
 use bidi_text::text::TextSource;
 use std::alloc::{AllocError, Global};

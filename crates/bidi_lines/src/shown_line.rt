@@ -1,14 +1,14 @@
 //! A line of a text as it is displayed, in memory that is reused for the next line.
 ghost use Rattle.std.specs.Prelude.{◌≡◌, ℕ, ◌+◌, ◌-◌, ◌≤◌, List, [], ◌++◌, length, take, map, not, IsTrue, OnOk, OnErr, ◌↔◌};
 ghost use Rattle.std.specs.declared.ops.Range.{Range as RangeOf};
-ghost use Rattle.bidi_base.specs.Analysed.{AnalysedText, IsLineOf, AreLevelsOfLine, AreRunsOfLine, StaysInOrder, line_levels_per_char};
+ghost use Rattle.bidi_base.specs.AnalysedText.{AnalysedText, IsLineOf, AreLevelsOfLine, AreRunsOfLine, StaysInOrder, line_levels_per_char};
 ghost use Rattle.bidi_base.specs.Display.{run_of, visual_runs};
 ghost use Rattle.bidi_base.specs.Levels.{has_rtl as has_rtl_of};
 ghost use Rattle.bidi_base.specs.Order.{visual_order};
 ghost use Rattle.bidi_base.specs.Texts.{per_char, text_len, HaveClass, HaveLevel, IsLine};
-ghost use Rattle.bidi_lines.specs.LineRuns.{runs as kept_runs};
-ghost use Rattle.bidi_lines.specs.LineLevels.{levels as kept_levels};
-ghost use Rattle.bidi_lines.specs.InText.{shown_units, AreRunsOfChars};
+ghost use Rattle.bidi_lines.specs.LineRuns.{runs as runs_in};
+ghost use Rattle.bidi_lines.specs.LineLevels.{levels as levels_in};
+ghost use Rattle.bidi_lines.specs.InText.{visual_units, AreRunsOfChars};
 
 use crate::analysed::Analysed;
 use crate::line_levels::write_first_units;
@@ -69,10 +69,10 @@ pub struct ShownLine<T: TextSource> {
     // A buffer for the levels of the line's characters.
     of_chars: Vec<Level>,
     ghost is_line: { IsLine (T.text text) start end },
-    ghost one_a_unit: { end - start ≤ length (kept_levels levels) },
-    ghost runs_of_levels: { kept_runs runs ≡ visual_runs start (take (end - start) (kept_levels levels)) },
-    ghost runs_of_chars: { AreRunsOfChars (T.text text) start (take (end - start) (kept_levels levels)) },
-    ghost of_levels: { has_rtl ≡ has_rtl_of (take (end - start) (kept_levels levels)) },
+    ghost one_a_unit: { end - start ≤ length (levels_in levels) },
+    ghost runs_of_levels: { runs_in runs ≡ visual_runs start (take (end - start) (levels_in levels)) },
+    ghost runs_of_chars: { AreRunsOfChars (T.text text) start (take (end - start) (levels_in levels)) },
+    ghost of_levels: { has_rtl ≡ has_rtl_of (take (end - start) (levels_in levels)) },
 }
 
 impl<T: TextSource> ShownLine<T> {
@@ -218,7 +218,7 @@ impl<T: LineText> ShownLine<T> {
     // Writes the line's code units from left to right.
     fn write_units(&self, out: &mut [T::Unit])
         requires { length out.old ≡ length (levels_of self.now) }
-        ensures { out.new ≡ shown_units (T.text (text_of self.now)) T.encode (T.units_of (text_of self.now))
+        ensures { out.new ≡ visual_units (T.text (text_of self.now)) T.encode (T.units_of (text_of self.now))
             self.now.start (levels_of self.now) }
     {
         if self.has_rtl {
@@ -232,7 +232,7 @@ impl<T: LineText> ShownLine<T> {
     // Appends the line's code units from left to right. `blank` may be any code unit.
     fn push_units(&self, out: &mut Vec<T::Unit>, blank: T::Unit) -> Result<(), AllocError>
         ensures text { OnOk result (out.new.items ≡ out.old.items
-            ++ shown_units (T.text (text_of self.now)) T.encode (T.units_of (text_of self.now))
+            ++ visual_units (T.text (text_of self.now)) T.encode (T.units_of (text_of self.now))
             self.now.start (levels_of self.now)) }
         ensures unchanged { OnErr result (out.new.items ≡ out.old.items) }
     {

@@ -2,12 +2,12 @@
 
 ghost use Rattle.std.specs.Prelude.{◌≡◌, ◌≢◌, ℕ, ◌+◌, ◌<◌, ◌≤◌, ◌==◌, not, nat_le, length, slice_index, IfOk, IsPermutation};
 ghost use Rattle.std.specs.List.{range_with_len};
-ghost use Rattle.bidi_lines.specs.Arranged.{IsArranged, AtLeast, SameBelow, SameFrom};
+ghost use Rattle.bidi_lines.specs.ArrangedItems.{IsArranged, AtLeast, SameBelow, SameFrom};
 ghost use Rattle.bidi_lines.specs.LineOrder.{IsLineOrder};
 ghost use Rattle.bidi_base.specs.Layout.{AreInverse};
-ghost use Rattle.bidi_base.specs.Places.{indexes};
+ghost use Rattle.bidi_base.specs.Indexes.{indexes};
 
-use crate::stored::LevelList;
+use crate::lists::LevelList;
 use bidi_base::level::Level;
 use bidi_base::search::{Tested, first_passing};
 use std::alloc::{AllocError, Global};

@@ -4,7 +4,7 @@ ghost use Rattle.std.specs.Prelude.{◌≡◌, ℕ, ◌∷◌, ◌+◌, ◌<◌,
 ghost use Rattle.bidi_base.specs.Display.{run_of, level_runs, run_level, visual_runs, AreVisualRuns};
 ghost use Rattle.bidi_base.specs.Line.{levels_of_line, levels_with_line};
 ghost use Rattle.bidi_base.specs.Order.{visual_order};
-ghost use Rattle.bidi_base.specs.Places.{at_indexes};
+ghost use Rattle.bidi_base.specs.Indexes.{at_indexes};
 ghost use Rattle.bidi_lines.specs.Runs.{IsFirstRunEnd, StartsInLine};
 
 use crate::line_levels::levels_with_line;
@@ -271,7 +271,7 @@ pub(crate) fn levels_and_runs(
         (levels_of_line para_level classes.now levels.now line.start line.end) (map run_of r.1.items)) }
 {
     let (start, end) = (line.start, line.end);
-    let shown = levels_with_line(alloc, para_level, classes, levels, line)?;
-    let runs = visual_runs_of(alloc, &shown.as_slice()[start..end], start)?;
-    Ok((shown, runs))
+    let after_l1 = levels_with_line(alloc, para_level, classes, levels, line)?;
+    let runs = visual_runs_of(alloc, &after_l1.as_slice()[start..end], start)?;
+    Ok((after_l1, runs))
 }

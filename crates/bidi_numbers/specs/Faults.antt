@@ -32,7 +32,7 @@ abbrev pub answer_of : Result ℕ Fault → ℤ
 answer_of (Ok count) = pos (min count (2 ^ 63 - 1))
 answer_of (Err fault) = code_of fault
 
--- a call whose first fault is the one told, if it has one: it goes well only without a fault, and any refusal
+-- a call whose first fault is the one reported, if it has one: it goes well only without a fault, and any refusal
 -- but for want of memory is that fault
 abbrev pub FaultsAs : {A : Type 0} → Result A Fault → Option Fault → Type 0
-FaultsAs result told = MatchResult result (λ _. told ≡ None) (λ fault. fault ≢ NoMemory → told ≡ Some fault)
+FaultsAs result expected = MatchResult result (λ _. expected ≡ None) (λ fault. fault ≢ NoMemory → expected ≡ Some fault)

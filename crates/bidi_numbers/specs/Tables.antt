@@ -6,8 +6,8 @@ use Rattle.bidi_base.specs.declared.char_data.BidiClass.{BidiClass}
 use Rattle.bidi_base.specs.Source.{Source, table_fault, table_source}
 use Rattle.bidi_numbers.specs.declared.fault.Fault.{Fault}
 use Rattle.bidi_numbers.specs.declared.fault.Fault.TheVariants.{NotScalar, BadClass, BadRanges}
-use Rattle.bidi_numbers.specs.declared.rows.BracketPair.{BracketPair}
-use Rattle.bidi_numbers.specs.declared.rows.ClassRange.{ClassRange}
+use Rattle.bidi_numbers.specs.declared.structs.BracketPair.{BracketPair}
+use Rattle.bidi_numbers.specs.declared.structs.ClassRange.{ClassRange}
 use Rattle.bidi_numbers.specs.Faults.{fault_unless}
 use Rattle.bidi_numbers.specs.Numbers.{class_numbered, is_class}
 use Rattle.bidi_numbers.specs.Texts.{is_scalar}

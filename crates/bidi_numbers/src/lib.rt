@@ -5,6 +5,6 @@
 pub mod class_numbers;
 pub mod fault;
 pub mod numbers;
-pub mod rows;
+pub mod structs;
 pub mod tables;
 pub mod texts;

@@ -8,7 +8,7 @@ ghost use Rattle.bidi_numbers.specs.Tables.{has_scalars, has_brackets, has_class
 
 use crate::fault::{Fault, check};
 use crate::numbers::{CLASSES, class_of};
-use crate::rows::{BracketPair, ClassRange};
+use crate::structs::{BracketPair, ClassRange};
 use crate::texts::{char_of, is_scalar};
 use bidi_base::char_data::BidiClass;
 use bidi_base::data_source::TableBidiData;

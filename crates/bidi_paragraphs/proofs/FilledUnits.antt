@@ -7,7 +7,7 @@ use Rattle.std.proofs.Common.{add-zero}
 use Rattle.bidi_base.specs.declared.char_data.BidiClass.{BidiClass}
 use Rattle.bidi_base.specs.declared.char_data.BidiClass.TheVariants.{L, FSI}
 use Rattle.bidi_base.specs.declared.data_source.BidiMatchedOpeningBracket.{BidiMatchedOpeningBracket}
-use Rattle.bidi_paragraphs.specs.Written.{IsWritten}
+use Rattle.bidi_paragraphs.specs.Updated.{IsWritten}
 use Rattle.bidi_laws.proofs.LevelLaws.{All-per_unit}
 use Rattle.bidi_text.proofs.PerCharTests.{class_eq, class_test, level_eq, level_test}
 use Rattle.bidi_base.proofs.PerUnit.{length-per_char, length-per_unit, get_or-per_char, get_or-per_unit}

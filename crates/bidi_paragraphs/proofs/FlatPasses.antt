@@ -11,8 +11,8 @@ use Rattle.bidi_laws.proofs.StoredSteps.{length-stored_classes}
 use Rattle.bidi_base.proofs.TextLemmas.{HasUnits}
 use Rattle.bidi_laws.proofs.NeutralLemmas.{direction_of-l_or_r}
 use Rattle.bidi_explicit.specs.Joining.{JoinedRuns, characters_of}
-use Rattle.bidi_explicit.specs.RunSequence.{lent_runs, lent_sos, lent_eos, lent_joined}
-use Rattle.bidi_explicit.specs.declared.prepare.lent.LentSequence.{LentSequence}
+use Rattle.bidi_explicit.specs.RunSequence.{borrowed_runs, borrowed_sos, borrowed_eos, borrowed_joined}
+use Rattle.bidi_explicit.specs.declared.prepare.borrowed.BorrowedSequence.{BorrowedSequence}
 use Rattle.bidi_paragraphs.proofs.FilledUnits.{per_unit-replicate}
 use Rattle.bidi_paragraphs.proofs.LevelPasses.{AreResolvedTo, AreResolvedTo-start}
 use Rattle.bidi_paragraphs.proofs.SequencesInPlace.{IsNext, IsNext-at}
@@ -26,10 +26,10 @@ module _ (len_of : ℕ → ℕ) (h : HasUnits len_of) (chars : List ℕ) (source
   abbrev pub whole : JoinedRuns
   whole = record { runs = (0, text_len len_of chars) ∷ []; sos = direction_of para_level; eos = direction_of para_level }
 
-  -- a sequence of it, as code lends it
-  pub lent-whole : (s : LentSequence) (runs : List (Range ℕ)) (end : ℕ) → lent_runs s ≡ runs → runs ≡ record { start = 0; end = end } ∷ [] → end ≡ text_len len_of chars
-      → lent_sos s ≡ direction_of para_level → lent_eos s ≡ direction_of para_level → lent_joined s ≡ whole
-  lent-whole s runs end runs_are is long sos eos = grind arith
+  -- a sequence of it, as code borrows it
+  pub borrowed-whole : (s : BorrowedSequence) (runs : List (Range ℕ)) (end : ℕ) → borrowed_runs s ≡ runs → runs ≡ record { start = 0; end = end } ∷ [] → end ≡ text_len len_of chars
+      → borrowed_sos s ≡ direction_of para_level → borrowed_eos s ≡ direction_of para_level → borrowed_joined s ≡ whole
+  borrowed-whole s runs end runs_are is long sos eos = grind arith
 
   stored_is : stored ≡ source_classes
   stored_is = stored_classes-flat source_classes flat

@@ -22,7 +22,7 @@ use Rattle.bidi_explicit.specs.Links.{begins, sequence_at, sequences_before, lin
 use Rattle.bidi_explicit.specs.declared.prepare.links.RunLinks.{RunLinks}
 use Rattle.bidi_explicit.proofs.LinkedSequences.{IsPart, linked_sequences-part, sequences_before-more, sequences_before-same}
 use Rattle.bidi_paragraphs.proofs.OneLevel.{GiveLevels, KeepLevels}
-use Rattle.bidi_paragraphs.proofs.SequencesInPlace.{IsUnderWay, IsNext, IsWeakNext, IsWeakNext-from, weak_next-resolved, IsUnderWay-more, IsUnderWay-settled, IsUnderWay-start, IsUnderWay-written, kept_before, IsNext-at, AreResolved-all}
+use Rattle.bidi_paragraphs.proofs.SequencesInPlace.{IsUnderWay, IsNext, IsWeakNext, IsWeakNext-from, weak_next-resolved, IsUnderWay-more, IsUnderWay-known, IsUnderWay-start, IsUnderWay-written, kept_before, IsNext-at, AreResolved-all}
 use Rattle.bidi_paragraphs.proofs.SequenceUnits.{at_indexes-map, at_indexes-unit_index, level_at-first, kept_in_place-kept, kept_in_runs-within, stays_elsewhere}
 
 -- two values for each unit
@@ -118,14 +118,14 @@ module _ (len_of : ℕ → ℕ) (h : HasUnits len_of) (chars : List ℕ) (source
       kept_of_units = rw (characters_are, classes_are) (kept_before source_classes brackets stored levels classes seqs (members s) next now.values now.under_way)
 
       -- nothing is to be done
-      pub AreResolvedTo-settled : (unit_levels : List ℕ) → unit_levels ≡ per_unit len_of chars levels
+      pub AreResolvedTo-known : (unit_levels : List ℕ) → unit_levels ≡ per_unit len_of chars levels
           → (let places = map (unit_index len_of chars) (kept_in_place len_of chars units runs) in
           KeepLevels (level_at unit_levels (first_or 0 places)) s.sos s.eos (at_indexes L source_classes ps) (at_indexes None brackets ps) (at_indexes L units places))
           → AreResolvedTo (seqs ++ members s ∷ []) units
-      AreResolvedTo-settled unit_levels levels_is keeps =
+      AreResolvedTo-known unit_levels levels_is keeps =
           let level_is = level_at-first len_of h chars levels unit_levels ps (length-explicit_levels para_level stored ∙ as_long stored refl) levels_is (kept_in_runs-within len_of h chars stored runs) in
           let read = rw (characters_are, classes_are, level_is) at keeps in
-          record { values = now.values; is = now.is; under_way = IsUnderWay-settled source_classes brackets stored levels classes seqs (members s) next now.values now.under_way read }
+          record { values = now.values; is = now.is; under_way = IsUnderWay-known source_classes brackets stored levels classes seqs (members s) next now.values now.under_way read }
 
     -- no more is to be done than to write some classes
     pub AreResolvedTo-written : (old new : List BidiClass) (unit_levels : List ℕ) → AreResolvedTo seqs old → unit_levels ≡ per_unit len_of chars levels

@@ -12,7 +12,7 @@ pub mod ParagraphLaws
 pub mod PutUnits
 pub mod SequenceUnits
 pub mod SequencesInPlace
-pub mod SettledSequences
+pub mod KnownSequenceLevels
 pub mod Skimmed
 pub mod TextRead
 pub mod Undecided

@@ -9,7 +9,7 @@ use Rattle.bidi_laws.proofs.ContextLemmas.{list_all-in_context, list_all-mapped}
 use Rattle.bidi_laws.proofs.ResolvedLemmas.{length-weak_classes}
 use Rattle.bidi_laws.proofs.WeakLemmas.{weak_classes-resolved}
 use Rattle.bidi_paragraphs.proofs.OneLevel.{GiveLevels, all_go, length-neutral_classes, nearest-passes, neutral_classes-is, same_levels}
-use Rattle.bidi_paragraphs.specs.Settled.{is_r_al_or_an, number_as_l, raises}
+use Rattle.bidi_paragraphs.specs.KnownLevels.{is_r_al_or_an, number_as_l, raises}
 
 -- no class but L, European numbers and neutrals
 abbrev may_be_l : BidiClass → Bool

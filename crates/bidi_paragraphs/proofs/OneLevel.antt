@@ -13,7 +13,7 @@ use Rattle.bidi_laws.proofs.NeutralLemmas.{n0-keeps}
 use Rattle.bidi_laws.proofs.OneDirection.{goes_with, itself, either_way}
 use Rattle.bidi_laws.proofs.ResolvedLemmas.{length-n0, length-weak_classes}
 use Rattle.bidi_laws.proofs.WeakLemmas.{weak_classes-resolved}
-use Rattle.bidi_paragraphs.specs.Settled.{raises}
+use Rattle.bidi_paragraphs.specs.KnownLevels.{raises}
 use Rattle.bidi_laws.proofs.KeepsToLemmas.{list_all-around}
 
 same-is : (a b : BidiClass) → is_l_or_r b ≡ true → same_class a b ≡ true → a ≡ b
@@ -51,7 +51,7 @@ module _ (e : BidiClass) (side : is_l_or_r e ≡ true) where
   stays-w1 sos s before NSM after h k = carried-stays (nearest (λ c. not (is_nsm c)) before sos) (nearest-passes stays (λ c. not (is_nsm c)) before sos h s)
   stays-w1 sos s before c after h k = k
 
-  -- behind a class that is no mark, none takes sos
+  -- after a class that is no mark, none takes sos
   nearest-found : (xs : List BidiClass) (d : BidiClass) → list_all stays xs ≡ true → list_any (λ c. not (is_nsm c)) xs ≡ true → stays (nearest (λ c. not (is_nsm c)) xs d) ≡ true
   nearest-found [] d h k = absurd (cc k)
   nearest-found (x ∷ xs) d h k = grind (arith, cases_Bool (is_nsm x), and_parts, nearest-found xs d)

@@ -87,7 +87,7 @@ module _ (len_of : ℕ → ℕ) (h : HasUnits len_of) (chars : List ℕ) where
         later,
       )
 
-  -- a pass that leaves BN and what stands outside some runs changes no other character than theirs
+  -- a pass that leaves BN and what is outside some runs changes no other character than theirs
   pub stays_elsewhere : (stored old new classes classes' : List BidiClass) (runs : List (ℕ × ℕ)) → AreLines len_of chars runs
       → length old ≡ length chars → length new ≡ length chars → classes ≡ per_unit len_of chars old → classes' ≡ per_unit len_of chars new
       → ((p : ℕ) → p < length chars → is_kept_in_place (class_at old p) ≡ is_kept_at stored p)

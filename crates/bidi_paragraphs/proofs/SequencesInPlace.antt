@@ -105,9 +105,9 @@ module _ (source_classes : List BidiClass) (brackets : List (Option BidiMatchedO
     kept_before now h = ap (list_all is_kept) (unchanged now h) ∙ explicit_kept
 
     -- if its levels can be read off them, nothing is to be done
-    pub IsUnderWay-settled : (now : List BidiClass) → IsUnderWay seqs now
+    pub IsUnderWay-known : (now : List BidiClass) → IsUnderWay seqs now
         → KeepLevels (own_level s) s.sos s.eos (at_indexes L source_classes s.places) (at_indexes None brackets s.places) (at_indexes L now s.places) → IsUnderWay (seqs ++ s ∷ []) now
-    IsUnderWay-settled now h keeps =
+    IsUnderWay-known now h keeps =
         let same = ap (λ cs. implicit_levels (own_level s) (neutral_classes (own_level s) s.sos s.eos (at_indexes L source_classes s.places) (at_indexes None brackets s.places) (weak_classes s.sos cs))) (unchanged now h) in
         record { long = h.long; read = h.read; done = HaveLevels-push now seqs s h.done (keeps ∙ same); rest = grind (arith, h.rest, flat_map-append, sum_by-append) }
 

@@ -155,7 +155,7 @@ module _ (source : Source) (len_of : ℕ → ℕ) (stop_classes : BidiClass → 
         let written = AreWritten-push h.read from at stop.c old new after h.written (simp (start, class) at is) in
         record { read = h.read; rest = rest; joined = joined; idle = h.idle; begins = cc start; long = long; class = class; written = rw start written; own_flags = h.own_flags }
 
-    -- what stands from there on does not count
+    -- what is from there on does not count
     pub IsSkimmed-kept : (after : List BidiClass) → take at after ≡ take at new → IsSkimmed source len_of stop_classes coming from at old after was now
     IsSkimmed-kept after kept =
         let written : AreWritten source len_of h.read from at old after = record { long = h.written.long; classes = kept ∙ h.written.classes } in
@@ -310,7 +310,7 @@ module _ (source : Source) (len_of : ℕ → ℕ) (stop_classes : BidiClass → 
       let before = IsSkimmed-part n (omega (arith, here)) classes idle in
       IsStop-char_there source len_of stop_classes _ from (at + n) old new was _ before units chars begins refl (get_or block n 0) 1 (there n here) refl (omega (arith, fits, here)) (classes n here (omega arith))
 
--- ---- the same of ASCII characters, all of them idle
+-- ---- the same of ASCII characters, none of them of a stop class
 
 module _ (source : Source) (len_of : ℕ → ℕ) (stop_classes : BidiClass → Bool) (units : HasUnits len_of) (chars : List ℕ) (from at : ℕ)
     (begins : is_boundary len_of chars from ≡ true) (old new : List BidiClass)

@@ -18,7 +18,7 @@ use Rattle.bidi_paragraphs.specs.declared.first_pass.paragraph_state.ParagraphSt
 use Rattle.bidi_paragraphs.specs.declared.first_pass.TextState.{TextState}
 use Rattle.bidi_paragraphs.specs.declared.first_pass.paragraph_state.Undecided.{Undecided}
 use Rattle.bidi_paragraphs.specs.declared.paragraph_info.ParagraphInfo.{ParagraphInfo}
-use Rattle.bidi_paragraphs.specs.FirstPass.{waiting, depth_after, undecided_after, deciding_after, classes_after, is_decided, stops_at, with_flags, IsFresh, IsReadBy, StopsCounting, IsClosed}
+use Rattle.bidi_paragraphs.specs.FirstPass.{waiting, depth_after, undecided_after, deciding_after, classes_after, is_decided, stops_at, with_flags, IsAtStart, IsReadBy, StopsCounting, IsClosed}
 use Rattle.bidi_paragraphs.specs.ParagraphInfo.{ranges_of, levels_of}
 use Rattle.bidi_paragraphs.specs.ParagraphFlags.{flags_of, paragraph_flags, with_class}
 use Rattle.bidi_base.specs.Paragraphs.{ends_by, ends_after, pieces_by}
@@ -86,8 +86,8 @@ module _ (class : BidiClass) (range : Range ℕ) (k : ℕ) (old : ParagraphState
           let closes = none_closes u us e in
           elim (cases_Bool (is_strong class)) [
             | inl strong ↦
-                let quiet : is_some (waiting old.depth (u ∷ us)) ≡ false = subst (λ vs. is_some (waiting old.depth vs) ≡ false) (sym e) (idle-strong old class idle strong) in
-                simp (opens, closes, strong, quiet)
+                let inert : is_some (waiting old.depth (u ∷ us)) ≡ false = subst (λ vs. is_some (waiting old.depth vs) ≡ false) (sym e) (idle-strong old class idle strong) in
+                simp (opens, closes, strong, inert)
             | inr other ↦ simp (opens, closes, other)
           ]
 
@@ -143,23 +143,23 @@ module _ (source : Source) (len_of : ℕ → ℕ) (chars : List ℕ) where
     pub flags : found.flags ≡ paragraph_flags source done
 
   -- the next paragraph begins
-  pub IsTextRead-fresh : (base_level : Option ℕ) (n : ℕ) (done : List (List ℕ)) (found : Seen) (state : ParagraphState) → IsTextDone base_level n done found
-      → IsFresh state (unit_index len_of chars n) → IsTextRead base_level n done [] found state
-  IsTextRead-fresh base_level n done found state h fresh = record {
+  pub IsTextRead-at_start : (base_level : Option ℕ) (n : ℕ) (done : List (List ℕ)) (found : Seen) (state : ParagraphState) → IsTextDone base_level n done found
+      → IsAtStart state (unit_index len_of chars n) → IsTextRead base_level n done [] found state
+  IsTextRead-at_start base_level n done found state h at_start = record {
     whole = grind (arith, h.whole, append-nil);
     sized = h.sized;
     classes = grind (arith, h.classes, append-nil, stored_classes-nil);
     ranges = h.ranges;
     levels = h.levels;
     flags = h.flags;
-    start = fresh.here ∙ ap (text_len len_of) (sym h.whole);
+    start = at_start.here ∙ ap (text_len len_of) (sym h.whole);
     uncounted = 0;
     decided = λ some. absurd (omega (arith, some));
-    depth = grind (arith, fresh.depth);
-    undecided = simp fresh.undecided refl;
-    counted = rw fresh.undecided (All-nil (λ (u : Undecided). 0 < u.depth));
-    deciding = fresh.deciding ∙ sym deciding_class-nil;
-    own_flags = fresh.own_flags;
+    depth = grind (arith, at_start.depth);
+    undecided = simp at_start.undecided refl;
+    counted = rw at_start.undecided (All-nil (λ (u : Undecided). 0 < u.depth));
+    deciding = at_start.deciding ∙ sym deciding_class-nil;
+    own_flags = at_start.own_flags;
   }
 
   -- the isolates that are open are not counted any more
@@ -356,12 +356,12 @@ module _ (source : Source) (len_of : ℕ → ℕ) (chars : List ℕ) where
     pub read : IsTextRead base_level n done current found state
 
   pub IsRead-start : (rule : Option SplitRule) (base_level : Option ℕ) (found : Seen) (state : ParagraphState)
-      → length found.units ≡ text_len len_of chars → found.paragraphs ≡ [] → found.flags ≡ [] → IsFresh state 0
+      → length found.units ≡ text_len len_of chars → found.paragraphs ≡ [] → found.flags ≡ [] → IsAtStart state 0
       → IsRead rule base_level 0 found state
   unfolding text_classes paragraph_levels paragraph_flags
-  IsRead-start rule base_level found state sized no_paragraphs no_flags fresh =
+  IsRead-start rule base_level found state sized no_paragraphs no_flags at_start =
       let none : IsTextDone base_level 0 [] found = grind arith in
-      let read = IsTextRead-fresh base_level 0 [] found state none fresh in
+      let read = IsTextRead-at_start base_level 0 [] found state none at_start in
       record { done = []; current = []; cut = IsCut-start (ends_after rule source) chars; one = λ e. refl; read = read }
 
   -- the paragraph goes on
@@ -375,11 +375,11 @@ module _ (source : Source) (len_of : ℕ → ℕ) (chars : List ℕ) where
   -- or it ends, and the next one begins
   pub IsRead-stop : (rule : Option SplitRule) (base_level : Option ℕ) (n c : ℕ) (found : Seen) (state : ParagraphState) (closed : Seen) (after : ParagraphState) (h : IsRead rule base_level n found state)
       → drop n chars ≡ c ∷ drop (n + 1) chars
-      → IsTextDone base_level (n + 1) (h.done ++ (h.current ++ c ∷ []) ∷ []) closed → IsFresh after (unit_index len_of chars (n + 1)) → ends_after rule source c (drop (n + 1) chars) ≡ true → IsRead rule base_level (n + 1) closed after
-  IsRead-stop rule base_level n c found state closed after h next ended fresh stop =
+      → IsTextDone base_level (n + 1) (h.done ++ (h.current ++ c ∷ []) ∷ []) closed → IsAtStart after (unit_index len_of chars (n + 1)) → ends_after rule source c (drop (n + 1) chars) ≡ true → IsRead rule base_level (n + 1) closed after
+  IsRead-stop rule base_level n c found state closed after h next ended at_start stop =
       let done = h.done ++ (h.current ++ c ∷ []) ∷ [] in
       let cut = IsCut-stop (ends_after rule source) chars h.done h.current c (drop (n + 1) chars) stop (rw next at h.cut) in
-      let read = IsTextRead-fresh base_level (n + 1) done closed after ended fresh in
+      let read = IsTextRead-at_start base_level (n + 1) done closed after ended at_start in
       record { done = done; current = []; cut = cut; one = λ e. absurd (cc (e, stop)); read = read }
 
   -- at the end of the text, what is left is the last paragraph

@@ -12,7 +12,7 @@ use Rattle.bidi_paragraphs.specs.declared.first_pass.paragraph_state.ParagraphSt
 use Rattle.bidi_paragraphs.specs.declared.paragraph_flags.ParagraphFlags.{ParagraphFlags}
 use Rattle.bidi_base.specs.declared.split_rule.SplitRule.{SplitRule}
 use Rattle.bidi_paragraphs.specs.ParagraphFlags.{with_class, with_classes}
-use Rattle.bidi_paragraphs.specs.FirstPass.{stops_at, with_flags, ahead, AreIdle, AreWritten, IsSkimmed, IsStop}
+use Rattle.bidi_paragraphs.specs.FirstPass.{stops_at, with_flags, ahead, HaveNoStopClass, AreWritten, IsSkimmed, IsStop}
 use Rattle.bidi_paragraphs.proofs.IdleClasses.{idle-separator}
 use Rattle.bidi_paragraphs.proofs.TextRead.{Seen, IsRead, IsRead-on, IsTextRead-idle, drawn-is, ends_after-other, undecided-none}
 
@@ -100,7 +100,7 @@ module _ (source : Source) (len_of : ℕ → ℕ) where
     IsRead-idles : (read rest : List ℕ) (n to : ℕ) (found : Seen) (state : ParagraphState) (drawn : List BidiClass) → IsRead source len_of chars rule base_level n found state → drop n chars ≡ read ++ rest
         → All (λ c. stops_at state (source.class_of c) ≡ false) read → length drawn ≡ length found.units → AreWritten source len_of read (unit_index len_of chars n) to found.units drawn
         → IsRead source len_of chars rule base_level (n + length read) (with_units drawn found) (with_flags state (with_classes state.flags (map source.class_of read))) × (unit_index len_of chars (n + length read) ≡ to)
-    -- (what was written behind the characters that were read does not count)
+    -- (what was written after the characters that were read does not count)
     IsRead-idles [] rest n to found state drawn h next idle long written = grind (arith, add-zero, append-nil)
     IsRead-idles (c ∷ read) rest n to found state drawn h next idle long written =
         let inside : unit_index len_of chars n ≤ length found.units = omega (arith, h.read.sized, unit_index-le len_of chars n) in
@@ -122,7 +122,7 @@ module _ (source : Source) (len_of : ℕ → ℕ) where
       inside : at ≤ length found.units
       inside = omega (arith, h.here, h.read.read.sized, unit_index-le len_of chars h.index)
 
-      on : (read rest : List ℕ) (to : ℕ) → ahead len_of chars at ≡ read ++ rest → AreIdle source (stops_at state) read → AreWritten source len_of read at to found.units drawn
+      on : (read rest : List ℕ) (to : ℕ) → ahead len_of chars at ≡ read ++ rest → HaveNoStopClass source (stops_at state) read → AreWritten source len_of read at to found.units drawn
           → IsRead source len_of chars rule base_level (h.index + length read) (with_units drawn found) (with_flags state (with_classes state.flags (map source.class_of read))) × (unit_index len_of chars (h.index + length read) ≡ to)
       on read rest to joined idle written =
           IsRead-idles read rest h.index to found state drawn h.read (sym ahead_is ∙ joined) idle long (rw h.here at written)

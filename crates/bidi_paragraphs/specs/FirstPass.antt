@@ -5,7 +5,7 @@ use Rattle.std.specs.declared.ops.Range.{Range}
 use Rattle.bidi_base.specs.declared.char_data.BidiClass.{BidiClass}
 use Rattle.bidi_base.specs.Classes.{is_strong, is_isolate_initiator, is_pdi, is_paragraph_separator}
 use Rattle.bidi_base.specs.Isolates.{level_by, resolved_fsi}
-use Rattle.bidi_base.specs.Reading.{innermost, outer, is_fsi, filled}
+use Rattle.bidi_base.specs.OpenIsolates.{innermost, outer, is_fsi, filled}
 use Rattle.bidi_base.specs.Source.{Source}
 use Rattle.bidi_base.specs.Text.{text_len, char_index, is_boundary, per_unit}
 use Rattle.bidi_paragraphs.specs.ClassSet.{has, with}
@@ -77,7 +77,7 @@ abbrev pub with_flags : ParagraphState → ParagraphFlags → ParagraphState
 with_flags r flags = record { start = r.start; depth = r.depth; undecided = r.undecided; deciding = r.deciding; flags = flags }
 
 -- a paragraph of which nothing is read
-pub record IsFresh (r : ParagraphState) (start : ℕ) : Type 0 where
+pub record IsAtStart (r : ParagraphState) (start : ℕ) : Type 0 where
   pub here : r.start ≡ start
   pub depth : r.depth ≡ 0
   pub undecided : r.undecided.items ≡ []
@@ -107,7 +107,7 @@ pub record IsClosed (base_level : Option ℕ) (r : ParagraphState) (end : ℕ) (
   pub levels : levels_of new ≡ levels_of old ++ unwrap_or base_level (level_by r.deciding) ∷ []
   pub flags : new_flags ≡ old_flags ++ r.flags ∷ []
 
--- a character's class was written to each of its units, from `start` on, and what stands before is as it was
+-- a character's class was written to each of its units, from `start` on, and what is before is as it was
 abbrev pub IsPut : (ℕ → ℕ) → ℕ → BidiClass → ℕ → List BidiClass → List BidiClass → Type 0
 IsPut len_of c class start old new = take (start + len_of c) new ≡ take start old ++ replicate (len_of c) class
 
@@ -116,10 +116,10 @@ abbrev pub ahead : (ℕ → ℕ) → List ℕ → ℕ → List ℕ
 ahead len_of chars u = drop (char_index len_of chars u) chars
 
 -- no class of these characters is a stop class
-abbrev pub AreIdle : Source → (BidiClass → Bool) → List ℕ → Type 0
-AreIdle source stop_classes cs = All (λ c. stop_classes (source.class_of c) ≡ false) cs
+abbrev pub HaveNoStopClass : Source → (BidiClass → Bool) → List ℕ → Type 0
+HaveNoStopClass source stop_classes cs = All (λ c. stop_classes (source.class_of c) ≡ false) cs
 
--- from one unit up to another these characters were read: their classes were written, and what stands before is
+-- from one unit up to another these characters were read: their classes were written, and what is before is
 -- as it was
 pub record AreWritten (source : Source) (len_of : ℕ → ℕ) (read : List ℕ) (from to : ℕ) (old new : List BidiClass) : Type 0 where
   pub long : to ≡ from + text_len len_of read
@@ -131,7 +131,7 @@ pub record IsSkimmed (source : Source) (len_of : ℕ → ℕ) (stop_classes : Bi
   pub read : List ℕ
   pub rest : List ℕ
   pub joined : coming ≡ read ++ rest
-  pub idle : AreIdle source stop_classes read
+  pub idle : HaveNoStopClass source stop_classes read
   pub written : AreWritten source len_of read from to old new
   pub own_flags : is ≡ with_classes was (map source.class_of read)
 
@@ -141,7 +141,7 @@ pub record IsStop (source : Source) (len_of : ℕ → ℕ) (stop_classes : BidiC
   pub read : List ℕ
   pub rest : List ℕ
   pub joined : coming ≡ read ++ stop.c ∷ rest
-  pub idle : AreIdle source stop_classes read
+  pub idle : HaveNoStopClass source stop_classes read
   pub begins : stop.start ≡ from + text_len len_of read
   pub long : stop.len ≡ len_of stop.c
   pub class : stop.class ≡ source.class_of stop.c

@@ -4,5 +4,5 @@ pub mod InText
 pub mod Paragraph
 pub mod ParagraphFlags
 pub mod ParagraphInfo
-pub mod Settled
-pub mod Written
+pub mod KnownLevels
+pub mod Updated

@@ -128,8 +128,8 @@ impl ClassSet {
     }
 
     /// Whether some class is in both sets.
-    #[tactic(auto, using(crate::proofs::ClassSets::meets_any))]
-    pub(crate) fn meets(self, other: ClassSet) -> bool
+    #[tactic(auto, using(crate::proofs::ClassSets::intersects_any))]
+    pub(crate) fn intersects(self, other: ClassSet) -> bool
         requires { other.bits < 2 ^ 23 }
         ensures { result ≡ any_of self (has other) }
     {

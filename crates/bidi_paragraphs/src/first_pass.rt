@@ -2,11 +2,11 @@
 //! paragraphs (P1) and their levels (P2, P3).
 ghost use Rattle.std.specs.Prelude.{◌≡◌, ℕ, ◌<◌, ◌≤◌, true, false, None, [], length, drop, OnOk, IfOk};
 ghost use Rattle.bidi_base.specs.declared.char_data.BidiClass.{BidiClass};
-ghost use Rattle.bidi_base.specs.Analysed.{AreParagraphs};
+ghost use Rattle.bidi_base.specs.AnalysedText.{AreParagraphs};
 ghost use Rattle.bidi_base.specs.Paragraphs.{begins_with_line_feed, ends_after, pieces_by};
 ghost use Rattle.bidi_base.specs.Texts.{unit_index, text_len};
 ghost use Rattle.bidi_paragraphs.specs.ClassSet.{has};
-ghost use Rattle.bidi_paragraphs.specs.FirstPass.{classes_after, stops_at, waiting, with_flags, AreWithin, IsClosed, IsFresh, IsReadBy, StopsCounting};
+ghost use Rattle.bidi_paragraphs.specs.FirstPass.{classes_after, stops_at, waiting, with_flags, AreWithin, IsClosed, IsAtStart, IsReadBy, StopsCounting};
 ghost use Rattle.bidi_paragraphs.specs.InText.{CanRead, IsReadOn, HasReadSome};
 ghost use Rattle.bidi_paragraphs.specs.declared.first_pass.paragraph_state.ParagraphState.{ParagraphState};
 ghost use Rattle.bidi_paragraphs.specs.ParagraphInfo.{ranges_of, levels_of};
@@ -74,7 +74,7 @@ impl TextState {
     // Starts before the text. The paragraphs reuse the memory of earlier ones.
     fn new(base_level: Option<Level>, memory: FoundParagraphs) -> TextState
         ensures base { result.base_level ≡ base_level }
-        ensures state { IsFresh result.state 0 }
+        ensures state { IsAtStart result.state 0 }
         ensures paragraphs { result.paragraphs.items ≡ [] }
         ensures flags { result.flags.items ≡ [] }
     {
@@ -128,7 +128,7 @@ impl TextState {
             × (self.new.paragraphs.items ≡ self.old.paragraphs.items)
             × (self.new.flags.items ≡ self.old.flags.items)) }
         ensures ended { OnOk result (ends ≡ true
-            → IsFresh self.new.state units.end
+            → IsAtStart self.new.state units.end
             × ((r : ParagraphState) × IsReadBy class units self.old.state r
             × IsClosed self.old.base_level r units.end self.old.paragraphs.items self.old.flags.items
             self.new.paragraphs.items self.new.flags.items)) }

@@ -10,4 +10,4 @@ pub mod first_pass;
 pub mod paragraph_flags;
 pub mod paragraph_info;
 pub mod paragraph_levels;
-mod settled;
+mod known_levels;

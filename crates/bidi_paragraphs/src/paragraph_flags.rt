@@ -2,7 +2,7 @@
 ghost use Rattle.std.specs.Prelude.{◌≡◌, ◌||◌, not};
 ghost use Rattle.bidi_base.specs.Classes.{is_isolate_initiator, is_opener, is_removed};
 ghost use Rattle.bidi_base.specs.Direction.{may_turn};
-ghost use Rattle.bidi_base.specs.Flat.{may_leave};
+ghost use Rattle.bidi_base.specs.WithoutOpeners.{may_leave};
 ghost use Rattle.bidi_base.specs.declared.char_data.BidiClass.{BidiClass};
 ghost use Rattle.bidi_paragraphs.specs.ClassSet.{any_of, has};
 ghost use Rattle.bidi_paragraphs.specs.ParagraphFlags.{is_missing, with_class, with_set};
@@ -67,21 +67,21 @@ impl ParagraphFlags {
     pub fn is_pure_ltr(self) -> bool
         ensures { result ≡ not (any_of self.seen may_turn) }
     {
-        !self.seen.meets(ClassSet::TURNING_EVEN)
+        !self.seen.intersects(ClassSet::TURNING_EVEN)
     }
 
     /// Returns whether some character is an isolate initiator.
     pub(crate) fn has_isolates(self) -> bool
         ensures { result ≡ any_of self.seen is_isolate_initiator }
     {
-        self.seen.meets(ClassSet::INITIATORS)
+        self.seen.intersects(ClassSet::INITIATORS)
     }
 
     /// Returns whether no character begins an embedding or an isolate.
     pub(crate) fn is_flat(self) -> bool
         ensures { result ≡ not (any_of self.seen is_opener) }
     {
-        !self.seen.meets(ClassSet::OPENERS)
+        !self.seen.intersects(ClassSet::OPENERS)
     }
 
     /// Returns whether no character can give the paragraph a level other than this one, if it is the
@@ -94,13 +94,13 @@ impl ParagraphFlags {
         } else {
             ClassSet::TURNING_EVEN
         };
-        !self.seen.meets(turning)
+        !self.seen.intersects(turning)
     }
 
     /// Returns whether X9 removes some character.
     pub(crate) fn has_removed(self) -> bool
         ensures { result ≡ any_of self.seen is_removed }
     {
-        self.seen.meets(ClassSet::REMOVED)
+        self.seen.intersects(ClassSet::REMOVED)
     }
 }

@@ -3,7 +3,7 @@
 ghost use Rattle.std.specs.Prelude.{◌≡◌, ℕ, ◌+◌, ◌<◌, ◌≤◌, true, false, length, map, slice_index, All, OnOk};
 ghost use Rattle.bidi_base.specs.declared.char_data.BidiClass.TheVariants.{L};
 ghost use Rattle.bidi_base.specs.Explicit.{explicit_levels, processing_classes};
-ghost use Rattle.bidi_base.specs.Flat.{is_flat, hidden};
+ghost use Rattle.bidi_base.specs.WithoutOpeners.{is_flat, hidden};
 ghost use Rattle.bidi_base.specs.Classes.{is_removed};
 ghost use Rattle.bidi_base.specs.Isolates.{stored_classes};
 ghost use Rattle.bidi_base.specs.Sequences.{is_kept_at, sequences};
@@ -11,23 +11,23 @@ ghost use Rattle.bidi_base.specs.Stored.{levels_in};
 ghost use Rattle.bidi_base.specs.Texts.{per_char, per_unit, text_len, AreLines};
 ghost use Rattle.bidi_explicit.specs.InText.{sequences_of};
 ghost use Rattle.bidi_explicit.specs.Links.{linked_runs, linked_sequences, AreLinked};
-ghost use Rattle.bidi_paragraphs.specs.Written.{IsWritten};
+ghost use Rattle.bidi_paragraphs.specs.Updated.{IsWritten};
 ghost use Rattle.bidi_paragraphs.specs.ParagraphFlags.{flags_of};
 
 use crate::paragraph_flags::ParagraphFlags;
-use crate::settled::{is_settled, settle_numbers};
+use crate::known_levels::{has_known_levels, write_l_over_numbers};
 use bidi_base::char_data::BidiClass;
 use bidi_base::classes::is_removed;
 use bidi_base::data_source::BidiDataSource;
 use bidi_base::level::Level;
 use bidi_base::search::{Among, ClassTest, first_passing};
 use bidi_base::steps::Steps;
-use bidi_explicit::explicit::{Paragraph, Stride, find_levels_counted};
+use bidi_explicit::explicit::{Paragraph, StepUnit, find_levels_counted};
 use bidi_rules::implicit::{
-    NeutralResolver, resolve_levels, resolve_up_to_n1, resolve_weak_lent_counted,
+    NeutralResolver, resolve_levels, resolve_up_to_n1, resolve_weak_borrowed_counted,
 };
 use bidi_rules::leveled_text::LeveledText;
-use bidi_rules::prepare::{LentSequence, LevelRunVec, RunLinks};
+use bidi_rules::prepare::{BorrowedSequence, LevelRunVec, RunLinks};
 use bidi_text::text::TextSource;
 use smallvec::SmallVec;
 use std::alloc::{AllocError, Global};
@@ -119,7 +119,7 @@ impl LevelResolver {
         let stored = Paragraph::new(
             paragraph.text,
             paragraph.level,
-            Stride::CodeUnit,
+            StepUnit::CodeUnit,
             original_classes,
         );
         let classes = self.classes.as_mut_slice();
@@ -174,8 +174,8 @@ impl LevelResolver {
         let classes = self.classes.as_mut_slice();
         let runs = [0..classes.len()];
         let side = paragraph.level.bidi_class();
-        let sequence = LentSequence::new(&runs, side, side);
-        resolve_weak_lent_counted(paragraph.text, sequence, classes, steps);
+        let sequence = BorrowedSequence::new(&runs, side, side);
+        resolve_weak_borrowed_counted(paragraph.text, sequence, classes, steps);
         let leveled = LeveledText {
             text: paragraph.text,
             original_classes: paragraph.original_classes,
@@ -209,13 +209,13 @@ impl LevelResolver {
         let classes = self.classes.as_mut_slice();
         for first in 0..links.run_count() {
             if let Some(found) = links.gather(runs, first)? {
-                let sequence = found.lend(runs.as_slice());
-                if is_settled(sequence, levels, classes)
-                    || settle_numbers(sequence, levels, classes)
+                let sequence = found.borrowed(runs.as_slice());
+                if has_known_levels(sequence, levels, classes)
+                    || write_l_over_numbers(sequence, levels, classes)
                 {
                     continue;
                 }
-                resolve_weak_lent_counted(paragraph.text, sequence, classes, steps);
+                resolve_weak_borrowed_counted(paragraph.text, sequence, classes, steps);
                 let leveled = LeveledText {
                     text: paragraph.text,
                     original_classes: paragraph.original_classes,

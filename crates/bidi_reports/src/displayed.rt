@@ -2,7 +2,7 @@
 ghost use Rattle.std.specs.Prelude.{◌≡◌, ◌<◌, IfOk, OnOk};
 ghost use Rattle.bidi_base.specs.Paragraphs.{paragraphs_in};
 ghost use Rattle.bidi_terminal.specs.Bases.{level_of_base};
-ghost use Rattle.bidi_reports.specs.Shown.{paragraph_with, telling_base, displayed_paragraph, displayed_around, displayed_for};
+ghost use Rattle.bidi_reports.specs.DisplayedPart.{paragraph_with, telling_base, displayed_paragraph, displayed_around, displayed_for};
 
 use crate::words::is_about_line;
 use bidi_base::data_source::BidiDataSource;
@@ -84,7 +84,7 @@ impl Displayed {
     }
 
     // Displays the paragraph around the character at an index of a line.
-    #[tactic(auto, unfolding(crate::specs::Shown::displayed_around))]
+    #[tactic(auto, unfolding(crate::specs::DisplayedPart::displayed_around))]
     fn display_around<D: BidiDataSource>(
         &mut self,
         alloc: Global,

@@ -79,7 +79,7 @@ fn part_end(len: usize, place: usize) -> usize
     start + MOST_SHOWN.min(len - start)
 }
 
-// Appends what stands for characters that are left out.
+// Appends what is for characters that are left out.
 fn push_dots(out: &mut String, left_out: bool) -> Result<(), AllocError>
     ensures { OnOk result (string_bytes out.new ≡ string_bytes out.old ++ dots left_out) }
 {

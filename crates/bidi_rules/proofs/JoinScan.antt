@@ -9,20 +9,20 @@ use Rattle.bidi_laws.proofs.NeutralStretches.{n1_n2-neutrals, n1_n2-directed, n1
 use Rattle.bidi_laws.proofs.StoredLemmas.{at_indexes-append, length-at_indexes}
 use Rattle.bidi_rules.specs.JoinPass.{side_before, Unjoined, IsJoined}
 use Rattle.bidi_rules.specs.PairPass.{opposite_of}
-use Rattle.bidi_explicit.specs.Written.{is_seen, IsWrittenOver}
+use Rattle.bidi_explicit.specs.SequenceUnits.{is_seen, IsWrittenOver}
 use Rattle.bidi_explicit.proofs.Marks.{marked, marked-parts, at_marked-same, at_marked-all}
 
 -- ---- classes
 
 -- what does not stand for the opposite direction stands for the embedding one, or is a neutral
-quiet : (e c : BidiClass) → is_l_or_r e ≡ true → (is_weak_resolved c && not (stands_for (opposite_of e) c)) ≡ true → (as_direction c ≡ Some e) ⊎ (is_ni c ≡ true)
-quiet e c s h = grind arith
+inert : (e c : BidiClass) → is_l_or_r e ≡ true → (is_weak_resolved c && not (stands_for (opposite_of e) c)) ≡ true → (as_direction c ≡ Some e) ⊎ (is_ni c ≡ true)
+inert e c s h = grind arith
 
 pub opposite-directed : (e c : BidiClass) → stands_for (opposite_of e) c ≡ true → as_direction c ≡ Some (opposite_of e)
 opposite-directed e c n = grind arith
 
-pub settled-opposite : (e : BidiClass) → n2_rule e (opposite_of e) ≡ opposite_of e
-settled-opposite e = grind arith
+pub n2-opposite : (e : BidiClass) → n2_rule e (opposite_of e) ≡ opposite_of e
+n2-opposite e = grind arith
 
 -- ---- lists of classes
 
@@ -30,8 +30,8 @@ module _ (e eos : BidiClass) (side : is_l_or_r e ≡ true) where
   abbrev o : BidiClass
   o = opposite_of e
 
-  abbrev is_quiet : BidiClass → Bool
-  is_quiet c = is_weak_resolved c && not (stands_for o c)
+  abbrev is_inert : BidiClass → Bool
+  is_inert c = is_weak_resolved c && not (stands_for o c)
 
   same_e : (x : BidiClass) → common e e x ≡ e
   same_e x = grind arith steps 400000
@@ -42,18 +42,18 @@ module _ (e eos : BidiClass) (side : is_l_or_r e ≡ true) where
   common_opposite : common e o o ≡ o
   common_opposite = grind arith
 
-  map-settled : (cs : List BidiClass) → list_all is_ni cs ≡ true → map (n2_rule e) cs ≡ replicate (length cs) e
-  map-settled [] h = refl
-  map-settled (c ∷ cs) h = grind (arith, map-settled cs)
+  map-n2 : (cs : List BidiClass) → list_all is_ni cs ≡ true → map (n2_rule e) cs ≡ replicate (length cs) e
+  map-n2 [] h = refl
+  map-n2 (c ∷ cs) h = grind (arith, map-n2 cs)
 
   map-opposite : (n : ℕ) → map (n2_rule e) (replicate n o) ≡ replicate n o
   map-opposite zero = refl
-  map-opposite (suc n) = simp (settled-opposite e, map-opposite n)
+  map-opposite (suc n) = simp (n2-opposite e, map-opposite n)
 
-  -- behind the embedding direction, up to the next class for the opposite one
-  quiet-rest : (cs rest : List BidiClass) → list_all is_quiet cs ≡ true → n1_n2 e e eos (cs ++ rest) ≡ map (n2_rule e) cs ++ n1_n2 e e eos rest
-  quiet-rest [] rest h = refl
-  quiet-rest (c ∷ cs) rest h = grind (arith, quiet e c side, quiet-rest cs rest, n1_n2-directed e e e eos c (cs ++ rest), n1_n2-neutrals e e eos (c ∷ []) (cs ++ rest), same_e)
+  -- after the embedding direction, up to the next class for the opposite one
+  inert-rest : (cs rest : List BidiClass) → list_all is_inert cs ≡ true → n1_n2 e e eos (cs ++ rest) ≡ map (n2_rule e) cs ++ n1_n2 e e eos rest
+  inert-rest [] rest h = refl
+  inert-rest (c ∷ cs) rest h = grind (arith, inert e c side, inert-rest cs rest, n1_n2-directed e e e eos c (cs ++ rest), n1_n2-neutrals e e eos (c ∷ []) (cs ++ rest), same_e)
 
   near : (d c : BidiClass) (rest : List BidiClass) → as_direction c ≡ Some d → nearest_direction eos (c ∷ rest) ≡ d
   near d c rest is = grind arith steps 400000
@@ -61,7 +61,7 @@ module _ (e eos : BidiClass) (side : is_l_or_r e ≡ true) where
   -- neutrals that waited, before the embedding direction
   turned : (cs rest : List BidiClass) (c : BidiClass) → list_all is_ni cs ≡ true → as_direction c ≡ Some e → n1_n2 e o eos (cs ++ c ∷ rest) ≡ map (n2_rule e) cs ++ n1_n2 e e eos (c ∷ rest)
   turned cs rest c h is =
-      simp (n1_n2-neutrals e o eos cs (c ∷ rest) h, near e c rest is, common_apart, map-settled cs h, n1_n2-directed e o e eos c rest is, n1_n2-directed e e e eos c rest is)
+      simp (n1_n2-neutrals e o eos cs (c ∷ rest) h, near e c rest is, common_apart, map-n2 cs h, n1_n2-directed e o e eos c rest is, n1_n2-directed e e e eos c rest is)
 
   -- neutrals between two of the opposite direction
   between_two : (cs rest : List BidiClass) (c : BidiClass) → list_all is_ni cs ≡ true → as_direction c ≡ Some o
@@ -137,17 +137,17 @@ module _ (s : Unjoined) where
   waited : (now : List BidiClass) (waits : Bool) (done at : ℕ) → IsJoined s now waits done at → list_all is_ni (at_old done at) ≡ true
   waited now waits done at j = at_marked-each mark is_ni s.old done at j.waiting
 
-  -- behind the embedding direction: units that don't stand for the opposite one
-  pub IsJoined-quiet : (now : List BidiClass) (done at to : ℕ) → at ≤ to → to ≤ size
+  -- after the embedding direction: units that don't stand for the opposite one
+  pub IsJoined-inert : (now : List BidiClass) (done at to : ℕ) → at ≤ to → to ≤ size
       → ((k : ℕ) → at ≤ k → k < to → stands_for against (class_at s.old k) ≡ false) → IsJoined s now false done at → IsJoined s now false to to
-  IsJoined-quiet now done at to upto fits none j =
+  IsJoined-inert now done at to upto fits none j =
       read now false false done at to (omega (arith, j.order)) fits j
       (ap (n1_n2 e e s.eos) (split s.old done to size (omega (arith, j.order)) fits)
-      ∙ quiet-rest e s.eos s.side (at_old done to) (at_old to size)
+      ∙ inert-rest e s.eos s.side (at_old done to) (at_old to size)
       (at_marked-each mark (λ c. is_weak_resolved c && not (stands_for against c)) s.old done to
       (λ k from below is. grind (arith, s.resolved k is, cases_lt k at, j.waiting k from, none k))))
 
-  -- the class at hand, and those behind it
+  -- the class at hand, and those after it
   first_at : (at : ℕ) → at < size → mark at ≡ true → at_old at size ≡ class_at s.old at ∷ at_old (at + 1) size
   first_at at fits is = grind arith
 
@@ -172,10 +172,10 @@ module _ (s : Unjoined) where
   row-written now new from to w = grind (arith, at_marked-same, at_marked-all, length-at_indexes, map-opposite)
 
   -- the opposite direction comes, and is written to what waits
-  pub IsJoined-settled : (now new : List BidiClass) (done at : ℕ) → at < size → in_runs s.runs at ≡ true
+  pub IsJoined-decided : (now new : List BidiClass) (done at : ℕ) → at < size → in_runs s.runs at ≡ true
       → as_direction (class_at s.old at) ≡ Some against → IsWrittenOver mark against done at now new → IsJoined s now true done at
       → IsJoined s new true at at
-  IsJoined-settled now new done at fits inside is w j =
+  IsJoined-decided now new done at fits inside is w j =
       let first = first_at at fits (seen-directed at against inside is) in
       let between = between_two e s.eos s.side (at_old done at) (at_old (at + 1) size) (class_at s.old at) (waited now true done at j) is in
       let row = row-written now new done at w in
@@ -208,11 +208,11 @@ module _ (s : Unjoined) where
   none-left = grind arith steps 400000
 
   -- nothing waits
-  pub finished-quiet : (now : List BidiClass) (done : ℕ) → IsJoined s now false done size → done_with now size ≡ goal
-  finished-quiet now done j =
-      simp (none-left, append-nil) at (IsJoined-quiet now done size size (omega arith) (omega arith) (λ k a b. absurd (omega arith)) j).written
+  pub finished-inert : (now : List BidiClass) (done : ℕ) → IsJoined s now false done size → done_with now size ≡ goal
+  finished-inert now done j =
+      simp (none-left, append-nil) at (IsJoined-inert now done size size (omega arith) (omega arith) (λ k a b. absurd (omega arith)) j).written
 
-  -- the embedding direction stands behind what waits
+  -- the embedding direction stands after what waits
   pub finished-embedding : (now : List BidiClass) (done : ℕ) → s.eos ≡ e → IsJoined s now true done size → done_with now size ≡ goal
   finished-embedding now done is j =
       let wait = waited now true done size j in
@@ -220,7 +220,7 @@ module _ (s : Unjoined) where
         arith,
         n1_n2-last e against s.eos (at_old done size) wait,
         common_apart e s.eos s.side,
-        map-settled e s.eos s.side,
+        map-n2 e s.eos s.side,
       ) in
       simp (done-more now done size j.order, at_marked-same mark now s.old done size (λ k from below seen. j.unwritten k from), ← step, j.written)
 

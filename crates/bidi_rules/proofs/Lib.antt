@@ -12,7 +12,7 @@ pub mod OneDirection
 mod PairPlaces
 mod PairSteps
 mod RowLemmas
-mod Settled
+mod ResolvedUnits
 mod ListedUnitIndexes
 mod UnitBrackets
 mod WeakMarks

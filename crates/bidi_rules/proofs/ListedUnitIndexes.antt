@@ -10,7 +10,7 @@ use Rattle.bidi_laws.proofs.StoredLemmas.{length-at_indexes}
 use Rattle.bidi_base.proofs.TextLemmas.{HasUnits}
 use Rattle.bidi_rules.specs.NeutralPass.{values_of}
 use Rattle.bidi_rules.specs.PairPass.{unit_index_at}
-use Rattle.bidi_explicit.specs.Written.{is_seen}
+use Rattle.bidi_explicit.specs.SequenceUnits.{is_seen}
 use Rattle.bidi_explicit.proofs.InRuns.{in_run, in_run-true}
 use Rattle.bidi_rules.proofs.KeptRuns.{kept_in_place-Ascends}
 use Rattle.bidi_rules.proofs.NeutralUnits.{places_in_runs, all_pass}
@@ -73,7 +73,7 @@ module _ (len_of : ℕ → ℕ) (h : HasUnits len_of) (chars : List ℕ) (old : 
   rises : Ascends 0 ks (length chars)
   rises = kept_in_place-Ascends len_of h chars old runs lines ordered
 
-  -- the unit at which the k-th begins, and the one behind it
+  -- the unit at which the k-th begins, and the one after it
   abbrev at : ℕ → ℕ
   at k = unit_index_at len_of chars ks k
 

@@ -29,7 +29,7 @@ module _ (runs : List (Range ℕ)) (i : ℕ) (here : i < length runs) where
   pub every-more : (P : ℕ → Type 0) → ((k : ℕ) → in_runs (take i rs) k ≡ true → P k) → ((k : ℕ) → r.start ≤ k → k < r.end → P k) → (k : ℕ) → in_runs (take (i + 1) rs) k ≡ true → P k
   every-more P before new k inside = grind (arith, common_steps, ends)
 
-  -- the same of those behind
+  -- the same of those after
   pub every-later : (P : ℕ → Type 0) → ((k : ℕ) → in_runs (drop (i + 1) rs) k ≡ true → P k) → ((k : ℕ) → r.start ≤ k → k < r.end → P k) → (k : ℕ) → in_runs (drop i rs) k ≡ true → P k
   every-later P behind new k inside = grind (arith, drop_more, fit, begins, ends)
 

@@ -18,12 +18,12 @@ use Rattle.bidi_base.proofs.TextLemmas.{HasUnits, is_boundary-le}
 use Rattle.bidi_base.proofs.UnitsLemmas.{IsPerChar-from_is_per_char, is_per_char-from_IsPerChar, length-from_IsPerChar}
 use Rattle.bidi_laws.proofs.RepeatedRules.{n1_n2-per_unit}
 use Rattle.bidi_laws.proofs.ResolvedLemmas.{length-n0}
-use Rattle.bidi_explicit.specs.declared.prepare.lent.LentSequence.{LentSequence}
+use Rattle.bidi_explicit.specs.declared.prepare.borrowed.BorrowedSequence.{BorrowedSequence}
 use Rattle.bidi_rules.specs.NeutralPass.{values_of, pairs_in, IsPaired, IsReady}
-use Rattle.bidi_explicit.specs.Written.{seen_units}
+use Rattle.bidi_explicit.specs.SequenceUnits.{seen_units}
 use Rattle.bidi_rules.specs.PairPass.{opposite_of}
-use Rattle.bidi_explicit.specs.RunSequence.{lent_runs, lent_sos, lent_eos}
-use Rattle.bidi_explicit.specs.Written.{is_seen}
+use Rattle.bidi_explicit.specs.RunSequence.{borrowed_runs, borrowed_sos, borrowed_eos}
+use Rattle.bidi_explicit.specs.SequenceUnits.{is_seen}
 use Rattle.bidi_rules.proofs.FirstKept.{first_kept-is, first-Some, first-None}
 use Rattle.bidi_explicit.proofs.SeenUnits.{kept_in_place-alike, ruled-places, ruled-IsPerChar, seen-every}
 use Rattle.bidi_explicit.proofs.Marks.{at_marked-changed}
@@ -34,14 +34,14 @@ use Rattle.bidi_explicit.proofs.WalkLemmas.{is_run_sequence-ordered}
 use Rattle.std.proofs.Math.ListN.{get_or-map as get_or-mapped}
 
 pub IsReady-sequence : (len_of : ℕ → ℕ) → HasUnits len_of
-    → (chars : List ℕ) (sequence : LentSequence) (runs : List (Range ℕ)) (sos : BidiClass) (old : List BidiClass) → runs ≡ lent_runs sequence
-    → sos ≡ lent_sos sequence
-    → is_per_char class_eq len_of chars old ≡ true → AreLines len_of chars (map bounds (lent_runs sequence))
-    → list_all is_weak_resolved (values_of L len_of chars old (kept_in_place len_of chars old (map bounds (lent_runs sequence)))) ≡ true → IsReady len_of chars runs sos old
+    → (chars : List ℕ) (sequence : BorrowedSequence) (runs : List (Range ℕ)) (sos : BidiClass) (old : List BidiClass) → runs ≡ borrowed_runs sequence
+    → sos ≡ borrowed_sos sequence
+    → is_per_char class_eq len_of chars old ≡ true → AreLines len_of chars (map bounds (borrowed_runs sequence))
+    → list_all is_weak_resolved (values_of L len_of chars old (kept_in_place len_of chars old (map bounds (borrowed_runs sequence)))) ≡ true → IsReady len_of chars runs sos old
 IsReady-sequence len_of h chars sequence runs sos old runs_is sos_is per lines resolved =
     grind (arith, is_run_sequence-ordered, IsPerChar-from_is_per_char, class_eq, class_test, and_parts)
 
-pub eos-side : (sequence : LentSequence) (eos : BidiClass) → eos ≡ lent_eos sequence → is_l_or_r eos ≡ true
+pub eos-side : (sequence : BorrowedSequence) (eos : BidiClass) → eos ≡ borrowed_eos sequence → is_l_or_r eos ≡ true
 eos-side sequence eos is = grind (arith, and_parts)
 
 module _ (len_of : ℕ → ℕ) (h : HasUnits len_of) (chars : List ℕ) (runs : List (Range ℕ)) (sos : BidiClass) (old : List BidiClass) (ready : IsReady len_of chars runs sos old) where
@@ -136,14 +136,14 @@ module _ (len_of : ℕ → ℕ) (h : HasUnits len_of) (chars : List ℕ) (source
       (joined : map (n2_rule e) (at_indexes L new (seen_units rs mid)) ≡ n1_n2 e sos eos (at_indexes L mid (seen_units rs mid)))
       (others : (u : ℕ) → is_seen rs mid u ≡ false → class_at new u ≡ class_at mid u) (own : (u : ℕ) → (class_at new u ≡ class_at mid u) ⊎ (class_at new u ≡ opposite_of e)) where
     -- with N2
-    abbrev settled : List BidiClass
-    settled = at_marks (is_seen rs mid) (n2_rule e) new
+    abbrev after_n2 : List BidiClass
+    after_n2 = at_marks (is_seen rs mid) (n2_rule e) new
 
-    directed : at_indexes L settled (seen_units rs mid) ≡ n1_n2 e sos eos (at_indexes L mid (seen_units rs mid))
-    directed = at_marked-changed (is_seen rs mid) (n2_rule e) settled new 0 (length mid) (λ u from below seen. simp (at_marks-at (is_seen rs mid) (n2_rule e) refl new u, seen)) ∙ joined
+    directed : at_indexes L after_n2 (seen_units rs mid) ≡ n1_n2 e sos eos (at_indexes L mid (seen_units rs mid))
+    directed = at_marked-changed (is_seen rs mid) (n2_rule e) after_n2 new 0 (length mid) (λ u from below seen. simp (at_marks-at (is_seen rs mid) (n2_rule e) refl new u, seen)) ∙ joined
 
-    settled-others : (u : ℕ) → is_seen rs mid u ≡ false → class_at settled u ≡ class_at mid u
-    settled-others u plain = simp (at_marks-at (is_seen rs mid) (n2_rule e) refl new u, plain, others u plain)
+    after_n2-others : (u : ℕ) → is_seen rs mid u ≡ false → class_at after_n2 u ≡ class_at mid u
+    after_n2-others u plain = simp (at_marks-at (is_seen rs mid) (n2_rule e) refl new u, plain, others u plain)
 
     rule_keeps : (cs : List BidiClass) → length (n1_n2 e sos eos cs) ≡ length cs
     rule_keeps cs = length-in_context (n1_rule e sos eos) [] cs
@@ -154,9 +154,9 @@ module _ (len_of : ℕ → ℕ) (h : HasUnits len_of) (chars : List ℕ) (source
     unseen : (u : ℕ) → is_seen rs old u ≡ false → class_at new u ≡ class_at old u
     unseen u plain = others u (same_seen u ∙ plain) ∙ p.others u plain
 
-    settled-IsPerChar : IsPerChar len_of chars settled
-    settled-IsPerChar =
-        ruled-IsPerChar len_of h chars mid p.per_char rs ready.lines ready.ordered mid-within (n1_n2 e sos eos) rule_keeps rule_commutes settled directed (length-at_marks (is_seen rs mid) (n2_rule e) new ∙ long) settled-others
+    after_n2-IsPerChar : IsPerChar len_of chars after_n2
+    after_n2-IsPerChar =
+        ruled-IsPerChar len_of h chars mid p.per_char rs ready.lines ready.ordered mid-within (n1_n2 e sos eos) rule_keeps rule_commutes after_n2 directed (length-at_marks (is_seen rs mid) (n2_rule e) new ∙ long) after_n2-others
 
     even : (k : ℕ) → k < length chars → (u : ℕ) → unit_index len_of chars k ≤ u → u < unit_index len_of chars (k + 1) → class_at new u ≡ class_at new (unit_index len_of chars k)
     even k fits u from below =
@@ -164,9 +164,9 @@ module _ (len_of : ℕ → ℕ) (h : HasUnits len_of) (chars : List ℕ) (source
         let same : class_at mid u ≡ class_at mid first = alike_class len_of h chars mid p.per_char k u fits from below in
         let alike : is_seen rs mid u ≡ is_seen rs mid first = simp (in_runs-alike len_of h chars rs ready.lines k u from below, same) in
         let answer = at_marks-at (is_seen rs mid) (n2_rule e) refl new in
-        let settled_same = alike_class len_of h chars settled settled-IsPerChar k u fits from below in
+        let after_n2_same = alike_class len_of h chars after_n2 after_n2-IsPerChar k u fits from below in
         let either = same_from e (class_at mid u) (class_at mid first) (class_at new u) (class_at new first) side same (own u) (own first) in
-        grind (arith, cases_Bool (is_seen rs mid first), answer u, answer first, settled_same, either, others u, others first)
+        grind (arith, cases_Bool (is_seen rs mid first), answer u, answer first, after_n2_same, either, others u, others first)
 
     -- N1 over the units then
     pub IsUpToN1-paired : (levels : List ℕ) (first : ℕ) → Some first ≡ find (λ u. is_kept_in_place (class_at old u)) (units_in_runs rs)
@@ -194,7 +194,7 @@ IsUpToN1-none len_of h chars source levels original_classes old runs sos eos rea
     grind (arith, neutral_classes-none, none-read len_of h chars runs sos old ready found, is_per_char-from_IsPerChar class_eq class_test len_of chars old ready.per_char)
 
 -- at the sequence itself
-pub IsUpToN1-sequence : (len_of : ℕ → ℕ) (chars : List ℕ) (source : Source) (levels : List ℕ) (original_classes old new : List BidiClass) (sequence : LentSequence) (runs : List (Range ℕ)) (sos eos : BidiClass)
-    → runs ≡ lent_runs sequence
-    → sos ≡ lent_sos sequence → eos ≡ lent_eos sequence → IsUpToN1 len_of chars source levels original_classes old new runs sos eos → IsUpToN1 len_of chars source levels original_classes old new (lent_runs sequence) (lent_sos sequence) (lent_eos sequence)
+pub IsUpToN1-sequence : (len_of : ℕ → ℕ) (chars : List ℕ) (source : Source) (levels : List ℕ) (original_classes old new : List BidiClass) (sequence : BorrowedSequence) (runs : List (Range ℕ)) (sos eos : BidiClass)
+    → runs ≡ borrowed_runs sequence
+    → sos ≡ borrowed_sos sequence → eos ≡ borrowed_eos sequence → IsUpToN1 len_of chars source levels original_classes old new runs sos eos → IsUpToN1 len_of chars source levels original_classes old new (borrowed_runs sequence) (borrowed_sos sequence) (borrowed_eos sequence)
 IsUpToN1-sequence len_of chars source levels original_classes old new sequence runs sos eos runs_are sos_is eos_is r = grind arith steps 400000

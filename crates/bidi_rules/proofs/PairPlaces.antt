@@ -89,7 +89,7 @@ module _ (len_of : ℕ → ℕ) (h : HasUnits len_of) (chars : List ℕ) (runs :
 
   -- ---- what a search forwards finds
 
-  -- the first place behind the i-th character that stands for a direction is one at which a character begins
+  -- the first place after the i-th character that stands for a direction is one at which a character begins
   pub first-unit_index_at : (d : BidiClass) (i to r : ℕ) → i < length ks → IsFirstFor d rs now (ends i) to r → r < to → (x : ℕ) × (x < length ks) × (i < x) × (r ≡ at x)
   first-unit_index_at d i to r fits f less =
       let found = f.at less in

@@ -1,4 +1,4 @@
--- N0 over units, one pair after another: what is known ahead, and what a bracket and the marks behind it take.
+-- N0 over units, one pair after another: what is known ahead, and what a bracket and the marks after it take.
 use Rattle.bidi_base.proofs.Common.{◌≡◌, ℕ, suc, ◌+◌, ◌<◌, ◌≤◌, Bool, true, false, ◌&&◌, ◌||◌, cond, eqb, ltb, List, [], ◌∷◌, length, map, get_or, take, reverse, Option, Some, None, refl, sym, ap}
 use Rattle.bidi_base.proofs.Common.{◌∙◌, arith, inl, inr, eq-eqb, ne_eqb, length-take, get_or-take, get_or-drop, list_all, list_any, Range, cases_Bool, cases_lt, and_parts, and_from, get_or-map}
 use Rattle.bidi_base.proofs.Common.{length-map, fill_by_all, AreNestedPairs, has_direction, is_kept_in_place, is_l_or_r, is_nsm, stands_for, is_mark_after, n0_pair, nearest_direction}
@@ -12,10 +12,10 @@ use Rattle.bidi_base.proofs.BracketRules.{with_bracket, n0_pair-Some, n0_pair-No
 use Rattle.bidi_laws.proofs.NeutralLemmas.{pair_direction-l_or_r}
 use Rattle.bidi_laws.proofs.PairChanges.{goes_with_pair-within, is_mark_after-before, is_mark_after-stopped, n0_pair-elsewhere}
 use Rattle.bidi_rules.specs.NeutralPass.{values_of, IsPaired, IsReady}
-use Rattle.bidi_rules.specs.PairPass.{at_unit_indexes, opposite_of, unit_index_at, IsAsked, IsFirstFor, IsMarksEnd, IsSet, IsTaken}
+use Rattle.bidi_rules.specs.PairPass.{at_unit_indexes, opposite_of, unit_index_at, IsSearched, IsFirstFor, IsMarksEnd, IsSet, IsTaken}
 use Rattle.bidi_rules.specs.declared.neutral.pairs.Pair.{Pair}
 use Rattle.bidi_rules.specs.declared.neutral.pairs.PairPass.{PairPass}
-use Rattle.bidi_explicit.specs.Written.{is_seen, IsWrittenOver}
+use Rattle.bidi_explicit.specs.SequenceUnits.{is_seen, IsWrittenOver}
 use Rattle.bidi_rules.proofs.ListedUnitIndexes.{length-values_of, behind, index-within, owner, unit_index_at-in, unit_index_at-behind, behind-unit_index_at, unit_index_at-rises, unit_index_at-upto, unit_index_at-lower, unit_index_at-seen, class-at}
 use Rattle.bidi_rules.proofs.PairPlaces.{pair_at, opens_upto, first-unit_index_at, between, looked-between, context-is}
 use Rattle.bidi_explicit.proofs.PassOverText.{IsPerChar-alike, alike_class, in_runs-alike}
@@ -76,7 +76,7 @@ module _ (len_of : ℕ → ℕ) (h : HasUnits len_of) (chars : List ℕ) (origin
   -- ---- what is known ahead
 
   module _ (pairs : List (ℕ × ℕ)) (nested : AreNestedPairs (length ks) pairs) (d : BidiClass) where
-    -- within each pair from the one at k on, the first class that stands for the direction is the one at the unit `next`, or behind it; pairs that open at a mark are left out
+    -- within each pair from the one at k on, the first class that stands for the direction is the one at the unit `next`, or after it; pairs that open at a mark are left out
     pub record Foresees (cs : List BidiClass) (k next : ℕ) : Type 0 where
       pub ahead : (m : ℕ) → k ≤ m → m < length pairs → is_nsm (class_at sources (pair_at pairs m).0) ≡ false → (x : ℕ)
           → (pair_at pairs m).0 < x → x < (pair_at pairs m).1 → at x ≤ next → stands_for d (class_at cs x) ≡ eqb (at x) next
@@ -110,9 +110,9 @@ module _ (len_of : ℕ → ℕ) (h : HasUnits len_of) (chars : List ℕ) (origin
       inside : (k : ℕ) → k < length ks → in_runs rs (at k) ≡ true
       inside k fits = (and_parts (in_runs rs (at k)) (is_kept_in_place (class_at old (at k))) (seen-unit_index_at k fits)).0
 
-      -- looked for from behind the opening at k
-      pub Foresees-asked : (k to next : ℕ) → k < length pairs → to ≡ length now → IsFirstFor d rs now (ends (pair_at pairs k).0) to next → Foresees (classes now) k next
-      Foresees-asked k to next fits to_is f =
+      -- looked for from after the opening at k
+      pub Foresees-searched : (k to next : ℕ) → k < length pairs → to ≡ length now → IsFirstFor d rs now (ends (pair_at pairs k).0) to next → Foresees (classes now) k next
+      Foresees-searched k to next fits to_is f =
           let first = nested.0 k (0, 0) fits in
           record {
             ahead = λ m from inside_m none x after before upto.
@@ -127,7 +127,7 @@ module _ (len_of : ℕ → ℕ) (h : HasUnits len_of) (chars : List ℕ) (origin
                 (w.0, w.1, w.3);
           }
 
-      -- what stands between the brackets of the pair at k
+      -- what is between the brackets of the pair at k
       pub Foresees-between : (k next : ℕ) → k < length pairs → Foresees (classes now) k next → is_nsm (class_at sources (pair_at pairs k).0) ≡ false → at (pair_at pairs k).0 < next
           → ltb next (at (pair_at pairs k).1) ≡ list_any (stands_for d) (slice_range (classes now) ((pair_at pairs k).0 + 1) (pair_at pairs k).1)
       Foresees-between k next fits f none beyond =
@@ -143,7 +143,7 @@ module _ (len_of : ℕ → ℕ) (h : HasUnits len_of) (chars : List ℕ) (origin
           let before : w.0 < j = lower w.0 j (omega (arith, w.2)) in
           (w.0, after, before, f.ahead k (omega arith) fits none w.0 after before (omega (arith, w.2)) ∙ eq-eqb (at w.0) next (sym w.2)))
 
-  -- ---- what a bracket and the marks behind it take
+  -- ---- what a bracket and the marks after it take
 
   module _ (now new : List BidiClass) (per : IsPerChar len_of chars now)
       (kept : (u : ℕ) → is_kept_in_place (class_at now u) ≡ is_kept_in_place (class_at old u)) (d : BidiClass) (side : is_l_or_r d ≡ true)
@@ -316,14 +316,14 @@ module _ (len_of : ℕ → ℕ) (h : HasUnits len_of) (chars : List ℕ) (origin
 
     -- one question answered
     answered : (d : BidiClass) (known next : ℕ) (answer : Bool) → Foresees len_of h chars original_classes runs sos old ready pairs nested d (cs_of now) k known
-        → IsAsked d (map bounds runs) now pair known next answer
+        → IsSearched d (map bounds runs) now pair known next answer
         → (answer ≡ list_any (stands_for d) (slice_range (cs_of now) (i + 1) j)) × Foresees len_of h chars original_classes runs sos old ready pairs nested d (cs_of now) k next
     answered d known next answer f a = elim (cases_Bool pair.is_marked) [
       | inl yes' ↦ grind (arith, a.looked yes', looked-between len_of h chars runs sos old ready now w.done.per_char w.done.kept d i j, within)
       | inr no' ↦
           let next_is : Foresees len_of h chars original_classes runs sos old ready pairs nested d (cs_of now) k next × (spots i < next) = elim (cases_lt (spots i) known) [
             | inl known' ↦ grind (arith, a.kept no' known')
-            | inr past ↦ let s = a.sought no' past in grind (arith, s, Foresees-asked len_of h chars original_classes runs sos old ready pairs nested d now w.done.per_char w.done.kept k (length now) next fits refl s, unit_index_at-behind len_of h chars old (map bounds runs) ready.lines ready.ordered i, within, opens, now-size)
+            | inr past ↦ let s = a.sought no' past in grind (arith, s, Foresees-searched len_of h chars original_classes runs sos old ready pairs nested d now w.done.per_char w.done.kept k (length now) next fits refl s, unit_index_at-behind len_of h chars old (map bounds runs) ready.lines ready.ordered i, within, opens, now-size)
           ] in
           grind (arith, a.ahead no', next_is, Foresees-between len_of h chars original_classes runs sos old ready pairs nested d now w.done.per_char w.done.kept k next fits)
     ]
@@ -337,14 +337,14 @@ module _ (len_of : ℕ → ℕ) (h : HasUnits len_of) (chars : List ℕ) (origin
     pub IsAnswered-taken : (taken : Option BidiClass) → IsTaken sos (map bounds runs) now pair walk new_walk taken → IsAnswered taken
     IsAnswered-taken taken t =
         let part = slice_range (cs_of now) (i + 1) j in
-        let first = answered e walk.embedding.unit new_walk.embedding.unit t.embedding w.embedding (simp w.embedding_is at t.asked) in
+        let first = answered e walk.embedding.unit new_walk.embedding.unit t.embedding w.embedding (simp w.embedding_is at t.searched) in
         let context = nearest_direction sos (reverse (take i (cs_of now))) in
         let tests : (b : Bool) → b ≡ list_any has_direction part → pair_direction e sos (cs_of now) (pair_at pairs k) ≡ cond t.embedding (Some e) (cond b (Some context) None) =
         λ b is. pair_direction-tests e sos (cs_of now) (pair_at pairs k) t.embedding b first.0 is in
         elim (cases_Bool t.embedding) [
           | inl yes' ↦ grind (arith, t.is, tests (list_any has_direction part) refl, w.embedding_is, first.1, t.idle yes', w.opposite)
           | inr no' ↦
-              let second = answered (opposite_of e) walk.opposite.unit new_walk.opposite.unit t.opposite w.opposite (simp w.opposite_is at (t.asked_opposite no')) in
+              let second = answered (opposite_of e) walk.opposite.unit new_walk.opposite.unit t.opposite w.opposite (simp w.opposite_is at (t.searched_opposite no')) in
               let some : t.opposite ≡ list_any has_direction part = second.0 ∙ sym (others-any e part side (sym first.0 ∙ no')) in
               record {
                 direction = simp (t.is, tests t.opposite some, no') (grind (arith, context-is len_of h chars runs sos old ready now w.done.per_char w.done.kept i t.context (let x = within in omega (arith, x.0, x.1)), t.nearest no'));

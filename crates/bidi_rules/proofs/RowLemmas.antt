@@ -5,13 +5,13 @@ use Rattle.bidi_base.proofs.UnitIndexLemmas.{unit_index-mono, unit_index-more}
 use Rattle.bidi_base.proofs.TextLemmas.{HasUnits}
 use Rattle.bidi_rules.specs.PairPass.{IsRow, IsSet, IsSetUpTo}
 use Rattle.bidi_rules.specs.declared.neutral.pairs.Row.{Row}
-use Rattle.bidi_explicit.specs.Written.{is_seen}
+use Rattle.bidi_explicit.specs.SequenceUnits.{is_seen}
 
 module _ (len_of : ℕ → ℕ) (chars : List ℕ) (runs : List (ℕ × ℕ)) (original_classes : List BidiClass) where
   pub IsRow-none : (classes : List BidiClass) (d : BidiClass) → IsRow len_of chars runs original_classes classes (record { from = 0; end = 0; direction = d })
   IsRow-none classes d = grind arith
 
-  -- what stands in the row is written as it is to be
+  -- what is in the row is written as it is to be
   pub IsSet-held : HasUnits len_of → (classes : List BidiClass) (row : Row) (b k : ℕ) (d : BidiClass)
       → IsRow len_of chars runs original_classes classes row → row.from ≤ b → b < row.end → row.direction ≡ d → k < length chars → b ≡ unit_index len_of chars k
       → IsSet len_of chars runs original_classes d b (k + 1) classes classes

@@ -31,7 +31,7 @@ module _ (len_of : ℕ → ℕ) (chars : List ℕ) (source : Source) (classes : 
       → unit_brackets len_of chars source classes low high ≡ unit_brackets len_of chars source classes low mid ++ unit_brackets len_of chars source classes mid high
   unit_brackets-parts low mid high a b = ap (flat_map at_unit) (between-append low mid high a b) ∙ flat_map-append at_unit (between low mid) (between mid high)
 
-  -- one more unit, and those behind it that have none
+  -- one more unit, and those after it that have none
   pub unit_brackets-more : (low at next : ℕ) → low ≤ at → at < next → ((u : ℕ) → at + 1 ≤ u → u < next → same_class ON (class_at classes u) ≡ false)
       → unit_brackets len_of chars source classes low next ≡ unit_brackets len_of chars source classes low at ++ at_unit at
   unit_brackets-more low at next a b none =

@@ -8,8 +8,8 @@ use Rattle.bidi_base.specs.declared.char_data.BidiClass.{BidiClass}
 use Rattle.bidi_base.specs.declared.char_data.BidiClass.TheVariants.{L}
 use Rattle.bidi_laws.proofs.StoredLemmas.{at_indexes-append}
 use Rattle.bidi_rules.specs.WeakPass.{marked, after_w1}
-use Rattle.bidi_rules.specs.WeakWalk.{part_of, is_any, is_any_of, wide_part_of, is_any_wide, AreMarked, IsMarked}
-use Rattle.bidi_explicit.specs.Written.{is_seen, seen_from, seen_units}
+use Rattle.bidi_rules.specs.WeakWalk.{part_of, is_any, is_any_of, blocks_of, is_any_in_blocks, AreMarked, IsMarked}
+use Rattle.bidi_explicit.specs.SequenceUnits.{is_seen, seen_from, seen_units}
 use Rattle.bidi_rules.proofs.FoldAny.{fold_any}
 use Rattle.bidi_explicit.proofs.InRuns.{in_run-true, start_or, start_within, gap_before, gap_after, next_start}
 use Rattle.bidi_explicit.proofs.Marks.{marked-parts, marked-empty, marked-one, at_marked-same}
@@ -95,7 +95,7 @@ module _ (runs : List (ℕ × ℕ)) (sos : BidiClass) (old : List BidiClass) whe
             (λ k from below. let same : k ≡ u = omega arith in and_right (in_runs runs k) (is_kept_in_place (class_at old k)) (ap (λ (j : ℕ). is_kept_in_place (class_at old j)) same ∙ sym (ap is_kept_in_place read) ∙ gone))))
       ])
 
-  -- over the runs, one behind another
+  -- over the runs, one after another
   module _ (ordered : are_ordered runs ≡ true) (within : All (λ (r : ℕ × ℕ). r.1 ≤ length old) runs) where
     pub AreMarked-first_run : is_kept_in_place sos ≡ true → AreMarked runs sos old old sos (start_or runs 0 (length old))
     AreMarked-first_run kept =
@@ -130,10 +130,10 @@ pub is_any-none : (test : BidiClass → Bool) (runs : List (Range ℕ)) (classes
     → test (class_at classes u) ≡ false
 is_any-none test runs classes within none = none_in part_of test classes (λ r u fits from below none. grind (arith, in_part)) runs within none
 
-pub is_any_wide-none : (test : BidiClass → Bool) (runs : List (Range ℕ)) (classes : List BidiClass)
-    → All (λ r. r.1 ≤ length classes) (map bounds runs) → is_any_wide test runs classes ≡ false → (u : ℕ) → in_runs (map bounds runs) u ≡ true
+pub is_any_in_blocks-none : (test : BidiClass → Bool) (runs : List (Range ℕ)) (classes : List BidiClass)
+    → All (λ r. r.1 ≤ length classes) (map bounds runs) → is_any_in_blocks test runs classes ≡ false → (u : ℕ) → in_runs (map bounds runs) u ≡ true
     → test (class_at classes u) ≡ false
-is_any_wide-none test runs classes within none = none_in wide_part_of test classes (λ r u fits from below none. grind (arith, in_part)) runs within none
+is_any_in_blocks-none test runs classes within none = none_in blocks_of test classes (λ r u fits from below none. grind (arith, in_part)) runs within none
 
 -- so of the units that are seen
 pub All-seen : (P : ℕ → Type 0) (runs : List (ℕ × ℕ)) (classes : List BidiClass) → ((u : ℕ) → in_runs runs u ≡ true → P u) → All P (seen_units runs classes)

@@ -1,4 +1,4 @@
--- The weak passes over the units of a text: what stands at the characters once all are done.
+-- The weak passes over the units of a text: what is at the characters once all are done.
 use Rattle.bidi_base.proofs.Common.{◌≡◌, ℕ, zero, suc, ◌+◌, ◌-◌, ◌<◌, ◌≤◌, Bool, true, false, List, [], length, map, get_or, refl, sym, ap, ◌∙◌, arith, inl, inr, All, filter, range_with_len}
 use Rattle.bidi_base.proofs.Common.{cases_Bool, cases_eq, and_parts, and_left, and_right, length-map, is_kept_in_place, at_indexes, class_at, carried, w1_rule, w1, weak_classes, unit_index, per_unit}
 use Rattle.bidi_base.proofs.Common.{IsLine, IsPerChar, are_ordered, in_runs, kept_in_place, units_in_runs, AreLines, AreWeakTypesResolved}
@@ -16,7 +16,7 @@ use Rattle.bidi_laws.proofs.RepeatedRules.{w1-per_unit}
 use Rattle.bidi_rules.specs.declared.weak.before.Before.TheVariants.{Other}
 use Rattle.bidi_rules.specs.WeakPass.{left_over}
 use Rattle.bidi_rules.specs.WeakWalk.{len_at, IsWhole, IsMarked, IsWalked}
-use Rattle.bidi_explicit.specs.Written.{is_seen, seen_units}
+use Rattle.bidi_explicit.specs.SequenceUnits.{is_seen, seen_units}
 use Rattle.bidi_explicit.proofs.PassOverText.{alike_class, char_at-inside}
 use Rattle.bidi_explicit.proofs.SeenUnits.{seen_units-is, ruled-places, ruled-IsPerChar, answered-IsPerChar}
 use Rattle.bidi_rules.proofs.WeakPassLemmas.{after_w1-is, weak_classes-pass}
@@ -49,7 +49,7 @@ module _ (len_of : ℕ → ℕ) (h : HasUnits len_of) (chars : List ℕ) where
         | inr later ↦ grind (arith, char_at-inside)
       ]
 
--- ---- the passes, one behind another
+-- ---- the passes, one after another
 
 -- a class that is changed by itself where a unit is marked
 at_marked-map : (f : BidiClass → BidiClass) (mark : ℕ → Bool) (xs ys : List BidiClass) (low n : ℕ)

@@ -8,11 +8,11 @@ use Rattle.bidi_laws.proofs.RepeatedPlaces.{AreIndexes, units_of_chars}
 use Rattle.bidi_base.proofs.TextLemmas.{HasUnits}
 use Rattle.bidi_rules.specs.declared.weak.before.Before.{Before}
 use Rattle.bidi_rules.specs.declared.weak.before.Before.TheVariants.{Other, Terminators}
-use Rattle.bidi_rules.specs.WeakPass.{strengthened, strong_up_to, after_w3, waits, joins, next_before, settled, resolved, w7_by, is_after_l, after_w7, left_over, is_number, still_to_come, walked}
+use Rattle.bidi_rules.specs.WeakPass.{strengthened, strong_up_to, after_w3, waits, joins, next_before, waiting_becomes, resolved, w7_by, is_after_l, after_w7, left_over, is_number, still_to_come, walked}
 use Rattle.bidi_rules.proofs.WeakPassLemmas.{replicate-onto}
 
 -- reading a second unit of a class that need not wait changes nothing
-record IsSteady (c strong : BidiClass) (before : Before) : Type 0 where
+record IsRepeating (c strong : BidiClass) (before : Before) : Type 0 where
   now : strong_up_to (strong_up_to strong c) c ≡ strong_up_to strong c
   apart : joins (strengthened (strong_up_to strong c) c) (next_before (strengthened strong c) before) ≡ false
   next : next_before (strengthened (strong_up_to strong c) c) (next_before (strengthened strong c) before) ≡ next_before (strengthened strong c) before
@@ -52,17 +52,17 @@ module _ (class : ℕ → BidiClass) (len : ℕ → ℕ) where
         → walked class len strong before 0 n (range_with_len a m ++ us) ≡ walked class len now next 0 (n + m) us
     row-joins m n a us each h = grind (arith, joined)
 
-    decided : IsSteady c strong before → waits next ≡ false → (m a : ℕ) (us : List ℕ) → ((k : ℕ) → a ≤ k → k < a + m → class k ≡ c)
+    decided : IsRepeating c strong before → waits next ≡ false → (m a : ℕ) (us : List ℕ) → ((k : ℕ) → a ≤ k → k < a + m → class k ≡ c)
         → walked class len now next 0 0 (range_with_len a m ++ us) ≡ replicate m own ++ walked class len now next 0 0 us
     decided s free zero a us each = refl
     decided s free (suc m) a us each = grind (arith, s, each a, decided s free m (a + 1) us)
 
     pub row-waits : (m n a : ℕ) (us : List ℕ) → ((k : ℕ) → a ≤ k → k < a + suc m → class k ≡ c) → joins z before ≡ false → waits next ≡ true → still_to_come next (len a) ≡ still_to_come next (suc m)
-        → walked class len strong before 0 n (range_with_len a (suc m) ++ us) ≡ replicate n (w7_by (is_l strong) (settled z before)) ++ walked class len now next 0 (suc m) us
+        → walked class len strong before 0 n (range_with_len a (suc m) ++ us) ≡ replicate n (w7_by (is_l strong) (waiting_becomes z before)) ++ walked class len now next 0 (suc m) us
     row-waits m n a us each apart wait count = grind (arith, held_rest)
 
     pub row-decides : (m n a : ℕ) (us : List ℕ) → ((k : ℕ) → a ≤ k → k < a + suc m → class k ≡ c) → joins z before ≡ false → waits next ≡ false
-        → walked class len strong before 0 n (range_with_len a (suc m) ++ us) ≡ replicate n (w7_by (is_l strong) (settled z before)) ++ (replicate (suc m) own ++ walked class len now next 0 0 us)
+        → walked class len strong before 0 n (range_with_len a (suc m) ++ us) ≡ replicate n (w7_by (is_l strong) (waiting_becomes z before)) ++ (replicate (suc m) own ++ walked class len now next 0 0 us)
     row-decides m n a us each apart free = grind (arith, decided)
 
 -- ---- where no number stands, each class changes by itself
@@ -75,7 +75,7 @@ is_idle _ = false
 record IsPlain (c strong : BidiClass) (before : Before) : Type 0 where
   next : is_idle (next_before (strengthened strong c) before) ≡ true
   none : (n : ℕ) → still_to_come (next_before (strengthened strong c) before) n ≡ 0
-  held : w7_by (is_l strong) (settled (strengthened strong c) before) ≡ ON
+  held : w7_by (is_l strong) (waiting_becomes (strengthened strong c) before) ≡ ON
   joined : joins (strengthened strong c) before ≡ true → left_over c ≡ ON
   waiting : waits (next_before (strengthened strong c) before) ≡ true → left_over c ≡ ON
   own : waits (next_before (strengthened strong c) before) ≡ false → w7_by (is_l strong) (resolved (strengthened strong c) before) ≡ left_over c
@@ -136,7 +136,7 @@ module _ (len_of : ℕ → ℕ) (h : HasUnits len_of) (chars : List ℕ) (classe
       let next = next_before z before in
       let now = strong_up_to strong c in
       let own = w7_by (is_l strong) (resolved z before) in
-      let v = w7_by (is_l strong) (settled z before) in
+      let v = w7_by (is_l strong) (waiting_becomes z before) in
       let zs = after_w3 now (at_indexes L classes (map (unit_index len_of chars) ks)) in
       let left = left-next strong c in
       let each : (u : ℕ) → a ≤ u → u < a + suc m → class_at classes u ≡ c =

@@ -5,7 +5,7 @@ use Rattle.bidi_base.specs.declared.brackets.Bracket.{Bracket}
 use Rattle.bidi_base.specs.declared.char_data.BidiClass.{BidiClass}
 use Rattle.bidi_base.specs.Source.{Source}
 use Rattle.bidi_base.specs.Texts.{Encoding, Text}
-use Rattle.bidi_explicit.specs.declared.prepare.lent.LentSequence.{LentSequence}
+use Rattle.bidi_explicit.specs.declared.prepare.borrowed.BorrowedSequence.{BorrowedSequence}
 use Rattle.bidi_rules.specs.NeutralPass as neutral
 use Rattle.bidi_rules.specs.PairPass as pairs
 use Rattle.bidi_rules.specs.WeakWalk as weak
@@ -20,13 +20,13 @@ module _ {e : Encoding} (text : Text e) where
   len_at = weak.len_at e.len_of text.chars
 
   -- how many characters a sequence has
-  abbrev pub char_count_of : LentSequence → ℕ
+  abbrev pub char_count_of : BorrowedSequence → ℕ
   char_count_of sequence = weak.char_count_of e.len_of text.chars sequence
 
-  abbrev pub CanResolveWeak : LentSequence → List BidiClass → Type 0
+  abbrev pub CanResolveWeak : BorrowedSequence → List BidiClass → Type 0
   CanResolveWeak sequence old = weak.CanResolveWeak e.len_of text.chars sequence old
 
-  abbrev pub IsWeakResolved : LentSequence → List BidiClass → List BidiClass → Type 0
+  abbrev pub IsWeakResolved : BorrowedSequence → List BidiClass → List BidiClass → Type 0
   IsWeakResolved sequence old new = weak.IsWeakResolved e.len_of text.chars sequence old new
 
   -- ---- N0

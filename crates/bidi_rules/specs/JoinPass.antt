@@ -4,10 +4,10 @@ use Rattle.bidi_base.specs.declared.char_data.BidiClass.{BidiClass}
 use Rattle.bidi_base.specs.declared.char_data.BidiClass.TheVariants.{L}
 use Rattle.bidi_base.specs.Classes.{is_l_or_r, is_ni, is_weak_resolved, stands_for}
 use Rattle.bidi_base.specs.Neutral.{n1_n2, n2_rule}
-use Rattle.bidi_base.specs.Places.{at_indexes, between, class_at}
+use Rattle.bidi_base.specs.Indexes.{at_indexes, between, class_at}
 use Rattle.bidi_base.specs.Units.{are_ordered, in_runs}
 use Rattle.bidi_rules.specs.PairPass.{opposite_of}
-use Rattle.bidi_explicit.specs.Written.{is_seen}
+use Rattle.bidi_explicit.specs.SequenceUnits.{is_seen}
 use Rattle.bidi_rules.specs.declared.neutral.directions.Join.{Join}
 
 -- a sequence whose brackets are done

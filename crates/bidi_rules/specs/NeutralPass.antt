@@ -7,7 +7,7 @@ use Rattle.std.specs.declared.ops.Range.{Range}
 use Rattle.bidi_base.specs.declared.char_data.BidiClass.{BidiClass}
 use Rattle.bidi_base.specs.declared.char_data.BidiClass.TheVariants.{L, R, EN, AN}
 use Rattle.bidi_base.specs.Classes.{is_l_or_r, is_kept_in_place, is_weak_resolved}
-use Rattle.bidi_base.specs.Places.{at_indexes, between, class_at}
+use Rattle.bidi_base.specs.Indexes.{at_indexes, between, class_at}
 use Rattle.bidi_base.specs.Source.{Source}
 use Rattle.bidi_base.specs.Text.{char_at, unit_index, IsPerChar}
 use Rattle.bidi_base.specs.Units.{bounds, are_ordered, kept_in_place, AreLines}
@@ -17,7 +17,7 @@ use Rattle.bidi_base.specs.declared.brackets.Bracket.{Bracket}
 use Rattle.bidi_rules.specs.declared.neutral.NeutralResolver.{NeutralResolver}
 use Rattle.bidi_base.specs.FoundBrackets.{brackets_from}
 use Rattle.bidi_base.specs.PairSearch.{HasRead}
-use Rattle.bidi_explicit.specs.Written.{is_seen}
+use Rattle.bidi_explicit.specs.SequenceUnits.{is_seen}
 
 -- the characters among those with these indexes that the pass takes as kept, where `units` has the class of each unit
 abbrev pub kept_among : (ℕ → ℕ) → List ℕ → List BidiClass → List ℕ → List ℕ

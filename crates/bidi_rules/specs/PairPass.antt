@@ -4,8 +4,8 @@ use Rattle.bidi_base.specs.declared.char_data.BidiClass.{BidiClass}
 use Rattle.bidi_base.specs.declared.char_data.BidiClass.TheVariants.{L, R}
 use Rattle.bidi_base.specs.Classes.{as_direction, is_kept_in_place, is_nsm, stands_for}
 use Rattle.bidi_base.specs.Text.{is_boundary, unit_index, text_len}
-use Rattle.bidi_explicit.specs.Written.{is_seen, IsWrittenOver}
-use Rattle.bidi_base.specs.Places.{class_at}
+use Rattle.bidi_explicit.specs.SequenceUnits.{is_seen, IsWrittenOver}
+use Rattle.bidi_base.specs.Indexes.{class_at}
 use Rattle.bidi_base.specs.Units.{are_ordered, in_runs, AreLines}
 use Rattle.bidi_rules.specs.declared.neutral.pairs.Pair.{Pair}
 use Rattle.bidi_rules.specs.declared.neutral.pairs.Place.{Place}
@@ -29,7 +29,7 @@ IsNearestBefore before runs classes to d =
     × HasNoDirection runs classes (u + 1) to)
     ⊎ ((d ≡ before) × HasNoDirection runs classes 0 to)
 
--- behind `from` marks by their original classes stand in the ranges up to `end`, and BN: then a character that
+-- after `from` marks by their original classes stand in the ranges up to `end`, and BN: then a character that
 -- is neither, or nothing
 pub record IsMarksEnd (len_of : ℕ → ℕ) (chars : List ℕ) (runs : List (ℕ × ℕ)) (original_classes classes : List BidiClass)
     (from end : ℕ) : Type 0 where
@@ -55,7 +55,7 @@ opposite_of _ = L
 
 -- whether a direction stands between the brackets of a pair: what was asked, and what is known of the next
 -- place where it stands
-pub record IsAsked (direction : BidiClass) (runs : List (ℕ × ℕ)) (classes : List BidiClass) (pair : Pair)
+pub record IsSearched (direction : BidiClass) (runs : List (ℕ × ℕ)) (classes : List BidiClass) (pair : Pair)
     (known next : ℕ) (answer : Bool) : Type 0 where
   pub looked : pair.is_marked ≡ true
       → (next ≡ known)
@@ -70,14 +70,14 @@ pub record IsTaken (before : BidiClass) (runs : List (ℕ × ℕ)) (classes : Li
   pub embedding : Bool
   pub opposite : Bool
   pub context : BidiClass
-  pub asked : IsAsked walk.embedding.direction runs classes pair walk.embedding.unit new.embedding.unit embedding
-  pub asked_opposite : embedding ≡ false
-      → IsAsked walk.opposite.direction runs classes pair walk.opposite.unit new.opposite.unit opposite
+  pub asked : IsSearched walk.embedding.direction runs classes pair walk.embedding.unit new.embedding.unit embedding
+  pub searched_opposite : embedding ≡ false
+      → IsSearched walk.opposite.direction runs classes pair walk.opposite.unit new.opposite.unit opposite
   pub idle : embedding ≡ true → new.opposite.unit ≡ walk.opposite.unit
   pub nearest : embedding ≡ false → opposite ≡ true → IsNearestBefore before runs classes pair.opening context
   pub is : taken ≡ (if embedding then Some walk.embedding.direction else (if opposite then Some context else None))
 
--- the run of a unit: the first of some runs that ends behind it
+-- the run of a unit: the first of some runs that ends after it
 pub record IsRunOf (runs : List (ℕ × ℕ)) (unit run : ℕ) : Type 0 where
   pub later : (k : ℕ) → unit ≤ k → in_runs (drop run runs) k ≡ in_runs runs k
   pub upto : (k : ℕ) → k < unit → in_runs (take (run + 1) runs) k ≡ in_runs runs k
@@ -88,14 +88,14 @@ pub record IsPlace (len_of : ℕ → ℕ) (chars : List ℕ) (runs : List (ℕ �
   pub ends : (k : ℕ) → k < length chars → bracket.unit ≡ unit_index len_of chars k → bracket.end ≡ unit_index len_of chars (k + 1)
   pub run : IsRunOf runs bracket.unit bracket.run
 
--- a bracket and the unit behind it are in the ranges, and no mark begins there, nor BN
+-- a bracket and the unit after it are in the ranges, and no mark begins there, nor BN
 pub record IsUnmarked (runs : List (ℕ × ℕ)) (original_classes classes : List BidiClass) (bracket : Place) : Type 0 where
   pub seen : (k : ℕ) → bracket.unit ≤ k → k ≤ bracket.end → in_runs runs k ≡ true
   pub kept : is_kept_in_place (class_at classes bracket.end) ≡ true
   pub plain : is_nsm (class_at original_classes bracket.end) ≡ false
   pub inside : bracket.end < length classes
 
--- a bracket and the marks behind it have a direction, where the k-th character comes behind the bracket, and
+-- a bracket and the marks after it have a direction, where the k-th character comes after the bracket, and
 -- the marks end at `end`
 abbrev pub IsSetUpTo : (ℕ → ℕ) → List ℕ → List (ℕ × ℕ) → List BidiClass → BidiClass → ℕ → ℕ → ℕ → List BidiClass
     → List BidiClass → Type 0
@@ -107,7 +107,7 @@ IsSetUpTo len_of chars runs original_classes d bracket k end old new =
 abbrev pub IsSet : (ℕ → ℕ) → List ℕ → List (ℕ × ℕ) → List BidiClass → BidiClass → ℕ → ℕ → List BidiClass → List BidiClass → Type 0
 IsSet len_of chars runs original_classes d bracket k old new = (end : ℕ) × IsSetUpTo len_of chars runs original_classes d bracket k end old new
 
--- where a row was written last: all of it has its direction, and behind its first unit only marks stand
+-- where a row was written last: all of it has its direction, and after its first unit only marks stand
 pub record IsRow (len_of : ℕ → ℕ) (chars : List ℕ) (runs : List (ℕ × ℕ)) (original_classes classes : List BidiClass) (row : Row) : Type 0 where
   pub written : (u : ℕ) → row.from ≤ u → u < row.end → is_seen runs classes u ≡ true → class_at classes u ≡ row.direction
   pub marks : (k : ℕ) → row.from < unit_index len_of chars k → unit_index len_of chars k < row.end

@@ -18,7 +18,7 @@ abbrev pub after_w1 : BidiClass → List BidiClass → List BidiClass
 after_w1 m [] = []
 after_w1 m (x ∷ xs) = marked m x ∷ after_w1 (carried (marked m x)) xs
 
--- W2 and W3 behind the nearest strong class
+-- W2 and W3 after the nearest strong class
 abbrev pub strengthened : BidiClass → BidiClass → BidiClass
 strengthened strong EN = if is_al strong then AN else EN
 strengthened strong AL = R
@@ -33,7 +33,7 @@ abbrev pub after_w3 : BidiClass → List BidiClass → List BidiClass
 after_w3 strong [] = []
 after_w3 strong (x ∷ xs) = strengthened strong x ∷ after_w3 (strong_up_to strong x) xs
 
--- what stands before the next character waits for it
+-- what is before the next character waits for it
 abbrev pub waits : Before → Bool
 waits Terminators = true
 waits EuropeanSeparator = true
@@ -51,7 +51,7 @@ is_separator EuropeanSeparator = true
 is_separator ArabicSeparator = true
 is_separator _ = false
 
--- a terminator here stands behind a European number
+-- a terminator here stands after a European number
 abbrev pub is_beside_european : Before → Bool
 is_beside_european European = true
 is_beside_european EuropeanTerminators = true
@@ -66,7 +66,7 @@ after_common_separator European = EuropeanSeparator
 after_common_separator Arabic = ArabicSeparator
 after_common_separator _ = Other
 
--- what stands before the character after this one
+-- what is before the character after this one
 abbrev pub next_before : BidiClass → Before → Before
 next_before EN before = European
 next_before AN before = Arabic
@@ -94,10 +94,10 @@ abbrev pub by_arabic : Before → BidiClass
 by_arabic ArabicSeparator = AN
 by_arabic _ = ON
 
-abbrev pub settled : BidiClass → Before → BidiClass
-settled EN before = by_european before
-settled AN before = by_arabic before
-settled c before = ON
+abbrev pub waiting_becomes : BidiClass → Before → BidiClass
+waiting_becomes EN before = by_european before
+waiting_becomes AN before = by_arabic before
+waiting_becomes c before = ON
 
 -- what a class that need not wait becomes by W4 to W6; one that waits is neutral so far
 abbrev pub resolved : BidiClass → Before → BidiClass
@@ -122,7 +122,7 @@ abbrev pub after_w7 : Bool → Before → ℕ → List BidiClass → List BidiCl
 after_w7 after_l before n [] = replicate n ON
 after_w7 after_l before n (c ∷ classes) =
     if joins c before then after_w7 (is_after_l after_l c) (next_before c before) (suc n) classes
-    else replicate n (w7_by after_l (settled c before))
+    else replicate n (w7_by after_l (waiting_becomes c before))
     ++ (if waits (next_before c before)
     then after_w7 (is_after_l after_l c) (next_before c before) 1 classes
     else w7_by after_l (resolved c before) ∷ after_w7 (is_after_l after_l c) (next_before c before) 0 classes)
@@ -145,14 +145,14 @@ is_number _ = false
 abbrev pub is_mark_or_number : BidiClass → Bool
 is_mark_or_number c = is_nsm c || is_number c
 
--- a class that asks for what stands around it, or makes others ask, where nothing stands before
-abbrev pub is_asked : BidiClass → Bool
-is_asked EN = true
-is_asked AN = true
-is_asked ET = true
-is_asked _ = false
+-- a number or a European terminator: what is around it matters, or it matters to others, where nothing is before it
+abbrev pub is_number_or_terminator : BidiClass → Bool
+is_number_or_terminator EN = true
+is_number_or_terminator AN = true
+is_number_or_terminator ET = true
+is_number_or_terminator _ = false
 
--- how many units of a separator that waits come behind its first one, of n
+-- how many units of a separator that waits come after its first one, of n
 abbrev pub still_to_come : Before → ℕ → ℕ
 still_to_come EuropeanSeparator n = n - 1
 still_to_come ArabicSeparator n = n - 1
@@ -168,6 +168,6 @@ walked class len strong before zero n (u ∷ us) =
     let next = next_before z before in
     let now = strong_up_to strong (class u) in
     if joins z before then walked class len now next 0 (suc n) us
-    else replicate n (w7_by (is_l strong) (settled z before))
+    else replicate n (w7_by (is_l strong) (waiting_becomes z before))
     ++ (if waits next then walked class len now next (still_to_come next (len u)) 1 us
     else w7_by (is_l strong) (resolved z before) ∷ walked class len now next 0 0 us)

@@ -6,16 +6,16 @@ use Rattle.std.specs.declared.ops.Range.{Range}
 use Rattle.bidi_base.specs.declared.char_data.BidiClass.{BidiClass}
 use Rattle.bidi_base.specs.declared.char_data.BidiClass.TheVariants.{L}
 use Rattle.bidi_base.specs.Classes.{is_kept_in_place}
-use Rattle.bidi_base.specs.Places.{at_indexes, class_at}
+use Rattle.bidi_base.specs.Indexes.{at_indexes, class_at}
 use Rattle.bidi_base.specs.Text.{char_at}
 use Rattle.bidi_base.specs.InPlace.{AreWeakTypesResolved, CanResolveWeakTypes}
 use Rattle.bidi_base.specs.Units.{bounds, chars_in_runs, in_runs, units_in_runs}
 use Rattle.bidi_base.specs.Weak.{carried}
 use Rattle.bidi_rules.specs.declared.weak.w2_w4_w5_w7.Walk.{Walk}
 use Rattle.bidi_rules.specs.declared.weak.before.Before.TheVariants.{Other}
-use Rattle.bidi_explicit.specs.RunSequence.{lent_runs, lent_sos}
-use Rattle.bidi_explicit.specs.declared.prepare.lent.LentSequence.{LentSequence}
-use Rattle.bidi_explicit.specs.Written.{is_seen, seen_from, seen_units}
+use Rattle.bidi_explicit.specs.RunSequence.{borrowed_runs, borrowed_sos}
+use Rattle.bidi_explicit.specs.declared.prepare.borrowed.BorrowedSequence.{BorrowedSequence}
+use Rattle.bidi_explicit.specs.SequenceUnits.{is_seen, seen_from, seen_units}
 use Rattle.bidi_rules.specs.WeakPass.{after_w1, strengthened, next_before, waits, left_over, still_to_come, walked}
 
 -- the classes of a range of units, as far as there are any
@@ -30,16 +30,16 @@ is_any_of test classes = fold (λ found class. found || test class) false classe
 abbrev pub is_any : (BidiClass → Bool) → List (Range ℕ) → List BidiClass → Bool
 is_any test runs classes = list_any (λ run. is_any_of test (part_of classes (bounds run))) runs
 
--- the classes of a range; where it has 32 or more, those of the units behind it too, up to a multiple of 32 in all
-abbrev pub wide_part_of : List BidiClass → ℕ × ℕ → List BidiClass
-wide_part_of classes r =
+-- the classes of a range; where it has 32 or more, those of the units after it too, up to a multiple of 32 in all
+abbrev pub blocks_of : List BidiClass → ℕ × ℕ → List BidiClass
+blocks_of classes r =
     let end = min r.1 (length classes) in
     let start = min r.0 end in
     let wide = min (start + (end - start + 31) / 32 * 32) (length classes) in
     slice_range classes start (if nat_lt (end - start) 32 then end else wide)
 
-abbrev pub is_any_wide : (BidiClass → Bool) → List (Range ℕ) → List BidiClass → Bool
-is_any_wide test runs classes = list_any (λ run. is_any_of test (wide_part_of classes (bounds run))) runs
+abbrev pub is_any_in_blocks : (BidiClass → Bool) → List (Range ℕ) → List BidiClass → Bool
+is_any_in_blocks test runs classes = list_any (λ run. is_any_of test (blocks_of classes (bounds run))) runs
 
 -- W1 is done for the seen units below i, where the next mark takes `mark`
 pub record AreMarked (runs : List (ℕ × ℕ)) (sos : BidiClass) (old now : List BidiClass) (mark : BidiClass) (i : ℕ) : Type 0 where
@@ -53,7 +53,7 @@ pub record AreMarked (runs : List (ℕ × ℕ)) (sos : BidiClass) (old now : Lis
   pub inside : i ≤ length old
   pub long : length now ≡ length old
 
--- the units from `start` up to `end` of a run take W1 on, behind a character of the class `before`, up to one of the class `last`
+-- the units from `start` up to `end` of a run take W1 on, after a character of the class `before`, up to one of the class `last`
 abbrev pub Marks : ℕ → ℕ → BidiClass → BidiClass → List BidiClass → List BidiClass → Type 0
 Marks start end before last now new =
     (runs : List (ℕ × ℕ)) (sos : BidiClass) (old : List BidiClass) → ((k : ℕ) → start ≤ k → k < end → in_runs runs k ≡ true)
@@ -93,21 +93,21 @@ abbrev pub two_a_unit : List (Range ℕ) → ℕ
 two_a_unit runs = 2 * length (units_in_runs (map bounds runs))
 
 -- what W1 to W7 require of a sequence that borrows its runs
-abbrev pub CanResolveWeak : (ℕ → ℕ) → List ℕ → LentSequence → List BidiClass → Type 0
-CanResolveWeak len_of chars sequence old = CanResolveWeakTypes len_of chars (map bounds (lent_runs sequence)) old
+abbrev pub CanResolveWeak : (ℕ → ℕ) → List ℕ → BorrowedSequence → List BidiClass → Type 0
+CanResolveWeak len_of chars sequence old = CanResolveWeakTypes len_of chars (map bounds (borrowed_runs sequence)) old
 
 -- W1 to W7 are done in the sequence
-abbrev pub IsWeakResolved : (ℕ → ℕ) → List ℕ → LentSequence → List BidiClass → List BidiClass → Type 0
+abbrev pub IsWeakResolved : (ℕ → ℕ) → List ℕ → BorrowedSequence → List BidiClass → List BidiClass → Type 0
 IsWeakResolved len_of chars sequence old new =
-    AreWeakTypesResolved len_of chars (map bounds (lent_runs sequence)) (lent_sos sequence) old new
+    AreWeakTypesResolved len_of chars (map bounds (borrowed_runs sequence)) (borrowed_sos sequence) old new
 
 -- how many code units a sequence has
-abbrev pub unit_count_of : LentSequence → ℕ
-unit_count_of sequence = length (units_in_runs (map bounds (lent_runs sequence)))
+abbrev pub unit_count_of : BorrowedSequence → ℕ
+unit_count_of sequence = length (units_in_runs (map bounds (borrowed_runs sequence)))
 
 -- how many characters begin in a sequence
-abbrev pub char_count_of : (ℕ → ℕ) → List ℕ → LentSequence → ℕ
-char_count_of len_of chars sequence = length (chars_in_runs len_of chars (map bounds (lent_runs sequence)))
+abbrev pub char_count_of : (ℕ → ℕ) → List ℕ → BorrowedSequence → ℕ
+char_count_of len_of chars sequence = length (chars_in_runs len_of chars (map bounds (borrowed_runs sequence)))
 
 -- what waits begins at `from`, in the run that the walk names
 pub record AreHeld (p : Pass) (w : Walk) (from : ℕ) : Type 0 where
@@ -170,9 +170,9 @@ pub record WaitsBelow (runs : List (ℕ × ℕ)) (w : Walk) (u : ℕ) : Type 0 w
   pub first : waits w.before ≡ true → w.first < u
   pub run : waits w.before ≡ true → w.first < (get_or runs w.first_run (0, 0)).1
 
--- the units below this one are settled, where those below u are read
-abbrev pub settled_to : Walk → ℕ → ℕ
-settled_to w u = if waits w.before then w.first else u
+-- the units below this one are resolved, where those below u are read
+abbrev pub resolved_to : Walk → ℕ → ℕ
+resolved_to w u = if waits w.before then w.first else u
 
 -- W2, W4, W5 and W7 are done, but for what W3 and W6 make of what is left
 pub record IsWalked (len : ℕ → ℕ) (runs : List (ℕ × ℕ)) (sos : BidiClass) (old new : List BidiClass) : Type 0 where

@@ -12,7 +12,7 @@ ghost use Rattle.bidi_base.specs.Units.{bounds};
 ghost use Rattle.bidi_base.specs.declared.brackets.Bracket.{Bracket};
 ghost use Rattle.bidi_rules.specs.NeutralPass.{HasGatheredNothing};
 ghost use Rattle.bidi_rules.specs.InText.{placed_brackets};
-ghost use Rattle.bidi_explicit.specs.RunSequence.{lent_runs, lent_sos, lent_eos, runs as runs_of, sos as sos_of, eos as eos_of};
+ghost use Rattle.bidi_explicit.specs.RunSequence.{borrowed_runs, borrowed_sos, borrowed_eos, runs as runs_of, sos as sos_of, eos as eos_of};
 
 mod class_tests;
 mod directions;
@@ -27,10 +27,10 @@ use bidi_base::data_source::BidiDataSource;
 use bidi_base::level::Level;
 use bidi_base::search::{Among, first_passing};
 use bidi_explicit::leveled_text::LeveledText;
-use bidi_explicit::prepare::{IsolatingRunSequence, LentSequence, LevelRun};
+use bidi_explicit::prepare::{IsolatingRunSequence, BorrowedSequence, LevelRun};
 use bidi_text::text::TextSource;
 use class_tests::OtherNeutral;
-use directions::{Directions, resolve_opposite, settle_rest};
+use directions::{Directions, resolve_opposite, apply_n2};
 use nearest::first_kept;
 use one_direction::stands_alone;
 use pairs::{StoredRuns, resolve_pairs};
@@ -70,8 +70,8 @@ impl NeutralResolver {
             original_classes.now processing_classes.old processing_classes.new)
             processing_classes.old processing_classes.new }
     {
-        let lent = sequence.lend();
-        let runs = lent.runs();
+        let borrowed = sequence.borrowed();
+        let runs = borrowed.runs();
         let Some(first) = first_kept(runs, processing_classes) else {
             return Ok(());
         };
@@ -81,8 +81,8 @@ impl NeutralResolver {
             original_classes,
             levels,
         };
-        resolve_up_to_n1(self, &leveled, data_source, lent, processing_classes)?;
-        settle_rest(embedding, runs, processing_classes);
+        resolve_up_to_n1(self, &leveled, data_source, borrowed, processing_classes)?;
+        apply_n2(embedding, runs, processing_classes);
         Ok(())
     }
 
@@ -172,14 +172,14 @@ pub fn resolve_up_to_n1<D: BidiDataSource, T: TextSource>(
     resolver: &mut NeutralResolver,
     leveled: &LeveledText<'_, T>,
     data_source: &D,
-    sequence: LentSequence<'_>,
+    sequence: BorrowedSequence<'_>,
     processing_classes: &mut [BidiClass],
 ) -> Result<(), AllocError>
-    requires { CanResolveNeutrals (T.text leveled.now.text) (map bounds (lent_runs sequence))
+    requires { CanResolveNeutrals (T.text leveled.now.text) (map bounds (borrowed_runs sequence))
         leveled.now.levels.now leveled.now.original_classes.now processing_classes.old }
     ensures { IsDoneOrUnchanged result (AreNeutralsResolvedUpToN1 (T.text leveled.now.text)
-        (D.source data_source.now) (map bounds (lent_runs sequence.entry)) (lent_sos sequence.entry)
-        (lent_eos sequence.entry) leveled.now.levels.now leveled.now.original_classes.now processing_classes.old
+        (D.source data_source.now) (map bounds (borrowed_runs sequence.entry)) (borrowed_sos sequence.entry)
+        (borrowed_eos sequence.entry) leveled.now.levels.now leveled.now.original_classes.now processing_classes.old
         processing_classes.new)
         processing_classes.old processing_classes.new }
 {

@@ -9,7 +9,7 @@ ghost use Rattle.bidi_base.specs.Weak.{carried};
 ghost use Rattle.bidi_base.specs.declared.char_data.BidiClass.{BidiClass};
 ghost use Rattle.bidi_explicit.specs.RunSequence.{runs as runs_of, sos as sos_of};
 ghost use Rattle.bidi_rules.specs.WeakPass.{is_mark_or_number};
-ghost use Rattle.bidi_rules.specs.WeakWalk.{is_any_of, is_any_wide, part_of, unit_count_of, wide_part_of, IsMarked, IsWalked};
+ghost use Rattle.bidi_rules.specs.WeakWalk.{is_any_of, is_any_in_blocks, part_of, unit_count_of, blocks_of, IsMarked, IsWalked};
 ghost use Rattle.bidi_rules.specs.InText.{char_count_of, len_at, CanResolveWeak, IsWeakResolved};
 
 mod before;
@@ -18,7 +18,7 @@ mod w2_w4_w5_w7;
 mod w3_w6;
 
 use bidi_base::char_data::BidiClass::{self, NSM};
-use bidi_explicit::prepare::{IsolatingRunSequence, LentSequence, LevelRun, Steps};
+use bidi_explicit::prepare::{IsolatingRunSequence, BorrowedSequence, LevelRun, Steps};
 use bidi_text::text::TextSource;
 use std::marker::Brand;
 use std::sync::ledger::{Blank, Ledger};
@@ -93,13 +93,13 @@ pub fn resolve_weak_counted<T: TextSource, S: Ledger>(
         ≤ steps.new }
     ensures at_most { steps.new ≤ steps.old + 8 * length (units_in_runs (map bounds (runs_of sequence.now))) }
 {
-    resolve_weak_lent_counted(text, sequence.lend(), processing_classes, steps)
+    resolve_weak_borrowed_counted(text, sequence.borrowed(), processing_classes, steps)
 }
 
 /// Like [`resolve_weak_counted`], for a sequence that borrows its runs.
-pub fn resolve_weak_lent_counted<T: TextSource, S: Ledger>(
+pub fn resolve_weak_borrowed_counted<T: TextSource, S: Ledger>(
     text: T,
-    sequence: LentSequence<'_>,
+    sequence: BorrowedSequence<'_>,
     processing_classes: &mut [BidiClass],
     steps: &mut Steps<S>,
 )
@@ -139,10 +139,10 @@ fn resolve_marks_and_numbers<T: TextSource, S: Ledger>(
 
 /// Whether the runs have a nonspacing mark or a number. May also find one shortly after a long run.
 fn has_marks_or_numbers(runs: &[LevelRun], classes: &[BidiClass]) -> bool
-    ensures { result ≡ is_any_wide is_mark_or_number runs.now classes.now }
+    ensures { result ≡ is_any_in_blocks is_mark_or_number runs.now classes.now }
 {
     runs.iter()
-        .any(|run| is_mark_or_number_among(wide_part_of(classes, run)))
+        .any(|run| is_mark_or_number_among(blocks_of(classes, run)))
 }
 
 /// How many code units are tested together.
@@ -154,16 +154,16 @@ const MANY: usize = 8;
 /// The classes of a run's code units, as far as there are any. If the run has [`WIDE`] code units or more,
 /// classes after it are added up to the next multiple of [`WIDE`], so that none is tested by itself. After a
 /// shorter run, a number of another sequence is often near. To find it would only cost a walk.
-fn wide_part_of<'c>(classes: &'c [BidiClass], run: &LevelRun) -> &'c [BidiClass]
-    ensures { result.now ≡ wide_part_of classes.now (bounds run.now) }
+fn blocks_of<'c>(classes: &'c [BidiClass], run: &LevelRun) -> &'c [BidiClass]
+    ensures { result.now ≡ blocks_of classes.now (bounds run.now) }
 {
     let part = part_of(classes, run);
     if part.len() < WIDE {
         return part;
     }
     let units = (part.len() + (WIDE - 1)) / WIDE * WIDE;
-    let wide_end = (run.start + units).min(classes.len());
-    &classes[run.start..wide_end]
+    let blocks_end = (run.start + units).min(classes.len());
+    &classes[run.start..blocks_end]
 }
 
 /// Whether one of the classes is that of a nonspacing mark or a number. Few classes are tested one by one.

@@ -8,8 +8,8 @@ use Rattle.bidi_base.specs.declared.char_data.BidiClass.TheVariants.{LRE, LRO, R
 use Rattle.bidi_unicode.specs.Unicode.{unicode_source}
 use Rattle.bidi_controls.specs.Controls.{mark_of, control_of}
 use Rattle.bidi_controls.specs.declared.finding.Wanted.{Wanted}
-use Rattle.bidi_controls.specs.Quiet.{AreQuiet}
-use Rattle.bidi_controls.proofs.QuietLines.{findings_in_line-quiet}
+use Rattle.bidi_controls.specs.NoControls.{HaveNoControls}
+use Rattle.bidi_controls.proofs.LinesWithoutControls.{findings_in_line-without_controls}
 use Rattle.bidi_bytes.specs.ControlBytes.{is_control_char, holds_control}
 use Rattle.bidi_bytes.specs.Decoded.{utf8_decoded, utf8_fault, fault_from}
 use Rattle.bidi_bytes.specs.FileLines.{ends_file_line, file_lines_of}
@@ -52,44 +52,44 @@ IsOther c = is_control_char c ≡ false
 abbrev HasNone : ℕ → Type 0
 HasNone c = control_of (unicode_source.class_of c) c ≡ None
 
-quiet : (bytes : List ℕ) → holds_control bytes ≡ false → AreQuiet unicode_source (utf8_decoded bytes)
-quiet bytes h =
+without_controls : (bytes : List ℕ) → holds_control bytes ≡ false → HaveNoControls unicode_source (utf8_decoded bytes)
+without_controls bytes h =
     All-weaker IsOther HasNone (λ c other. no_control (unicode_source.class_of c) c (control_class-char c other) (no_mark c other)) (utf8_decoded bytes) (utf8_decoded-other bytes h)
 
 -- nothing is found in a line whose bytes hold none
-pub found_in-quiet : (wanted : Wanted) (number : ℕ) (line : List ℕ) → holds_control line ≡ false → found_in unicode_source wanted number (utf8_decoded line) ≡ []
-found_in-quiet wanted number line h =
-    ap (with_findings number (utf8_decoded line)) (findings_in_line-quiet unicode_source wanted number (utf8_decoded line) (quiet line h))
+pub found_in-without_controls : (wanted : Wanted) (number : ℕ) (line : List ℕ) → holds_control line ≡ false → found_in unicode_source wanted number (utf8_decoded line) ≡ []
+found_in-without_controls wanted number line h =
+    ap (with_findings number (utf8_decoded line)) (findings_in_line-without_controls unicode_source wanted number (utf8_decoded line) (without_controls line h))
 
 abbrev Lines : Type 0
 Lines = List (List ℕ)
 
-onto-quiet : (c : ℕ) (lines : Lines) → HasNone c → All (All HasNone) lines → All (All HasNone) (onto_first c lines)
-onto-quiet c [] here all = All-cons (All HasNone) (c ∷ []) [] (All-cons HasNone c [] here (All-nil HasNone)) (All-nil (All HasNone))
-onto-quiet c (line ∷ lines) here all =
+onto-without_controls : (c : ℕ) (lines : Lines) → HasNone c → All (All HasNone) lines → All (All HasNone) (onto_first c lines)
+onto-without_controls c [] here all = All-cons (All HasNone) (c ∷ []) [] (All-cons HasNone c [] here (All-nil HasNone)) (All-nil (All HasNone))
+onto-without_controls c (line ∷ lines) here all =
     All-cons (All HasNone) (c ∷ line) lines (All-cons HasNone c line here (All-head (All HasNone) line lines all)) (All-tail (All HasNone) line lines all)
 
-lines-quiet : (chars : List ℕ) → All HasNone chars → All (All HasNone) (file_lines_of chars)
-lines-quiet [] all = All-nil (All HasNone)
-lines-quiet (c ∷ chars) all =
+lines-without_controls : (chars : List ℕ) → All HasNone chars → All (All HasNone) (file_lines_of chars)
+lines-without_controls [] all = All-nil (All HasNone)
+lines-without_controls (c ∷ chars) all =
     let here = All-head HasNone c chars all in
-    let later = lines-quiet chars (All-tail HasNone c chars all) in
+    let later = lines-without_controls chars (All-tail HasNone c chars all) in
     elim (cases_Bool (ends_file_line c chars)) [
       | inl stop ↦ rw stop (All-cons (All HasNone) (c ∷ []) (file_lines_of chars) (All-cons HasNone c [] here (All-nil HasNone)) later)
-      | inr on ↦ rw on (onto-quiet c (file_lines_of chars) here later)
+      | inr on ↦ rw on (onto-without_controls c (file_lines_of chars) here later)
     ]
 
 found_from-none : (wanted : Wanted) (number : ℕ) (lines : Lines) → All (All HasNone) lines → found_from unicode_source wanted number lines ≡ []
 found_from-none wanted number [] all = refl
 found_from-none wanted number (line ∷ lines) all =
     let one : found_in unicode_source wanted number line ≡ [] =
-    ap (with_findings number line) (findings_in_line-quiet unicode_source wanted number line (All-head (All HasNone) line lines all)) in
+    ap (with_findings number line) (findings_in_line-without_controls unicode_source wanted number line (All-head (All HasNone) line lines all)) in
     ap (λ t. t ++ found_from unicode_source wanted (number + 1) lines) one ∙ found_from-none wanted (number + 1) lines (All-tail (All HasNone) line lines all)
 
 -- nor in the lines of such bytes
-pub found_from-quiet : (wanted : Wanted) (number : ℕ) (bytes : List ℕ) → holds_control bytes ≡ false
+pub found_from-without_controls : (wanted : Wanted) (number : ℕ) (bytes : List ℕ) → holds_control bytes ≡ false
     → found_from unicode_source wanted number (file_lines_of (utf8_decoded bytes)) ≡ []
-found_from-quiet wanted number bytes h = found_from-none wanted number (file_lines_of (utf8_decoded bytes)) (lines-quiet (utf8_decoded bytes) (quiet bytes h))
+found_from-without_controls wanted number bytes h = found_from-none wanted number (file_lines_of (utf8_decoded bytes)) (lines-without_controls (utf8_decoded bytes) (without_controls bytes h))
 
 -- ---- where bytes stop being UTF-8, if they are read in two parts
 
@@ -103,19 +103,19 @@ fault_from-twice (Some before) first offset len rest = refl
 fault_from-twice None (Some first) offset len rest = refl
 fault_from-twice None None offset len rest = mapped_twice offset len (utf8_fault rest)
 
--- ---- the first line, and the lines behind it
+-- ---- the first line, and the lines after it
 
 module _ (wanted : Wanted) (number : ℕ) (rest line after : List ℕ) (first : file_lines_of (utf8_decoded rest) ≡ utf8_decoded line ∷ file_lines_of (utf8_decoded after)) where
-  pub first-quiet : holds_control line ≡ false
+  pub first-without_controls : holds_control line ≡ false
       → found_from unicode_source wanted number (file_lines_of (utf8_decoded rest)) ≡ found_from unicode_source wanted (number + 1) (file_lines_of (utf8_decoded after))
-  first-quiet none =
+  first-without_controls none =
       ap (found_from unicode_source wanted number) first
-      ∙ ap (λ t. t ++ found_from unicode_source wanted (number + 1) (file_lines_of (utf8_decoded after))) (found_in-quiet wanted number line none)
+      ∙ ap (λ t. t ++ found_from unicode_source wanted (number + 1) (file_lines_of (utf8_decoded after))) (found_in-without_controls wanted number line none)
 
   pub first-count : length (file_lines_of (utf8_decoded rest)) ≡ length (file_lines_of (utf8_decoded after)) + 1
   first-count = let e = ap length first in omega arith
 
--- ---- bytes that are cut behind the end of a line
+-- ---- bytes that are cut after the end of a line
 
 pub joined-found : (wanted : Wanted) (start lines : ℕ) (bytes front rest : List ℕ) (before found : List FoundAt)
     → file_lines_of (utf8_decoded bytes) ≡ file_lines_of (utf8_decoded front) ++ file_lines_of (utf8_decoded rest)

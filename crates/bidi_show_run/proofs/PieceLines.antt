@@ -17,7 +17,7 @@ use Rattle.bidi_laws.proofs.ParagraphsLemmas.{paragraphs-joined, joined}
 use Rattle.bidi_laws.proofs.PieceUnits.{length-values}
 use Rattle.bidi_base.proofs.UnitIndexLemmas.{subrange-front, unit_index-le, unit_index-mono, unit_index-end, char_index-unit_index, IsLine-unit_indexes}
 use Rattle.bidi_text.proofs.StrLemmas.{text_len-encodes, has_units, subrange-from_str, IsCharBoundary-from_is_boundary}
-use Rattle.bidi_show_run.specs.Shown.{levels_in, own_end, line_in, text_in, layout_in, layout_text, printed_at, printed_in}
+use Rattle.bidi_show_run.specs.Printed.{levels_in, own_end, line_in, text_in, layout_in, layout_text, printed_at, printed_in}
 use Rattle.bidi_show_run.specs.Texts.{without_separator, shown_line, one_column, one_at_least, layout_lines, paragraph_text, lines_from, shown_text}
 use Rattle.bidi_show_run.specs.declared.command.View.{View}
 use Rattle.bidi_show_run.specs.declared.command.View.TheVariants.{Whole, Lines}

@@ -8,7 +8,7 @@ use Rattle.bidi_base.proofs.TextLemmas.{is_boundary-le}
 use Rattle.bidi_base.proofs.PerUnit.{length-per_char, get_or-per_char}
 use Rattle.bidi_text.proofs.StrLemmas.{has_units, text_len-chars, subrange-from_str}
 use Rattle.bidi_laws.proofs.OrderLemmas.{length-slice_range}
-use Rattle.bidi_show_run.specs.Shown.{own_end}
+use Rattle.bidi_show_run.specs.Printed.{own_end}
 use Rattle.bidi_show_run.specs.Texts.{spaced, levels_line, without_separator}
 
 module _ (start cs levels : List ℕ) where

@@ -1,7 +1,7 @@
 //! A run of the program.
 ghost use Rattle.std.specs.Prelude.{◌≡◌, ◌≢◌, ◌+◌, ◌<◌, ◌↔◌, false, map, string_bytes, OnOk, IfErr, IfSome, IsNone, IsErrOf};
 ghost use Rattle.bidi_show_run.specs.Commands.{command_of, reads_input};
-ghost use Rattle.bidi_show_run.specs.Ends.{Opens, ReadsToEnd, TellsNotUtf8};
+ghost use Rattle.bidi_show_run.specs.Ends.{Opens, ReadsToEnd, ReportsNotUtf8};
 ghost use Rattle.bidi_show_run.specs.Faults.{device_faults};
 ghost use Rattle.bidi_show_run.specs.Runs.{IsRunOf};
 ghost use Rattle.bidi_show_run.specs.Texts.{WritesAnswer};
@@ -42,7 +42,7 @@ pub fn run<R: ShowIn, W: ShowOut>(
     output: &mut W,
 ) -> Result<(), ShowFault>
     ensures usage { IsErrOf result Usage ↔ IsNone (command_of (map string_bytes words.now)) }
-    ensures utf8 { TellsNotUtf8 R.left R.ended_reads result input.old input.new }
+    ensures utf8 { ReportsNotUtf8 R.left R.ended_reads result input.old input.new }
     ensures ended { ReadsToEnd (reads_input (command_of (map string_bytes words.now))) result
         (R.ended_reads input.old) (R.ended_reads input.new) (R.left input.new) }
     ensures device { IsErrOf result Device ↔

@@ -4,7 +4,7 @@ ghost use Rattle.std.specs.Char.{len_utf8};
 ghost use Rattle.std.specs.Str.{chars};
 ghost use Rattle.bidi_base.specs.Text.{per_char, IsLine};
 ghost use Rattle.bidi_base.specs.Display.{run_of};
-ghost use Rattle.bidi_show_run.specs.Shown.{layout_in, layout_text, printed_in, own_end as own_end_of, IsParagraphIn};
+ghost use Rattle.bidi_show_run.specs.Printed.{layout_in, layout_text, printed_in, own_end as own_end_of, IsParagraphIn};
 ghost use Rattle.bidi_show_run.specs.Texts.{heading, levels_line, text_line, without_separator as without_separator_of, shown_line, one_column, shown_text};
 ghost use Rattle.bidi_show_run.specs.declared.command.View.TheVariants.{Whole};
 ghost use Rattle.unicode_bidi.specs.BidiInfo.{text as text_of, original_classes, levels as levels_of_info};

@@ -8,7 +8,7 @@ use Rattle.bidi_laws.proofs.OneParagraph.{para_level-one, whole-IsAnalysis}
 use Rattle.bidi_columns.specs.Breaks.{lines_of_text}
 use Rattle.bidi_terminal.specs.Bases.{level_of_base}
 use Rattle.bidi_text.proofs.StrLemmas.{text_len-chars}
-use Rattle.bidi_visual.specs.Shown.{shown_levels, shown_paragraph, shown_range, shown_ranges}
+use Rattle.bidi_visual.specs.Displayed.{shown_levels, shown_paragraph, shown_range, shown_ranges}
 use Rattle.bidi_visual.specs.declared.view.View.{View}
 use Rattle.bidi_paragraphs.specs.ParagraphInfo.{levels_of, ranges_of}
 use Rattle.bidi_paragraphs.specs.declared.paragraph_info.ParagraphInfo.{ParagraphInfo}

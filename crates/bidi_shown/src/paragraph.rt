@@ -2,12 +2,12 @@
 ghost use Rattle.std.specs.Prelude.{◌≡◌, ◌<◌, None, [], ◌∷◌, ◌++◌, length, get_or, flat_map, map, All, IfOk, OnOk, string_bytes};
 ghost use Rattle.std.specs.Char.{len_utf8};
 ghost use Rattle.std.specs.Str.{chars, IsUtf8};
-ghost use Rattle.bidi_base.specs.Analysed.{IsAnalysis, IsPerCharText};
+ghost use Rattle.bidi_base.specs.AnalysedText.{IsAnalysis, IsPerCharText};
 ghost use Rattle.bidi_base.specs.Display.{run_of};
 ghost use Rattle.bidi_base.specs.Text.{text_len};
 ghost use Rattle.bidi_columns.specs.Bounds.{IsRangeOf};
 ghost use Rattle.bidi_terminal.specs.Bases.{level_of_base};
-ghost use Rattle.bidi_visual.specs.Shown.{shown_paragraph, shown_ranges};
+ghost use Rattle.bidi_visual.specs.Displayed.{shown_paragraph, shown_ranges};
 ghost use Rattle.bidi_paragraphs.specs.ParagraphInfo.{levels_of};
 ghost use Rattle.bidi_shown.specs.Paragraph.{analysed, shown_in, text_of};
 

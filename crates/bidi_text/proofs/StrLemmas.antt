@@ -48,7 +48,7 @@ IsCharBoundary-from_is_boundary bs i u e =
     let back : IsUtf8 (encode_utf8_all w.back) = (w.back, (scalars_back w.front w.back (sym (ap all_scalars w.joined) ∙ scalars-chars bs u), refl)) in
     subst (λ n. IsCharBoundary bs n) (sym (text_len-encodes w.front) ∙ w.long) (IsCharBoundary-at_seam bs (encode_utf8_all w.front) (encode_utf8_all w.back) joined back)
 
--- what stands at a boundary begins what follows it
+-- what is at a boundary begins what follows it
 pub char_at-from_str : (bs : List ℕ) (i : ℕ) → IsUtf8 bs → IsCharBoundary bs i → char_at len_utf8 (chars bs) i ≡ char_at len_utf8 (chars (drop i bs)) 0
 char_at-from_str bs i u b = cc (chars_cut bs i u b, text_len-front bs i u b, char_at-append len_utf8 has_units (chars (take i bs)) (chars (drop i bs)))
 

@@ -19,7 +19,7 @@ use std::alloc::{AllocError, Global};
 use std::borrow::{CowSlice, CowStr};
 use std::ops::Range;
 use unicode_bidi::engine::{Analysis, analyse, line_levels};
-use unicode_bidi::kept_line::reorder_utf8;
+use unicode_bidi::stored_line::reorder_utf8;
 use unicode_bidi::{BidiInfo, ParagraphBidiInfo, ParagraphInfo, utf16};
 
 const NO_LINE: RowFault = RowFault::Line(0, Why::Line);
@@ -224,7 +224,7 @@ impl Asked<'_> {
             info.reorder_line(alloc, &para, start..end),
         );
         let kept = words_of_kept_line(alloc, info, (start, end), para.level());
-        tally.agree(row, "shown", "kept_line::reorder_utf8", kept);
+        tally.agree(row, "shown", "stored_line::reorder_utf8", kept);
         Ok(())
     }
 

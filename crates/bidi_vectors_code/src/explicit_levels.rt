@@ -5,7 +5,7 @@ ghost use Rattle.std.specs.Prelude.{◌≡◌, ◌+◌, ◌*◌, ◌≤◌, [], 
 use crate::check::same;
 use bidi_base::char_data::BidiClass;
 use bidi_base::level::{LTR_LEVEL, Level, RTL_LEVEL};
-use bidi_explicit::explicit::{self, Stride, find_levels_counted};
+use bidi_explicit::explicit::{self, StepUnit, find_levels_counted};
 use bidi_explicit::prepare::{LevelRunVec, Steps};
 use bidi_text::text::{StrText, is_per_char};
 use std::alloc::{AllocError, Global};
@@ -134,7 +134,7 @@ fn find_counted<S: Ledger>(
     if !is_per_char(text, classes) {
         return Err(Fail::from("classes differ within a character"));
     }
-    let stored = explicit::Paragraph::new(text, LTR_LEVEL, Stride::CodeUnit, classes);
+    let stored = explicit::Paragraph::new(text, LTR_LEVEL, StepUnit::CodeUnit, classes);
     find_levels_counted(
         &stored,
         found.levels.as_mut_slice(),

@@ -58,17 +58,17 @@ pub fn are_left_or_removed(classes: &[BidiClass]) -> bool
 }
 
 // Returns whether a class may remain after the neutrals.
-fn is_directed(class: BidiClass) -> bool
+fn has_direction(class: BidiClass) -> bool
     ensures { result ≡ has_direction class }
 {
     matches!(class, L | R | EN | AN)
 }
 
 /// Returns whether all the classes may remain after the neutrals.
-pub fn are_directed(classes: &[BidiClass]) -> bool
+pub fn have_directions(classes: &[BidiClass]) -> bool
     ensures { result ≡ list_all has_direction classes.now }
 {
-    classes.iter().all(|class| is_directed(*class))
+    classes.iter().all(|class| has_direction(*class))
 }
 
 /// Returns whether some class is an isolate initiator.

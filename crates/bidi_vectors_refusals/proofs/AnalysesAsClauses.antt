@@ -18,7 +18,7 @@ use Rattle.bidi_laws.proofs.ParagraphsLemmas.{pieces_by-joined}
 use Rattle.bidi_text.proofs.PerCharTests.{class_eq, level_eq}
 use Rattle.bidi_paragraphs.specs.declared.paragraph_info.ParagraphInfo.{ParagraphInfo}
 use Rattle.bidi_paragraphs.specs.ParagraphInfo.{ranges_of, levels_of}
-use Rattle.unicode_bidi.specs.Analysed.{ObeysLaws}
+use Rattle.unicode_bidi.specs.Analysis.{ObeysLaws}
 use Rattle.bidi_vectors_refusals.proofs.EarlierRecords.{has_inner_separator, has_unpaired_separator, AreSeparatedRanges, AreCrLfParagraphRanges, AreParagraphRangesBy, HasParagraphs, IsAnalysed, IsAnalysedAsOne, IsAnalysedBy, IsAnalysedText, IsWalked}
 
 -- the values of a range of units are those that its characters have as the whole text

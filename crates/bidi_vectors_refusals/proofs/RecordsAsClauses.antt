@@ -7,7 +7,7 @@ use Rattle.bidi_base.specs.declared.char_data.BidiClass.{BidiClass}
 use Rattle.bidi_base.specs.declared.char_data.BidiClass.TheVariants.{L, BN}
 use Rattle.bidi_text.proofs.PerCharTests.{class_eq}
 use Rattle.bidi_base.specs.InPlace.{IsDoneOrUnchanged}
-use Rattle.unicode_bidi.specs.Analysed.{Constructs, ObeysLaws}
+use Rattle.unicode_bidi.specs.Analysis.{Constructs, ObeysLaws}
 
 module _ (len_of : ℕ → ℕ) (chars : List ℕ) where
   -- the explicit pass

@@ -6,7 +6,7 @@
 #![tactic(auto)]
 
 mod any_text;
-mod kept;
+mod stored_lines;
 mod lists;
 mod passes;
 mod program;
@@ -30,7 +30,7 @@ fn run_calls(
     match part {
         Part::Utf8 => {
             utf8::run(rt, source)?;
-            kept::run(rt, source)
+            stored_lines::run(rt, source)
         }
         Part::Encodings => {
             utf16::run(rt, source)?;

@@ -3,7 +3,7 @@
 ghost use Rattle.std.specs.Prelude.{◌≡◌, ◌≤◌};
 
 use crate::explicit_units::{ExplicitUnits, ParagraphUnits};
-use bidi_rules::explicit::{Paragraph, Stride, compute_counted, find_levels_counted};
+use bidi_rules::explicit::{Paragraph, StepUnit, compute_counted, find_levels_counted};
 use bidi_rules::prepare::Steps;
 use bidi_text::text::is_per_char;
 use bidi_vectors_format::fault::{RowFault, Why};
@@ -14,7 +14,7 @@ use std::sync::ledger::{Blank, Ledger};
 // Finds the explicit levels of a paragraph. Counts steps in the ledger that this blank opens.
 fn find_with_new_count<S: Ledger>(
     alloc: Global,
-    stride: Stride,
+    stride: StepUnit,
     paragraph: &ParagraphUnits<'_>,
     blank: Blank,
 ) -> Result<ExplicitUnits, RowFault>
@@ -37,7 +37,7 @@ fn find_with_new_count<S: Ledger>(
     let processing_classes = units.classes.as_mut_slice();
     let runs = &mut units.runs;
     match stride {
-        Stride::Character => compute_counted(
+        StepUnit::Character => compute_counted(
             alloc,
             text,
             level,
@@ -47,7 +47,7 @@ fn find_with_new_count<S: Ledger>(
             runs,
             &mut steps,
         )?,
-        Stride::CodeUnit => {
+        StepUnit::CodeUnit => {
             let stored = Paragraph::new(text, level, stride, classes);
             find_levels_counted(&stored, levels, processing_classes, runs, &mut steps)?;
         }
@@ -59,7 +59,7 @@ fn find_with_new_count<S: Ledger>(
 /// from code unit to code unit by `find_levels_counted`.
 pub fn find(
     alloc: Global,
-    stride: Stride,
+    stride: StepUnit,
     paragraph: &ParagraphUnits<'_>,
 ) -> Result<ExplicitUnits, RowFault>
     requires { paragraph.now.level ≤ 125 }

@@ -6,7 +6,7 @@ use crate::counted_explicit;
 use crate::explicit_units::{ExplicitUnits, ParagraphUnits, copied};
 use bidi_base::char_data::BidiClass;
 use bidi_base::level::Level;
-use bidi_rules::explicit::{Stride, compute};
+use bidi_rules::explicit::{StepUnit, compute};
 use bidi_rules::prepare::{IsolatingRunSequence, isolating_run_sequences};
 use bidi_text::text::{StrText, is_per_char};
 use bidi_vectors_format::conditions::has_initiator;
@@ -57,8 +57,8 @@ impl Pass {
             classes: classes.as_slice(),
         };
         let stride = match self {
-            Pass::Counted => Stride::Character,
-            Pass::ByUnits => Stride::CodeUnit,
+            Pass::Counted => StepUnit::Character,
+            Pass::ByUnits => StepUnit::CodeUnit,
         };
         counted_explicit::find(alloc, stride, &stored)
     }

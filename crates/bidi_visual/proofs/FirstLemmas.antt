@@ -5,7 +5,7 @@ use Rattle.bidi_base.proofs.Common.{refl, sym, ap, ◌∙◌, arith, cases_Bool,
 use Rattle.std.proofs.lemmas.Str.{IsCharBoundary-past_char}
 use Rattle.bidi_text.proofs.StrLemmas.{chars-push}
 use Rattle.bidi_base.specs.Paragraphs.{own_chars, paragraphs_in}
-use Rattle.bidi_visual.specs.Shown.{after_first, shown_paragraph, shown_text}
+use Rattle.bidi_visual.specs.Displayed.{after_first, shown_paragraph, shown_text}
 use Rattle.bidi_visual.specs.declared.view.View.{View}
 
 -- the first paragraph, which has the same own characters as the text

@@ -1,6 +1,6 @@
 mod EvenLemmas
 pub mod FirstLemmas
-pub mod QuietLemmas
+pub mod PrintableLemmas
 mod ShownLemmas
 mod TabLemmas
 mod ReversedLemmas

@@ -1,6 +1,6 @@
 -- A run of an odd level, read from its last character back.
 use Rattle.bidi_base.proofs.Common.{◌≡◌, ℕ, suc, ◌-◌, ◌<◌, ◌≤◌, Bool, true, false, List, ◌∷◌, ◌++◌, length, get_or, take, reverse, arith, drop-cons, common_steps, slice_range}
-use Rattle.bidi_visual.specs.Shown.{with_marks}
+use Rattle.bidi_visual.specs.Displayed.{with_marks}
 
 module _ (is_mark : ℕ → Bool) (chars : List ℕ) (start end x : ℕ) (some : 0 < start) (ordered : start ≤ end) (within : end ≤ length chars) (here : x ≡ get_or chars (start - 1) x) where
   -- the characters before the place, last first

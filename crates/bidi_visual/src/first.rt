@@ -3,7 +3,7 @@ ghost use Rattle.std.specs.Prelude.{◌≡◌, ◌≤◌, ◌<◌, [], if◌then
 ghost use Rattle.std.specs.Str.{chars, IsCharBoundary};
 ghost use Rattle.bidi_base.specs.Classes.{is_paragraph_separator};
 ghost use Rattle.bidi_base.specs.Paragraphs.{begins_with_line_feed, own_chars};
-ghost use Rattle.bidi_visual.specs.Shown.{after_first};
+ghost use Rattle.bidi_visual.specs.Displayed.{after_first};
 
 use bidi_base::classes::is_paragraph_separator;
 use bidi_base::data_source::BidiDataSource;

@@ -4,6 +4,6 @@
 mod characters;
 pub mod first;
 pub mod line;
-pub mod quiet;
+pub mod printable;
 mod show;
 pub mod view;

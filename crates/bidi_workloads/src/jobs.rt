@@ -1,6 +1,6 @@
 //! The jobs, each through the public calls.
 ghost use Rattle.std.specs.Prelude.{◌≤◌, IfSome};
-ghost use Rattle.bidi_base.specs.Analysed.{IsLineOf};
+ghost use Rattle.bidi_base.specs.AnalysedText.{IsLineOf};
 ghost use Rattle.unicode_bidi.specs.BidiInfo.{analysed as analysed_of};
 
 use crate::digest::Digest;
@@ -298,8 +298,8 @@ fn sources(
         let file = texts::source_file(alloc, random, lines)?;
         let any = index % 2 == 1;
         let found = findings_in(alloc, &UnicodeData, any, file.as_slice())?;
-        let told = report(alloc, "source", found.as_slice())?;
-        digest.add_bytes(told.as_str().as_bytes());
+        let reported = report(alloc, "source", found.as_slice())?;
+        digest.add_bytes(reported.as_str().as_bytes());
     }
     Ok(())
 }

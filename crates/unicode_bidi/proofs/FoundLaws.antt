@@ -11,7 +11,7 @@ use Rattle.bidi_laws.proofs.LevelLaws.{BoundaryNeutralsAreAlike-all, StaysLeftTo
 use Rattle.bidi_laws.proofs.ParagraphsLemmas.{pieces_by-joined}
 use Rattle.bidi_paragraphs.specs.declared.paragraph_info.ParagraphInfo.{ParagraphInfo}
 use Rattle.bidi_paragraphs.specs.ParagraphInfo.{ranges_of, levels_of}
-use Rattle.unicode_bidi.specs.Analysed.{ObeysLaws}
+use Rattle.unicode_bidi.specs.Analysis.{ObeysLaws}
 use Rattle.unicode_bidi.proofs.ParagraphUnits.{paragraphs-HasOwnUnits, paragraphs-AreLevelsFrom}
 
 -- what holds of each paragraph holds of its range with its level

@@ -1,5 +1,5 @@
 mod FoundLaws
-mod KeptOrder
+mod StoredOrder
 mod ParagraphUnits
 pub mod SearchLemmas
 pub mod WholeText

@@ -103,7 +103,7 @@ unclosed full (suc n) (suc d) fewer = unclosed full n d (omega arith)
 
 no_fewer : (full : Bool) (d e : ℕ) → ((more : List BidiClass) → direction_from full d more ≡ direction_from full e more) → d < e → ⊥
 no_fewer full d e same fewer =
-    let told = sym (closed full d d R refl (omega arith)) ∙ same (replicate d PDI ++ R ∷ []) ∙ unclosed full d e fewer in cc told
+    let reported = sym (closed full d d R refl (omega arith)) ∙ same (replicate d PDI ++ R ∷ []) ∙ unclosed full d e fewer in cc reported
 
 not_open : (full : Bool) (direction : Direction) (d : ℕ) → ((more : List BidiClass) → direction ≡ direction_from full d more) → ⊥
 not_open full direction d same =

@@ -1,6 +1,6 @@
 -- What an analysis holds, and what the walk over the paragraphs of a text asks and leaves.
 use Rattle.std.specs.Prelude.{◌≡◌, ℕ, ◌≤◌, List, [], ◌∷◌, map, slice_range}
-use Rattle.bidi_base.specs.Analysed.{AnalysedText}
+use Rattle.bidi_base.specs.AnalysedText.{AnalysedText}
 use Rattle.bidi_base.specs.declared.char_data.BidiClass.{BidiClass}
 use Rattle.bidi_base.specs.Isolates.{stored_classes}
 use Rattle.bidi_base.specs.Source.{Source}

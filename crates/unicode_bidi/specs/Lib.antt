@@ -1,9 +1,9 @@
-pub mod Analysed
+pub mod Analysis
 pub mod BidiInfo
 pub mod DirectionSearch
 pub mod Engine
 pub mod InitialInfo
-pub mod KeptOrder
+pub mod StoredOrder
 pub mod LineMap
 pub mod Paragraph
 pub mod ParagraphBidiInfo

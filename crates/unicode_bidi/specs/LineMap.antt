@@ -1,6 +1,6 @@
 -- What the look-ups of `LineMap` read.
 use Rattle.std.specs.Prelude.{ℕ, List}
-use Rattle.unicode_bidi.specs.KeptOrder.{entries}
+use Rattle.unicode_bidi.specs.StoredOrder.{entries}
 use Rattle.unicode_bidi.specs.declared.layout.LineMap.{LineMap}
 
 -- the character at each visual index

@@ -3,7 +3,7 @@ ghost use Rattle.std.specs.Prelude.{◌≡◌, ◌↔◌, if◌then◌else◌, m
 ghost use Rattle.bidi_base.specs.Direction.{base_direction, full_base_direction};
 ghost use Rattle.bidi_base.specs.Isolates.{paragraph_level};
 ghost use Rattle.bidi_base.specs.Paragraphs.{paragraphs_of, each_separator};
-ghost use Rattle.bidi_base.specs.Places.{first_or};
+ghost use Rattle.bidi_base.specs.Indexes.{first_or};
 ghost use Rattle.bidi_base.specs.declared.char_data.Direction.TheVariants.{Rtl};
 
 use crate::direction_search::{DirectionSearch, search_direction};

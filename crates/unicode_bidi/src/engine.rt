@@ -2,7 +2,7 @@
 
 ghost use Rattle.std.specs.Prelude.{◌≡◌, [], ◌≤◌, ◌++◌, length, map, take, drop, flat_map, All, OnOk, OnErr, IfOk, IfSome};
 ghost use Rattle.std.specs.Bool.{then_some};
-ghost use Rattle.bidi_base.specs.Analysed.{IsAnalysis, AreLevelsWithLine};
+ghost use Rattle.bidi_base.specs.AnalysedText.{IsAnalysis, AreLevelsWithLine};
 ghost use Rattle.bidi_base.specs.Line.{levels_with_line as levels_with_line_of};
 ghost use Rattle.bidi_base.specs.Paragraphs.{pieces_by};
 ghost use Rattle.bidi_base.specs.Texts.{char_index, per_char, text_len, HaveClass, HaveLevel, IsLine};

@@ -1,13 +1,13 @@
 // The result of the algorithm for a text.
 ghost use Rattle.std.specs.Prelude.{◌≡◌, ◌<◌, ◌≤◌, IfOk, IfSome, OnOk, OnErr, All, Some, map};
-ghost use Rattle.bidi_base.specs.Analysed.{IsAnalysis, IsLineOf, AreLevelsWithLine, AreLevelsOfLine, AreRunsOfLine, levels_with_line_per_char};
+ghost use Rattle.bidi_base.specs.AnalysedText.{IsAnalysis, IsLineOf, AreLevelsWithLine, AreLevelsOfLine, AreRunsOfLine, levels_with_line_per_char};
 ghost use Rattle.bidi_base.specs.Display.{run_of};
 ghost use Rattle.bidi_base.specs.Levels.{has_rtl as has_rtl_of};
 ghost use Rattle.bidi_base.specs.Texts.{IsLine};
 ghost use Rattle.bidi_paragraphs.specs.ParagraphInfo.{level_of, range_of, ranges_of, levels_of};
 ghost use Rattle.bidi_lines.specs.LineOrder.{IsLineOrder};
 ghost use Rattle.bidi_base.specs.PerChar.{HaveClass, HaveLevel};
-ghost use Rattle.unicode_bidi.specs.Analysed.{ObeysLaws};
+ghost use Rattle.unicode_bidi.specs.Analysis.{ObeysLaws};
 
 use crate::engine;
 use bidi_base::char_data::BidiClass;

@@ -1,6 +1,6 @@
 // The paragraphs and the stored classes of a text.
 ghost use Rattle.std.specs.Prelude.{◌≡◌, IfOk, Some};
-ghost use Rattle.bidi_base.specs.Analysed.{AreParagraphs};
+ghost use Rattle.bidi_base.specs.AnalysedText.{AreParagraphs};
 ghost use Rattle.bidi_base.specs.PerChar.{HaveClass};
 ghost use Rattle.bidi_paragraphs.specs.ParagraphInfo.{ranges_of, levels_of};
 

@@ -2,17 +2,17 @@
 
 ghost use Rattle.std.specs.Prelude.{◌≡◌, ◌≢◌, ℕ, ◌<◌, true, false, map, length, slice_get, IfOk, IfSome, All, Some};
 ghost use Rattle.std.specs.List.{range_with_len};
-ghost use Rattle.bidi_base.specs.Analysed.{IsLineOf, line_levels_per_char};
+ghost use Rattle.bidi_base.specs.AnalysedText.{IsLineOf, line_levels_per_char};
 ghost use Rattle.bidi_base.specs.Display.{run_of};
 ghost use Rattle.bidi_base.specs.Layout.{line_length, line_ranges, visual_indexes, AreInverse};
 ghost use Rattle.bidi_base.specs.Order.{visual_order};
-ghost use Rattle.bidi_base.specs.Places.{indexes};
+ghost use Rattle.bidi_base.specs.Indexes.{indexes};
 ghost use Rattle.bidi_base.specs.Paragraphs.{IsPartition};
 ghost use Rattle.bidi_base.specs.Text.{per_char, text_len};
 ghost use Rattle.bidi_base.specs.Texts.{unit_index, IsLine};
 ghost use Rattle.bidi_lines.specs.LineLevels.{levels as kept_levels};
 ghost use Rattle.unicode_bidi.specs.BidiInfo.{analysed as analysed_of};
-ghost use Rattle.unicode_bidi.specs.KeptOrder.{entries};
+ghost use Rattle.unicode_bidi.specs.StoredOrder.{entries};
 ghost use Rattle.bidi_paragraphs.specs.ParagraphInfo.{level_of, range_of};
 
 use crate::utf8::BidiInfo;
@@ -116,10 +116,10 @@ fn char_levels(
 {
     let text = StrText::new(info.text()).subrange(line.start..line.end);
     let classes = &info.original_classes()[line.start..line.end];
-    let mut shown = LineLevels::new(alloc);
-    shown.show(para.level(), classes, &info.levels()[line.start..line.end])?;
-    shown.keep_first_units(text);
-    Ok(shown)
+    let mut after_l1 = LineLevels::new(alloc);
+    after_l1.show(para.level(), classes, &info.levels()[line.start..line.end])?;
+    after_l1.keep_first_units(text);
+    Ok(after_l1)
 }
 
 // Returns whether each index is at its own place.

@@ -23,7 +23,7 @@ pub mod explicit;
 pub mod implicit;
 mod info;
 mod initial_info;
-pub mod kept_line;
+pub mod stored_line;
 pub mod layout;
 mod paragraph;
 mod paragraph_bidi_info;

@@ -1,13 +1,13 @@
 // The result of the algorithm for a text that is one paragraph.
 ghost use Rattle.std.specs.Prelude.{◌≡◌, ◌<◌, ◌≤◌, IfOk, IfSome, None, [], ◌∷◌, OnOk, OnErr, map};
-ghost use Rattle.bidi_base.specs.Analysed.{IsAnalysis, IsLineOf, AreLevelsWithLine, AreLevelsOfLine, AreRunsOfLine, levels_with_line_per_char};
+ghost use Rattle.bidi_base.specs.AnalysedText.{IsAnalysis, IsLineOf, AreLevelsWithLine, AreLevelsOfLine, AreRunsOfLine, levels_with_line_per_char};
 ghost use Rattle.bidi_base.specs.Direction.{direction_of_levels, is_pure_ltr as is_pure_ltr_of};
 ghost use Rattle.bidi_base.specs.Display.{run_of};
 ghost use Rattle.bidi_base.specs.Levels.{has_rtl as has_rtl_of};
 ghost use Rattle.bidi_lines.specs.LineOrder.{IsLineOrder};
 ghost use Rattle.bidi_base.specs.PerChar.{HaveClass, HaveLevel};
 ghost use Rattle.bidi_base.specs.Text.{text_len};
-ghost use Rattle.unicode_bidi.specs.Analysed.{ObeysLaws};
+ghost use Rattle.unicode_bidi.specs.Analysis.{ObeysLaws};
 
 use crate::engine;
 use bidi_base::char_data::{BidiClass, Direction};

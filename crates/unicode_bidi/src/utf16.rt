@@ -6,11 +6,11 @@
 ghost use Rattle.std.specs.Prelude.{◌≡◌, ◌≤◌, ◌↔◌, IfOk, IfSome, Some, None, [], ◌∷◌, map};
 ghost use Rattle.std.specs.Char.Escape.{encode_utf16};
 ghost use Rattle.std.specs.Cow.{cow_slice_items, IsBorrowedSlice};
-ghost use Rattle.bidi_base.specs.Analysed.{AreParagraphs, IsAnalysis, IsLineOf, IsTextOfLine, StaysInOrder};
+ghost use Rattle.bidi_base.specs.AnalysedText.{AreParagraphs, IsAnalysis, IsLineOf, IsTextOfLine, StaysInOrder};
 ghost use Rattle.bidi_base.specs.Direction.{is_pure_ltr as is_pure_ltr_of};
 ghost use Rattle.bidi_paragraphs.specs.ParagraphInfo.{level_of, ranges_of, levels_of};
 ghost use Rattle.bidi_base.specs.Text.{text_len};
-ghost use Rattle.unicode_bidi.specs.Analysed.{Constructs};
+ghost use Rattle.unicode_bidi.specs.Analysis.{Constructs};
 
 use crate::{info, initial_info, paragraph, paragraph_bidi_info};
 use bidi_base::data_source::BidiDataSource;

@@ -4,7 +4,7 @@ ghost use Rattle.std.specs.Prelude.{◌≡◌, ◌+◌, ◌-◌, ◌≤◌, leng
 ghost use Rattle.bidi_explicit.specs.ExplicitStretches.{put_over, IsOverridden, IsUnread};
 
 use super::stretches::{KeptInPlace, Paragraph};
-use super::{Stride, write_class};
+use super::{StepUnit, write_class};
 use crate::prepare::Steps;
 use bidi_base::char_data::BidiClass;
 use bidi_base::search::ClassTest;
@@ -95,9 +95,9 @@ impl<T: TextSource> Paragraph<'_, T> {
         ensures at_most { steps.new ≤ steps.old + (counted_to self.now to - counted_to self.now from) }
     {
         if let Some(put) = override_class {
-            match self.stride {
-                Stride::CodeUnit => put_override(classes, from, to, put, steps),
-                Stride::Character => self.put_on_characters(classes, from, to, put, steps),
+            match self.step_unit {
+                StepUnit::CodeUnit => put_override(classes, from, to, put, steps),
+                StepUnit::Character => self.put_on_characters(classes, from, to, put, steps),
             }
         }
     }

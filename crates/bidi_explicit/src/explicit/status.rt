@@ -4,7 +4,7 @@ ghost use Rattle.std.specs.Prelude.{◌≡◌, ℕ, ◌<◌, ◌≤◌, ◌+◌,
 ghost use Rattle.std.specs.Result.{OkIff};
 ghost use Rattle.bidi_base.specs.declared.char_data.BidiClass.TheVariants.{BN};
 ghost use Rattle.bidi_base.specs.Classes.{is_isolate_initiator, is_kept, is_removed};
-ghost use Rattle.bidi_base.specs.Explicit.{asked_level, override_of};
+ghost use Rattle.bidi_base.specs.Explicit.{next_level, override_of};
 ghost use Rattle.bidi_base.specs.StatusMachine.{State, start, answer_class, answer_level, entered, closed, step, fits_in, close_isolate, close_embedding, drop_isolate, counted, IsWithinDepth, IsPoppable};
 ghost use Rattle.bidi_explicit.specs.Control.{is_control};
 ghost use Rattle.bidi_explicit.specs.Status.{below_last, entry_count, seen, state_by, IsLast};
@@ -103,8 +103,8 @@ fn override_class(class: BidiClass) -> Option<BidiClass>
 }
 
 // The level inside an initiator, or an error exactly if it would be above 125.
-fn asked(class: BidiClass, level: Level) -> Result<Level, Error>
-    ensures { OkIff result (asked_level class level ≤ 125) (asked_level class level) }
+fn next_level(class: BidiClass, level: Level) -> Result<Level, Error>
+    ensures { OkIff result (next_level class level ≤ 125) (next_level class level) }
 {
     if is_rtl(class) {
         level.new_explicit_next_rtl()
@@ -264,10 +264,10 @@ impl StatusStack {
     // The level inside an initiator. `None` if it would be above 125, or if an open initiator has
     // overflowed.
     fn taken_level(&self, class: BidiClass) -> Option<Level>
-        ensures { result ≡ (if fits_in class self.now then Some (asked_level class self.now.top.status.level) else None) }
+        ensures { result ≡ (if fits_in class self.now then Some (next_level class self.now.top.status.level) else None) }
     {
         if self.overflow_isolates == 0 && self.overflow_embeddings == 0 {
-            asked(class, self.top.level).ok()
+            next_level(class, self.top.level).ok()
         } else {
             None
         }

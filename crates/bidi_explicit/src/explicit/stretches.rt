@@ -4,17 +4,17 @@
 //! The pass goes through a stretch from character to character, or from code unit to code unit.
 
 ghost use Rattle.std.specs.Prelude.{◌≡◌, ℕ, ◌+◌, ◌*◌, ◌-◌, ◌<◌, ◌≤◌, true, List, None, Some, length, map, OnOk};
-ghost use Rattle.bidi_base.specs.Places.{class_at};
+ghost use Rattle.bidi_base.specs.Indexes.{class_at};
 ghost use Rattle.bidi_base.specs.StatusMachine.{State};
 ghost use Rattle.bidi_base.specs.Texts.{text_len, HaveClass};
 ghost use Rattle.bidi_base.specs.Units.{bounds};
-ghost use Rattle.bidi_explicit.specs.ExplicitPass.{filled};
+ghost use Rattle.bidi_explicit.specs.RunCutting.{filled};
 ghost use Rattle.bidi_explicit.specs.Control.{is_control};
-ghost use Rattle.bidi_explicit.specs.ExplicitStretches.{run_met, runs_met, IsOverridden, IsReadTo, IsUnread, ReadsOn};
+ghost use Rattle.bidi_explicit.specs.ExplicitStretches.{open_run_after, runs_after, IsOverridden, IsReadTo, IsUnread, ReadsOn};
 ghost use Rattle.bidi_explicit.specs.Status.{entry_count, seen};
 
 use super::status::{StatusEntry, StatusStack};
-use super::{Stride, cut_run, write_control};
+use super::{StepUnit, cut_run, write_control};
 use crate::characters::end_within;
 use crate::prepare::{LevelRunVec, Steps};
 use bidi_base::char_data::BidiClass::{self, B, BN, FSI, LRE, LRI, LRO, PDF, PDI, RLE, RLI, RLO};
@@ -97,10 +97,10 @@ impl OpenRun {
     }
 
     /// Extends the run over the part just read, or ends it before the first kept character of that part.
-    pub fn meet(&mut self, runs: &mut LevelRunVec, progress: &Progress) -> Result<(), AllocError>
+    pub fn extend(&mut self, runs: &mut LevelRunVec, progress: &Progress) -> Result<(), AllocError>
         ensures runs { OnOk result (map bounds runs.new.items
-            ≡ runs_met progress.now.first_kept progress.now.level self.old (map bounds runs.old.items)) }
-        ensures run { OnOk result (self.new ≡ run_met progress.now.first_kept progress.now.level self.old) }
+            ≡ runs_after progress.now.first_kept progress.now.level self.old (map bounds runs.old.items)) }
+        ensures run { OnOk result (self.new ≡ open_run_after progress.now.first_kept progress.now.level self.old) }
     {
         if let Some(unit) = progress.first_kept {
             self.start = cut_run(runs, self.start, unit, self.last_level, progress.level)?;
@@ -117,7 +117,7 @@ pub struct Paragraph<'p, T: TextSource> {
     /// Its level, at most 125.
     pub level: Level,
     /// How the pass goes through a stretch without controls.
-    pub stride: Stride,
+    pub step_unit: StepUnit,
     /// Its stored classes, one for each code unit. They are equal within each character.
     pub original_classes: &'p [BidiClass],
     ghost low: { level ≤ 125 },
@@ -133,20 +133,20 @@ impl<'p, T: TextSource> Paragraph<'p, T> {
     pub fn new(
         text: T,
         level: Level,
-        stride: Stride,
+        step_unit: StepUnit,
         original_classes: &'p [BidiClass],
     ) -> Paragraph<'p, T>
         requires low { level ≤ 125 }
         requires per_char { HaveClass (T.text text) original_classes.now }
         ensures text { result.text ≡ text }
         ensures level { result.level ≡ level }
-        ensures stride { result.stride ≡ stride }
+        ensures step_unit { result.step_unit ≡ step_unit }
         ensures classes { result.original_classes.now ≡ original_classes.now }
     {
         Paragraph {
             text,
             level,
-            stride,
+            step_unit,
             original_classes,
         }
     }
@@ -196,15 +196,15 @@ impl<'p, T: TextSource> Paragraph<'p, T> {
         ensures at_most { steps.new + counted_to self.now from ≤ steps.old + counted_to self.now result }
     {
         let classes = self.original_classes;
-        match self.stride {
-            Stride::CodeUnit => {
+        match self.step_unit {
+            StepUnit::CodeUnit => {
                 let controls = Among {
                     test: Control,
                     classes,
                 };
                 first_passing_counted(controls, TESTED_SINGLY, from + 1, classes.len(), steps)
             }
-            Stride::Character => self.next_character(Control, from, classes.len(), steps),
+            StepUnit::Character => self.next_character(Control, from, classes.len(), steps),
         }
     }
 
@@ -218,15 +218,15 @@ impl<'p, T: TextSource> Paragraph<'p, T> {
         ensures at_least { steps.old ≤ steps.new }
         ensures at_most { steps.new + counted_to self.now from ≤ steps.old + counted_to self.now to }
     {
-        match self.stride {
-            Stride::CodeUnit => {
+        match self.step_unit {
+            StepUnit::CodeUnit => {
                 let kept = Among {
                     test: KeptInPlace,
                     classes: self.original_classes,
                 };
                 first_passing_counted(kept, TESTED_SINGLY, from, to, steps)
             }
-            Stride::Character => self.next_character(KeptInPlace, from, to, steps),
+            StepUnit::Character => self.next_character(KeptInPlace, from, to, steps),
         }
     }
 

@@ -209,8 +209,8 @@ pub fn isolating_run_sequences<T: TextSource>(
     links.link(&leveled, para_level, runs.as_slice(), has_isolate_controls)?;
     for first in 0..links.run_count() {
         if let Some(sequence) = links.gather(&mut runs, first)? {
-            let lent = sequence.lend(runs.as_slice());
-            out.push(IsolatingRunSequence::copied(alloc, lent)?)?;
+            let borrowed = sequence.borrowed(runs.as_slice());
+            out.push(IsolatingRunSequence::copied(alloc, borrowed)?)?;
         }
     }
     Ok(())

@@ -4,7 +4,7 @@ ghost use Rattle.std.specs.Prelude.{◌≡◌, ℕ, ◌<◌, [], ◌∷◌, ◌+
 ghost use Rattle.std.specs.declared.ops.Range.{Range};
 ghost use Rattle.bidi_base.specs.Texts.{IsLine, is_boundary, HaveClass, AreLines};
 ghost use Rattle.bidi_base.specs.Explicit.{explicit_levels};
-ghost use Rattle.bidi_base.specs.Places.{last_or};
+ghost use Rattle.bidi_base.specs.Indexes.{last_or};
 ghost use Rattle.bidi_base.specs.Sequences.{sequences, HasExplicitLevels, FlagsInitiators};
 ghost use Rattle.bidi_base.specs.Units.{bounds};
 ghost use Rattle.bidi_explicit.specs.InText.{read_units, sequences_of};

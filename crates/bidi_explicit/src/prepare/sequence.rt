@@ -4,7 +4,7 @@ ghost use Rattle.std.specs.Prelude.{◌≡◌, ◌≤◌, ◌<◌, ◌↔◌, Is
 ghost use Rattle.bidi_base.specs.Classes.{is_l_or_r};
 ghost use Rattle.bidi_base.specs.Units.{bounds, are_ordered, is_run_sequence};
 
-use super::{LentSequence, LevelRun};
+use super::{BorrowedSequence, LevelRun};
 use bidi_base::char_data::BidiClass;
 use bidi_text::text::{TextSource, is_line};
 use smallvec::SmallVec;
@@ -22,7 +22,7 @@ pub struct IsolatingRunSequence {
 }
 
 impl IsolatingRunSequence {
-    ghost use Rattle.bidi_explicit.specs.RunSequence.{runs as runs_of, run_bounds, joined, lent_joined, sos as sos_of, eos as eos_of, forwards_left, backwards_left};
+    ghost use Rattle.bidi_explicit.specs.RunSequence.{runs as runs_of, run_bounds, joined, borrowed_joined, sos as sos_of, eos as eos_of, forwards_left, backwards_left};
     ghost use Rattle.bidi_base.specs.Texts.{AreLines};
     ghost use Rattle.bidi_base.specs.Units.{units_from, units_below};
 
@@ -49,9 +49,9 @@ impl IsolatingRunSequence {
     /// Copies the runs of a sequence that borrows them.
     pub(super) fn copied(
         alloc: Global,
-        sequence: LentSequence<'_>,
+        sequence: BorrowedSequence<'_>,
     ) -> Result<IsolatingRunSequence, AllocError>
-        ensures { IfOk result (λ s. joined s ≡ lent_joined sequence.entry) }
+        ensures { IfOk result (λ s. joined s ≡ borrowed_joined sequence.entry) }
     {
         let mut runs = SmallVec::new(alloc);
         for run in sequence.runs() {

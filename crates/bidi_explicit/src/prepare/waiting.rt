@@ -39,7 +39,7 @@ impl Model for Waiting {
 
 impl Waiting {
     ghost use Rattle.std.specs.Prelude.{◌-◌, ◌∷◌, ◌++◌, length, take};
-    ghost use Rattle.bidi_base.specs.Places.{last_or};
+    ghost use Rattle.bidi_base.specs.Indexes.{last_or};
     ghost use Rattle.std.specs.Prelude.{Some, None, replicate};
 
     /// No isolate is open. Does not allocate.

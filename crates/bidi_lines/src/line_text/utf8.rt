@@ -2,7 +2,7 @@
 ghost use Rattle.std.specs.Prelude.{◌≡◌, length, reverse, flat_map, IfOk, ◌↔◌, encode_utf8};
 ghost use Rattle.std.specs.Cow.{cow_str_bytes, IsBorrowedStr};
 ghost use Rattle.std.specs.Str.{chars};
-ghost use Rattle.bidi_base.specs.Analysed.{IsLineOf, IsTextOfLine, StaysInOrder};
+ghost use Rattle.bidi_base.specs.AnalysedText.{IsLineOf, IsTextOfLine, StaysInOrder};
 
 use super::LineText;
 use super::reversed_utf8::{are_short, turn_round};

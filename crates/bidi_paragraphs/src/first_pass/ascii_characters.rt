@@ -1,6 +1,6 @@
 //! ASCII characters, read one by one or sixteen at a time.
 ghost use Rattle.std.specs.Prelude.{◌≡◌, ℕ, ◌+◌, ◌<◌, ◌≤◌, length, get_or, take};
-ghost use Rattle.bidi_base.specs.Places.{class_at};
+ghost use Rattle.bidi_base.specs.Indexes.{class_at};
 ghost use Rattle.bidi_paragraphs.specs.ClassSet.{has};
 ghost use Rattle.bidi_paragraphs.specs.FirstPass.{set_of_first, IsSkimmed};
 ghost use Rattle.bidi_paragraphs.specs.InText.{ahead, CanRead, CanSeek, IsReadOn};

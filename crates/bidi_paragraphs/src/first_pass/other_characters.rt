@@ -2,7 +2,7 @@
 //! iterator.
 ghost use Rattle.std.specs.Prelude.{◌≡◌, ℕ, ◌+◌, ◌-◌, ◌<◌, ◌≤◌, Bool, true, false, length, get_or, take, MatchOption, IsTrue, None};
 ghost use Rattle.bidi_base.specs.declared.char_data.BidiClass.{BidiClass};
-ghost use Rattle.bidi_base.specs.Places.{class_at};
+ghost use Rattle.bidi_base.specs.Indexes.{class_at};
 ghost use Rattle.bidi_base.specs.Texts.{is_boundary as is_boundary_of, text_len};
 ghost use Rattle.bidi_paragraphs.specs.ClassSet.{has};
 ghost use Rattle.bidi_paragraphs.specs.FirstPass.{HasEachChange, IsSkimmed, IsStop};

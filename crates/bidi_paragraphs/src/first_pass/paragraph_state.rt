@@ -4,9 +4,9 @@ ghost use Rattle.std.specs.Option.{is_some};
 ghost use Rattle.bidi_base.specs.declared.char_data.BidiClass.{BidiClass};
 ghost use Rattle.bidi_base.specs.Classes.{is_strong as is_strong_class};
 ghost use Rattle.bidi_base.specs.Isolates.{level_by, resolved_fsi};
-ghost use Rattle.bidi_base.specs.Reading.{filled};
+ghost use Rattle.bidi_base.specs.OpenIsolates.{filled};
 ghost use Rattle.bidi_paragraphs.specs.ClassSet.{has};
-ghost use Rattle.bidi_paragraphs.specs.FirstPass.{waiting, deciding_after, classes_after, is_decided, wants_strong, stops_at, without_waiting, AreWithin, IsFresh, IsReadBy, StopsCounting};
+ghost use Rattle.bidi_paragraphs.specs.FirstPass.{waiting, deciding_after, classes_after, is_decided, wants_strong, stops_at, without_waiting, AreWithin, IsAtStart, IsReadBy, StopsCounting};
 
 use crate::class_set::ClassSet;
 use crate::paragraph_flags::ParagraphFlags;
@@ -74,7 +74,7 @@ pub(super) struct ParagraphState {
 impl ParagraphState {
     /// Starts before the text.
     pub(super) fn new(alloc: Global) -> ParagraphState
-        ensures { IsFresh result 0 }
+        ensures { IsAtStart result 0 }
     {
         ParagraphState {
             start: 0,
@@ -87,7 +87,7 @@ impl ParagraphState {
 
     /// Begins the next paragraph.
     pub(super) fn restart(&mut self, start: usize)
-        ensures { IsFresh self.new start }
+        ensures { IsAtStart self.new start }
     {
         self.start = start;
         self.depth = 0;

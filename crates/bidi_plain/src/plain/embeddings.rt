@@ -3,7 +3,7 @@
 ghost use Rattle.std.specs.Prelude.{◌≡◌, ◌≤◌, ◌||◌, if◌then◌else◌, [], length, reverse, unwrap_or, IfOk};
 ghost use Rattle.std.specs.Result.{OkIff};
 ghost use Rattle.bidi_base.specs.Classes.{is_paragraph_separator, is_removed};
-ghost use Rattle.bidi_base.specs.Explicit.{asked_level, override_of, status_inside, explicit_levels, explicit_classes};
+ghost use Rattle.bidi_base.specs.Explicit.{next_level, override_of, status_inside, explicit_levels, explicit_classes};
 ghost use Rattle.bidi_base.specs.Openers.{outside_isolate, left_open, then_open};
 
 use bidi_base::char_data::{BidiClass, is_rtl};
@@ -81,8 +81,8 @@ impl Model for Openers {
 
 /// The level inside an initiator, if `level` is the one before it. Returns an error exactly if it would be
 /// above 125.
-fn asked_level(opener: BidiClass, level: Level) -> Result<Level, Error>
-    ensures { OkIff result (asked_level opener level ≤ 125) (asked_level opener level) }
+fn next_level(opener: BidiClass, level: Level) -> Result<Level, Error>
+    ensures { OkIff result (next_level opener level ≤ 125) (next_level opener level) }
 {
     if is_rtl(opener) {
         level.new_explicit_next_rtl()
@@ -109,7 +109,7 @@ fn status_inside(status: Status, openers: &[BidiClass]) -> Status
 {
     match openers {
         [] => status,
-        [opener, inner @ ..] => match asked_level(*opener, status.level) {
+        [opener, inner @ ..] => match next_level(*opener, status.level) {
             Ok(level) => status_inside(
                 Status {
                     level,

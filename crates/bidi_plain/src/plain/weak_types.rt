@@ -4,7 +4,7 @@
 ghost use Rattle.std.specs.Prelude.{◌≡◌, ◌≤◌, [], ◌∷◌, length, vec_len, IsTrue, IfOk};
 ghost use Rattle.std.specs.List.{list_all, prefix_len};
 ghost use Rattle.bidi_base.specs.Classes.{is_en, is_et, is_kept, is_l_or_r, is_weak_resolved};
-ghost use Rattle.bidi_base.specs.Places.{class_at};
+ghost use Rattle.bidi_base.specs.Indexes.{class_at};
 ghost use Rattle.bidi_base.specs.Weak.{carried, w1, w2, w3, w4, w4_rule, w5, w6, w7, weak_classes};
 
 use bidi_base::char_data::BidiClass::{

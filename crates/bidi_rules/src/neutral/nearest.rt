@@ -2,7 +2,7 @@
 
 ghost use Rattle.std.specs.Prelude.{◌≡◌, ◌≤◌, length, map, find, All, IsTrue};
 ghost use Rattle.bidi_base.specs.Classes.{is_kept_in_place};
-ghost use Rattle.bidi_base.specs.Places.{class_at};
+ghost use Rattle.bidi_base.specs.Indexes.{class_at};
 ghost use Rattle.bidi_base.specs.Units.{bounds, are_ordered, units_in_runs};
 ghost use Rattle.bidi_rules.specs.PairPass.{IsFirstFor, IsNearestBefore, IsRunOf};
 

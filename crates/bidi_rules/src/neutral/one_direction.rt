@@ -1,7 +1,7 @@
 //! Sequences with a single direction: N0 to N2 give it to each character that is not BN.
 
 ghost use Rattle.std.specs.Prelude.{◌≡◌, ℕ, ◌≤◌, true, false, length, map, All, IsTrue};
-ghost use Rattle.bidi_base.specs.Places.{class_at};
+ghost use Rattle.bidi_base.specs.Indexes.{class_at};
 ghost use Rattle.bidi_base.specs.Units.{bounds, in_runs};
 ghost use Rattle.bidi_rules.specs.NeutralPass.{turns_from};
 

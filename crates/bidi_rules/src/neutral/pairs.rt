@@ -3,14 +3,14 @@
 ghost use Rattle.std.specs.Prelude.{◌≡◌, ℕ, ◌+◌, ◌<◌, ◌≤◌, List, length, map, All, IsTrue};
 ghost use Rattle.bidi_base.specs.Brackets.{AreNestedPairs};
 ghost use Rattle.bidi_base.specs.Classes.{is_kept_in_place, is_l_or_r};
-ghost use Rattle.bidi_base.specs.Places.{class_at};
+ghost use Rattle.bidi_base.specs.Indexes.{class_at};
 ghost use Rattle.bidi_base.specs.Texts.{is_boundary, kept_in_place, unit_index, text_len, AreLines};
 ghost use Rattle.bidi_base.specs.Units.{bounds, are_ordered};
 ghost use Rattle.bidi_rules.specs.InText.{at_unit_indexes, IsBracket, IsBracketAfter, IsMarksEnd, IsPaired, IsPlace, IsReady, IsRow, IsSet, IsSetUpTo};
-ghost use Rattle.bidi_rules.specs.PairPass.{opposite_of, IsAsked};
+ghost use Rattle.bidi_rules.specs.PairPass.{opposite_of, IsSearched};
 ghost use Rattle.bidi_rules.specs.PairPass.{IsRunOf};
 ghost use Rattle.bidi_rules.specs.PairPass.{IsTaken, IsUnmarked};
-ghost use Rattle.bidi_explicit.specs.Written.{is_seen, IsWrittenOver};
+ghost use Rattle.bidi_explicit.specs.SequenceUnits.{is_seen, IsWrittenOver};
 
 use super::directions::{Directions, opposite_of};
 use super::marks::{ends_marks, marks_end};
@@ -146,7 +146,7 @@ impl Next {
         requires ordered { IsTrue (are_ordered (map bounds runs.now)) }
         requires closing { pair.closing ≤ length classes.now }
         ensures direction { self.new.direction ≡ self.old.direction }
-        ensures asked { IsAsked self.old.direction (map bounds runs.now) classes.now pair self.old.unit self.new.unit result }
+        ensures asked { IsSearched self.old.direction (map bounds runs.now) classes.now pair self.old.unit self.new.unit result }
     {
         if pair.is_marked {
             let found = first_for(self.direction, runs, classes, pair.inside, pair.closing);

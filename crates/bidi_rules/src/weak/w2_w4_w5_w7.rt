@@ -4,16 +4,16 @@
 
 ghost use Rattle.std.specs.Prelude.{◌≡◌, ℕ, ◌+◌, ◌-◌, ◌*◌, ◌<◌, ◌≤◌, true, false, not, ◌&&◌, length, map, min, drop, find, get_or, reverse, slice_range, IsTrue};
 ghost use Rattle.bidi_base.specs.Classes.{is_strong};
-ghost use Rattle.bidi_base.specs.Places.{class_at};
+ghost use Rattle.bidi_base.specs.Indexes.{class_at};
 ghost use Rattle.bidi_base.specs.Text.{text_len};
 ghost use Rattle.bidi_base.specs.Texts.{AreLines, IsPerChar};
 ghost use Rattle.bidi_base.specs.Units.{bounds, are_ordered, units_in_runs};
-ghost use Rattle.bidi_explicit.specs.ExplicitPass.{filled};
-ghost use Rattle.bidi_rules.specs.WeakPass.{is_asked, is_number, is_other, next_before, still_to_come, strengthened, waits};
-ghost use Rattle.bidi_rules.specs.WeakWalk.{is_any, is_any_of, settled_to, AreAlike, IsWalked, IsWhole};
+ghost use Rattle.bidi_explicit.specs.RunCutting.{filled};
+ghost use Rattle.bidi_rules.specs.WeakPass.{is_number_or_terminator, is_number, is_other, next_before, still_to_come, strengthened, waits};
+ghost use Rattle.bidi_rules.specs.WeakWalk.{is_any, is_any_of, resolved_to, AreAlike, IsWalked, IsWhole};
 ghost use Rattle.bidi_rules.specs.InText.{len_at};
 ghost use Rattle.bidi_rules.specs.WeakWalk.{Passes, Reads, ReadsTo, WaitsBelow};
-ghost use Rattle.bidi_explicit.specs.Written.{count_below, is_seen, IsWrittenOver};
+ghost use Rattle.bidi_explicit.specs.SequenceUnits.{count_below, is_seen, IsWrittenOver};
 
 use super::before::{Before, numbered, strengthened, strong_up_to};
 use super::part_of;
@@ -80,7 +80,7 @@ pub fn resolve_numbers<T: TextSource, S: Ledger>(
         walk.read_run(&sequence, run, classes, steps);
     }
     let end = classes.len();
-    walk.settle(runs, classes, end, ON, steps);
+    walk.write_waiting(runs, classes, end, ON, steps);
 }
 
 /// Whether the runs have a number.
@@ -129,8 +129,8 @@ impl Walk {
             classes.new }
         ensures at_least { steps.old ≤ steps.new }
         ensures at_most { let r = get_or (map bounds sequence.now.runs.now) run (0, 0) in
-            steps.new + 1 + 2 * count_below (map bounds sequence.now.runs.now) (settled_to self.old r.0)
-            ≤ steps.old + 2 * (r.1 - r.0) + 2 * count_below (map bounds sequence.now.runs.now) (settled_to self.new r.1) }
+            steps.new + 1 + 2 * count_below (map bounds sequence.now.runs.now) (resolved_to self.old r.0)
+            ≤ steps.old + 2 * (r.1 - r.0) + 2 * count_below (map bounds sequence.now.runs.now) (resolved_to self.new r.1) }
     {
         let TextRuns { text, runs } = *sequence;
         let end = runs[run].end;
@@ -150,14 +150,14 @@ impl Walk {
     }
 
     /// Whether a code unit of this class can be passed over: it does not matter to numbers (see
-    /// `is_asked`), and nothing that matters to them is before it.
+    /// `is_number_or_terminator`), and nothing that matters to them is before it.
     fn passes_over(&self, class: BidiClass) -> bool
-        ensures { result ≡ (is_other self.now.before && not (is_asked class)) }
+        ensures { result ≡ (is_other self.now.before && not (is_number_or_terminator class)) }
     {
-        matches!(self.before, Before::Other) && !is_asked(class)
+        matches!(self.before, Before::Other) && !is_number_or_terminator(class)
     }
 
-    /// Passes over the code unit at `at` and those after it whose class does not matter (see `is_asked`),
+    /// Passes over the code unit at `at` and those after it whose class does not matter (see `is_number_or_terminator`),
     /// before `end`. Returns where they end.
     fn pass_over<S: Ledger>(
         &mut self,
@@ -167,7 +167,7 @@ impl Walk {
         steps: &mut Steps<S>,
     ) -> usize
         requires other { is_other self.old.before ≡ true }
-        requires first { is_asked (class_at classes.now at) ≡ false }
+        requires first { is_number_or_terminator (class_at classes.now at) ≡ false }
         requires some { at < end }
         requires inside { end ≤ length classes.now }
         ensures some { at < result }
@@ -175,15 +175,15 @@ impl Walk {
         ensures other { is_other self.new.before ≡ true }
         ensures first_run { self.new.first_run ≡ self.old.first_run }
         ensures passes { Passes at result end self.old self.new classes.now }
-        ensures asked { result < end → is_asked (class_at classes.now result) ≡ true }
+        ensures asked { result < end → is_number_or_terminator (class_at classes.now result) ≡ true }
         ensures at_least { steps.old ≤ steps.new }
         ensures at_most { steps.new + (at + 1) + at ≤ steps.old + min (result + 1) end + result }
     {
-        let asked = Among {
-            test: Asked,
+        let sought = Among {
+            test: NumberOrTerminator,
             classes,
         };
-        let next = first_passing_counted(asked, TESTED_SINGLY, at + 1, end, steps);
+        let next = first_passing_counted(sought, TESTED_SINGLY, at + 1, end, steps);
         self.strong = last_strong(classes, at, next, steps).unwrap_or(self.strong);
         next
     }
@@ -240,16 +240,16 @@ impl Walk {
         ensures reads { Reads (map bounds runs.now) run stretch.start stretch.end self.old self.new classes.old
             classes.new }
         ensures at_least { steps.old ≤ steps.new }
-        ensures at_most { steps.new + 2 * count_below (map bounds runs.now) (settled_to self.old stretch.start)
-            ≤ steps.old + 2 * count_below (map bounds runs.now) (settled_to self.new stretch.end) }
+        ensures at_most { steps.new + 2 * count_below (map bounds runs.now) (resolved_to self.old stretch.start)
+            ≤ steps.old + 2 * count_below (map bounds runs.now) (resolved_to self.new stretch.end) }
     {
         let Range { start, end } = stretch;
         let class = classes[start];
         let strong = strengthened(self.strong, class);
         let next = self.before.after(strong);
         if !self.before.is_joined_by(strong) {
-            let held = numbered(self.strong, self.before.settled(strong));
-            self.settle(runs, classes, start, held, steps);
+            let held = numbered(self.strong, self.before.waiting_becomes(strong));
+            self.write_waiting(runs, classes, start, held, steps);
             if next.waits() {
                 self.first = start;
                 self.first_run = run;
@@ -265,7 +265,7 @@ impl Walk {
     }
 
     /// Writes the class to the code units that wait, if some do. They are before `to`.
-    fn settle<S: Ledger>(
+    fn write_waiting<S: Ledger>(
         &self,
         runs: &[LevelRun],
         classes: &mut [BidiClass],
@@ -281,7 +281,7 @@ impl Walk {
             to classes.old classes.new }
         ensures idle { waits self.now.before ≡ false → classes.new ≡ classes.old }
         ensures at_least { steps.old ≤ steps.new }
-        ensures at_most { steps.new + 2 * count_below (map bounds runs.now) (settled_to self.now to)
+        ensures at_most { steps.new + 2 * count_below (map bounds runs.now) (resolved_to self.now to)
             ≤ steps.old + 2 * count_below (map bounds runs.now) to }
     {
         if self.before.waits() {
@@ -308,23 +308,23 @@ fn fill(classes: &mut [BidiClass], start: usize, end: usize, class: BidiClass)
 
 /// Whether a class depends on its neighbors, or its neighbors on it, even if nothing that matters is
 /// directly before it. These are numbers and ET.
-fn is_asked(class: BidiClass) -> bool
-    ensures { result ≡ is_asked class }
+fn is_number_or_terminator(class: BidiClass) -> bool
+    ensures { result ≡ is_number_or_terminator class }
 {
     is_number(class) | (class == ET)
 }
 
-/// The classes for which `is_asked` holds.
+/// The classes for which `is_number_or_terminator` holds.
 #[derive(Clone, Copy, Debug)]
-struct Asked;
+struct NumberOrTerminator;
 
-impl ClassTest for Asked {
-    ghost use Rattle.bidi_rules.specs.WeakPass.{is_asked};
+impl ClassTest for NumberOrTerminator {
+    ghost use Rattle.bidi_rules.specs.WeakPass.{is_number_or_terminator};
 
-    ghost test = { λ _. is_asked };
+    ghost test = { λ _. is_number_or_terminator };
 
     fn passes(self, class: BidiClass) -> bool {
-        is_asked(class)
+        is_number_or_terminator(class)
     }
 }
 

@@ -1,9 +1,9 @@
 //! W3 and W6, which are left once W1, W2, W4, W5 and W7 are done. They change each class by itself.
 
 ghost use Rattle.std.specs.Prelude.{◌≡◌, ◌≢◌, ℕ, ◌+◌, ◌<◌, ◌≤◌, true, length, map, All, IsTrue};
-ghost use Rattle.bidi_base.specs.Places.{class_at};
+ghost use Rattle.bidi_base.specs.Indexes.{class_at};
 ghost use Rattle.bidi_base.specs.Units.{bounds, are_ordered, in_runs, units_in_runs};
-ghost use Rattle.bidi_explicit.specs.Written.{KeepsOutside};
+ghost use Rattle.bidi_explicit.specs.SequenceUnits.{KeepsOutside};
 ghost use Rattle.bidi_rules.specs.WeakPass.{left_over};
 ghost use Rattle.bidi_rules.specs.WeakWalk.{two_a_unit, AreChangedAndCounted};
 

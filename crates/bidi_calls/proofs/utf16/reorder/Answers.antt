@@ -1,7 +1,7 @@
 use Rattle.bidi_base.proofs.Common.{rules, ◌≡◌, ◌+◌, true, false, sym, refl, ap, ◌∙◌, arith, nat_tests, ℕ, length, length-take-le, utf16_text, utf16_len, encode_utf16}
 use Rattle.bidi_text.proofs.Utf16Lemmas.{has_units, text_len-utf16}
-use Rattle.bidi_calls.proofs.KeptText.{kept-text, length-kept, told-uneven, told-room}
-use Rattle.bidi_calls.specs.Shown.{is_even}
+use Rattle.bidi_calls.proofs.CallerText.{caller-text, length-caller, reported-uneven, reported-room}
+use Rattle.bidi_calls.specs.LineText.{is_even}
 use Rattle.bidi_calls.proofs.utf16.reorder.Goals as goal
 
 -- a character takes as many units as it is written with
@@ -23,7 +23,7 @@ pub returns-in_err-check-clause-fault : goal.returns-in_err-check-clause-fault
 returns-in_err-check-clause-fault c =
     let even = rw (c.class_numbers.ensures, c.level_numbers.ensures) at c.is_even_utf16-even.ensures in
     let fails : is_even utf16_len (utf16_text c.args.text.now) c.args.line.now ≡ false = grind arith in
-    rw (told-uneven utf16_len encode_utf16 (utf16_text c.args.text.now) c.args.text.now c.args.line.now (length c.args.out.now) fails) (grind arith)
+    rw (reported-uneven utf16_len encode_utf16 (utf16_text c.args.text.now) c.args.text.now c.args.line.now (length c.args.out.now) fails) (grind arith)
 
 pub returns-in_err-check-2-clause-fault : goal.returns-in_err-check-2-clause-fault
 returns-in_err-check-2-clause-fault c =
@@ -31,7 +31,7 @@ returns-in_err-check-2-clause-fault c =
     let holds : is_even utf16_len (utf16_text c.args.text.now) c.args.line.now ≡ true = grind arith in
     let long = text_len-utf16 c.args.text.now in
     let units = ap (λ n. n + c.args.line.now.start) long ∙ c.requires.units in
-    rw (told-room utf16_len encode_utf16 (utf16_text c.args.text.now) c.args.text.now c.args.line.now (length c.args.out.now) (length c.args.text.now) holds (length-kept utf16_len has_units (utf16_text c.args.text.now) c.args.line.now c.requires.sound holds units encode_utf16 c.args.text.now (sym long) length-encode)) (grind arith)
+    rw (reported-room utf16_len encode_utf16 (utf16_text c.args.text.now) c.args.text.now c.args.line.now (length c.args.out.now) (length c.args.text.now) holds (length-caller utf16_len has_units (utf16_text c.args.text.now) c.args.line.now c.requires.valid holds units encode_utf16 c.args.text.now (sym long) length-encode)) (grind arith)
 
 pub returns-in_err-write_text-clause-fault : goal.returns-in_err-write_text-clause-fault
 returns-in_err-write_text-clause-fault c = grind arith
@@ -42,7 +42,7 @@ returns-clause-fault c =
     let holds : is_even utf16_len (utf16_text c.args.text.now) c.args.line.now ≡ true = grind arith in
     let long = text_len-utf16 c.args.text.now in
     let units = ap (λ n. n + c.args.line.now.start) long ∙ c.requires.units in
-    rw (told-room utf16_len encode_utf16 (utf16_text c.args.text.now) c.args.text.now c.args.line.now (length c.args.out.now) (length c.args.text.now) holds (length-kept utf16_len has_units (utf16_text c.args.text.now) c.args.line.now c.requires.sound holds units encode_utf16 c.args.text.now (sym long) length-encode)) (grind arith)
+    rw (reported-room utf16_len encode_utf16 (utf16_text c.args.text.now) c.args.text.now c.args.line.now (length c.args.out.now) (length c.args.text.now) holds (length-caller utf16_len has_units (utf16_text c.args.text.now) c.args.line.now c.requires.valid holds units encode_utf16 c.args.text.now (sym long) length-encode)) (grind arith)
 
 pub returns-clause-writes : goal.returns-clause-writes
 returns-clause-writes c =
@@ -50,6 +50,6 @@ returns-clause-writes c =
     let holds : is_even utf16_len (utf16_text c.args.text.now) c.args.line.now ≡ true = grind arith in
     let long = text_len-utf16 c.args.text.now in
     let units = ap (λ n. n + c.args.line.now.start) long ∙ c.requires.units in
-    let text = (rw c.new.ensures at c.in_ok-write_text.ensures.text) ∙ kept-text utf16_len has_units (utf16_text c.args.text.now) c.args.line.now c.requires.sound holds units encode_utf16 c.args.text.now (sym long) in
-    let count = length-kept utf16_len has_units (utf16_text c.args.text.now) c.args.line.now c.requires.sound holds units encode_utf16 c.args.text.now (sym long) length-encode in
+    let text = (rw c.new.ensures at c.in_ok-write_text.ensures.text) ∙ caller-text utf16_len has_units (utf16_text c.args.text.now) c.args.line.now c.requires.valid holds units encode_utf16 c.args.text.now (sym long) in
+    let count = length-caller utf16_len has_units (utf16_text c.args.text.now) c.args.line.now c.requires.valid holds units encode_utf16 c.args.text.now (sym long) length-encode in
     record { kept = search rules; list = rw (text, count) refl; count = sym count }

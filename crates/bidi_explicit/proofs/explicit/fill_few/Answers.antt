@@ -1,6 +1,6 @@
 -- One unit after another.
 use Rattle.bidi_base.proofs.Common.{◌≡◌, ◌+◌, ◌≤◌, ℕ, List, length, set, sym, arith, common_steps, take-append-drop}
-use Rattle.bidi_explicit.specs.ExplicitPass.{filled}
+use Rattle.bidi_explicit.specs.RunCutting.{filled}
 use Rattle.bidi_explicit.proofs.ExplicitUnits.{filled-more}
 use Rattle.bidi_explicit.proofs.explicit.fill_few.Goals as goal
 

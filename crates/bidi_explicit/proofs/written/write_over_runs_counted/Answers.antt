@@ -6,7 +6,7 @@ use Rattle.bidi_explicit.proofs.WalkLemmas.{no_range, are_ordered-drop, are_orde
 use Rattle.bidi_explicit.proofs.WrittenOver.{runs-more, runs-stop}
 use Rattle.bidi_explicit.proofs.written.write_over_runs_counted.Goals as goal
 
--- the ranges end one behind another
+-- the ranges end one after another
 ends_ascend : (low index : ℕ) (runs : List (ℕ × ℕ)) → are_ordered_from low runs ≡ true → index < length runs → (get_or runs 0 (0, 0)).1 ≤ (get_or runs index (0, 0)).1
 ends_ascend low index runs h fits = grind (arith, common_steps, are_ordered-front, run_some, start_after)
 

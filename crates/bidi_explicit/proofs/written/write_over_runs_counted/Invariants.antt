@@ -1,6 +1,6 @@
--- The runs so far are written, and where each of them ends behind `from` it has a unit there.
+-- The runs so far are written, and where each of them ends after `from` it has a unit there.
 use Rattle.bidi_base.proofs.Common.{◌+◌, ◌-◌, ◌*◌, ◌<◌, ◌≤◌, length, map, take, get_or, bounds}
-use Rattle.bidi_explicit.specs.Written.{count_below, is_seen, IsWrittenOver}
+use Rattle.bidi_explicit.specs.SequenceUnits.{count_below, is_seen, IsWrittenOver}
 use Rattle.bidi_explicit.proofs.written.write_over_runs_counted.Given as goal
 
 abbrev pub invariant-loop-class : goal.invariant-loop-class

@@ -1,6 +1,6 @@
 use Rattle.bidi_base.proofs.Common.{◌≡◌, ℕ, ◌-◌, ◌<◌, ◌≤◌, true, false, List, length, get_or, set, sym, ◌∙◌, arith, inl, inr, cases_lt, get_or_default, class_at, length-set, is_separator}
-use Rattle.bidi_lines.specs.Stops.{is_stop}
-use Rattle.bidi_lines.proofs.LineLevels.{IsSweptTo-start, IsSweptTo-removed, IsSweptTo-plain, IsSweptTo-steady, IsSweptTo-separator, IsSweptTo-end, AreLastBlanks, level_before}
+use Rattle.bidi_lines.specs.ResetStops.{is_stop}
+use Rattle.bidi_lines.proofs.LineLevels.{IsSweptTo-start, IsSweptTo-removed, IsSweptTo-plain, IsSweptTo-no_break, IsSweptTo-separator, IsSweptTo-end, AreLastBlanks, level_before}
 use Rattle.bidi_lines.proofs.line_levels.reset_levels.Goals as goal
 
 pub loop-at-init : goal.loop-at-init
@@ -29,7 +29,7 @@ loop-at-preserved-then-is_removed g c =
     let one = IsSweptTo-removed c.args.para_level (g.C.ClassList.classes c.args.classes) c.args.levels.now c.loop-at.levels c.loop-at.start c.loop-at.before at (grind arith)
     (grind arith) c.loop-at.invariant.swept in
     record {
-      swept = rw read (IsSweptTo-steady _ _ _ _ _ c.loop-at.before _ _ (omega arith) f.begins f.before one);
+      swept = rw read (IsSweptTo-no_break _ _ _ _ _ c.loop-at.before _ _ (omega arith) f.begins f.before one);
       ends = grind arith;
     }
 

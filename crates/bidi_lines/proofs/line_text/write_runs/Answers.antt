@@ -1,5 +1,5 @@
 use Rattle.bidi_base.proofs.Common.{ℕ, ◌-◌, ◌<◌, ◌≤◌, List, length, get_or, ◌∙◌, arith, Range, sum_by_more, sum_by_more_le}
-use Rattle.bidi_lines.specs.Written.{run_units}
+use Rattle.bidi_lines.specs.LineUnits.{run_units}
 use Rattle.bidi_lines.proofs.WrittenRuns.{written_run, run_units-odd, run_units-even}
 use Rattle.bidi_lines.proofs.line_text.write_runs.Goals as goal
 use Rattle.bidi_lines.proofs.line_text.write_runs.Goals.{then-is_rtl, else-is_rtl}

@@ -1,6 +1,6 @@
 use Rattle.bidi_base.proofs.Common.{◌≡◌, ◌-◌, map, take, flat_map, run_of}
 use Rattle.std.specs.Prelude.{sum_by}
-use Rattle.bidi_lines.specs.Written.{run_units}
+use Rattle.bidi_lines.specs.LineUnits.{run_units}
 use Rattle.bidi_lines.proofs.line_text.write_runs.Given as goal
 
 abbrev pub invariant-loop-run : goal.invariant-loop-run

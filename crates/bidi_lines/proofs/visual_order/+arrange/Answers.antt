@@ -1,5 +1,5 @@
 use Rattle.bidi_base.proofs.Common.{ℕ, List, le_refl, ◌<◌, ◌≤◌, slice_index, arith, ◌∙◌, sym, leb-true}
-use Rattle.bidi_lines.specs.Arranged.{AtLeast}
+use Rattle.bidi_lines.specs.ArrangedItems.{AtLeast}
 use Rattle.bidi_lines.proofs.Stretches.{IsArrangedTo-run, IsArrangedTo-stretch, IsNextPart-level, IsNextPart-nested, IsNextPart-turned}
 use Rattle.bidi_lines.proofs.visual_order.+arrange.Goals as goal
 use Rattle.bidi_lines.proofs.visual_order.+arrange.Goals.{then-next-len, else-next-len}

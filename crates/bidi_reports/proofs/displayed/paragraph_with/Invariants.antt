@@ -1,6 +1,6 @@
 use Rattle.bidi_base.proofs.Common.{◌≡◌, length}
 use Rattle.bidi_base.specs.Paragraphs.{paragraphs_in}
-use Rattle.bidi_reports.specs.Shown.{paragraph_with}
+use Rattle.bidi_reports.specs.DisplayedPart.{paragraph_with}
 use Rattle.bidi_reports.proofs.displayed.paragraph_with.Given as goal
 
 abbrev pub invariant-loop-rest : goal.invariant-loop-rest

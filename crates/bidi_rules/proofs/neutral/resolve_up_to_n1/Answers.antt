@@ -1,7 +1,7 @@
 use Rattle.bidi_base.proofs.Common.{◌≡◌, ◌<◌, ℕ, List, true, length, text_len, Source, refl, sym, ap, ◌∙◌, arith, get_or_default, is_l_or_r, direction_of, level_at}
 use Rattle.bidi_rules.proofs.OneDirection.{IsUpToN1-one}
 use Rattle.bidi_laws.proofs.NeutralLemmas.{direction_of-l_or_r}
-use Rattle.bidi_explicit.specs.RunSequence.{lent_runs, lent_sos, lent_eos}
+use Rattle.bidi_explicit.specs.RunSequence.{borrowed_runs, borrowed_sos, borrowed_eos}
 use Rattle.bidi_rules.proofs.NeutralSteps.{eos-side, long, IsUpToN1, IsReady-sequence, runs-within, first-within, mid-within, mid-resolved, IsUpToN1-none, IsUpToN1-paired, IsUpToN1-sequence}
 use Rattle.bidi_rules.specs.NeutralPass.{pairs_in, IsPaired, IsReady}
 use Rattle.bidi_rules.proofs.Gathered.{pairs-nested, pairs-placed}
@@ -15,7 +15,7 @@ ready g c = IsReady-sequence g.T.TextSource.encoding.len_of g.T.TextSource.encod
 units_long : (g : Over) (c : After-sos-sos g) → length c.args.processing_classes.now ≡ text_len g.T.TextSource.encoding.len_of (g.T.TextSource.text c.args.leveled.now.text).chars
 units_long g c = long g.T.TextSource.encoding.len_of g.T.TextSource.encoding.positive (g.T.TextSource.text c.args.leveled.now.text).chars c.runs-runs.result.now c.sos-sos.result c.args.processing_classes.now (ready g c)
 
--- what stands at the first unit that is kept
+-- what is at the first unit that is kept
 begins : (g : Over) (c : After-eos-eos g)
     → IsReady g.T.TextSource.encoding.len_of (g.T.TextSource.text c.args.leveled.now.text).chars c.runs-runs.result.now c.sos-sos.result c.args.processing_classes.now
     → c.bidi_class-embedding.result ≡ direction_of (level_at c.args.leveled.now.levels.now c.in-Some.first)
@@ -40,7 +40,7 @@ stands_alone-requires g c =
 
 pub returns-in_default : goal.returns-in_default
 returns-in_default g c =
-    let eos = lent_eos c.args.sequence in
+    let eos = borrowed_eos c.args.sequence in
     record {
       resolved = IsUpToN1-sequence g.T.TextSource.encoding.len_of (g.T.TextSource.text c.args.leveled.now.text).chars (g.D.BidiDataSource.source c.args.data_source.now) c.args.leveled.now.levels.now c.args.leveled.now.original_classes.now c.args.processing_classes.now c.args.processing_classes.now c.args.sequence c.runs-runs.result.now c.sos-sos.result eos c.runs-runs.ensures c.sos-sos.ensures refl
           (IsUpToN1-none g.T.TextSource.encoding.len_of g.T.TextSource.encoding.positive (g.T.TextSource.text c.args.leveled.now.text).chars (g.D.BidiDataSource.source c.args.data_source.now) c.args.leveled.now.levels.now c.args.leveled.now.original_classes.now c.args.processing_classes.now c.runs-runs.result.now c.sos-sos.result eos (ready g (goal.at.returns-in_default g c).After-sos-sos) (sym c.in_default.is ∙ c.first_kept.ensures));
@@ -131,7 +131,7 @@ resolved : (g : Over) (c : After-resolve_opposite g)
     → IsReady g.T.TextSource.encoding.len_of (g.T.TextSource.text c.args.leveled.now.text).chars c.runs-runs.result.now c.sos-sos.result c.args.processing_classes.now
     → IsPaired g.T.TextSource.encoding.len_of (g.T.TextSource.text c.args.leveled.now.text).chars c.args.leveled.now.original_classes.now c.args.processing_classes.now c.resolve_pairs.new.classes c.runs-runs.result.now c.bidi_class-embedding.result c.sos-sos.result
     (pairs_in g.T.TextSource.encoding.len_of (g.T.TextSource.text c.args.leveled.now.text).chars (g.D.BidiDataSource.source c.args.data_source.now) c.args.processing_classes.now c.runs-runs.result.now)
-    → IsUpToN1 g.T.TextSource.encoding.len_of (g.T.TextSource.text c.args.leveled.now.text).chars (g.D.BidiDataSource.source c.args.data_source.now) c.args.leveled.now.levels.now c.args.leveled.now.original_classes.now c.args.processing_classes.now c.resolve_opposite.new.classes (lent_runs c.args.sequence) (lent_sos c.args.sequence) (lent_eos c.args.sequence)
+    → IsUpToN1 g.T.TextSource.encoding.len_of (g.T.TextSource.text c.args.leveled.now.text).chars (g.D.BidiDataSource.source c.args.data_source.now) c.args.leveled.now.levels.now c.args.leveled.now.original_classes.now c.args.processing_classes.now c.resolve_opposite.new.classes (borrowed_runs c.args.sequence) (borrowed_sos c.args.sequence) (borrowed_eos c.args.sequence)
 resolved g c embedding r paired_here =
     IsUpToN1-sequence g.T.TextSource.encoding.len_of (g.T.TextSource.text c.args.leveled.now.text).chars (g.D.BidiDataSource.source c.args.data_source.now) c.args.leveled.now.levels.now c.args.leveled.now.original_classes.now c.args.processing_classes.now c.resolve_opposite.new.classes c.args.sequence c.runs-runs.result.now c.sos-sos.result c.eos-eos.result c.runs-runs.ensures c.sos-sos.ensures c.eos-eos.ensures
     (IsUpToN1-paired g.T.TextSource.encoding.len_of g.T.TextSource.encoding.positive (g.T.TextSource.text c.args.leveled.now.text).chars (g.D.BidiDataSource.source c.args.data_source.now) c.args.leveled.now.original_classes.now c.args.processing_classes.now c.resolve_pairs.new.classes c.runs-runs.result.now c.bidi_class-embedding.result c.sos-sos.result

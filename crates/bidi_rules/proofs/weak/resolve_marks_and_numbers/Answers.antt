@@ -2,7 +2,7 @@
 use Rattle.bidi_base.proofs.Common.{map, arith, or_parts, bounds, carried}
 use Rattle.bidi_rules.specs.WeakPass.{is_mark_or_number}
 use Rattle.bidi_rules.specs.WeakWalk.{len_at}
-use Rattle.bidi_rules.proofs.WeakMarks.{is_any_wide-none, IsMarked-none}
+use Rattle.bidi_rules.proofs.WeakMarks.{is_any_in_blocks-none, IsMarked-none}
 use Rattle.bidi_rules.proofs.WeakText.{lines-within, marked-IsPerChar}
 use Rattle.bidi_rules.proofs.WeakWalkLemmas.{IsWalked-none}
 use Rattle.bidi_rules.proofs.weak.resolve_marks_and_numbers.Goals as goal
@@ -24,7 +24,7 @@ returns-else-has_marks_or_numbers-clause-walked g c =
     grind (
       arith,
       lines-within g.T.TextSource.encoding.len_of g.T.TextSource.encoding.positive (g.T.TextSource.text c.args.text).chars (map bounds c.args.runs.now) c.requires.lines c.requires.ordered c.args.sos c.args.classes.now c.requires.per_char,
-      is_any_wide-none is_mark_or_number c.args.runs.now c.args.classes.now,
+      is_any_in_blocks-none is_mark_or_number c.args.runs.now c.args.classes.now,
       or_parts,
       IsMarked-none c.args.runs.now (carried c.args.sos) c.args.classes.now,
       IsWalked-none (len_at g.T.TextSource.encoding.len_of (g.T.TextSource.text c.args.text).chars) c.args.runs.now c.args.sos c.args.classes.now,

@@ -1,5 +1,5 @@
 use Rattle.bidi_base.proofs.Common.{List, ℕ, Run, run_of, IsLevelRun, flat_map-map, All, map, subst, get_or-map, arith, length-map}
-use Rattle.bidi_visual.specs.Shown.{run_at, shown_line}
+use Rattle.bidi_visual.specs.Displayed.{run_at, shown_line}
 use Rattle.bidi_visual.proofs.show.push_line.Goals as goal
 
 -- what holds of a list under a function, and what it is made into

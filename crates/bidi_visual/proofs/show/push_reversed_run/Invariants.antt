@@ -1,5 +1,5 @@
 use Rattle.bidi_base.proofs.Common.{◌≡◌, ◌≤◌, ◌++◌, take, reverse, flat_map, encode_utf8, string_bytes, length, slice_range, is_nsm}
-use Rattle.bidi_visual.specs.Shown.{mirror, with_marks, reversed_with_marks}
+use Rattle.bidi_visual.specs.Displayed.{mirror, with_marks, reversed_with_marks}
 use Rattle.bidi_visual.proofs.show.push_reversed_run.Given as goal
 
 abbrev pub invariant-loop-start : goal.invariant-loop-start

@@ -1,5 +1,5 @@
 use Rattle.bidi_base.proofs.Common.{◌≡◌, sym, ap, ◌∙◌, arith, length, slice_get, ℕ, range_with_len, None, length-range_with_len, ◌≤◌}
-use Rattle.unicode_bidi.proofs.KeptOrder.{range-found, entries-none}
+use Rattle.unicode_bidi.proofs.StoredOrder.{range-found, entries-none}
 use Rattle.std.proofs.lemmas.Option.{slice_get_past}
 use Rattle.unicode_bidi.proofs.layout.entry_at.Goals as goal
 

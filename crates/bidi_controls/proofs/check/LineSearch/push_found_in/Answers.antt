@@ -5,13 +5,13 @@ use Rattle.bidi_controls.specs.declared.finding.Finding.{Finding}
 use Rattle.bidi_controls.specs.declared.finding.Wanted.{Wanted}
 use Rattle.bidi_controls.proofs.check.LineSearch.push_found_in.Goals as goal
 
--- the findings in a paragraph go before those in the paragraphs behind it
+-- the findings in a paragraph go before those in the paragraphs after it
 with_paragraph : (source : Source) (wanted : Wanted) (number from next : ℕ) (rest paragraph after : List ℕ) (old new all : List Finding) → paragraphs_in source rest ≡ paragraph ∷ paragraphs_in source after
     → next ≡ from + length paragraph → old ++ findings_in_paragraphs source wanted number from (paragraphs_in source rest) ≡ all → new ≡ old ++ findings_in_paragraph source wanted number from paragraph
     → new ++ findings_in_paragraphs source wanted number next (paragraphs_in source after) ≡ all
 with_paragraph source wanted number from next rest paragraph after old new all first next_is before here = grind (arith, append_assoc)
 
--- behind the last paragraph nothing more is found
+-- after the last paragraph nothing more is found
 at_end : (source : Source) (wanted : Wanted) (number from : ℕ) (rest : List ℕ) (old all : List Finding) → length rest ≡ 0
     → old ++ findings_in_paragraphs source wanted number from (paragraphs_in source rest) ≡ all → old ≡ all
 at_end source wanted number from [] old all none found = sym (append-nil old) ∙ found

@@ -4,7 +4,7 @@ use Rattle.bidi_base.proofs.UnitsLemmas.{length-from_is_per_char}
 use Rattle.bidi_text.proofs.PerCharTests.{class_eq, class_test, level_eq, level_test}
 use Rattle.bidi_explicit.specs.Gathered.{gathered_in}
 use Rattle.bidi_explicit.specs.Links.{begins, sequence_at, linked_sequences}
-use Rattle.bidi_explicit.specs.RunSequence.{joined, lent_joined}
+use Rattle.bidi_explicit.specs.RunSequence.{joined, borrowed_joined}
 use Rattle.bidi_explicit.proofs.JoinedSequences.{copied-more, copied-all, sequences_in-joined, run_bounds-joined, AreLines-joined}
 use Rattle.bidi_explicit.proofs.LinkedSequences.{sequences_before-same}
 use Rattle.bidi_explicit.proofs.prepare.joining.isolating_run_sequences.Goals as goal
@@ -29,8 +29,8 @@ loop-first-preserved g c =
       | in-Some+in_ok-copied+in_ok-push w ↦
           let here : begins links first ≡ true = sym c.in_ok-sequence.ensures.begins ∙ ap is_some w.in-Some.is in
           let found = rw w.in-Some.is at c.in_ok-sequence.ensures.sequence in
-          let is : lent_joined w.lend-lent.result ≡ sequence_at links runs first =
-          w.lend-lent.ensures ∙ ap (gathered_in w.in-Some.sequence) w.as_slice-in-Some.ensures.value ∙ found.is ∙ ap (λ (rs : List (ℕ × ℕ)). sequence_at links rs first) h.kept in
+          let is : borrowed_joined w.borrowed-borrowed.result ≡ sequence_at links runs first =
+          w.borrowed-borrowed.ensures ∙ ap (gathered_in w.in-Some.sequence) w.as_slice-in-Some.ensures.value ∙ found.is ∙ ap (λ (rs : List (ℕ × ℕ)). sequence_at links rs first) h.kept in
           record {
             kept = kept;
             copied = rw (w.out-is, w.in_ok-push.ensures.items) (copied-more links runs first c.loop-first.out.items _ h.copied here (w.in_ok-copied.ensures ∙ is));

@@ -4,7 +4,7 @@ use Rattle.bidi_base.specs.declared.char_data.BidiClass.{BidiClass}
 use Rattle.bidi_base.proofs.TextLemmas.{HasUnits, is_boundary-le}
 use Rattle.bidi_text.proofs.PerCharTests.{class_test}
 use Rattle.bidi_base.proofs.UnitsLemmas.{length-from_is_per_char}
-use Rattle.bidi_explicit.proofs.RunReading.{IsReadTo-jump, IsReadTo-asked, IsCountedTo-start, counted-all, counted-closed}
+use Rattle.bidi_explicit.proofs.RunReading.{IsReadTo-jump, IsReadTo-tested, IsCountedTo-start, counted-all, counted-closed}
 use Rattle.bidi_explicit.proofs.RunReading.{counted-closed_before, counted-end, counted-opened, counted-smaller, counted-waits}
 use Rattle.bidi_explicit.proofs.prepare.joining.read_run.Goals as goal
 use Rattle.bidi_explicit.proofs.prepare.joining.read_run.Goals.{else-loop-at-test, then-loop-at-test+then-control-end}
@@ -32,7 +32,7 @@ pub end_within-at-requires-clause-begins : goal.end_within-at-requires-clause-be
 end_within-at-requires-clause-begins g c =
     let below : c.next_control-control.result < c.args.run.now.end = omega (arith, c.next_control-control.ensures.ends, c.if-control-end.false) in
     let jumped = IsReadTo-jump _ _ c.requires.per_char _ _ _ _ c.requires.line c.requires.kept_end _ _ _ _ c.loop-at.invariant.read c.next_control-control.ensures in
-    (IsReadTo-asked _ _ c.requires.per_char _ _ _ _ c.requires.line c.requires.kept_end _ _ _ below jumped).begins
+    (IsReadTo-tested _ _ c.requires.per_char _ _ _ _ c.requires.line c.requires.kept_end _ _ _ below jumped).begins
 
 pub end_within-at-requires-clause-long : goal.end_within-at-requires-clause-long
 end_within-at-requires-clause-long g c = long _ g.T.TextSource.encoding.positive _ _ c.requires.per_char

@@ -1,5 +1,5 @@
 use Rattle.bidi_base.proofs.Common.{arith, IfOk-weaker}
-use Rattle.bidi_lines.proofs.LineShown.{stored-runs}
+use Rattle.bidi_lines.proofs.LineByLevels.{stored-runs}
 use Rattle.bidi_lines.proofs.StoredLine.{same_len, within, of_units}
 use Rattle.bidi_lines.proofs.analysed.Analysed.visual_runs.Goals as goal
 

@@ -1,5 +1,5 @@
 use Rattle.bidi_base.proofs.Common.{◌≡◌, List, [], refl, sym, ◌∙◌, arith, Ok, Err, Result, OnOk, OnErr}
-use Rattle.bidi_lines.proofs.LineShown.{empty-IsLine, empty-runs, empty-runs_of_chars}
+use Rattle.bidi_lines.proofs.LineByLevels.{empty-IsLine, empty-runs, empty-runs_of_chars}
 use Rattle.bidi_lines.proofs.shown_line.ShownLine.clear.Goals as goal
 
 -- what a call leaves, if it gives the same whether or not it fails

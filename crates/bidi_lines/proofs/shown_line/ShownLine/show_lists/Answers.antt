@@ -1,10 +1,10 @@
 use Rattle.bidi_base.proofs.Common.{◌≡◌, ◌-◌, ℕ, [], List, refl, ap, sym, subst, ◌∙◌, arith, length, take, has_rtl, IsLine, visual_runs, levels_of_line, AreLevelsOfLine}
-use Rattle.bidi_lines.specs.LineLevels.{levels as kept_levels}
+use Rattle.bidi_lines.specs.LineLevels.{levels as levels_in}
 use Rattle.bidi_lines.specs.Analysed.{with_lists}
-use Rattle.bidi_lines.specs.Written.{AreRunsOfChars}
+use Rattle.bidi_lines.specs.LineUnits.{AreRunsOfChars}
 use Rattle.bidi_lines.proofs.StoredLine.{same_len, within}
 use Rattle.bidi_lines.proofs.ShownLines.{on_err}
-use Rattle.bidi_lines.proofs.LineShown.{none-shown, none-runs, none-runs_of_chars, empty-levels, stored-levels, stored-all, stored-runs_of_chars}
+use Rattle.bidi_lines.proofs.LineByLevels.{none-shown, none-runs, none-runs_of_chars, empty-levels, stored-levels, stored-all, stored-runs_of_chars}
 use Rattle.bidi_lines.proofs.shown_line.ShownLine.show_lists.Goals as goal
 use Rattle.bidi_lines.proofs.shown_line.ShownLine.show_lists.Goals.{In_ok-show}
 use Rattle.bidi_lines.proofs.shown_line.ShownLine.show_lists.Given.{Over}
@@ -16,7 +16,7 @@ pub slice_bounds-show-end-2 : goal.slice_bounds-show-end-2
 slice_bounds-show-end-2 g c = grind (arith, within)
 
 -- the levels after L1
-is : (g : Over) (c : In_ok-show g) → let a = with_lists (g.T.TextSource.text c.args.text) c.args.classes.now c.args.levels.now in kept_levels c.show.new.self ≡ levels_of_line c.args.para_level a.classes a.levels c.args.line.start c.args.line.end
+is : (g : Over) (c : In_ok-show g) → let a = with_lists (g.T.TextSource.text c.args.text) c.args.classes.now c.args.levels.now in levels_in c.show.new.self ≡ levels_of_line c.args.para_level a.classes a.levels c.args.line.start c.args.line.end
 is g c = grind arith
 
 pub returns-in_err-show-clause-empty : goal.returns-in_err-show-clause-empty
@@ -74,7 +74,7 @@ invariant_of-self-2 g c =
       is_line = subst (λ t. IsLine len (g.T.TextSource.text t).chars c.args.line.start c.args.line.end) (sym text) c.requires.line;
       one_a_unit = omega (arith, each.one_a_unit);
       runs_of_levels = c.in_ok-find.ensures.runs ∙ ap (visual_runs c.args.line.start) (c.as_slice.ensures ∙ sym all);
-      runs_of_chars = subst (λ t. AreRunsOfChars len (g.T.TextSource.text t).chars c.args.line.start (take (c.args.line.end - c.args.line.start) (kept_levels c.show.new.self))) (sym text) (subst (AreRunsOfChars len chars c.args.line.start) (sym all) runs);
+      runs_of_chars = subst (λ t. AreRunsOfChars len (g.T.TextSource.text t).chars c.args.line.start (take (c.args.line.end - c.args.line.start) (levels_in c.show.new.self))) (sym text) (subst (AreRunsOfChars len chars c.args.line.start) (sym all) runs);
       of_levels = c.has_rtl-self.ensures ∙ ap has_rtl (c.as_slice-2.ensures ∙ sym all);
     }
 

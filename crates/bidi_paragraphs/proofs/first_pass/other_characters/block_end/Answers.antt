@@ -7,7 +7,7 @@ use Rattle.bidi_paragraphs.proofs.first_pass.other_characters.block_end.Goals.{I
 pub returns-then-len-from-le-BLOCK-clause-boundary : goal.returns-then-len-from-le-BLOCK-clause-boundary
 returns-then-len-from-le-BLOCK-clause-boundary g c = grind (arith, is_boundary-end)
 
--- the text goes on behind what is no boundary
+-- the text goes on after what is no boundary
 goes_on : (g : Over) (c : In-loop-text g) → c.loop-text.end < c.len-len.result
 goes_on g c = grind (arith, inside-lt)
 

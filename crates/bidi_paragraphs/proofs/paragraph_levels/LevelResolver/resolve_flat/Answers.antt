@@ -5,9 +5,9 @@ use Rattle.bidi_laws.proofs.NeutralLemmas.{direction_of-l_or_r}
 use Rattle.bidi_base.proofs.PerUnit.{length-per_unit}
 use Rattle.bidi_laws.proofs.StoredSteps.{length-stored_classes}
 use Rattle.bidi_explicit.specs.Joining.{JoinedRuns, characters_of}
-use Rattle.bidi_explicit.specs.RunSequence.{lent_joined}
+use Rattle.bidi_explicit.specs.RunSequence.{borrowed_joined}
 use Rattle.bidi_paragraphs.proofs.FilledUnits.{stored-long}
-use Rattle.bidi_paragraphs.proofs.FlatPasses.{whole, lent-whole, joined-AreLines, joined-IsNext, joined-sequences, levels-whole, whole-AreResolvedTo}
+use Rattle.bidi_paragraphs.proofs.FlatPasses.{whole, borrowed-whole, joined-AreLines, joined-IsNext, joined-sequences, levels-whole, whole-AreResolvedTo}
 use Rattle.bidi_paragraphs.proofs.LevelPasses.{AreLevels, AreResolvedTo, AreResolvedTo-per_char, AreResolvedTo-long, AreWeakTo-from, AreWeakTo-resolved, AreResolvedTo-more, AreLevels-all}
 use Rattle.bidi_paragraphs.proofs.SequencesInPlace.{IsNext}
 use Rattle.bidi_paragraphs.proofs.paragraph_levels.LevelResolver.resolve_flat.Given.{Over}
@@ -31,7 +31,7 @@ module _ (g : Over) (c : After-new-sequence g) where
   paragraph = c.args.paragraph.now.level
 
   abbrev j : JoinedRuns
-  j = lent_joined c.new-sequence.result
+  j = borrowed_joined c.new-sequence.result
 
   fits : length source ≡ length chars
   fits = length-map chars given.class_of
@@ -46,7 +46,7 @@ module _ (g : Over) (c : After-new-sequence g) where
   -- the sequence has the one run
   same : j ≡ whole g.T.TextSource.encoding.len_of g.T.TextSource.encoding.positive chars source given.bracket_of paragraph fits c.requires.flat
   same =
-      lent-whole _ g.T.TextSource.encoding.positive _ source given.bracket_of _ fits c.requires.flat c.new-sequence.result _ _ c.new-sequence.ensures.runs refl long
+      borrowed-whole _ g.T.TextSource.encoding.positive _ source given.bracket_of _ fits c.requires.flat c.new-sequence.result _ _ c.new-sequence.ensures.runs refl long
       (c.new-sequence.ensures.sos ∙ c.bidi_class-side.ensures) (c.new-sequence.ensures.eos ∙ c.bidi_class-side.ensures)
 
   lines : AreLines g.T.TextSource.encoding.len_of chars j.runs
@@ -56,9 +56,9 @@ module _ (g : Over) (c : After-new-sequence g) where
       (characters_of g.T.TextSource.encoding.len_of chars (stored_classes source) j)
   next = joined-IsNext _ g.T.TextSource.encoding.positive _ _ given.bracket_of _ fits c.requires.flat j same
 
-pub resolve_weak_lent_counted-requires : goal.resolve_weak_lent_counted-requires
-resolve_weak_lent_counted-requires g c =
-    let n = (goal.at.resolve_weak_lent_counted-requires g c).After-new-sequence in
+pub resolve_weak_borrowed_counted-requires : goal.resolve_weak_borrowed_counted-requires
+resolve_weak_borrowed_counted-requires g c =
+    let n = (goal.at.resolve_weak_borrowed_counted-requires g c).After-new-sequence in
     record { per_char = AreResolvedTo-per_char _ _ _ _ _ _ [] _ (fits g n) (begun g n); fits = lines g n }
 
 pub invariant_of-leveled : goal.invariant_of-leveled
@@ -74,11 +74,11 @@ resolve_up_to_n1-requires g c =
     let n = (goal.at.resolve_up_to_n1-requires g c).After-new-sequence in
     let weak =
     AreWeakTo-from _ _ _ _ _ _ (fits g n) [] _ (lines g n) (next g n) _ _ (begun g n)
-    c.resolve_weak_lent_counted.ensures.resolved.kept c.resolve_weak_lent_counted.ensures.resolved.removed c.resolve_weak_lent_counted.ensures.resolved.outside c.resolve_weak_lent_counted.ensures.resolved.per_char in
+    c.resolve_weak_borrowed_counted.ensures.resolved.kept c.resolve_weak_borrowed_counted.ensures.resolved.removed c.resolve_weak_borrowed_counted.ensures.resolved.outside c.resolve_weak_borrowed_counted.ensures.resolved.per_char in
     record {
-      per_char = c.resolve_weak_lent_counted.ensures.resolved.per_char;
+      per_char = c.resolve_weak_borrowed_counted.ensures.resolved.per_char;
       fits = lines g n;
-      levels = omega (arith, c.requires.long, c.fill.auto.self, c.resolve_weak_lent_counted.auto.processing_classes, long g n);
+      levels = omega (arith, c.requires.long, c.fill.auto.self, c.resolve_weak_borrowed_counted.auto.processing_classes, long g n);
       original = grind (arith, length-map);
       resolved = AreWeakTo-resolved _ _ _ _ _ _ (fits g n) [] _ (lines g n) (next g n) _ weak;
     }
@@ -86,7 +86,7 @@ resolve_up_to_n1-requires g c =
 pub resolve_levels-requires-clause-lengths : goal.resolve_levels-requires-clause-lengths
 resolve_levels-requires-clause-lengths g c =
     let units_long = long g (goal.at.resolve_levels-requires-clause-lengths g c).After-new-sequence in
-    omega (arith, c.requires.long, c.fill.auto.self, c.resolve_weak_lent_counted.auto.processing_classes, c.resolve_up_to_n1.auto.processing_classes, units_long)
+    omega (arith, c.requires.long, c.fill.auto.self, c.resolve_weak_borrowed_counted.auto.processing_classes, c.resolve_up_to_n1.auto.processing_classes, units_long)
 
 -- the levels are those of the rules
 answered : (g : Over) (c : _) → let n = (goal.at.returns g c).After-new-sequence in
@@ -95,7 +95,7 @@ answered g c =
     let n = (goal.at.returns g c).After-new-sequence in
     let weak =
     AreWeakTo-from _ _ _ _ _ _ (fits g n) [] _ (lines g n) (next g n) _ _ (begun g n)
-    c.resolve_weak_lent_counted.ensures.resolved.kept c.resolve_weak_lent_counted.ensures.resolved.removed c.resolve_weak_lent_counted.ensures.resolved.outside c.resolve_weak_lent_counted.ensures.resolved.per_char in
+    c.resolve_weak_borrowed_counted.ensures.resolved.kept c.resolve_weak_borrowed_counted.ensures.resolved.removed c.resolve_weak_borrowed_counted.ensures.resolved.outside c.resolve_weak_borrowed_counted.ensures.resolved.per_char in
     let levels_are =
     levels-whole _ g.T.TextSource.encoding.positive _ (source g n) (given g n).bracket_of _ (fits g n) c.requires.flat c.args.levels.now c.fill.new.self c.requires.long (c.fill.ensures.after (λ y e. e)) in
     AreLevels-all _ _ _ _ _ _ _ c.resolve_up_to_n1.new.processing_classes c.fill.new.self c.resolve_levels.new.levels (fits g n) levels_are

@@ -44,11 +44,11 @@ asked : (c : After-stands_for-2) → c.stands_for-2.result ≡ stands_for (oppos
 asked c = grind arith steps 400000
 
 -- the direction at the end is the opposite one
-turned : (c : goal.After-classes-then-stands_for-1) → IsFinished (sequence (goal.at.returns-then-stands_for-clause-kept c).After-loop-run) c.settle.new.classes
+turned : (c : goal.After-classes-then-stands_for-1) → IsFinished (sequence (goal.at.returns-then-stands_for-clause-kept c).After-loop-run) c.write_waiting.new.classes
 turned c =
     let before = (goal.at.returns-then-stands_for-clause-kept c).After-loop-run in
     IsFinished-opposite (sequence before) _ _ _ c.requires.eos (sym (asked (goal.at.returns-then-stands_for-clause-kept c).After-stands_for-2) ∙ c.if-stands_for.true)
-    (λ waiting. simp (c.loop-run.invariant.opposite, c.loop-run.invariant.long) at (c.settle.ensures.held waiting)) c.settle.ensures.idle (read before)
+    (λ waiting. simp (c.loop-run.invariant.opposite, c.loop-run.invariant.long) at (c.write_waiting.ensures.held waiting)) c.write_waiting.ensures.idle (read before)
 
 pub returns-then-stands_for-clause-kept : goal.returns-then-stands_for-clause-kept
 returns-then-stands_for-clause-kept c = (turned c).answers

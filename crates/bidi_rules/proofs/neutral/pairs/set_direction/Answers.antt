@@ -5,7 +5,7 @@ use Rattle.bidi_base.proofs.UnitIndexLemmas.{is_boundary-unit_index, unit_index-
 use Rattle.bidi_base.proofs.TextLemmas.{is_boundary-le}
 use Rattle.bidi_explicit.proofs.CharEnds.{begins_at}
 use Rattle.bidi_explicit.proofs.WrittenOver.{IsWrittenOver-same_test}
-use Rattle.bidi_explicit.specs.Written.{is_seen, IsWrittenOver}
+use Rattle.bidi_explicit.specs.SequenceUnits.{is_seen, IsWrittenOver}
 use Rattle.bidi_rules.specs.PairPass.{IsMarksEnd, IsUnmarked}
 use Rattle.bidi_rules.specs.declared.neutral.pairs.Place.{Place}
 use Rattle.bidi_explicit.proofs.WalkLemmas.{forwards-in_order, part_after}
@@ -20,7 +20,7 @@ IsSet-later len_of chars later runs original_classes d bracket inside end old ne
     (λ b. b && is_kept_in_place (class_at old k)) (same k from) in
     grind (arith, alike, IsWrittenOver-same_test (is_seen later old) (is_seen runs old) d bracket end old new)
 
--- without marks behind it, a bracket is all that is written
+-- without marks after it, a bracket is all that is written
 IsSet-unmarked : (len_of : ℕ → ℕ) (chars : List ℕ) (runs : List (ℕ × ℕ)) (original_classes : List BidiClass) (d : BidiClass) (bracket : Place) (k : ℕ) (old new : List BidiClass)
     → bracket.end ≡ unit_index len_of chars k → bracket.unit ≤ bracket.end → IsUnmarked runs original_classes old bracket
     → IsWrittenOver (λ u. is_kept_in_place (class_at old u)) d bracket.unit bracket.end old new → IsMarksEnd len_of chars runs original_classes old (unit_index len_of chars k) bracket.end × IsWrittenOver (is_seen runs old) d bracket.unit bracket.end old new

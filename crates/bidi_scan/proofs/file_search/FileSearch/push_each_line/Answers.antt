@@ -4,7 +4,7 @@ use Rattle.bidi_bytes.specs.Decoded.{utf8_decoded}
 use Rattle.bidi_bytes.specs.FileLines.{file_lines_of}
 use Rattle.bidi_bytes.proofs.FileLinesLemmas.{no_lines}
 use Rattle.bidi_scan.specs.FileSearch.{line_of, found_from}
-use Rattle.bidi_scan.proofs.FoundLemmas.{first-quiet, first-count}
+use Rattle.bidi_scan.proofs.FoundLemmas.{first-without_controls, first-count}
 use Rattle.bidi_controls.specs.declared.finding.Wanted.{Wanted}
 use Rattle.bidi_unicode.specs.Unicode.{unicode_source}
 use Rattle.bidi_bytes.proofs.LossyLemmas.{utf8_decoded-nil}
@@ -24,7 +24,7 @@ loop-rest-preserved c =
     let first : file_lines_of (utf8_decoded rest) ≡ utf8_decoded line ∷ file_lines_of (utf8_decoded after) =
     rw (c.split_at.ensures.front, c.split_at.ensures.back) c.first_line_len.ensures.first in
     let none : holds_control line ≡ false = sym c.holds_control.ensures ∙ c.if-holds_control.false in
-    let same = first-quiet wanted number rest line after first none in
+    let same = first-without_controls wanted number rest line after first none in
     let count = first-count wanted number rest line after first in (
       record {
         all = ap (λ t. map line_of c.loop-rest.found.items ++ t) (sym same) ∙ h.all;

@@ -1,4 +1,4 @@
-use Rattle.unicode_bidi.proofs.KeptOrder.{entries-inverse, found-back}
+use Rattle.unicode_bidi.proofs.StoredOrder.{entries-inverse, found-back}
 use Rattle.bidi_base.proofs.Common.{List, ℕ, AreInverse, sym}
 use Rattle.unicode_bidi.proofs.layout.LineMap.logical_to_visual.Goals as goal
 

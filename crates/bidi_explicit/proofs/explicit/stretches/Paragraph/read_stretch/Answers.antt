@@ -8,7 +8,7 @@ pub returns : goal.returns
 returns g c =
     let text = g.T.TextSource.text c.args.self.now.text in
     let some : c.args.from < c.stretch_end-end.result = IsFirst-advances _ _ _ _ c.requires.plain c.requires.inside c.stretch_end-end.ensures.first in
-    let more = count-lt text c.args.self.now.stride c.args.from c.stretch_end-end.result c.requires.begins c.stretch_end-end.ensures.begins some in
+    let more = count-lt text c.args.self.now.step_unit c.args.from c.stretch_end-end.result c.requires.begins c.stretch_end-end.ensures.begins some in
     record {
       read =
           λ stack levels written same is runs run h. stretch-met _ _ _ _ _ _ runs run h c.stretch_end-end.ensures.first _ _ _ _ (ap (λ entry. entry.status.level) same) (ap (λ entry. entry.status.override) same)

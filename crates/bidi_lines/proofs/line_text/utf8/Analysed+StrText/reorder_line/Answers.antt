@@ -1,7 +1,7 @@
 use Rattle.bidi_base.proofs.Common.{◌≡◌, sym, ap, subst, ◌∙◌, arith, IsUtf8, chars, encode_utf8, len_utf8}
 use Rattle.bidi_text.proofs.StrLemmas.{has_units, text_len-chars, IsCharBoundary-from_is_boundary}
 use Rattle.bidi_lines.specs.Analysed.{analysed}
-use Rattle.bidi_lines.specs.Written.{line_units}
+use Rattle.bidi_lines.specs.LineUnits.{line_units}
 use Rattle.bidi_lines.proofs.LineUtf8.{line_utf8}
 use Rattle.bidi_lines.proofs.StoredLine.{classes_IsPerChar, levels_IsPerChar, of_text, still}
 use Rattle.bidi_lines.proofs.line_text.utf8.Analysed+StrText.reorder_line.Goals as goal

@@ -21,8 +21,8 @@ closing : (k : BidiClass) → has (record { bits = 2 ^ class_number PDI }) k ≡
 closing k = grind arith
 
 -- where the state is decided, no strong character decides anything
-quiet : (r : ParagraphState) → is_decided r ≡ true → wants_strong r ≡ false
-quiet r decided =
+inert : (r : ParagraphState) → is_decided r ≡ true → wants_strong r ≡ false
+inert r decided =
     let none : r.undecided.items ≡ [] = nil_from_length r.undecided.items (grind arith) in
     let waits : waiting r.depth r.undecided.items ≡ None = ap (waiting r.depth) none in
     grind (arith, waits)
@@ -38,7 +38,7 @@ joined_decided sep fsi opens turns deep closes = grind arith
 pub returns-then-is_decided : goal.returns-then-is_decided
 returns-then-is_decided c = λ k.
     let decided = sym c.is_decided.ensures ∙ c.if-is_decided.true in
-    simp (c.union.ensures.has k, c.when-closing.ensures k, decided, quiet c.args.self.now decided, bounds k, closing k)
+    simp (c.union.ensures.has k, c.when-closing.ensures k, decided, inert c.args.self.now decided, bounds k, closing k)
     (joined_decided (is_paragraph_separator k) (is_fsi k) (is_isolate_initiator k) (is_strong k) (nat_lt 0 c.args.self.now.depth) (is_pdi k))
 
 pub returns : goal.returns

@@ -1,6 +1,6 @@
 use Rattle.bidi_base.proofs.Common.{◌≡◌, Bool, false, refl, sym, ◌-◌, ◌≤◌, ◌+◌, ℕ, List, length, map, take, drop, min, subst, arith, both_ways, All, length-map, take_all, Range, bounds, in_runs}
 use Rattle.bidi_base.specs.declared.char_data.BidiClass.{BidiClass}
-use Rattle.bidi_rules.specs.PairPass.{IsAsked}
+use Rattle.bidi_rules.specs.PairPass.{IsSearched}
 use Rattle.bidi_rules.specs.declared.neutral.pairs.Pair.{Pair}
 use Rattle.bidi_explicit.proofs.RunOf.{ends-later}
 use Rattle.bidi_explicit.proofs.WalkLemmas.{are_ordered-take, forwards-in_order, map-take, part_after}
@@ -9,7 +9,7 @@ use Rattle.bidi_rules.proofs.neutral.pairs.PairPass.pair_direction.Goals as goal
 -- what is asked of the runs from one on is asked of all
 later : (runs : List (Range ℕ)) (r : ℕ) (d : BidiClass) (classes : List BidiClass) (pair : Pair) (known next : ℕ) (answer : Bool)
     → ((k : ℕ) → pair.opening ≤ k → in_runs (drop r (map bounds runs)) k ≡ in_runs (map bounds runs) k) → pair.opening ≤ pair.inside
-    → IsAsked d (map bounds (take (length runs - r) (drop r runs))) classes pair known next answer → IsAsked d (map bounds runs) classes pair known next answer
+    → IsSearched d (map bounds (take (length runs - r) (drop r runs))) classes pair known next answer → IsSearched d (map bounds runs) classes pair known next answer
 later runs r d classes pair known next answer same order a = grind (arith, part_after)
 
 pub returns-then-is_inside-clause-taken : goal.returns-then-is_inside-clause-taken
@@ -19,8 +19,8 @@ returns-then-is_inside-clause-taken c =
       embedding = c.is_inside.result;
       opposite = false;
       context = c.args.self.now.embedding.direction;
-      asked = grind (arith, later);
-      asked_opposite = λ none. absurd (both_ways c.is_inside.result none yes');
+      searched = grind (arith, later);
+      searched_opposite = λ none. absurd (both_ways c.is_inside.result none yes');
       idle = λ _. refl;
       nearest = λ none some. absurd (both_ways c.is_inside.result none yes');
       is = grind arith;
@@ -52,8 +52,8 @@ returns-clause-taken c =
       embedding = c.is_inside.result;
       opposite = c.is_inside-2.result;
       context = c.args.self.now.embedding.direction;
-      asked = grind (arith, later);
-      asked_opposite = λ _. grind (arith, later);
+      searched = grind (arith, later);
+      searched_opposite = λ _. grind (arith, later);
       idle = λ some. absurd (both_ways c.is_inside.result c.if-is_inside.false some);
       nearest = λ _ some. absurd (both_ways c.is_inside-2.result c.if-is_inside-2.false some);
       is = grind arith;
