@@ -47,7 +47,7 @@ classes_in len_of chars runs old classes = at_indexes L classes (map (unit_index
 -- its runs cut no character, and the units of a character have one class
 pub record CanResolveWeakTypes (len_of : ℕ → ℕ) (chars : List ℕ) (runs : List (ℕ × ℕ)) (old : List BidiClass) : Type 0 where
   pub per_char : HaveClass len_of chars old
-  pub fits : AreLines len_of chars runs
+  pub are_lines : AreLines len_of chars runs
 
 -- W1 to W7 are done: its characters have the classes of the rules, BN stays, and nothing else changes
 pub record AreWeakTypesResolved (len_of : ℕ → ℕ) (chars : List ℕ) (runs : List (ℕ × ℕ)) (sos : BidiClass)
@@ -61,7 +61,7 @@ pub record AreWeakTypesResolved (len_of : ℕ → ℕ) (chars : List ℕ) (runs 
 pub record CanResolveNeutrals (len_of : ℕ → ℕ) (chars : List ℕ) (runs : List (ℕ × ℕ)) (level_units : List ℕ)
     (original_classes old : List BidiClass) : Type 0 where
   pub per_char : HaveClass len_of chars old
-  pub fits : AreLines len_of chars runs
+  pub are_lines : AreLines len_of chars runs
   pub levels : length level_units ≡ length old
   pub original : length original_classes ≡ length old
   pub resolved : IsTrue (list_all is_weak_resolved (classes_in len_of chars runs old old))
@@ -96,4 +96,4 @@ pub record AreNeutralsResolvedUpToN1 (len_of : ℕ → ℕ) (chars : List ℕ) (
 -- a call that may fail either did its work, or left these classes as they were
 pub record IsDoneOrUnchanged {A E : Type 0} (result : Result A E) (done : Type 0) (old new : List BidiClass) : Type 0 where
   pub resolved : OnOk result done
-  pub refused : OnErr result (new ≡ old)
+  pub unchanged : OnErr result (new ≡ old)

@@ -47,7 +47,7 @@ pub fn set_direction(
     bracket: usize,
     direction: BidiClass,
 )
-    requires lengths { length original_classes.now ≡ length classes.old }
+    requires same_len { length original_classes.now ≡ length classes.old }
     requires bracket { bracket < length classes.old }
     ensures { classes.new ≡ map (λ k. if k == bracket || is_mark_after original_classes.now bracket k
         then direction else class_at classes.old k) (indexes classes.old) }

@@ -34,7 +34,7 @@ HasRoomOrNone xs buffer = IsTrue (has_room_or_none (length xs) (length buffer))
 
 -- the call writes a list to the front of a buffer, or nothing after a fault, and returns the number of its entries
 pub record WritesList {A : Type 0} (xs : List A) (result : Result ℕ Fault) (before after : List A) : Type 0 where
-  pub kept : OnErr result (after ≡ before)
+  pub unchanged : OnErr result (after ≡ before)
   pub list : OnOk result (after ≡ written xs before)
   pub count : IfOk result (λ count. count ≡ length xs)
 
@@ -98,7 +98,7 @@ pub record AreTheSameBuffers (before after : AnalysisBuffers) : Type 0 where
 
 -- the call writes what it finds to the buffers, or nothing after a fault, and returns the number of paragraphs
 pub record WritesAnalysis (found : AnalysisAsNumbers) (result : Result ℕ Fault) (before after : AnalysisBuffers) : Type 0 where
-  pub kept : OnErr result (IsUnchanged before after)
+  pub unchanged : OnErr result (IsUnchanged before after)
   pub classes : OnOk result (after.classes.now ≡ written found.classes before.classes.now)
   pub levels : OnOk result (after.levels.now ≡ written found.levels before.levels.now)
   pub paragraphs : OnOk result (after.paragraphs.now ≡ written_if_room found.paragraphs before.paragraphs.now)

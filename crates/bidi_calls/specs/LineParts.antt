@@ -70,7 +70,7 @@ pub record AreTheSameBuffers {X : Type 0} (before after : LineBuffers X) : Type 
 -- the call writes what a line shows to the buffers, or nothing after a fault, and returns the number of runs
 pub record WritesLine {X : Type 0} (line : LineParts X) (result : Result ℕ Fault) (before after : LineBuffers X)
     : Type 0 where
-  pub kept : OnErr result (IsUnchanged before after)
+  pub unchanged : OnErr result (IsUnchanged before after)
   pub parts : OnOk result (IsWritten line before after)
   pub count : IfOk result (λ count. count ≡ length line.runs)
   pub buffers : AreTheSameBuffers before after

@@ -121,10 +121,10 @@ pub fn write_text<T: LineText>(
 ) -> Result<(), AllocError>
     requires valid { IsValid line.now }
     requires even { is_even T.encoding.len_of (T.text text).chars line.now ≡ true }
-    requires units { IsAsLongAs T.encoding.len_of (T.text text).chars line.now }
+    requires same_len { IsAsLongAs T.encoding.len_of (T.text text).chars line.now }
     requires room { length out.old ≡ text_len (T.text text) }
     ensures text { OnOk result (out.new ≡ visual_units (T.text text) T.encode (T.units_of text) 0 (caller_line_levels line.now)) }
-    ensures kept { OnErr result (out.new ≡ out.old) }
+    ensures unchanged { OnErr result (out.new ≡ out.old) }
 {
     let units = 0..out.len();
     let classes = ClassNumbers::new(line.class_numbers());
@@ -140,7 +140,7 @@ pub fn write_text<T: LineText>(
 /// Writes the level of each code unit of a line after L1, and returns their number. Writes nothing after a fault.
 pub fn line_levels(alloc: Global, line: &CallerLine<'_>, out: &mut [u8]) -> Result<usize, Fault>
     ensures fault { FaultsAs result (levels_fault line.now (length out.old)) }
-    ensures kept { OnErr result (out.new ≡ out.old) }
+    ensures unchanged { OnErr result (out.new ≡ out.old) }
     ensures levels { OnOk result (out.new ≡ written (caller_line_levels line.now) out.old) }
     ensures count { IfOk result (λ count. count ≡ line.now.end - line.now.start) }
 {
@@ -157,7 +157,7 @@ pub fn line_levels(alloc: Global, line: &CallerLine<'_>, out: &mut [u8]) -> Resu
 /// If `out` is empty, only counts them. Writes nothing after a fault.
 pub fn line_runs(alloc: Global, line: &CallerLine<'_>, out: &mut [Run]) -> Result<usize, Fault>
     ensures fault { FaultsAs result (runs_fault line.now (length out.old)) }
-    ensures kept { OnErr result (out.new ≡ out.old) }
+    ensures unchanged { OnErr result (out.new ≡ out.old) }
     ensures runs { OnOk result (out.new
         ≡ written_if_room
         (map (run_struct line.now.start (caller_line_levels line.now))
@@ -185,7 +185,7 @@ pub fn map_characters<T: TextSource>(
     out: &mut [usize],
 ) -> Result<usize, Fault>
     requires valid { IsValid line.now }
-    requires units { IsAsLongAs T.encoding.len_of (T.text text).chars line.now }
+    requires same_len { IsAsLongAs T.encoding.len_of (T.text text).chars line.now }
     ensures fault { FaultsAs result (map_fault T.encoding.len_of (T.text text).chars line.now (length out.old)) }
     ensures writes { WritesList (order_of_line T.encoding.len_of (T.text text).chars line.now) result out.old out.new }
 {
@@ -202,7 +202,7 @@ pub fn map_characters<T: TextSource>(
 pub fn order_units(alloc: Global, line: &CallerLine<'_>, out: &mut [usize]) -> Result<usize, Fault>
     requires { IsValid line.now }
     ensures fault { FaultsAs result (fault_unless (nat_le (line.now.end - line.now.start) (length out.old)) Fault.NoRoom) }
-    ensures kept { OnErr result (out.new ≡ out.old) }
+    ensures unchanged { OnErr result (out.new ≡ out.old) }
     ensures order { OnOk result (out.new ≡ written (visual_order_of (caller_line_levels line.now)) out.old) }
     ensures count { IfOk result (λ count. count ≡ line.now.end - line.now.start) }
 {
@@ -216,7 +216,7 @@ pub fn order_units(alloc: Global, line: &CallerLine<'_>, out: &mut [usize]) -> R
 /// Writes the visual order of a list of levels (L2), and returns their number.
 pub fn visual_order(levels: &[u8], out: &mut [usize]) -> Result<usize, Fault>
     ensures fault { FaultsAs result (order_fault levels.now (length out.old)) }
-    ensures kept { OnErr result (out.new ≡ out.old) }
+    ensures unchanged { OnErr result (out.new ≡ out.old) }
     ensures order { OnOk result (out.new ≡ written (visual_order_of levels.now) out.old) }
     ensures count { IfOk result (λ count. count ≡ length levels.now) }
 {

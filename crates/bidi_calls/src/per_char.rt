@@ -47,8 +47,8 @@ impl<'t> Tested for Uneven<'t> {
 /// There is one class and one level for each byte, and each class is a number below 23. Reads sixteen bytes at a
 /// time, and never decodes the text.
 pub fn is_even_utf8(text: &str, classes: &[u8], levels: &[u8]) -> bool
-    requires classes { length classes.now ≡ length text.now }
-    requires levels { length levels.now ≡ length text.now }
+    requires classes_same_len { length classes.now ≡ length text.now }
+    requires levels_same_len { length levels.now ≡ length text.now }
     requires numbers { IsTrue (list_all is_class classes.now) }
     ensures { result
         ≡ (is_per_char class_test.eq len_utf8 (chars text.now) (map class_numbered classes.now)
@@ -82,8 +82,8 @@ fn is_even_at(goes_on: bool, classes: &[u8], levels: &[u8], at: usize) -> bool
 
 // Returns whether each unit that ends a surrogate pair has the class and the level of the unit before it.
 fn is_even_by_units(units: &[u16], classes: &[u8], levels: &[u8]) -> bool
-    requires classes { length classes.now ≡ length units.now }
-    requires levels { length levels.now ≡ length units.now }
+    requires classes_same_len { length classes.now ≡ length units.now }
+    requires levels_same_len { length levels.now ≡ length units.now }
     ensures { IsTrue result ↔ IsEvenBetween (splits_pair units.now) classes.now levels.now 1 (length units.now) }
 {
     let mut even = true;
@@ -98,8 +98,8 @@ fn is_even_by_units(units: &[u16], classes: &[u8], levels: &[u8]) -> bool
 /// There is one class and one level for each code unit, and each class is a number below 23. Only a low surrogate
 /// directly after a high one continues a character. Most texts have no surrogates, so this is tested first.
 pub fn is_even_utf16(units: &[u16], classes: &[u8], levels: &[u8]) -> bool
-    requires classes { length classes.now ≡ length units.now }
-    requires levels { length levels.now ≡ length units.now }
+    requires classes_same_len { length classes.now ≡ length units.now }
+    requires levels_same_len { length levels.now ≡ length units.now }
     requires numbers { IsTrue (list_all is_class classes.now) }
     ensures { result
         ≡ (is_per_char class_test.eq utf16_len (utf16_text units.now) (map class_numbered classes.now)

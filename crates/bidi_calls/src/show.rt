@@ -44,7 +44,7 @@ fn put_levels(out: &mut [u8], levels: &[Level])
 fn put_text<T: LineText>(text: T, levels: &[Level], runs: &[Range<usize>], out: &mut [T::Unit])
     requires room { HasRoomOrNone levels.now out.old }
     requires visual { AreVisualRuns 0 levels.now (map run_of runs.now) }
-    requires boundaries { All (λ r. IsLine T.encoding.len_of (T.text text).chars r.start r.end) runs.now }
+    requires are_lines { All (λ r. IsLine T.encoding.len_of (T.text text).chars r.start r.end) runs.now }
     ensures { out.new
         ≡ written_if_room
         (flat_map (run_units (T.text text) T.encode (T.units_of text) 0 levels.now) (map run_of runs.now))
@@ -88,8 +88,8 @@ fn have_room<U>(units: usize, runs: usize, characters: usize, out: &LineBuffers<
 
 // Keeps one level for each of a line's `len` characters. If each character is one unit, there is nothing to do.
 fn keep_characters<T: TextSource>(text: T, len: usize, after_l1: &mut LineLevels)
-    requires units { length (levels_of after_l1.old) ≡ text_len (T.text text) }
-    requires len { len ≡ length (T.text text).chars }
+    requires units_same_len { length (levels_of after_l1.old) ≡ text_len (T.text text) }
+    requires same_len { len ≡ length (T.text text).chars }
     ensures { levels_of after_l1.new ≡ per_char 0 (T.text text) (levels_of after_l1.old) }
 {
     if len < after_l1.as_slice().len() {
@@ -128,7 +128,7 @@ fn put_order_of<T: CountedText>(
 )
     requires even { IsPerChar (T.text text) (levels_of after_l1.old) }
     requires runs { map run_of runs.now ≡ visual_runs 0 (levels_of after_l1.old) }
-    requires len { len ≡ length (T.text text).chars }
+    requires same_len { len ≡ length (T.text text).chars }
     requires room { IsTrue (has_room_or_none len (length out.old)) }
     ensures { out.new
         ≡ written_if_room (visual_order_of (per_char 0 (T.text text) (levels_of after_l1.old))) out.old }
@@ -151,8 +151,8 @@ pub fn show_text<T: CountedText>(
 ) -> Result<usize, Fault>
     requires valid { IsValid line.now }
     requires even { is_even T.encoding.len_of (T.text text).chars line.now ≡ true }
-    requires units { IsAsLongAs T.encoding.len_of (T.text text).chars line.now }
-    requires one_a_unit { length (T.units_of text) ≡ text_len (T.text text) }
+    requires units_same_len { IsAsLongAs T.encoding.len_of (T.text text).chars line.now }
+    requires same_len { length (T.units_of text) ≡ text_len (T.text text) }
     requires encoded { (c : ℕ) → length (T.encode c) ≡ T.encoding.len_of c }
     ensures fault { let parts = line_parts T.encoding.len_of (T.text text).chars line.now
         (visual_units (T.text text) T.encode (T.units_of text) 0 (caller_line_levels line.now)) in
@@ -190,7 +190,7 @@ fn write_run(chars: &[u32], is_rtl: bool, out: &mut [u32])
 
 // Writes the runs of a line, one after another.
 fn write_each_run(chars: &[u32], levels: &[Level], runs: &[Range<usize>], out: &mut [u32])
-    requires one_a_unit { length chars.now ≡ length levels.now }
+    requires same_len { length chars.now ≡ length levels.now }
     requires room { length out.old ≡ length levels.now }
     requires visual { AreVisualRuns 0 levels.now (map run_of runs.now) }
     requires within { AreWithin (length levels.now) runs.now }
@@ -213,7 +213,7 @@ fn write_each_run(chars: &[u32], levels: &[Level], runs: &[Range<usize>], out: &
 /// `levels` has the level of each character after L1. `runs` has the visual runs, counted from the line's first
 /// character. Takes time linear in the line, and does not allocate.
 pub fn write_chars(chars: &[u32], levels: &[Level], runs: &[Range<usize>], out: &mut [u32])
-    requires one_a_unit { length chars.now ≡ length levels.now }
+    requires same_len { length chars.now ≡ length levels.now }
     requires room { length out.old ≡ length levels.now }
     requires visual { AreVisualRuns 0 levels.now (map run_of runs.now) }
     ensures { out.new ≡ chars_at chars.now (visual_order_of levels.now) }
@@ -223,7 +223,7 @@ pub fn write_chars(chars: &[u32], levels: &[Level], runs: &[Range<usize>], out: 
 
 // Writes the characters of a line from left to right to the front of a buffer, unless the buffer is empty.
 fn put_chars(chars: &[u32], levels: &[Level], runs: &[Range<usize>], out: &mut [u32])
-    requires one_a_unit { length chars.now ≡ length levels.now }
+    requires same_len { length chars.now ≡ length levels.now }
     requires room { HasRoomOrNone levels.now out.old }
     requires visual { AreVisualRuns 0 levels.now (map run_of runs.now) }
     ensures { out.new ≡ written_if_room (chars_at chars.now (visual_order_of levels.now)) out.old }
@@ -246,7 +246,7 @@ pub fn show_chars(
     out: &mut LineBuffers<'_, u32>,
 ) -> Result<usize, Fault>
     requires valid { IsValid line.now }
-    requires units { length chars.now + line.now.start ≡ line.now.end }
+    requires same_len { length chars.now + line.now.start ≡ line.now.end }
     ensures fault { FaultsAs result (room_fault (everything_of_chars chars.now line.now) out.old) }
     ensures writes { WritesLine (everything_of_chars chars.now line.now) result out.old out.new }
 {

@@ -76,7 +76,7 @@ fn reorder(
     out: &mut [u16],
 ) -> Result<usize, Fault>
     requires valid { IsValid line.now }
-    requires units { length text.now + line.now.start ≡ line.now.end }
+    requires same_len { length text.now + line.now.start ≡ line.now.end }
     ensures fault { FaultsAs result (reordered_fault utf16_len encode_utf16 (utf16_text text.now) text.now line.now (length out.old)) }
     ensures writes { WritesList (reordered utf16_len encode_utf16 (utf16_text text.now) text.now line.now)
         result out.old out.new }
@@ -136,7 +136,7 @@ fn show(
     out: &mut LineBuffers<'_, u16>,
 ) -> Result<usize, Fault>
     requires valid { IsValid line.now }
-    requires units { length text.now + line.now.start ≡ line.now.end }
+    requires same_len { length text.now + line.now.start ≡ line.now.end }
     ensures fault { FaultsAs result (everything_fault utf16_len encode_utf16 (utf16_text text.now) text.now
         line.now out.old) }
     ensures writes { WritesLine (everything utf16_len encode_utf16 (utf16_text text.now) text.now line.now)

@@ -71,9 +71,9 @@ fn reorder(
     out: &mut [u32],
 ) -> Result<usize, Fault>
     requires valid { IsValid line.now }
-    requires units { length chars.now + line.now.start ≡ line.now.end }
+    requires same_len { length chars.now + line.now.start ≡ line.now.end }
     ensures fault { FaultsAs result (chars_fault chars.now (length out.old)) }
-    ensures kept { OnErr result (out.new ≡ out.old) }
+    ensures unchanged { OnErr result (out.new ≡ out.old) }
     ensures text { OnOk result (out.new ≡ written (reordered_chars chars.now line.now) out.old) }
     ensures count { IfOk result (λ count. count ≡ length chars.now) }
 {
@@ -100,7 +100,7 @@ pub fn reorder_line(
 ) -> Result<usize, Fault>
     ensures fault { let chars = own_units text.now line.now in
         FaultsAs result (fault_of_line text.now line.now false (chars_fault chars (length out.old))) }
-    ensures kept { OnErr result (out.new ≡ out.old) }
+    ensures unchanged { OnErr result (out.new ≡ out.old) }
     ensures text { OnOk result (out.new ≡ written (reordered_chars (own_units text.now line.now) line.now) out.old) }
     ensures count { IfOk result (λ count. count ≡ length (own_units text.now line.now)) }
 {

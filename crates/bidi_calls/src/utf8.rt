@@ -74,7 +74,7 @@ pub fn check_text(text: &[u8], line: &CallerLine<'_>) -> Result<(), Fault>
 // Writes the text of a line from left to right, and returns its length.
 fn reorder(alloc: Global, text: &str, line: &CallerLine<'_>, out: &mut [u8]) -> Result<usize, Fault>
     requires valid { IsValid line.now }
-    requires units { length text.now + line.now.start ≡ line.now.end }
+    requires same_len { length text.now + line.now.start ≡ line.now.end }
     ensures fault { FaultsAs result (reordered_fault len_utf8 encode_utf8 (chars text.now) text.now line.now (length out.old)) }
     ensures writes { WritesList (reordered len_utf8 encode_utf8 (chars text.now) text.now line.now)
         result out.old out.new }
@@ -137,7 +137,7 @@ fn show(
     out: &mut LineBuffers<'_, u8>,
 ) -> Result<usize, Fault>
     requires valid { IsValid line.now }
-    requires units { length text.now + line.now.start ≡ line.now.end }
+    requires same_len { length text.now + line.now.start ≡ line.now.end }
     ensures fault { FaultsAs result (everything_fault len_utf8 encode_utf8 (chars text.now) text.now
         line.now out.old) }
     ensures writes { WritesLine (everything len_utf8 encode_utf8 (chars text.now) text.now line.now)

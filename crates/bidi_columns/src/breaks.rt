@@ -82,7 +82,7 @@ fn line_of(clusters: &[Cluster], fit: usize) -> LineLength
     requires some { 1 ≤ fit }
     requires within { fit ≤ length clusters.now }
     ensures line { result ≡ line_of_fitting fit clusters.now }
-    ensures some { 1 ≤ result.shown }
+    ensures advances { 1 ≤ result.shown }
     ensures ordered { result.shown ≤ result.taken }
     ensures within { result.taken ≤ length clusters.now }
 {
@@ -113,7 +113,7 @@ fn line_of(clusters: &[Cluster], fit: usize) -> LineLength
 pub fn first_line(clusters: &[Cluster], limit: u16) -> LineLength
     requires { 1 ≤ length clusters.now }
     ensures line { result ≡ first_line_of limit clusters.now }
-    ensures some { 1 ≤ result.shown }
+    ensures advances { 1 ≤ result.shown }
     ensures ordered { result.shown ≤ result.taken }
     ensures within { result.taken ≤ length clusters.now }
 {

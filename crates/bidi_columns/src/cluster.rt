@@ -27,7 +27,7 @@ pub struct Cluster {
 
 /// Returns the number of columns that a character takes. A nonspacing mark and a control take none.
 pub fn columns(c: char) -> usize
-    ensures value { result ≡ columns_of c }
+    ensures result { result ≡ columns_of c }
     ensures bound { result ≤ 3 }
 {
     c.width().unwrap_or(0)

@@ -32,7 +32,7 @@ fn ends_paragraph<D: BidiDataSource>(data_source: &D, c: char, after: &[char]) -
 /// text is not empty.
 pub fn first_paragraph_len<D: BidiDataSource>(data_source: &D, chars: &[char]) -> usize
     requires { 0 < length chars.now }
-    ensures some { 0 < result }
+    ensures advances { 0 < result }
     ensures within { result ≤ length chars.now }
     ensures first { paragraphs_in (D.source data_source.now) chars.now
         ≡ take result chars.now ∷ paragraphs_in (D.source data_source.now) (drop result chars.now) }
@@ -128,7 +128,7 @@ pub(crate) fn first_file_line<D: BidiDataSource>(
 ) -> FirstLine
     requires some { 0 < length chars.now }
     requires no_control_in_ascii { ascii_has_no_control ≡ true → HasNoControlInAscii (D.source data_source.now) }
-    ensures some { 0 < result.len }
+    ensures advances { 0 < result.len }
     ensures within { result.len ≤ length chars.now }
     ensures first { file_lines_of chars.now ≡ take result.len chars.now ∷ file_lines_of (drop result.len chars.now) }
     ensures without_controls { result.has_no_controls ≡ true → HaveNoControls (D.source data_source.now) (take result.len chars.now) }

@@ -32,7 +32,7 @@ impl Block {
 /// How many columns a block of a table may have, for a terminal of this width.
 pub fn columns_in(width: Option<u16>, len: usize) -> usize
     ensures columns { result ≡ columns_in width len }
-    ensures some { 0 < result }
+    ensures advances { 0 < result }
 {
     match width {
         Some(width) => usize::from(width.saturating_sub(LABEL_WIDTH) / CELL_WIDTH).max(1),

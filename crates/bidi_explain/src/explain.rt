@@ -19,8 +19,8 @@ fn push_stages(
     chars: &[char],
     stages: &Stages,
 ) -> Result<(), AllocError>
-    requires classes { vec_len stages.now.classes ≡ length chars.now }
-    requires levels { vec_len stages.now.line_levels ≡ length chars.now }
+    requires classes_same_len { vec_len stages.now.classes ≡ length chars.now }
+    requires levels_same_len { vec_len stages.now.line_levels ≡ length chars.now }
     requires order { All (λ p. p < length chars.now) stages.now.order.items }
     requires places { vec_len stages.now.places ≡ length chars.now }
     ensures { OnOk result (string_bytes out.new ≡ string_bytes out.old ++ stages_text form width chars.now stages.now) }

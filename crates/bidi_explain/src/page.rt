@@ -81,8 +81,8 @@ fn push_box_at(
     at: usize,
 ) -> Result<(), AllocError>
     requires within { at < length chars.now }
-    requires classes { vec_len stages.now.classes ≡ length chars.now }
-    requires levels { vec_len stages.now.line_levels ≡ length chars.now }
+    requires classes_same_len { vec_len stages.now.classes ≡ length chars.now }
+    requires levels_same_len { vec_len stages.now.line_levels ≡ length chars.now }
     ensures { OnOk result (string_bytes out.new ≡ string_bytes out.old ++ box_at tag.now chars.now stages.now at) }
 {
     let (level, class) = (stages.line_levels[at], stages.classes[at]);
@@ -98,8 +98,8 @@ fn push_boxes(
     stages: &Stages,
     indexes: &[usize],
 ) -> Result<(), AllocError>
-    requires classes { vec_len stages.now.classes ≡ length chars.now }
-    requires levels { vec_len stages.now.line_levels ≡ length chars.now }
+    requires classes_same_len { vec_len stages.now.classes ≡ length chars.now }
+    requires levels_same_len { vec_len stages.now.line_levels ≡ length chars.now }
     requires within { All (λ p. p < length chars.now) indexes.now }
     ensures { OnOk result (string_bytes out.new
         ≡ string_bytes out.old ++ flat_map (box_at tag.now chars.now stages.now) indexes.now) }
@@ -117,8 +117,8 @@ fn push_boxes_row(
     stages: &Stages,
     indexes: &[usize],
 ) -> Result<(), AllocError>
-    requires classes { vec_len stages.now.classes ≡ length chars.now }
-    requires levels { vec_len stages.now.line_levels ≡ length chars.now }
+    requires classes_same_len { vec_len stages.now.classes ≡ length chars.now }
+    requires levels_same_len { vec_len stages.now.line_levels ≡ length chars.now }
     requires within { All (λ p. p < length chars.now) indexes.now }
     ensures { OnOk result (string_bytes out.new ≡ string_bytes out.old ++ boxes_row chars.now stages.now indexes.now) }
 {
@@ -135,8 +135,8 @@ fn push_shown_row(
     stages: &Stages,
     indexes: &[usize],
 ) -> Result<(), AllocError>
-    requires classes { vec_len stages.now.classes ≡ length chars.now }
-    requires levels { vec_len stages.now.line_levels ≡ length chars.now }
+    requires classes_same_len { vec_len stages.now.classes ≡ length chars.now }
+    requires levels_same_len { vec_len stages.now.line_levels ≡ length chars.now }
     requires within { All (λ p. p < length chars.now) indexes.now }
     ensures { OnOk result (string_bytes out.new ≡ string_bytes out.old ++ shown_row chars.now stages.now indexes.now) }
 {
@@ -301,8 +301,8 @@ fn push_upper(
     indexes: &[usize],
     block: Block,
 ) -> Result<(), AllocError>
-    requires classes { vec_len stages.now.classes ≡ length chars.now }
-    requires levels { vec_len stages.now.line_levels ≡ length chars.now }
+    requires classes_same_len { vec_len stages.now.classes ≡ length chars.now }
+    requires levels_same_len { vec_len stages.now.line_levels ≡ length chars.now }
     requires within { All (λ p. p < length chars.now) indexes.now }
     ensures { OnOk result (string_bytes out.new
         ≡ string_bytes out.old ++ upper_part chars.now stages.now rows.now indexes.now block) }
@@ -322,8 +322,8 @@ fn push_lower(
     indexes: &[usize],
     block: Block,
 ) -> Result<(), AllocError>
-    requires classes { vec_len stages.now.classes ≡ length chars.now }
-    requires levels { vec_len stages.now.line_levels ≡ length chars.now }
+    requires classes_same_len { vec_len stages.now.classes ≡ length chars.now }
+    requires levels_same_len { vec_len stages.now.line_levels ≡ length chars.now }
     requires order { All (λ p. p < length chars.now) stages.now.order.items }
     requires places { vec_len stages.now.places ≡ length chars.now }
     requires within { All (λ p. p < length chars.now) indexes.now }
@@ -346,8 +346,8 @@ fn push_block(
     indexes: &[usize],
     block: Block,
 ) -> Result<(), AllocError>
-    requires classes { vec_len stages.now.classes ≡ length chars.now }
-    requires levels { vec_len stages.now.line_levels ≡ length chars.now }
+    requires classes_same_len { vec_len stages.now.classes ≡ length chars.now }
+    requires levels_same_len { vec_len stages.now.line_levels ≡ length chars.now }
     requires order { All (λ p. p < length chars.now) stages.now.order.items }
     requires places { vec_len stages.now.places ≡ length chars.now }
     requires within { All (λ p. p < length chars.now) indexes.now }
@@ -368,8 +368,8 @@ fn push_blocks(
     indexes: &[usize],
     blocks: &[Block],
 ) -> Result<(), AllocError>
-    requires classes { vec_len stages.now.classes ≡ length chars.now }
-    requires levels { vec_len stages.now.line_levels ≡ length chars.now }
+    requires classes_same_len { vec_len stages.now.classes ≡ length chars.now }
+    requires levels_same_len { vec_len stages.now.line_levels ≡ length chars.now }
     requires order { All (λ p. p < length chars.now) stages.now.order.items }
     requires places { vec_len stages.now.places ≡ length chars.now }
     requires within { All (λ p. p < length chars.now) indexes.now }
@@ -403,8 +403,8 @@ pub(crate) fn push_section(
     chars: &[char],
     stages: &Stages,
 ) -> Result<(), AllocError>
-    requires classes { vec_len stages.now.classes ≡ length chars.now }
-    requires levels { vec_len stages.now.line_levels ≡ length chars.now }
+    requires classes_same_len { vec_len stages.now.classes ≡ length chars.now }
+    requires levels_same_len { vec_len stages.now.line_levels ≡ length chars.now }
     requires order { All (λ p. p < length chars.now) stages.now.order.items }
     requires places { vec_len stages.now.places ≡ length chars.now }
     ensures { OnOk result (string_bytes out.new ≡ string_bytes out.old ++ section_text chars.now stages.now) }

@@ -93,7 +93,7 @@ fn weak_of(
 ) -> Result<Vec<BidiClass>, AllocError>
     requires { CanResolveIn paragraph sequence.now }
     ensures classes { IfOk result (λ v. v.items ≡ weak_in paragraph.entry.classes.now sequence.now) }
-    ensures long { IfOk result (λ v. HasOneEach sequence.now v.items) }
+    ensures same_len { IfOk result (λ v. HasOneEach sequence.now v.items) }
 {
     let classes = classes_at(alloc, paragraph.classes, sequence.places())?;
     let weak = plain::weak(alloc, sequence.sos(), classes.as_slice())?;
@@ -121,7 +121,7 @@ fn neutral_of(
     ensures classes { IfOk result (λ v. v.items
         ≡ neutral_in paragraph.entry.source.now paragraph.entry.brackets.now paragraph.entry.levels.now
         paragraph.entry.classes.now sequence.now) }
-    ensures long { IfOk result (λ v. HasOneEach sequence.now v.items) }
+    ensures same_len { IfOk result (λ v. HasOneEach sequence.now v.items) }
 {
     let places = sequence.places();
     let source = classes_at(alloc, paragraph.source, places)?;
@@ -143,7 +143,7 @@ fn neutral_of(
 /// Writes the classes of a sequence's characters to their places.
 fn write_row(row: &mut Vec<Option<BidiClass>>, places: &[usize], values: &[BidiClass])
     requires within { All (λ p. p < vec_len row.old) places.now }
-    requires long { length values.now ≡ length places.now }
+    requires same_len { length values.now ≡ length places.now }
     ensures { row.new.items ≡ written row.old.items (zip places.now values.now) }
 {
     for (at, place) in places.iter().enumerate() {
@@ -227,7 +227,7 @@ fn stages_of<D: BidiDataSource>(
 ) -> Result<Stages, AllocError>
     requires low { level ≤ 125 }
     requires stored { stored.now ≡ stored_classes (map (D.source data_source.now).class_of chars.now) }
-    requires levels { length levels.now ≡ length chars.now }
+    requires same_len { length levels.now ≡ length chars.now }
     ensures { IfOk result (StagesFrom (D.source data_source.now) chars.now level levels.now) }
 {
     let classes = classes_of(alloc, data_source, chars)?;

@@ -22,7 +22,7 @@ pub fn end_of<T: TextSource>(text: T, start: usize) -> usize
 pub fn end_within<T: TextSource>(text: T, start: usize, len: usize) -> usize
     requires begins { IsTrue (is_boundary (T.text text) start) }
     requires inside { start < len }
-    requires long { len ≡ text_len (T.text text) }
+    requires same_len { len ≡ text_len (T.text text) }
     ensures { IsNextPlace (T.text text) start result }
 {
     if start + 1 == len {

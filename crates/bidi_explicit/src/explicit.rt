@@ -227,8 +227,8 @@ pub fn compute_counted<T: TextSource, S: Ledger>(
         processing_classes.old (map bounds runs.old.items) }
     ensures found { OnOk result (AreExplicitLevels (T.text text) para_level original_classes.now levels.new
         processing_classes.new (map bounds runs.new.items)) }
-    ensures at_least { OnOk result (steps.old + length (T.text text).chars ≤ steps.new) }
-    ensures at_most { OnOk result (steps.new ≤ steps.old + 4 * length (T.text text).chars) }
+    ensures steps_at_least { OnOk result (steps.old + length (T.text text).chars ≤ steps.new) }
+    ensures steps_at_most { OnOk result (steps.new ≤ steps.old + 4 * length (T.text text).chars) }
 {
     let paragraph = Paragraph::new(text, para_level, StepUnit::Character, original_classes);
     find_levels_counted(&paragraph, levels, processing_classes, runs, steps)
@@ -255,8 +255,8 @@ pub fn find_levels_counted<T: TextSource, S: Ledger>(
 ) -> Result<(), AllocError>
     requires { CanFindLevels paragraph.now levels.old classes.old runs.old.items }
     ensures found { OnOk result (AreLevelsOf paragraph.now levels.new classes.new runs.new.items) }
-    ensures at_least { OnOk result (steps.old + least_count paragraph.now ≤ steps.new) }
-    ensures at_most { OnOk result (steps.new ≤ steps.old + 4 * whole_count paragraph.now) }
+    ensures steps_at_least { OnOk result (steps.old + least_count paragraph.now ≤ steps.new) }
+    ensures steps_at_most { OnOk result (steps.new ≤ steps.old + 4 * whole_count paragraph.now) }
 {
     let original_classes = paragraph.original_classes;
     let units = original_classes.len();

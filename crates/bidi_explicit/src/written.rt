@@ -99,8 +99,8 @@ pub fn write_over_runs_counted<S: Ledger>(
     requires ordered { IsTrue (are_ordered (map bounds runs.now)) }
     requires inside { to ≤ length classes.old }
     ensures written { WritesInRuns runs.now class from to classes.old classes.new }
-    ensures at_least { steps.old ≤ steps.new }
-    ensures at_most { from < to → from < (get_or (map bounds runs.now) 0 (0, 0)).1
+    ensures steps_at_least { steps.old ≤ steps.new }
+    ensures steps_at_most { from < to → from < (get_or (map bounds runs.now) 0 (0, 0)).1
         → steps.new + 2 * count_below (map bounds runs.now) from
         ≤ steps.old + 2 * count_below (map bounds runs.now) to }
 {

@@ -23,9 +23,9 @@ use std::ops::Range;
 fn write_level(levels: &mut [Level], from: usize, to: usize, level: Level)
     requires begins { from ≤ to }
     requires ends { to ≤ length levels.old }
-    ensures before { SameBelow levels.old levels.new from }
+    ensures outside_before { SameBelow levels.old levels.new from }
     ensures inside { (k : ℕ) → from ≤ k → k < to → slice_index levels.new k ≡ level }
-    ensures after { SameFrom levels.old levels.new to }
+    ensures outside_after { SameFrom levels.old levels.new to }
 {
     levels[from..to].fill(level);
 }
@@ -70,7 +70,7 @@ fn blanks_start<C: ClassList>(classes: C, from: usize, to: usize) -> usize
     requires begins { from ≤ to }
     requires ends { to ≤ length (C.classes classes) }
     ensures begins { from ≤ result }
-    ensures ends { result ≤ to }
+    ensures within { result ≤ to }
     ensures blank { (k : ℕ) → result ≤ k → k < to → is_blank (class_at (C.classes classes) k) ≡ true }
     ensures stops { (k : ℕ) → from < result → k + 1 ≡ result → is_blank (class_at (C.classes classes) k) ≡ false }
 {
@@ -300,7 +300,7 @@ pub(crate) fn gather<T: TextSource>(text: T, levels: &mut [Level]) -> usize
 /// A character has the level of its first code unit. `levels` has one level for each code unit, and `out` is as
 /// long. After the last character, the entries of `out` hold any levels. Does not allocate.
 pub fn write_first_units<T: TextSource>(text: T, levels: &[Level], out: &mut [Level]) -> usize
-    requires one_a_unit { length levels.now ≡ text_len (T.text text) }
+    requires same_len { length levels.now ≡ text_len (T.text text) }
     requires room { length out.old ≡ length levels.now }
     ensures count { result ≡ length (T.text text).chars }
     ensures written { take result out.new ≡ per_char 0 (T.text text) levels.now }

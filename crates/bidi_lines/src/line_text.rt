@@ -64,7 +64,7 @@ pub fn write_runs<T: LineText>(
 )
     requires room { length out.old ≡ length levels.now }
     requires within { All (StartsInLine start levels.now) runs.now }
-    requires boundaries { All (λ r. IsLine (T.text text) r.start r.end) runs.now }
+    requires are_lines { All (λ r. IsLine (T.text text) r.start r.end) runs.now }
     requires whole { sum_by (λ r. r.end - r.start) runs.now ≡ length levels.now }
     ensures { out.new ≡ flat_map (run_units (T.text text) T.encode (T.units_of text) start levels.now) (map run_of runs.now) }
 {
@@ -91,11 +91,11 @@ fn write_line_units<T: LineText>(
     out: &mut [T::Unit],
 ) -> Result<(), AllocError>
     requires is_line { IsLine (T.text text) line.start line.end }
-    requires levels { length levels.now + line.start ≡ line.end }
+    requires same_len { length levels.now + line.start ≡ line.end }
     requires room { length out.old ≡ length levels.now }
     requires runs { AreRunsOfChars (T.text text) line.start levels.now }
     ensures text { OnOk result (out.new ≡ visual_units (T.text text) T.encode (T.units_of text) line.start levels.now) }
-    ensures kept { OnErr result (out.new ≡ out.old) }
+    ensures unchanged { OnErr result (out.new ≡ out.old) }
 {
     let start = line.start;
     if levels.is_empty() {
@@ -136,14 +136,14 @@ pub fn write_line<T: LineText, C: ClassList, L: LevelList>(
 ) -> Result<(), AllocError>
     requires is_line { IsLine (T.text text) line.start line.end }
     requires valid { L.are_levels stored.now.levels }
-    requires levels { length (L.numbers stored.now.levels) + line.start ≡ line.end }
-    requires classes { length (C.classes stored.now.classes) ≡ length (L.numbers stored.now.levels) }
+    requires levels_same_len { length (L.numbers stored.now.levels) + line.start ≡ line.end }
+    requires classes_same_len { length (C.classes stored.now.classes) ≡ length (L.numbers stored.now.levels) }
     requires room { length out.old ≡ length (L.numbers stored.now.levels) }
     requires runs { AreRunsOfChars (T.text text) line.start
         (line_levels stored.now.level (C.classes stored.now.classes) (L.numbers stored.now.levels)) }
     ensures text { OnOk result (out.new ≡ visual_units (T.text text) T.encode (T.units_of text) line.start
         (line_levels stored.now.level (C.classes stored.now.classes) (L.numbers stored.now.levels))) }
-    ensures kept { OnErr result (out.new ≡ out.old) }
+    ensures unchanged { OnErr result (out.new ≡ out.old) }
 {
     if stored.level.is_ltr() && !stored.levels.has_rtl() {
         text.copy_run(line, out);

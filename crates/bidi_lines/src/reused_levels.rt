@@ -17,7 +17,7 @@ pub const FEW_UNITS: usize = 256;
 // Writes the levels of a line after L1, given its stored classes and levels.
 fn write_levels<C: ClassList, L: LevelList>(para_level: Level, classes: C, levels: L, out: &mut [Level])
     requires valid { L.are_levels levels }
-    requires classes { length (L.numbers levels) ≡ length (C.classes classes) }
+    requires same_len { length (L.numbers levels) ≡ length (C.classes classes) }
     requires room { length out.old ≡ length (L.numbers levels) }
     ensures { out.new ≡ line_levels para_level (C.classes classes) (L.numbers levels) }
 {
@@ -28,7 +28,7 @@ fn write_levels<C: ClassList, L: LevelList>(para_level: Level, classes: C, level
 // Writes the levels of a line after L1 to the front of a list that may be longer.
 fn write_front<C: ClassList, L: LevelList>(para_level: Level, classes: C, levels: L, out: &mut [Level])
     requires valid { L.are_levels levels }
-    requires classes { length (L.numbers levels) ≡ length (C.classes classes) }
+    requires same_len { length (L.numbers levels) ≡ length (C.classes classes) }
     requires room { length (L.numbers levels) ≤ length out.old }
     ensures { take (length (L.numbers levels)) out.new ≡ line_levels para_level (C.classes classes) (L.numbers levels) }
 {
@@ -39,7 +39,7 @@ fn write_front<C: ClassList, L: LevelList>(para_level: Level, classes: C, levels
 // Gives a list at least `len` levels. New entries hold any level. If an allocation fails, the list is unchanged.
 fn grow(levels: &mut Vec<Level>, len: usize) -> Result<(), AllocError>
     ensures len { OnOk result (len ≤ vec_len levels.new) }
-    ensures kept { OnErr result (levels.new.items ≡ levels.old.items) }
+    ensures unchanged { OnErr result (levels.new.items ≡ levels.old.items) }
 {
     if levels.len() < len {
         levels.resize(len, LTR_LEVEL)?;
@@ -51,7 +51,7 @@ fn grow(levels: &mut Vec<Level>, len: usize) -> Result<(), AllocError>
 // The first `len` levels are those of the text's units.
 fn gather_front<T: TextSource>(text: T, levels: &mut [Level], len: usize) -> usize
     requires within { len ≤ length levels.old }
-    requires one_a_unit { len ≡ text_len (T.text text) }
+    requires same_len { len ≡ text_len (T.text text) }
     ensures within { result ≤ len }
     ensures gathered { take result levels.new ≡ per_char 0 (T.text text) (take len levels.old) }
 {
@@ -101,7 +101,7 @@ impl LineLevels {
         requires valid { L.are_levels levels }
         requires same_len { length (L.numbers levels) ≡ length (C.classes classes) }
         ensures levels { OnOk result (levels_of self.new ≡ line_levels para_level (C.classes classes) (L.numbers levels)) }
-        ensures kept { OnErr result (levels_of self.new ≡ levels_of self.old) }
+        ensures unchanged { OnErr result (levels_of self.new ≡ levels_of self.old) }
     {
         let len = levels.len();
         if len <= FEW_UNITS {

@@ -124,7 +124,7 @@ impl<T: TextSource> ShownLine<T> {
         requires { IsLineOf (analysed_of analysed.now) line }
         ensures text { text_of self.new ≡ analysed_text analysed.now }
         ensures shows { OnOk result (Shows self.new (analysed_of analysed.now) para_level line) }
-        ensures empty { OnErr result (Shows self.new (analysed_of analysed.now) para_level (record { start = 0; end = 0 })) }
+        ensures emptied { OnErr result (Shows self.new (analysed_of analysed.now) para_level (record { start = 0; end = 0 })) }
     {
         let classes = analysed.original_classes();
         self.show_lists(analysed.text(), classes, analysed.levels(), para_level, line)
@@ -143,12 +143,12 @@ impl<T: TextSource> ShownLine<T> {
         para_level: Level,
         line: Range<usize>,
     ) -> Result<(), AllocError>
-        requires line { IsLine (T.text text) line.start line.end }
+        requires is_line { IsLine (T.text text) line.start line.end }
         requires classes { HaveClass (T.text text) classes.now }
         requires levels { HaveLevel (T.text text) levels.now }
         ensures text { text_of self.new ≡ text }
         ensures shows { OnOk result (Shows self.new (with_lists (T.text text) classes.now levels.now) para_level line) }
-        ensures empty { OnErr result (Shows self.new (with_lists (T.text text) classes.now levels.now) para_level
+        ensures emptied { OnErr result (Shows self.new (with_lists (T.text text) classes.now levels.now) para_level
             (record { start = 0; end = 0 })) }
     {
         let (start, end) = (line.start, line.end);
@@ -164,7 +164,7 @@ impl<T: TextSource> ShownLine<T> {
 
     /// Returns the level of each code unit of the line after L1.
     pub fn levels(&self) -> &[Level]
-        ensures value { result.now ≡ levels_of self.now }
+        ensures result { result.now ≡ levels_of self.now }
         ensures levels { (a : AnalysedText) → (level : ℕ) → (line : RangeOf ℕ) → Shows self.now a level line
             → AreLevelsOfLine a level line result.now }
     {
@@ -173,7 +173,7 @@ impl<T: TextSource> ShownLine<T> {
 
     /// Returns the level runs (BD7) of the line from left to right (L2), as ranges of code units of the text.
     pub fn runs(&self) -> &[Range<usize>]
-        ensures value { map run_of result.now ≡ runs_of self.now }
+        ensures result { map run_of result.now ≡ runs_of self.now }
         ensures runs { (a : AnalysedText) → (level : ℕ) → (line : RangeOf ℕ) → Shows self.now a level line
             → AreRunsOfLine a level line (map run_of result.now) }
     {

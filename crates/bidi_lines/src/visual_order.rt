@@ -16,8 +16,8 @@ use std::alloc::{AllocError, Global};
 fn flip(order: &mut [usize], from: usize, to: usize)
     requires begins { from ≤ to }
     requires ends { to ≤ length order.old }
-    ensures before { SameBelow order.old order.new from }
-    ensures after { SameFrom order.old order.new to }
+    ensures outside_before { SameBelow order.old order.new from }
+    ensures outside_after { SameFrom order.old order.new to }
     ensures inside { (p q : ℕ) → from ≤ p → from ≤ q → p + q + 1 ≡ from + to → slice_index order.new p ≡ slice_index order.old q }
     ensures permutation { IsPermutation order.old order.new }
 {
@@ -52,8 +52,8 @@ const TESTED_SINGLY: usize = 3;
 #[inline(always)]
 pub(crate) fn run_end<L: LevelList>(levels: L, from: usize) -> usize
     requires { from < length (L.numbers levels) }
-    ensures begins { from < result }
-    ensures ends { result ≤ length (L.numbers levels) }
+    ensures advances { from < result }
+    ensures within { result ≤ length (L.numbers levels) }
     ensures same { (p : ℕ) → from ≤ p → p < result → slice_index (L.numbers levels) p ≡ slice_index (L.numbers levels) from }
     ensures stops { result < length (L.numbers levels) → slice_index (L.numbers levels) result ≢ slice_index (L.numbers levels) from }
 {
@@ -87,7 +87,7 @@ impl<L: LevelList> Tested for LowLevels<L> {
 fn stretch_end<L: LevelList>(levels: L, from: usize, threshold: u8) -> usize
     requires { from ≤ length (L.numbers levels) }
     ensures begins { from ≤ result }
-    ensures ends { result ≤ length (L.numbers levels) }
+    ensures within { result ≤ length (L.numbers levels) }
     ensures above { (p : ℕ) → from ≤ p → p < result → threshold < slice_index (L.numbers levels) p }
     ensures stops { result < length (L.numbers levels) → slice_index (L.numbers levels) result ≤ threshold }
 {
@@ -131,12 +131,12 @@ fn arrange<L: LevelList>(levels: L, order: &mut [usize], from: usize, threshold:
     requires begins { from ≤ length (L.numbers levels) }
     requires untouched { (p : ℕ) → from ≤ p → p < length (L.numbers levels) → slice_index order.old p ≡ p }
     ensures begins { from ≤ result }
-    ensures ends { result ≤ length (L.numbers levels) }
+    ensures within { result ≤ length (L.numbers levels) }
     ensures progress { from < length (L.numbers levels) → threshold ≤ slice_index (L.numbers levels) from → from < result }
     ensures stops { result < length (L.numbers levels) → slice_index (L.numbers levels) result < threshold }
     ensures at_least { AtLeast (L.numbers levels) threshold from result }
-    ensures before { SameBelow order.old order.new from }
-    ensures after { SameFrom order.old order.new result }
+    ensures outside_before { SameBelow order.old order.new from }
+    ensures outside_after { SameFrom order.old order.new result }
     ensures arranged { IsArranged (L.numbers levels) threshold from result order.new }
     ensures permutation { IsPermutation order.old order.new }
 {

@@ -24,7 +24,7 @@ const FEW_RUNS: usize = 16;
 /// the whole line is one run.
 pub(crate) fn first_run_end(levels: &[Level]) -> usize
     requires { 0 < length levels.now }
-    ensures some { 0 < result }
+    ensures advances { 0 < result }
     ensures within { result ≤ length levels.now }
     ensures first { (start : ℕ) → IsFirstRunEnd start levels.now result }
     ensures whole { result ≡ length levels.now → (start : ℕ) → visual_runs start levels.now ≡ (start, start + result) ∷ [] }
@@ -76,7 +76,7 @@ fn copy_in_order(
     requires { All (λ k. k < length runs.now) order.now }
     ensures runs { OnOk result (map run_of ordered.new.items
         ≡ map run_of ordered.old.items ++ at_indexes (0, 0) (map run_of runs.now) order.now) }
-    ensures kept { OnErr result (ordered.new.items ≡ ordered.old.items) }
+    ensures unchanged { OnErr result (ordered.new.items ≡ ordered.old.items) }
 {
     ordered.reserve(order.len())?;
     for k in order {
@@ -101,7 +101,7 @@ fn copy_visual(
     requires numbers { length numbers.old ≡ length runs.now }
     requires order { length order.old ≡ length runs.now }
     ensures runs { OnOk result (map run_of ordered.new.items ≡ visual_runs start levels.now) }
-    ensures none { OnErr result (ordered.new.items ≡ []) }
+    ensures emptied { OnErr result (ordered.new.items ≡ []) }
 {
     write_numbers(numbers, levels, start, runs);
     write_visual_order(&*numbers, order);
@@ -144,7 +144,7 @@ impl LineRuns {
         requires { start + length levels.now ≤ usize.MAX }
         ensures runs { OnOk result (runs self.new ≡ visual_runs start levels.now) }
         ensures visual { OnOk result (AreVisualRuns start levels.now (runs self.new)) }
-        ensures none { OnErr result (runs self.new ≡ []) }
+        ensures emptied { OnErr result (runs self.new ≡ []) }
     {
         if levels.is_empty() {
             self.ordered.clear();
@@ -168,7 +168,7 @@ impl LineRuns {
         requires first { IsFirstRunEnd start levels.now first }
         ensures runs { OnOk result (runs self.new ≡ visual_runs start levels.now) }
         ensures visual { OnOk result (AreVisualRuns start levels.now (runs self.new)) }
-        ensures none { OnErr result (runs self.new ≡ []) }
+        ensures emptied { OnErr result (runs self.new ≡ []) }
     {
         self.ordered.clear();
         cut_runs(&mut self.runs, levels, start, first)?;

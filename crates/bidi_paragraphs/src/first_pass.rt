@@ -210,7 +210,7 @@ fn next_stop<D: BidiDataSource, T: TextSource>(
     ensures stop { IsReadOn (T.text text) (D.source data_source.now) (stops_at state.old)
         (record { at = from; flags = state.old.flags }) result
         (record { at = text_len (T.text text); flags = state.new.flags }) classes.old classes.new }
-    ensures kept { state.new ≡ with_flags state.old state.new.flags }
+    ensures outside { state.new ≡ with_flags state.old state.new.flags }
 {
     if near && T::READS_IN_PLACE && classes.len() - from >= AT_ONCE {
         return Some(read_next(data_source, text, classes, from));

@@ -20,7 +20,7 @@ use bidi_explicit::run_search::none_passes;
 /// are too. The look takes the place of two passes.
 pub fn has_known_levels(sequence: BorrowedSequence<'_>, levels: &[Level], classes: &[BidiClass]) -> bool
     requires inside { AreInside sequence classes.now }
-    requires levels { length levels.now ≡ length classes.now }
+    requires same_len { length levels.now ≡ length classes.now }
     ensures { IsTrue result → HasOneDirection sequence.entry levels.now classes.now ⊎ HasNoNeutral sequence.entry classes.now }
 {
     has_one_direction(sequence, levels, classes) || has_no_neutral(sequence, classes)
@@ -32,7 +32,7 @@ pub fn has_known_levels(sequence: BorrowedSequence<'_>, levels: &[Level], classe
 /// must not be a nonspacing mark either, because such a mark takes sos.
 fn has_one_direction(sequence: BorrowedSequence<'_>, levels: &[Level], classes: &[BidiClass]) -> bool
     requires inside { AreInside sequence classes.now }
-    requires levels { length levels.now ≡ length classes.now }
+    requires same_len { length levels.now ≡ length classes.now }
     ensures { IsTrue result → HasOneDirection sequence.entry levels.now classes.now }
 {
     let runs = sequence.runs();
@@ -83,7 +83,7 @@ pub fn write_l_over_numbers(
     classes: &mut [BidiClass],
 ) -> bool
     requires inside { AreInside sequence classes.old }
-    requires levels { length levels.now ≡ length classes.old }
+    requires same_len { length levels.now ≡ length classes.old }
     ensures numbers { IsTrue result → HasEuropeanNumbers sequence.entry levels.now classes.old }
     ensures written { IsTrue result → AreNumbersWritten (map bounds (borrowed_runs sequence.entry)) classes.old classes.new }
     ensures unchanged { result ≡ false → classes.new ≡ classes.old }
@@ -98,7 +98,7 @@ pub fn write_l_over_numbers(
 /// Whether European numbers are all that raises a level in a sequence whose direction and sos are L.
 fn has_european_numbers(sequence: BorrowedSequence<'_>, levels: &[Level], classes: &[BidiClass]) -> bool
     requires inside { AreInside sequence classes.now }
-    requires levels { length levels.now ≡ length classes.now }
+    requires same_len { length levels.now ≡ length classes.now }
     ensures { IsTrue result → HasEuropeanNumbers sequence.entry levels.now classes.now }
 {
     let runs = sequence.runs();
@@ -124,7 +124,7 @@ fn write_run(run: &LevelRun, classes: &mut [BidiClass])
     ensures changed { (u : ℕ) → run.now.start ≤ u → u < run.now.end
         → class_at classes.new u ≡ number_as_l (class_at classes.old u) }
     ensures around { KeepsAround run.now classes.old classes.new }
-    ensures long { length classes.new ≡ length classes.old }
+    ensures same_len { length classes.new ≡ length classes.old }
 {
     for unit in run.start..run.end {
         classes[unit] = number_as_l(classes[unit]);

@@ -20,7 +20,7 @@ impl ParagraphInfo {
 
     /// Creates a paragraph of a range of code units. Returns `None` exactly if the range is reversed.
     pub fn new(range: Range<usize>, level: Level) -> Option<ParagraphInfo>
-        ensures some { IsSome result ↔ (range.start ≤ range.end) }
+        ensures succeeds { IsSome result ↔ (range.start ≤ range.end) }
         ensures range { IfSome result (λ p. range_of p ≡ range) }
         ensures level { IfSome result (λ p. level_of p ≡ level) }
     {

@@ -107,7 +107,7 @@ impl LevelResolver {
             OnOk result (sequences_of (T.text paragraph.now.text) stored
             (linked_sequences self.new.links (linked_runs self.new.links self.new.runs.items))
             ≡ sequences paragraph.now.level stored (explicit_levels paragraph.now.level stored)) }
-        ensures fits { OnOk result (All (λ s. AreLines (T.text paragraph.now.text) s.runs)
+        ensures are_lines { OnOk result (All (λ s. AreLines (T.text paragraph.now.text) s.runs)
             (linked_sequences self.new.links (linked_runs self.new.links self.new.runs.items))) }
         ensures linked { OnOk result (AreLinked self.new.links (linked_runs self.new.links self.new.runs.items)) }
     {
@@ -163,7 +163,7 @@ impl LevelResolver {
         levels: &mut [Level],
         steps: &mut Steps<S>,
     ) -> Result<(), AllocError>
-        requires long { IsOneAUnit paragraph.now levels.old }
+        requires same_len { IsOneAUnit paragraph.now levels.old }
         requires some { 0 < length levels.old }
         requires flat { is_flat (map (D.source paragraph.now.data_source.now).class_of (T.text paragraph.now.text).chars) ≡ true }
         ensures per_char { OnOk result (HaveCharLevels paragraph.now levels.new) }
@@ -241,7 +241,7 @@ impl LevelResolver {
         levels: &mut [Level],
         steps: &mut Steps<S>,
     ) -> Result<(), AllocError>
-        requires long { IsOneAUnit paragraph.now levels.old }
+        requires same_len { IsOneAUnit paragraph.now levels.old }
         requires some { 0 < length levels.old }
         ensures per_char { OnOk result (HaveCharLevels paragraph.now levels.new) }
         ensures resolved { OnOk result (AreOfRules paragraph.now levels.new) }
@@ -260,7 +260,7 @@ impl LevelResolver {
         levels: &mut [Level],
         blank: Blank,
     ) -> Result<(), AllocError>
-        requires long { IsOneAUnit paragraph.now levels.old }
+        requires same_len { IsOneAUnit paragraph.now levels.old }
         requires some { 0 < length levels.old }
         requires name { blank.name ≡ S.name }
         requires parts { blank.parts ≡ S.parts }
@@ -347,11 +347,11 @@ impl ClassTest for Removed {
 
 // Gives the level `before` to the stretch of removed code units (X9) that begins at `from`. Returns its end.
 fn write_removed(classes: &[BidiClass], levels: &mut [Level], from: usize, before: Level) -> usize
-    requires lengths { length levels.old ≡ length classes.now }
+    requires same_len { length levels.old ≡ length classes.now }
     requires inside { from < length classes.now }
     requires removed { is_kept_at classes.now from ≡ false }
-    ensures begins { from < result }
-    ensures ends { result ≤ length classes.now }
+    ensures advances { from < result }
+    ensures within { result ≤ length classes.now }
     ensures removed { (u : ℕ) → from ≤ u → u < result → is_kept_at classes.now u ≡ false }
     ensures written { IsWritten before from result levels.old levels.new }
 {
@@ -370,7 +370,7 @@ const TESTED_SINGLY: usize = 3;
 // Gives each code unit of a character that X9 removes the level of the code unit before it. At the start it
 // gets the paragraph level.
 fn fill_removed(para_level: Level, classes: &[BidiClass], levels: &mut [Level])
-    requires lengths { length levels.old ≡ length classes.now }
+    requires same_len { length levels.old ≡ length classes.now }
     ensures kept { (u : ℕ) → u < length classes.now → is_kept_at classes.now u ≡ true
         → slice_index levels.new u ≡ slice_index levels.old u }
     ensures front { 0 < length classes.now → is_kept_at classes.now 0 ≡ false → slice_index levels.new 0 ≡ para_level }

@@ -73,7 +73,7 @@ fn part_start(len: usize, place: usize) -> usize
 fn part_end(len: usize, place: usize) -> usize
     ensures end { result ≡ part_end len place }
     ensures within { result ≤ len }
-    ensures after { part_start len place ≤ result }
+    ensures begins { part_start len place ≤ result }
 {
     let start = part_start(len, place);
     start + MOST_SHOWN.min(len - start)

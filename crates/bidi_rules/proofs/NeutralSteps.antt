@@ -57,7 +57,7 @@ module _ (len_of : ℕ → ℕ) (h : HasUnits len_of) (chars : List ℕ) (runs :
   -- the first unit that is read
   pub first-is : (first : ℕ) → Some first ≡ find (λ u. is_kept_in_place (class_at old u)) (units_in_runs (map bounds runs)) → first_or 0 (map (unit_index len_of chars) read) ≡ first
   first-is first found =
-      first-Some (map (unit_index len_of chars) read) first (sym (first_kept-is len_of h chars old ready.per_char (map bounds runs) ready.lines) ∙ sym found)
+      first-Some (map (unit_index len_of chars) read) first (sym (first_kept-is len_of h chars old ready.per_char (map bounds runs) ready.are_lines) ∙ sym found)
 
   pub first-within : (first : ℕ) → Some first ≡ find (λ u. is_kept_in_place (class_at old u)) (units_in_runs (map bounds runs)) → first < length old
   first-within first found = grind (arith, by_list, kept_in_place-Ascends, first_kept-is)
@@ -68,7 +68,7 @@ module _ (len_of : ℕ → ℕ) (h : HasUnits len_of) (chars : List ℕ) (runs :
 
   pub none-read : None ≡ find (λ u. is_kept_in_place (class_at old u)) (units_in_runs (map bounds runs)) → read ≡ []
   none-read found =
-      let none = first-None (map (unit_index len_of chars) read) (sym (first_kept-is len_of h chars old ready.per_char (map bounds runs) ready.lines) ∙ sym found) in
+      let none = first-None (map (unit_index len_of chars) read) (sym (first_kept-is len_of h chars old ready.per_char (map bounds runs) ready.are_lines) ∙ sym found) in
       nil_from_length read (cc (none, length-map read (unit_index len_of chars)))
 
 -- classes that are changed one by one, at some places
@@ -130,7 +130,7 @@ module _ (len_of : ℕ → ℕ) (h : HasUnits len_of) (chars : List ℕ) (source
   -- what is read then has a direction or is a neutral still
   pub mid-resolved : is_l_or_r e ≡ true → (u : ℕ) → is_seen rs mid u ≡ true → is_weak_resolved (class_at mid u) ≡ true
   mid-resolved side u seen =
-      seen-every len_of h chars mid p.per_char rs ready.lines ready.ordered mid-within is_weak_resolved (simp same_read (grind (arith, n0-resolved))) u seen
+      seen-every len_of h chars mid p.per_char rs ready.are_lines ready.ordered mid-within is_weak_resolved (simp same_read (grind (arith, n0-resolved))) u seen
 
   module _ (side : is_l_or_r e ≡ true) (eos : BidiClass) (new : List BidiClass) (long : length new ≡ length mid)
       (joined : map (n2_rule e) (at_indexes L new (seen_units rs mid)) ≡ n1_n2 e sos eos (at_indexes L mid (seen_units rs mid)))
@@ -156,13 +156,13 @@ module _ (len_of : ℕ → ℕ) (h : HasUnits len_of) (chars : List ℕ) (source
 
     after_n2-IsPerChar : IsPerChar len_of chars after_n2
     after_n2-IsPerChar =
-        ruled-IsPerChar len_of h chars mid p.per_char rs ready.lines ready.ordered mid-within (n1_n2 e sos eos) rule_keeps rule_commutes after_n2 directed (length-at_marks (is_seen rs mid) (n2_rule e) new ∙ long) after_n2-others
+        ruled-IsPerChar len_of h chars mid p.per_char rs ready.are_lines ready.ordered mid-within (n1_n2 e sos eos) rule_keeps rule_commutes after_n2 directed (length-at_marks (is_seen rs mid) (n2_rule e) new ∙ long) after_n2-others
 
     even : (k : ℕ) → k < length chars → (u : ℕ) → unit_index len_of chars k ≤ u → u < unit_index len_of chars (k + 1) → class_at new u ≡ class_at new (unit_index len_of chars k)
     even k fits u from below =
         let first = unit_index len_of chars k in
         let same : class_at mid u ≡ class_at mid first = alike_class len_of h chars mid p.per_char k u fits from below in
-        let alike : is_seen rs mid u ≡ is_seen rs mid first = simp (in_runs-alike len_of h chars rs ready.lines k u from below, same) in
+        let alike : is_seen rs mid u ≡ is_seen rs mid first = simp (in_runs-alike len_of h chars rs ready.are_lines k u from below, same) in
         let answer = at_marks-at (is_seen rs mid) (n2_rule e) refl new in
         let after_n2_same = alike_class len_of h chars after_n2 after_n2-IsPerChar k u fits from below in
         let either = same_from e (class_at mid u) (class_at mid first) (class_at new u) (class_at new first) side same (own u) (own first) in
@@ -176,7 +176,7 @@ module _ (len_of : ℕ → ℕ) (h : HasUnits len_of) (chars : List ℕ) (source
         let everywhere = map (n2_rule e) new in
         let ruled : at_indexes L everywhere places ≡ n1_n2 e sos eos (at_indexes L mid places) =
         simp same_read at
-        (ruled-places len_of h chars mid p.per_char rs ready.lines ready.ordered mid-within (n1_n2 e sos eos) rule_keeps rule_commutes everywhere
+        (ruled-places len_of h chars mid p.per_char rs ready.are_lines ready.ordered mid-within (n1_n2 e sos eos) rule_keeps rule_commutes everywhere
         (at_indexes-changed (n2_rule e) refl new (seen_units rs mid) ∙ joined)) in
         record {
           kept = simp (first-is len_of h chars runs sos old ready first found, ← is, ← at_indexes-changed (n2_rule e) refl new places, ruled, p.paired, neutral_classes-is e sos eos (level_at levels first));

@@ -54,7 +54,7 @@ module _ (len_of : ℕ → ℕ) (h : HasUnits len_of) (chars : List ℕ) (runs :
   at_read P holds =
       All-map P (unit_index len_of chars) read
       (read_each (λ k. is_kept_in_place (class_at old (unit_index len_of chars k))) (λ k. in_runs rs (unit_index len_of chars k)) (λ k. P (unit_index len_of chars k))
-      (λ k inside reads. holds (unit_index len_of chars k) inside reads) (chars_in_runs len_of chars rs) (places_in_runs len_of h chars rs ready.lines))
+      (λ k inside reads. holds (unit_index len_of chars k) inside reads) (chars_in_runs len_of chars rs) (places_in_runs len_of h chars rs ready.are_lines))
 
   -- N0 and N1 have nothing to do
   module _ (e : BidiClass) (side : is_l_or_r e ≡ true) (keeps : (u : ℕ) → in_runs rs u ≡ true → turns_from e (class_at old u) ≡ false) where

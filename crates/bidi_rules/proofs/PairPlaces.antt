@@ -64,7 +64,7 @@ module _ (len_of : ℕ → ℕ) (h : HasUnits len_of) (chars : List ℕ) (runs :
   at k = unit_index_at len_of chars ks k
 
   abbrev ends : ℕ → ℕ
-  ends k = behind len_of h chars old rs ready.lines ready.ordered k
+  ends k = behind len_of h chars old rs ready.are_lines ready.ordered k
 
   abbrev cs : List BidiClass
   cs = values_of L len_of chars now ks
@@ -73,19 +73,19 @@ module _ (len_of : ℕ → ℕ) (h : HasUnits len_of) (chars : List ℕ) (runs :
   count = length-values_of len_of chars L now ks
 
   class-is : (k : ℕ) → k < length ks → class_at cs k ≡ class_at now (at k)
-  class-is = class-at len_of h chars old rs ready.lines ready.ordered now
+  class-is = class-at len_of h chars old rs ready.are_lines ready.ordered now
 
   inside : (k : ℕ) → k < length ks → in_runs rs (at k) ≡ true
   inside k fits = grind (arith, unit_index_at-seen) steps 400000
 
-  own : (u : ℕ) → in_runs rs u ≡ true → is_kept_in_place (class_at now u) ≡ true → Owner len_of h chars old rs ready.lines ready.ordered now u
+  own : (u : ℕ) → in_runs rs u ≡ true → is_kept_in_place (class_at now u) ≡ true → Owner len_of h chars old rs ready.are_lines ready.ordered now u
   own u here is = grind (arith, owner) steps 400000
 
   order : (i j : ℕ) → i < j → j < length ks → ends i ≤ at j
-  order = behind-unit_index_at len_of h chars old rs ready.lines ready.ordered
+  order = behind-unit_index_at len_of h chars old rs ready.are_lines ready.ordered
 
   rising : (i j : ℕ) → i < j → at i < at j
-  rising = unit_index_at-rises len_of h chars old rs ready.lines ready.ordered
+  rising = unit_index_at-rises len_of h chars old rs ready.are_lines ready.ordered
 
   -- ---- what a search forwards finds
 
@@ -95,7 +95,7 @@ module _ (len_of : ℕ → ℕ) (h : HasUnits len_of) (chars : List ℕ) (runs :
       let found = f.at less in
       let w = own r found.1 (stands-kept d (class_at now r) found.2) in
       let x = w.number in
-      let behind_i : i < x = grind (arith, found.0, w.from, w.below, order x i, unit_index_at-behind len_of h chars old rs ready.lines ready.ordered i fits) in (
+      let behind_i : i < x = grind (arith, found.0, w.from, w.below, order x i, unit_index_at-behind len_of h chars old rs ready.are_lines ready.ordered i fits) in (
         x,
         w.fits,
         behind_i,
@@ -135,14 +135,14 @@ module _ (len_of : ℕ → ℕ) (h : HasUnits len_of) (chars : List ℕ) (runs :
       between d i j r fits (λ x after before lower. grind (arith, class-is x, f.before (at x), order i x, inside x))
       (λ found.
       let w = first-unit_index_at d i (at j) r (omega arith) f found in
-      (w.0, w.2, unit_index_at-lower len_of h chars old rs ready.lines ready.ordered w.0 j (omega (arith, w.3)), ap (stands_for d) (class-is w.0 w.1 ∙ ap (class_at now) (sym w.3)) ∙ (f.at found).2))
+      (w.0, w.2, unit_index_at-lower len_of h chars old rs ready.are_lines ready.ordered w.0 j (omega (arith, w.3)), ap (stands_for d) (class-is w.0 w.1 ∙ ap (class_at now) (sym w.3)) ∙ (f.at found).2))
 
   -- ---- what a search backwards finds
   pub context-is : (i : ℕ) (d : BidiClass) → i < length ks → IsNearestBefore sos rs now (at i) d → d ≡ nearest_direction sos (reverse (take i cs))
   context-is i d fits (inl found) =
       let w = own found.0 found.2 (directed-kept (class_at now found.0) d found.3) in
       let x = w.number in
-      let early : x < i = unit_index_at-lower len_of h chars old rs ready.lines ready.ordered x i (omega (arith, found.1, w.from)) in
+      let early : x < i = unit_index_at-lower len_of h chars old rs ready.are_lines ready.ordered x i (omega (arith, found.1, w.from)) in
       sym (nearest-at sos d cs i x (omega (arith, count)) early (grind (arith, class-is x w.fits, w.same, found.3))
       (λ k after before. grind (arith, class-is k, found.4 (at k), order x k after, w.below, rising k i before, inside k)))
   context-is i d fits (inr none) =

@@ -44,7 +44,7 @@ module _ (len_of : ℕ → ℕ) (h : HasUnits len_of) (chars : List ℕ) (origin
   at k = unit_index_at len_of chars ks k
 
   abbrev pub ends : ℕ → ℕ
-  ends k = behind len_of h chars old rs ready.lines ready.ordered k
+  ends k = behind len_of h chars old rs ready.are_lines ready.ordered k
 
   abbrev pub sources : List BidiClass
   sources = values_of L len_of chars original_classes ks
@@ -56,22 +56,22 @@ module _ (len_of : ℕ → ℕ) (h : HasUnits len_of) (chars : List ℕ) (origin
   count us = length-values_of len_of chars L us ks
 
   order : (i j : ℕ) → i < j → j < length ks → ends i ≤ at j
-  order = behind-unit_index_at len_of h chars old rs ready.lines ready.ordered
+  order = behind-unit_index_at len_of h chars old rs ready.are_lines ready.ordered
 
   rising : (i j : ℕ) → i < j → at i < at j
-  rising = unit_index_at-rises len_of h chars old rs ready.lines ready.ordered
+  rising = unit_index_at-rises len_of h chars old rs ready.are_lines ready.ordered
 
   starts : (k : ℕ) → k < length ks → at k < ends k
-  starts = unit_index_at-behind len_of h chars old rs ready.lines ready.ordered
+  starts = unit_index_at-behind len_of h chars old rs ready.are_lines ready.ordered
 
   lower : (x y : ℕ) → at x < at y → x < y
-  lower = unit_index_at-lower len_of h chars old rs ready.lines ready.ordered
+  lower = unit_index_at-lower len_of h chars old rs ready.are_lines ready.ordered
 
   upto : (i j : ℕ) → i ≤ j → at i ≤ at j
-  upto = unit_index_at-upto len_of h chars old rs ready.lines ready.ordered
+  upto = unit_index_at-upto len_of h chars old rs ready.are_lines ready.ordered
 
   seen-unit_index_at : (k : ℕ) → k < length ks → is_seen rs old (at k) ≡ true
-  seen-unit_index_at = unit_index_at-seen len_of h chars old rs ready.lines ready.ordered
+  seen-unit_index_at = unit_index_at-seen len_of h chars old rs ready.are_lines ready.ordered
 
   -- ---- what is known ahead
 
@@ -102,7 +102,7 @@ module _ (len_of : ℕ → ℕ) (h : HasUnits len_of) (chars : List ℕ) (origin
 
     module _ (now : List BidiClass) (per : IsPerChar len_of chars now) (kept : (u : ℕ) → is_kept_in_place (class_at now u) ≡ is_kept_in_place (class_at old u)) where
       class-is : (k : ℕ) → k < length ks → class_at (classes now) k ≡ class_at now (at k)
-      class-is = class-at len_of h chars old rs ready.lines ready.ordered now
+      class-is = class-at len_of h chars old rs ready.are_lines ready.ordered now
 
       size : length now ≡ text_len len_of chars
       size = length-from_IsPerChar len_of chars now per
@@ -155,10 +155,10 @@ module _ (len_of : ℕ → ℕ) (h : HasUnits len_of) (chars : List ℕ) (origin
     total = length-from_IsPerChar len_of chars now per
 
     there-is : (classes : List BidiClass) (k : ℕ) → k < length ks → class_at (values_of L len_of chars classes ks) k ≡ class_at classes (at k)
-    there-is = class-at len_of h chars old rs ready.lines ready.ordered
+    there-is = class-at len_of h chars old rs ready.are_lines ready.ordered
 
     place-is : (k : ℕ) → k < length ks → at k ≡ unit_index len_of chars (get_or ks k 0)
-    place-is = unit_index_at-in len_of h chars old rs ready.lines ready.ordered
+    place-is = unit_index_at-in len_of h chars old rs ready.are_lines ready.ordered
 
     inside-now : (y : ℕ) → y < length ks → b ≤ y → at y < end → class_at new (at y) ≡ d
     inside-now y here order' less =
@@ -169,7 +169,7 @@ module _ (len_of : ℕ → ℕ) (h : HasUnits len_of) (chars : List ℕ) (origin
     stop less =
         grind (
           arith,
-          owner len_of h chars old rs ready.lines ready.ordered now ready.per_char per end,
+          owner len_of h chars old rs ready.are_lines ready.ordered now ready.per_char per end,
           same-seen end,
           place-is,
           unit_index-mono,
@@ -213,7 +213,7 @@ module _ (len_of : ℕ → ℕ) (h : HasUnits len_of) (chars : List ℕ) (origin
     bracket-IsPerChar = IsPerChar-alike len_of chars new (w.long ∙ total) (λ c within u after below.
         let first = unit_index len_of chars c in
         let same_now = alike_class len_of h chars now per c u within after below in
-        let same_runs = in_runs-alike len_of h chars rs ready.lines c u after below in
+        let same_runs = in_runs-alike len_of h chars rs ready.are_lines c u after below in
         let alike : is_seen rs now u ≡ is_seen rs now first = simp (same_runs, same_now) in
         let stays : class_at new u ≡ class_at now u → class_at new first ≡ class_at now first → class_at new u ≡ class_at new first = λ x y. x ∙ same_now ∙ sym y in
         elim (cases_lt first from) [
@@ -291,9 +291,9 @@ module _ (len_of : ℕ → ℕ) (h : HasUnits len_of) (chars : List ℕ) (origin
       let i_fits : i < length ks = omega (arith, w.0, w.1) in
       let first : (get_or ps k (0, 0)).0 ≡ spots i = ap (λ (p : ℕ × ℕ). p.0) here in
       let last : (get_or ps k (0, 0)).1 ≡ spots j = ap (λ (p : ℕ × ℕ). p.1) here in
-      let first_place = first ∙ unit_index_at-in len_of h chars old (map bounds runs) ready.lines ready.ordered i i_fits in
-      let last_place = last ∙ unit_index_at-in len_of h chars old (map bounds runs) ready.lines ready.ordered j w.1 in
-      grind (arith, first_place, last_place, is_boundary-unit_index, unit_index_at-behind len_of h chars old (map bounds runs) ready.lines ready.ordered, unit_index-le len_of chars, index-within len_of h chars old (map bounds runs) ready.lines ready.ordered, class-at)
+      let first_place = first ∙ unit_index_at-in len_of h chars old (map bounds runs) ready.are_lines ready.ordered i i_fits in
+      let last_place = last ∙ unit_index_at-in len_of h chars old (map bounds runs) ready.are_lines ready.ordered j w.1 in
+      grind (arith, first_place, last_place, is_boundary-unit_index, unit_index_at-behind len_of h chars old (map bounds runs) ready.are_lines ready.ordered, unit_index-le len_of chars, index-within len_of h chars old (map bounds runs) ready.are_lines ready.ordered, class-at)
 
   module _ (now : List BidiClass) (k : ℕ) (fits : k < length pairs) (walk new_walk : PairPass) (w : IsWalkedTo now k walk) where
     abbrev i : ℕ
@@ -312,7 +312,7 @@ module _ (len_of : ℕ → ℕ) (h : HasUnits len_of) (chars : List ℕ) (origin
     now-size = length-from_IsPerChar len_of chars now w.done.per_char
 
     opens : spots i < text_len len_of chars
-    opens = omega (arith, unit_index_at-behind len_of h chars old (map bounds runs) ready.lines ready.ordered i (let x = within in omega (arith, x.0, x.1)), unit_index-le len_of chars (get_or (kept_in_place len_of chars old (map bounds runs)) i 0 + 1))
+    opens = omega (arith, unit_index_at-behind len_of h chars old (map bounds runs) ready.are_lines ready.ordered i (let x = within in omega (arith, x.0, x.1)), unit_index-le len_of chars (get_or (kept_in_place len_of chars old (map bounds runs)) i 0 + 1))
 
     -- one question answered
     answered : (d : BidiClass) (known next : ℕ) (answer : Bool) → Foresees len_of h chars original_classes runs sos old ready pairs nested d (cs_of now) k known
@@ -323,7 +323,7 @@ module _ (len_of : ℕ → ℕ) (h : HasUnits len_of) (chars : List ℕ) (origin
       | inr no' ↦
           let next_is : Foresees len_of h chars original_classes runs sos old ready pairs nested d (cs_of now) k next × (spots i < next) = elim (cases_lt (spots i) known) [
             | inl known' ↦ grind (arith, a.kept no' known')
-            | inr past ↦ let s = a.sought no' past in grind (arith, s, Foresees-searched len_of h chars original_classes runs sos old ready pairs nested d now w.done.per_char w.done.kept k (length now) next fits refl s, unit_index_at-behind len_of h chars old (map bounds runs) ready.lines ready.ordered i, within, opens, now-size)
+            | inr past ↦ let s = a.sought no' past in grind (arith, s, Foresees-searched len_of h chars original_classes runs sos old ready pairs nested d now w.done.per_char w.done.kept k (length now) next fits refl s, unit_index_at-behind len_of h chars old (map bounds runs) ready.are_lines ready.ordered i, within, opens, now-size)
           ] in
           grind (arith, a.ahead no', next_is, Foresees-between len_of h chars original_classes runs sos old ready pairs nested d now w.done.per_char w.done.kept k next fits)
     ]

@@ -82,7 +82,7 @@ module _ (len_of : ℕ → ℕ) (h : HasUnits len_of) (chars : List ℕ) (runs :
           let first = unit_index len_of chars k in
           grind (
             arith,
-            in_runs-alike len_of h chars rs ready.lines k u from below,
+            in_runs-alike len_of h chars rs ready.are_lines k u from below,
             alike_class len_of h chars now per k u fits from below,
             cases_Bool (in_runs rs first),
             changed,

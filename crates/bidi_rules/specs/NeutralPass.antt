@@ -66,7 +66,7 @@ turns_from _ _ = false
 -- what the steps over these runs stand on
 pub record IsReady (len_of : ℕ → ℕ) (chars : List ℕ) (runs : List (Range ℕ)) (sos : BidiClass) (old : List BidiClass) : Type 0 where
   pub ordered : are_ordered (map bounds runs) ≡ true
-  pub lines : AreLines len_of chars (map bounds runs)
+  pub are_lines : AreLines len_of chars (map bounds runs)
   pub per_char : IsPerChar len_of chars old
   pub side : is_l_or_r sos ≡ true
   pub resolved : list_all is_weak_resolved (values_of L len_of chars old (kept_in_place len_of chars old (map bounds runs))) ≡ true

@@ -94,8 +94,8 @@ impl NeutralResolver {
         runs: &[LevelRun],
         classes: &[BidiClass],
     ) -> Result<(), AllocError>
-        requires lines { AreLines (T.text text) (map bounds runs.now) }
-        requires long { length classes.now ≡ text_len (T.text text) }
+        requires are_lines { AreLines (T.text text) (map bounds runs.now) }
+        requires same_len { length classes.now ≡ text_len (T.text text) }
         ensures { OnOk result (HasRead self.new.search (placed_brackets (T.text text)
             (D.source data_source.now) classes.now
             (kept_in_place (T.text text) classes.now (map bounds runs.now)))) }
@@ -115,8 +115,8 @@ impl NeutralResolver {
         run: &LevelRun,
         classes: &[BidiClass],
     ) -> Result<(), AllocError>
-        requires line { IsLine (T.text text) run.now.start run.now.end }
-        requires long { length classes.now ≡ text_len (T.text text) }
+        requires is_line { IsLine (T.text text) run.now.start run.now.end }
+        requires same_len { length classes.now ≡ text_len (T.text text) }
         requires read { (before : List Bracket) × HasRead self.old.search before }
         ensures { (before : List Bracket) → HasRead self.old.search before
             → OnOk result (HasRead self.new.search (before

@@ -88,10 +88,10 @@ pub fn resolve_weak_counted<T: TextSource, S: Ledger>(
     requires { CanResolveWeakTypes (T.text text) (map bounds (runs_of sequence.now)) processing_classes.old }
     ensures resolved { AreWeakTypesResolved (T.text text) (map bounds (runs_of sequence.now))
         (sos_of sequence.now) processing_classes.old processing_classes.new }
-    ensures at_least { steps.old
+    ensures steps_at_least { steps.old
         + length (chars_in_runs (T.text text) (map bounds (runs_of sequence.now)))
         ≤ steps.new }
-    ensures at_most { steps.new ≤ steps.old + 8 * length (units_in_runs (map bounds (runs_of sequence.now))) }
+    ensures steps_at_most { steps.new ≤ steps.old + 8 * length (units_in_runs (map bounds (runs_of sequence.now))) }
 {
     resolve_weak_borrowed_counted(text, sequence.borrowed(), processing_classes, steps)
 }
@@ -105,8 +105,8 @@ pub fn resolve_weak_borrowed_counted<T: TextSource, S: Ledger>(
 )
     requires { CanResolveWeak (T.text text) sequence processing_classes.old }
     ensures resolved { IsWeakResolved (T.text text) sequence.entry processing_classes.old processing_classes.new }
-    ensures at_least { steps.old + char_count_of (T.text text) sequence.entry ≤ steps.new }
-    ensures at_most { steps.new ≤ steps.old + 8 * unit_count_of sequence.entry }
+    ensures steps_at_least { steps.old + char_count_of (T.text text) sequence.entry ≤ steps.new }
+    ensures steps_at_most { steps.new ≤ steps.old + 8 * unit_count_of sequence.entry }
 {
     let runs = sequence.runs();
     let sos = sequence.sos();
@@ -123,13 +123,13 @@ fn resolve_marks_and_numbers<T: TextSource, S: Ledger>(
     steps: &mut Steps<S>,
 )
     requires ordered { IsTrue (are_ordered (map bounds runs.now)) }
-    requires lines { AreLines (T.text text) (map bounds runs.now) }
+    requires are_lines { AreLines (T.text text) (map bounds runs.now) }
     requires per_char { IsPerChar (T.text text) classes.old }
     requires sos { IsTrue (is_l_or_r sos) }
     ensures walked { (marked : List BidiClass) × IsMarked (map bounds runs.now) (carried sos) classes.old marked
         × IsWalked (len_at (T.text text)) (map bounds runs.now) sos marked classes.new }
-    ensures at_least { steps.old ≤ steps.new }
-    ensures at_most { steps.new ≤ steps.old + 6 * length (units_in_runs (map bounds runs.now)) }
+    ensures steps_at_least { steps.old ≤ steps.new }
+    ensures steps_at_most { steps.new ≤ steps.old + 6 * length (units_in_runs (map bounds runs.now)) }
 {
     if has_marks_or_numbers(runs, classes) {
         resolve_marks(runs, sos, classes, steps);

@@ -76,7 +76,7 @@ fn own_end<D: BidiDataSource>(
     paragraph: &ParagraphInfo,
 ) -> usize
     requires { IsParagraphIn (text_of info.now) paragraph.now }
-    ensures line { IsLine len_utf8 (chars (text_of info.now)) (range_of paragraph.now).start result }
+    ensures is_line { IsLine len_utf8 (chars (text_of info.now)) (range_of paragraph.now).start result }
     ensures end { result
         ≡ own_end_of (D.source data_source.now) (chars (text_of info.now)) (range_of paragraph.now).start
         (range_of paragraph.now).end }
@@ -147,7 +147,7 @@ fn layout_of<D: BidiDataSource>(
     ensures lines { IfOk result (λ v. map run_of v.items
         ≡ layout_in (D.source data_source.now) limit (chars (text_of info.now)) (range_of paragraph.now).start
         (range_of paragraph.now).end) }
-    ensures each_is_line { IfOk result (λ v. All (λ r. IsLine len_utf8 (chars (text_of info.now)) r.start r.end) v.items) }
+    ensures are_lines { IfOk result (λ v. All (λ r. IsLine len_utf8 (chars (text_of info.now)) r.start r.end) v.items) }
 {
     let start = paragraph.range().start;
     let end = own_end(data_source, info, paragraph);

@@ -94,7 +94,7 @@ struct Found {
 impl Found {
     // Room for what the pass finds in a paragraph with these classes. The levels may hold anything.
     fn new(alloc: Global, classes: &[BidiClass]) -> Result<Found, AllocError>
-        ensures levels { IfOk result (λ found. length found.levels.items ≡ length classes.now) }
+        ensures same_len { IfOk result (λ found. length found.levels.items ≡ length classes.now) }
         ensures classes { IfOk result (λ found. found.classes.items ≡ classes.now) }
         ensures runs { IfOk result (λ found. found.runs.items ≡ []) }
     {
@@ -126,7 +126,7 @@ fn find_counted<S: Ledger>(
     found: &mut Found,
     steps: &mut Steps<S>,
 ) -> Result<(), Fail>
-    requires levels { length found.old.levels.items ≡ length classes.now }
+    requires same_len { length found.old.levels.items ≡ length classes.now }
     requires classes { found.old.classes.items ≡ classes.now }
     requires runs { found.old.runs.items ≡ [] }
     ensures { OnOk result (steps.new ≤ steps.old + 4 * length classes.now) }
@@ -152,7 +152,7 @@ fn find_with_new_count<S: Ledger>(
     found: &mut Found,
     blank: Blank,
 ) -> Result<(), Fail>
-    requires levels { length found.old.levels.items ≡ length classes.now }
+    requires same_len { length found.old.levels.items ≡ length classes.now }
     requires classes { found.old.classes.items ≡ classes.now }
     requires runs { found.old.runs.items ≡ [] }
     requires name { blank.name ≡ S.name }

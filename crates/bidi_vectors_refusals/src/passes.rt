@@ -45,7 +45,7 @@ fn prepare(
     processing_classes: &mut [BidiClass],
 ) -> Result<Vec<IsolatingRunSequence>, NoAnswer>
     requires explicit { para_level ≤ 125 }
-    requires levels { length levels.old ≡ length paragraph.classes.now }
+    requires same_len { length levels.old ≡ length paragraph.classes.now }
     requires processing { processing_classes.old ≡ paragraph.classes.now }
 {
     if !is_per_char(paragraph.text, paragraph.classes)

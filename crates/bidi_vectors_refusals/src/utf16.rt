@@ -20,7 +20,7 @@ fn try_levels(
     para: &ParagraphInfo,
     line: &Range<usize>,
 ) -> Result<(), Fault>
-    requires line { IsLineOf (analysed_of info.now) line.now }
+    requires is_line { IsLineOf (analysed_of info.now) line.now }
 {
     let alloc = rt.alloc();
     tried!(
@@ -43,7 +43,7 @@ fn try_order(
     para: &ParagraphInfo,
     line: &Range<usize>,
 ) -> Result<(), Fault>
-    requires line { IsLineOf (analysed_of info.now) line.now }
+    requires is_line { IsLineOf (analysed_of info.now) line.now }
     requires not_empty { line.now.start < line.now.end }
 {
     let alloc = rt.alloc();
@@ -67,7 +67,7 @@ fn try_line_alone(
     para: &ParagraphInfo,
     line: &Range<usize>,
 ) -> Result<(), Fault>
-    requires line { IsLineOf (analysed_of info.now) line.now }
+    requires is_line { IsLineOf (analysed_of info.now) line.now }
     requires not_empty { line.now.start < line.now.end }
 {
     let alloc = rt.alloc();
@@ -105,7 +105,7 @@ fn try_whole_levels(
     info: &ParagraphBidiInfo<'_>,
     line: &Range<usize>,
 ) -> Result<(), Fault>
-    requires line { IsLineOf (whole_of info.now) line.now }
+    requires is_line { IsLineOf (whole_of info.now) line.now }
 {
     let alloc = rt.alloc();
     tried!(
@@ -127,7 +127,7 @@ fn try_whole_order(
     info: &ParagraphBidiInfo<'_>,
     line: &Range<usize>,
 ) -> Result<(), Fault>
-    requires line { IsLineOf (whole_of info.now) line.now }
+    requires is_line { IsLineOf (whole_of info.now) line.now }
     requires not_empty { line.now.start < line.now.end }
 {
     let alloc = rt.alloc();
@@ -150,7 +150,7 @@ fn try_whole_line_alone(
     info: &ParagraphBidiInfo<'_>,
     line: &Range<usize>,
 ) -> Result<(), Fault>
-    requires line { IsLineOf (whole_of info.now) line.now }
+    requires is_line { IsLineOf (whole_of info.now) line.now }
     requires not_empty { line.now.start < line.now.end }
 {
     let alloc = rt.alloc();

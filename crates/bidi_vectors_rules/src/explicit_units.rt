@@ -28,7 +28,7 @@ pub struct ExplicitUnits {
 impl ExplicitUnits {
     /// Returns what a pass starts from: any levels, a copy of the stored classes, and no runs.
     pub fn new(alloc: Global, stored: &[BidiClass]) -> Result<ExplicitUnits, RowFault>
-        ensures levels { IfOk result (λ units. length units.levels.items ≡ length stored.now) }
+        ensures same_len { IfOk result (λ units. length units.levels.items ≡ length stored.now) }
         ensures classes { IfOk result (λ units. units.classes.items ≡ stored.now) }
         ensures runs { IfOk result (λ units. units.runs.items ≡ []) }
     {

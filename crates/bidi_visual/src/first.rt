@@ -44,7 +44,7 @@ fn own_len<D: BidiDataSource>(data_source: &D, text: &str) -> usize
 fn after_line_feed<'t, D: BidiDataSource>(data_source: &D, text: &'t str) -> &'t str
     ensures text { chars result.now ≡ (if begins_with_line_feed (D.source data_source.now) (chars text.now)
         then drop 1 (chars text.now) else chars text.now) }
-    ensures len { length result.now ≤ length text.now }
+    ensures within { length result.now ≤ length text.now }
 {
     let mut chars = text.chars();
     match chars.next() {

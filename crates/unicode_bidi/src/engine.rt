@@ -87,7 +87,7 @@ fn write_paragraph<D: BidiDataSource, T: TextSource>(
     requires paragraph { CanWrite (D.source text.now.data_source.now) T.encoding.len_of (T.text text.now.text).chars
         text.now.original_classes.now paragraph.now }
     requires flags { flags ≡ own_flags (D.source text.now.data_source.now) T.encoding.len_of (T.text text.now.text).chars paragraph.now }
-    requires levels { length levels.old ≡ text_len (T.text text.now.text) }
+    requires same_len { length levels.old ≡ text_len (T.text text.now.text) }
     ensures { OnOk result (levels.new
         ≡ take paragraph.now.range.start levels.old
         ++ (unit_levels (D.source text.now.data_source.now) T.encoding.len_of (T.text text.now.text).chars paragraph.now
@@ -120,7 +120,7 @@ fn write_paragraphs<D: BidiDataSource, T: TextSource>(
     requires flags { flags.now
         ≡ map (own_flags (D.source text.now.data_source.now) T.encoding.len_of (T.text text.now.text).chars) paragraphs.now }
     requires follow { Follow 0 (text_len (T.text text.now.text)) paragraphs.now }
-    requires levels { length levels.old ≡ text_len (T.text text.now.text) }
+    requires same_len { length levels.old ≡ text_len (T.text text.now.text) }
     ensures { OnOk result (levels.new
         ≡ flat_map (unit_levels (D.source text.now.data_source.now) T.encoding.len_of (T.text text.now.text).chars)
         paragraphs.now) }
@@ -196,7 +196,7 @@ impl Analyser {
             (levels_of (found_paragraphs self.new))) }
         ensures flags { let pieces = pieces_by rule (D.source data_source.now) (T.text text).chars in
             OnOk result (found_flags self.new ≡ paragraph_flags (D.source data_source.now) pieces) }
-        ensures none { OnErr result (found_paragraphs self.new ≡ []) }
+        ensures emptied { OnErr result (found_paragraphs self.new ≡ []) }
         ensures no_flags { OnErr result (found_flags self.new ≡ []) }
     {
         let memory = mem::replace(&mut self.found, FoundParagraphs::new(alloc));

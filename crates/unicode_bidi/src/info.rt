@@ -98,7 +98,7 @@ impl<T: TextSource> BidiInfo<T> {
     /// Returns the paragraphs in order. Together they are the whole text.
     pub fn paragraphs(&self) -> &[ParagraphInfo]
         ensures paragraphs { result.now ≡ paragraphs self.now }
-        ensures lines { All (λ p. IsLineOf (analysed_of self.now) (range_of p)) result.now }
+        ensures are_lines { All (λ p. IsLineOf (analysed_of self.now) (range_of p)) result.now }
     {
         self.paragraphs.as_slice()
     }
@@ -200,7 +200,7 @@ impl<T: TextSource> BidiInfo<T> {
         requires { IsLineOf (analysed_of self.now) line }
         ensures text { shown_text shown.new ≡ analysed_text self.now.analysed }
         ensures shows { OnOk result (Shows shown.new (analysed_of self.now) (level_of para.now) line) }
-        ensures empty { OnErr result (Shows shown.new (analysed_of self.now) (level_of para.now)
+        ensures emptied { OnErr result (Shows shown.new (analysed_of self.now) (level_of para.now)
             (record { start = 0; end = 0 })) }
     {
         shown.show(&self.analysed, para.level(), line)

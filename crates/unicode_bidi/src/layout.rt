@@ -61,8 +61,8 @@ fn lines_of<T: TextSource, W: CharWidth>(
     requires { IsLine (T.text text) range.start range.end }
     ensures lines { IfOk result (λ v. map run_of v.items
         ≡ line_ranges T.encoding.len_of (T.text text).chars (W.width_of widths.now) limit range.start range.end) }
-    ensures parted { IfOk result (λ v. IsPartition range.start range.end (map run_of v.items)) }
-    ensures each_is_line { IfOk result (λ v. All (λ r. IsLine (T.text text) r.start r.end) v.items) }
+    ensures partition { IfOk result (λ v. IsPartition range.start range.end (map run_of v.items)) }
+    ensures are_lines { IfOk result (λ v. All (λ r. IsLine (T.text text) r.start r.end) v.items) }
 {
     let mut lines = Vec::new(alloc);
     let mut start = range.start;
@@ -92,8 +92,8 @@ pub fn lines<W: CharWidth>(
         ≡ line_ranges a.len_of a.chars (W.width_of widths.now) limit (range_of para.now).start (range_of para.now).end) }
 
     // No line is empty, and together they take the paragraph's range, in order.
-    ensures parted { IfOk result (λ v. IsPartition (range_of para.now).start (range_of para.now).end (map run_of v.items)) }
-    ensures each_is_line { IfOk result (λ v. All (IsLineOf (analysed_of info.now)) v.items) }
+    ensures partition { IfOk result (λ v. IsPartition (range_of para.now).start (range_of para.now).end (map run_of v.items)) }
+    ensures are_lines { IfOk result (λ v. All (IsLineOf (analysed_of info.now)) v.items) }
 {
     lines_of(
         alloc,

@@ -210,7 +210,7 @@ impl<T: TextSource> ParagraphBidiInfo<T> {
         requires { IsLineOf (analysed_of self.now) line }
         ensures text { shown_text shown.new ≡ analysed_text self.now.paragraph }
         ensures shows { OnOk result (Shows shown.new (analysed_of self.now) (paragraph_level self.now) line) }
-        ensures empty { OnErr result (Shows shown.new (analysed_of self.now) (paragraph_level self.now)
+        ensures emptied { OnErr result (Shows shown.new (analysed_of self.now) (paragraph_level self.now)
             (record { start = 0; end = 0 })) }
     {
         shown.show(&self.paragraph, self.paragraph_level, line)

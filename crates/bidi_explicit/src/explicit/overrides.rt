@@ -54,7 +54,7 @@ impl<T: TextSource> Paragraph<'_, T> {
         put: BidiClass,
         steps: &mut Steps<S>,
     )
-        requires classes { length classes.old ≡ length self.now.original_classes.now }
+        requires same_len { length classes.old ≡ length self.now.original_classes.now }
         requires begins { IsStart self.now from }
         requires ends { IsStart self.now to }
         requires ordered { from ≤ to }
@@ -84,15 +84,15 @@ impl<T: TextSource> Paragraph<'_, T> {
         override_class: Option<BidiClass>,
         steps: &mut Steps<S>,
     )
-        requires classes { length classes.old ≡ length self.now.original_classes.now }
+        requires same_len { length classes.old ≡ length self.now.original_classes.now }
         requires begins { IsStart self.now from }
         requires ends { IsStart self.now to }
         requires ordered { from ≤ to }
         requires within { to ≤ length self.now.original_classes.now }
         requires unread { IsUnread self.now.original_classes.now classes.old from }
         ensures put { IsOverridden override_class from to classes.old classes.new }
-        ensures at_least { steps.old ≤ steps.new }
-        ensures at_most { steps.new ≤ steps.old + (counted_to self.now to - counted_to self.now from) }
+        ensures steps_at_least { steps.old ≤ steps.new }
+        ensures steps_at_most { steps.new ≤ steps.old + (counted_to self.now to - counted_to self.now from) }
     {
         if let Some(put) = override_class {
             match self.step_unit {

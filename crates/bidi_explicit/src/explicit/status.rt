@@ -116,7 +116,7 @@ fn next_level(class: BidiClass, level: Level) -> Result<Level, Error>
 // Pops the entries above the innermost isolate, and the isolate itself. Counts one step for each entry.
 fn pop_isolate<S: Ledger>(entries: &mut ArrayVec<StatusEntry, 126>, steps: &mut Steps<S>)
     ensures stack { drop_isolate (map seen (reverse entries.old.items)) ≡ map seen (reverse entries.new.items) }
-    ensures at_least { steps.old ≤ steps.new }
+    ensures steps_at_least { steps.old ≤ steps.new }
     ensures popped { steps.new + length entries.new.items ≡ steps.old + length entries.old.items }
 {
     while let Some(entry) = entries.pop() {
@@ -183,8 +183,8 @@ impl StatusStack {
         ensures class { result.class ≡ (if is_removed class then BN else answer_class class self.old) }
         ensures is_kept { result.is_kept ≡ is_kept class }
         ensures state { self.new ≡ step class self.old }
-        ensures at_least { steps.old ≤ steps.new }
-        ensures at_most { steps.new + entry_count self.new ≤ steps.old + entry_count self.old + 1 }
+        ensures steps_at_least { steps.old ≤ steps.new }
+        ensures steps_at_most { steps.new + entry_count self.new ≤ steps.old + entry_count self.old + 1 }
     {
         match class {
             BidiClass::LRI | BidiClass::RLI | BidiClass::FSI => {
@@ -226,8 +226,8 @@ impl StatusStack {
     fn close_isolate<S: Ledger>(&mut self, steps: &mut Steps<S>)
         requires { IsPoppable self.old }
         ensures state { self.new ≡ close_isolate self.old }
-        ensures at_least { steps.old ≤ steps.new }
-        ensures at_most { steps.new + entry_count self.new ≤ steps.old + entry_count self.old }
+        ensures steps_at_least { steps.old ≤ steps.new }
+        ensures steps_at_most { steps.new + entry_count self.new ≤ steps.old + entry_count self.old }
     {
         if self.overflow_isolates > 0 {
             self.overflow_isolates -= 1;

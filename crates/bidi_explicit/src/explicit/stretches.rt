@@ -192,8 +192,8 @@ impl<'p, T: TextSource> Paragraph<'p, T> {
         requires plain { IsPlain self.now from }
         ensures first { IsFirstPassing self.now is_control from (length self.now.original_classes.now) result }
         ensures begins { IsStart self.now result }
-        ensures at_least { steps.old + least_to self.now result ≤ steps.new + least_to self.now from }
-        ensures at_most { steps.new + counted_to self.now from ≤ steps.old + counted_to self.now result }
+        ensures steps_at_least { steps.old + least_to self.now result ≤ steps.new + least_to self.now from }
+        ensures steps_at_most { steps.new + counted_to self.now from ≤ steps.old + counted_to self.now result }
     {
         let classes = self.original_classes;
         match self.step_unit {
@@ -215,8 +215,8 @@ impl<'p, T: TextSource> Paragraph<'p, T> {
         requires ordered { from ≤ to }
         requires within { to ≤ length self.now.original_classes.now }
         ensures first { IsFirstPassing self.now is_kept_in_place from to result }
-        ensures at_least { steps.old ≤ steps.new }
-        ensures at_most { steps.new + counted_to self.now from ≤ steps.old + counted_to self.now to }
+        ensures steps_at_least { steps.old ≤ steps.new }
+        ensures steps_at_most { steps.new + counted_to self.now from ≤ steps.old + counted_to self.now to }
     {
         match self.step_unit {
             StepUnit::CodeUnit => {
@@ -242,16 +242,16 @@ impl<'p, T: TextSource> Paragraph<'p, T> {
         requires inside { from < length self.now.original_classes.now }
         requires plain { IsPlain self.now from }
         requires begins { IsStart self.now from }
-        requires classes { length classes.old ≡ length self.now.original_classes.now }
+        requires same_len { length classes.old ≡ length self.now.original_classes.now }
         requires unread { IsUnread self.now.original_classes.now classes.old from }
         ensures read { (stack : State) (levels written : List ℕ) → seen status ≡ stack.top
             → written ≡ filled from (result.end - from) result.level levels
             → ReadsOn (as_seen self.now) from stack levels classes.old result stack written classes.new }
-        ensures some { from < result.end }
+        ensures advances { from < result.end }
         ensures within { result.end ≤ length self.now.original_classes.now }
         ensures more { counted_to self.now from < counted_to self.now result.end }
-        ensures at_least { steps.old + least_to self.now result.end ≤ steps.new + least_to self.now from }
-        ensures at_most { steps.new + 3 * counted_to self.now from ≤ steps.old + 3 * counted_to self.now result.end }
+        ensures steps_at_least { steps.old + least_to self.now result.end ≤ steps.new + least_to self.now from }
+        ensures steps_at_most { steps.new + 3 * counted_to self.now from ≤ steps.old + 3 * counted_to self.now result.end }
     {
         let end = self.stretch_end(from, steps);
         self.write_override(classes, from, end, status.override_class, steps);
@@ -277,10 +277,10 @@ impl<'p, T: TextSource> Paragraph<'p, T> {
         requires read { (runs : List (ℕ × ℕ)) × (run : OpenRun)
             × IsReadTo (as_seen self.now) start stack.old levels.old classes.old runs run }
         ensures read { ReadsOn (as_seen self.now) start stack.old levels.old classes.old result stack.new levels.new classes.new }
-        ensures some { start < result.end }
+        ensures advances { start < result.end }
         ensures one { chars_to self.now result.end ≡ chars_to self.now start + 1 }
-        ensures at_least { steps.old ≤ steps.new }
-        ensures at_most { steps.new + entry_count stack.new ≤ steps.old + entry_count stack.old + 1 }
+        ensures steps_at_least { steps.old ≤ steps.new }
+        ensures steps_at_most { steps.new + entry_count stack.new ≤ steps.old + entry_count stack.old + 1 }
     {
         let class = self.original_classes[start];
         let answer = stack.read(self.level, class, steps);

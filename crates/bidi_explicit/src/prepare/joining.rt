@@ -93,7 +93,7 @@ pub(super) fn read_run<T: TextSource>(
     s: usize,
 ) -> Result<(), AllocError>
     requires per_char { HaveClass (T.text text) classes.now }
-    requires line { IsLine (T.text text) run.now.start run.now.end }
+    requires is_line { IsLine (T.text text) run.now.start run.now.end }
     requires kept_end { IsTrue (is_boundary (T.text text) kept_end) }
     ensures { OnOk result (waiting.new
         ≡ read_units (T.text text) classes.now kept_end s run.now.start run.now.end
@@ -197,7 +197,7 @@ pub fn isolating_run_sequences<T: TextSource>(
         → sequences_in (T.text text) stored out.new.items
         ≡ sequences para_level stored (explicit_levels para_level stored)) }
     ensures runs { OnOk result (IsPermutation (map bounds runs.items) (flat_map run_bounds out.new.items)) }
-    ensures fits { OnOk result (All (λ s. AreLines (T.text text) (run_bounds s)) out.new.items) }
+    ensures are_lines { OnOk result (All (λ s. AreLines (T.text text) (run_bounds s)) out.new.items) }
 {
     let mut runs = runs;
     let mut links = RunLinks::new(alloc);

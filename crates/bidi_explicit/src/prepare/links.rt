@@ -81,7 +81,7 @@ impl RunLinks {
         has_isolate_controls: bool,
     ) -> Result<(), AllocError>
         requires per_char { HaveClass (T.text text) classes.now }
-        requires line { IsLine (T.text text) run.now.start run.now.end }
+        requires is_line { IsLine (T.text text) run.now.start run.now.end }
         requires kept_end { IsTrue (is_boundary (T.text text) kept_end) }
         ensures next { self.new.next.items ≡ self.old.next.items }
         ensures sides { self.new.sides.items ≡ self.old.sides.items }
@@ -144,7 +144,7 @@ impl RunLinks {
             ≡ sequences para_level stored (explicit_levels para_level stored)) }
         ensures runs { OnOk result
             (IsPermutation (map bounds runs.now) (flat_map (λ s. s.runs) (linked_sequences self.new (map bounds runs.now)))) }
-        ensures fits { OnOk result
+        ensures are_lines { OnOk result
             (All (λ s. AreLines (text_of leveled.now) s.runs) (linked_sequences self.new (map bounds runs.now))) }
         ensures linked { OnOk result (AreLinked self.new (map bounds runs.now)) }
     {
@@ -198,7 +198,7 @@ impl RunLinks {
     fn copy_chain(&self, runs: &mut LevelRunVec, first: usize) -> Result<usize, AllocError>
         requires linked { AreLinked self.now (linked_runs self.now runs.old.items) }
         requires first { first < length self.now.next.items }
-        ensures kept { OnOk result (KeepsLinked self.now runs.old runs.new) }
+        ensures outside { OnOk result (KeepsLinked self.now runs.old runs.new) }
         ensures runs { OnOk result (map bounds (drop (length self.now.next.items) runs.new.items)
             ≡ map (λ r. get_or (linked_runs self.now runs.old.items) r (0, 0)) (run_chain self.now first)) }
         ensures last { IfOk result (λ last. last ≡ last_or first (run_chain self.now first)) }
@@ -228,7 +228,7 @@ impl RunLinks {
     ) -> Result<Option<GatheredSequence>, AllocError>
         requires linked { AreLinked self.now (linked_runs self.now runs.old.items) }
         requires first { first < length self.now.next.items }
-        ensures kept { OnOk result (KeepsLinked self.now runs.old runs.new) }
+        ensures outside { OnOk result (KeepsLinked self.now runs.old runs.new) }
         ensures begins { IfOk result (λ found. is_some found ≡ begins self.now first) }
         ensures sequence { IfOk result (λ found. IfSome found
             (λ s. IsGatheredIn s runs.new.items (sequence_at self.now (linked_runs self.now runs.old.items) first))) }

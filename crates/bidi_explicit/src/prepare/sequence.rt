@@ -31,7 +31,7 @@ impl IsolatingRunSequence {
     /// Returns `None` unless there is a run, each run is non-empty and ends at or before the start of the
     /// next, and `sos` and `eos` are each L or R.
     pub fn new(runs: Vec<LevelRun>, sos: BidiClass, eos: BidiClass) -> Option<IsolatingRunSequence>
-        ensures accepted { is_some result ≡ is_run_sequence (map bounds runs.items) sos eos }
+        ensures succeeds { is_some result ≡ is_run_sequence (map bounds runs.items) sos eos }
         ensures runs { IfSome result (λ s. runs_of s ≡ runs.items) }
         ensures sos { IfSome result (λ s. sos_of s ≡ sos) }
         ensures eos { IfSome result (λ s. eos_of s ≡ eos) }

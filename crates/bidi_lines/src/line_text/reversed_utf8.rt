@@ -92,9 +92,9 @@ fn turn_ends(bytes: &[u8], out: &mut [u8], from: usize, to: usize)
     requires ends { to ≤ length bytes.now }
     ensures turned { (j : ℕ) → from ≤ j → j < to
         → slice_index out.new (length out.old - 1 - j) ≡ reversed_byte_at (behind_two bytes.now) j }
-    ensures before { (j : ℕ) → j < from → j < length out.old
+    ensures outside_before { (j : ℕ) → j < from → j < length out.old
         → slice_index out.new (length out.old - 1 - j) ≡ slice_index out.old (length out.old - 1 - j) }
-    ensures after { (j : ℕ) → to ≤ j → j < length out.old
+    ensures outside_after { (j : ℕ) → to ≤ j → j < length out.old
         → slice_index out.new (length out.old - 1 - j) ≡ slice_index out.old (length out.old - 1 - j) }
 {
     let len = bytes.len();

@@ -67,7 +67,7 @@ fn write_block<D: BidiDataSource>(
     start: usize,
 ) -> ClassSet
     requires { start + ASCII_BLOCK ≤ length classes.old }
-    ensures kept { take start classes.new ≡ take start classes.old }
+    ensures outside { take start classes.new ≡ take start classes.old }
     ensures written { (k : ℕ) → k < ASCII_BLOCK
         → class_at classes.new (start + k) ≡ (D.source data_source.now).class_of (get_or block k 0) }
     ensures found { result ≡ set_of_first (D.source data_source.now) block ASCII_BLOCK }
@@ -95,7 +95,7 @@ fn skim_blocks<D: BidiDataSource, T: TextSource>(
     ensures read { IsSkimmed (D.source data_source.now) T.encoding.len_of (has stop_classes)
         (ahead (T.text text) progress.old.at) progress.old.at progress.new.at classes.old classes.new
         progress.old.flags progress.new.flags }
-    ensures order { progress.old.at ≤ progress.new.at }
+    ensures begins { progress.old.at ≤ progress.new.at }
 {
     let mut start = progress.at;
     let mut sought = progress.flags.sought_with(stop_classes);

@@ -48,10 +48,10 @@ fn write_low_block<D: BidiDataSource>(
 ) -> usize
     requires room { start + LOW_BLOCK ≤ length classes.old }
     requires low { (k : ℕ) → k < LOW_BLOCK → get_or block k 0 < LOW_LIMIT }
-    ensures kept { take start classes.new ≡ take start classes.old }
+    ensures outside { take start classes.new ≡ take start classes.old }
     ensures written { (k : ℕ) → k < LOW_BLOCK → k ≤ result
         → class_at classes.new (start + k) ≡ (D.source data_source.now).class_of (get_or block k 0) }
-    ensures few { result ≤ LOW_BLOCK }
+    ensures within { result ≤ LOW_BLOCK }
     ensures idle { (k : ℕ) → k < result → has sought (class_at classes.new (start + k)) ≡ false }
     ensures stops { result < LOW_BLOCK → has sought (class_at classes.new (start + result)) ≡ true }
 {
@@ -71,7 +71,7 @@ const BLOCK: usize = 256;
 // The end of the block of characters that begins at an index.
 fn block_end<T: TextSource>(text: T, from: usize) -> usize
     requires { from ≤ text_len (T.text text) }
-    ensures order { from ≤ result }
+    ensures begins { from ≤ result }
     ensures goes_on { from < text_len (T.text text) → from < result }
     ensures boundary { IsTrue (is_boundary_of (T.text text) result) }
 {
@@ -153,7 +153,7 @@ pub(super) fn read_next<D: BidiDataSource, T: TextSource>(
     classes: &mut [BidiClass],
     start: usize,
 ) -> Stop
-    requires sized { length classes.old ≡ text_len (T.text text) }
+    requires same_len { length classes.old ≡ text_len (T.text text) }
     requires begins { IsTrue (is_boundary_of (T.text text) start) }
     requires room { start + AT_ONCE ≤ length classes.old }
     ensures { (stop_classes : BidiClass → Bool) (flags : ParagraphFlags) → IsStop (D.source data_source.now) T.encoding.len_of stop_classes

@@ -21,7 +21,7 @@ pub fn pairs(
     classes: &[BidiClass],
     brackets: &[Option<BidiMatchedOpeningBracket>],
 ) -> Result<Vec<(usize, usize)>, AllocError>
-    requires lengths { length brackets.now ≡ length classes.now }
+    requires same_len { length brackets.now ≡ length classes.now }
     requires classes { IsTrue (list_all is_weak_resolved classes.now) }
     ensures pairs { IfOk result (λ v. v.items ≡ bracket_pairs classes.now brackets.now) }
     ensures within { IfOk result (λ v. ArePairsWithin (length classes.now) v.items) }

@@ -232,7 +232,7 @@ pub fn explicit_levels(
     requires { para_level ≤ 125 }
     ensures levels { IfOk result (λ e. e.levels ≡ explicit_levels para_level classes.now) }
     ensures classes { IfOk result (λ e. e.classes ≡ explicit_classes para_level classes.now) }
-    ensures lengths { IfOk result (λ e.
+    ensures same_len { IfOk result (λ e.
         (length e.levels ≡ length classes.now) × (length e.classes ≡ length classes.now)) }
 {
     let mut openers = Openers::new(alloc);

@@ -41,7 +41,7 @@ pub fn neutral(
     ensures classes { IfOk result (λ v. v.items
         ≡ neutral_classes level sos eos source.now brackets.now classes.now) }
     ensures directed { IfOk result (λ v. IsTrue (list_all has_direction v.items)) }
-    ensures len { IfOk result (λ v. vec_len v ≡ length classes.now) }
+    ensures same_len { IfOk result (λ v. vec_len v ≡ length classes.now) }
 {
     let pairs = pairs(alloc, classes, brackets)?;
     let mut resolved = Vec::from_slice(alloc, classes)?;
@@ -66,7 +66,7 @@ fn apply_n0_to_n2(
 )
     requires embedding_direction { IsTrue (is_l_or_r embedding_direction) }
     requires sos { IsTrue (is_l_or_r sos) }
-    requires lengths { length source.now ≡ length classes.old }
+    requires same_len { length source.now ≡ length classes.old }
     requires within { ArePairsWithin (length classes.old) pairs.now }
     requires classes { IsTrue (list_all is_weak_resolved classes.old) }
     ensures classes { classes.new
@@ -85,7 +85,7 @@ fn apply_n0(
     pairs: &[(usize, usize)],
     classes: &mut [BidiClass],
 )
-    requires lengths { length source.now ≡ length classes.old }
+    requires same_len { length source.now ≡ length classes.old }
     requires within { ArePairsWithin (length classes.old) pairs.now }
     ensures { classes.new ≡ n0 embedding_direction sos source.now pairs.now classes.old }
 {

@@ -62,7 +62,7 @@ fn go_on(
     last: Option<(usize, usize)>,
     place: usize,
 ) -> Result<Option<usize>, AllocError>
-    requires lengths { length levels.now ≡ length classes.now }
+    requires same_len { length levels.now ≡ length classes.now }
     requires last { IfSome last (λ e. e.0 < length classes.now) }
     requires place { place < length classes.now }
     ensures read { IfOk result (λ _.
@@ -139,7 +139,7 @@ fn sequence_places(
 fn kept_before(classes: &[BidiClass], place: usize) -> Option<usize>
     requires { place ≤ length classes.now }
     ensures kept { result ≡ kept_before classes.now place }
-    ensures before { IfSome result (λ p. p < place) }
+    ensures within { IfSome result (λ p. p < place) }
 {
     for p in (0..place).rev() {
         if !is_removed(classes[p]) {
@@ -182,7 +182,7 @@ fn start_class(
     levels: &[Level],
     first: usize,
 ) -> BidiClass
-    requires lengths { length levels.now ≡ length classes.now }
+    requires same_len { length levels.now ≡ length classes.now }
     requires first { first < length classes.now }
     ensures { result ≡ start_class para_level classes.now levels.now first }
 {
@@ -194,7 +194,7 @@ fn start_class(
 /// counts.
 #[tactic(auto, unfolding(bidi_base::specs::Sequences::end_class))]
 fn end_class(para_level: Level, classes: &[BidiClass], levels: &[Level], last: usize) -> BidiClass
-    requires lengths { length levels.now ≡ length classes.now }
+    requires same_len { length levels.now ≡ length classes.now }
     requires last { last < length classes.now }
     ensures { result ≡ end_class para_level classes.now levels.now last }
 {
@@ -214,7 +214,7 @@ fn with_ends(
     levels: &[Level],
     places: Vec<usize>,
 ) -> PlainSequence
-    requires lengths { length levels.now ≡ length classes.now }
+    requires same_len { length levels.now ≡ length classes.now }
     requires places { ArePlaces (length classes.now) places.items }
     ensures { result ≡ with_ends para_level classes.now levels.now places.items }
 {

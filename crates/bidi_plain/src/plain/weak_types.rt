@@ -22,7 +22,7 @@ pub fn weak(
     requires kept { IsTrue (list_all is_kept classes.now) }
     ensures classes { IfOk result (λ v. v.items ≡ weak_classes sos classes.now) }
     ensures resolved { IfOk result (λ v. IsTrue (list_all is_weak_resolved v.items)) }
-    ensures len { IfOk result (λ v. vec_len v ≡ length classes.now) }
+    ensures same_len { IfOk result (λ v. vec_len v ≡ length classes.now) }
 {
     let mut resolved = Vec::from_slice(alloc, classes)?;
     apply_w1_to_w7(sos, resolved.as_mut_slice());

@@ -13,7 +13,7 @@ use bidi_base::level::Level;
 /// The level comes from the class and the explicit level, which must be at most 125. Classes other than L,
 /// R, EN and AN add nothing. Does not allocate.
 pub fn resolve_levels(processing_classes: &[BidiClass], levels: &mut [Level]) -> Level
-    requires lengths { length levels.old ≡ length processing_classes.now }
+    requires same_len { length levels.old ≡ length processing_classes.now }
     requires explicit { All (λ level. level ≤ 125) levels.old }
     ensures levels { levels.new ≡ map (λ e. implicit_level e.0 e.1) (zip levels.old processing_classes.now) }
     ensures greatest { result ≡ fold max 0 levels.new }

@@ -55,7 +55,7 @@ pub fn resolve_opposite(directions: Directions, runs: &[LevelRun], classes: &mut
     ensures kept { let units = seen_units (map bounds runs.now) classes.old in
         map (n2_rule directions.embedding) (at_indexes L classes.new units)
         ≡ n1_n2 directions.embedding directions.sos directions.eos (at_indexes L classes.old units) }
-    ensures others { (u : ℕ) → is_seen (map bounds runs.now) classes.old u ≡ false
+    ensures outside { (u : ℕ) → is_seen (map bounds runs.now) classes.old u ≡ false
         → class_at classes.new u ≡ class_at classes.old u }
     ensures own { (u : ℕ)
         → (class_at classes.new u ≡ class_at classes.old u)
@@ -131,7 +131,7 @@ impl Join {
         requires some { at < end }
         requires inside { end ≤ length classes.old }
         ensures begins { at ≤ result }
-        ensures ends { result ≤ end }
+        ensures within { result ≤ end }
         ensures first_run { self.new.first_run ≤ length runs.now }
         ensures opposite { self.new.opposite ≡ self.old.opposite }
         ensures there { result < end → stands_for self.old.opposite (class_at classes.new result) ≡ true }
@@ -185,8 +185,8 @@ impl Join {
         requires some { at < end }
         requires inside { end ≤ length classes.now }
         requires there { stands_for self.old.opposite (class_at classes.now at) ≡ true }
-        ensures some { at < result }
-        ensures ends { result ≤ end }
+        ensures advances { at < result }
+        ensures within { result ≤ end }
         ensures first_run { self.new.first_run ≡ run }
         ensures opposite { self.new.opposite ≡ self.old.opposite }
         ensures reads { (s : Unjoined) → opposite_of s.e ≡ self.old.opposite → run < length s.runs
@@ -212,7 +212,7 @@ impl Join {
         ensures held { self.now.waits ≡ true
             → IsWrittenOver (is_seen (drop self.now.first_run (map bounds runs.now)) classes.old) self.now.opposite
             self.now.first to classes.old classes.new }
-        ensures idle { self.now.waits ≡ false → classes.new ≡ classes.old }
+        ensures unchanged { self.now.waits ≡ false → classes.new ≡ classes.old }
     {
         if self.waits && self.first < to {
             write_over_runs(
@@ -231,8 +231,8 @@ pub fn apply_n2(embedding: BidiClass, runs: &[LevelRun], classes: &mut [BidiClas
     requires { All (λ r. r.1 ≤ length classes.old) (map bounds runs.now) }
     ensures changed { (u : ℕ) → in_runs (map bounds runs.now) u ≡ true
         → class_at classes.new u ≡ n2_rule embedding (class_at classes.old u) }
-    ensures same { KeepsOutside runs.now classes.old classes.new }
-    ensures long { length classes.new ≡ length classes.old }
+    ensures outside { KeepsOutside runs.now classes.old classes.new }
+    ensures same_len { length classes.new ≡ length classes.old }
 {
     for run in runs {
         apply_n2_in_run(embedding, run, classes);

@@ -29,9 +29,9 @@ pub fn marks_end<T: TextSource>(
     classes: &[BidiClass],
     from: usize,
 ) -> usize
-    requires lines { AreLines (T.text text) (map bounds runs.now) }
+    requires are_lines { AreLines (T.text text) (map bounds runs.now) }
     requires ordered { IsTrue (are_ordered (map bounds runs.now)) }
-    requires long { length classes.now ≡ text_len (T.text text) }
+    requires same_len { length classes.now ≡ text_len (T.text text) }
     requires original { length original_classes.now ≡ length classes.now }
     requires begins { IsTrue (is_boundary (T.text text) from) }
     ensures { IsMarksEnd (T.text text) (map bounds runs.now) original_classes.now classes.now from result }

@@ -48,7 +48,7 @@ pub fn resolve_pairs<T: TextSource>(
 )
     requires ready { IsReady (T.text text) sequence.runs.now directions.sos classes.old }
     requires side { IsTrue (is_l_or_r directions.embedding) }
-    requires long { length classes.old ≡ text_len (T.text text) }
+    requires same_len { length classes.old ≡ text_len (T.text text) }
     requires original { length sequence.original_classes.now ≡ length classes.old }
     requires pairs { (found : List (ℕ × ℕ))
         × AreNestedPairs
@@ -342,9 +342,9 @@ fn set_with_marks<T: TextSource>(
     bracket: Place,
     direction: BidiClass,
 ) -> usize
-    requires lines { AreLines (T.text text) (map bounds runs.now) }
+    requires are_lines { AreLines (T.text text) (map bounds runs.now) }
     requires ordered { IsTrue (are_ordered (map bounds runs.now)) }
-    requires long { length classes.old ≡ text_len (T.text text) }
+    requires same_len { length classes.old ≡ text_len (T.text text) }
     requires original { length original_classes.now ≡ length classes.old }
     requires ends { IsTrue (is_boundary (T.text text) bracket.end) }
     ensures marks { IsMarksEnd (T.text text) (map bounds runs.now) original_classes.now classes.old

@@ -23,8 +23,8 @@ pub fn resolve_marks<S: Ledger>(
     requires within { All (λ r. r.1 ≤ length classes.old) (map bounds runs.now) }
     requires sos { IsTrue (is_l_or_r sos) }
     ensures marked { IsMarked (map bounds runs.now) (carried sos) classes.old classes.new }
-    ensures at_least { steps.old ≤ steps.new }
-    ensures at_most { steps.new ≤ steps.old + two_a_unit runs.now }
+    ensures steps_at_least { steps.old ≤ steps.new }
+    ensures steps_at_most { steps.new ≤ steps.old + two_a_unit runs.now }
 {
     let mut last = sos;
     for run in runs {
@@ -47,8 +47,8 @@ fn resolve_marks_in<S: Ledger>(
     requires ordered { run.now.start ≤ run.now.end }
     requires within { run.now.end ≤ length classes.old }
     ensures marked { Marks run.now.start run.now.end before result classes.old classes.new }
-    ensures at_least { steps.old ≤ steps.new }
-    ensures at_most { 16 * steps.new ≤ 16 * steps.old + 17 * (run.now.end - run.now.start) }
+    ensures steps_at_least { steps.old ≤ steps.new }
+    ensures steps_at_most { 16 * steps.new ≤ 16 * steps.old + 17 * (run.now.end - run.now.start) }
 {
     let end = run.end;
     let mut last = before;

@@ -59,11 +59,11 @@ pub fn resolve_numbers<T: TextSource, S: Ledger>(
     steps: &mut Steps<S>,
 )
     requires ordered { IsTrue (are_ordered (map bounds runs.now)) }
-    requires lines { AreLines (T.text text) (map bounds runs.now) }
+    requires are_lines { AreLines (T.text text) (map bounds runs.now) }
     requires per_char { IsPerChar (T.text text) classes.old }
     ensures walked { IsWalked (len_at (T.text text)) (map bounds runs.now) sos classes.old classes.new }
-    ensures at_least { steps.old ≤ steps.new }
-    ensures at_most { steps.new ≤ steps.old + 4 * length (units_in_runs (map bounds runs.now)) }
+    ensures steps_at_least { steps.old ≤ steps.new }
+    ensures steps_at_most { steps.new ≤ steps.old + 4 * length (units_in_runs (map bounds runs.now)) }
 {
     if !has_numbers(runs, classes) {
         return;
@@ -127,8 +127,8 @@ impl Walk {
         ensures reads { let r = get_or (map bounds sequence.now.runs.now) run (0, 0) in
             ReadsTo (len_at (T.text sequence.now.text)) (map bounds sequence.now.runs.now) r.0 r.1 self.old self.new classes.old
             classes.new }
-        ensures at_least { steps.old ≤ steps.new }
-        ensures at_most { let r = get_or (map bounds sequence.now.runs.now) run (0, 0) in
+        ensures steps_at_least { steps.old ≤ steps.new }
+        ensures steps_at_most { let r = get_or (map bounds sequence.now.runs.now) run (0, 0) in
             steps.new + 1 + 2 * count_below (map bounds sequence.now.runs.now) (resolved_to self.old r.0)
             ≤ steps.old + 2 * (r.1 - r.0) + 2 * count_below (map bounds sequence.now.runs.now) (resolved_to self.new r.1) }
     {
@@ -170,14 +170,14 @@ impl Walk {
         requires first { is_number_or_terminator (class_at classes.now at) ≡ false }
         requires some { at < end }
         requires inside { end ≤ length classes.now }
-        ensures some { at < result }
+        ensures advances { at < result }
         ensures within { result ≤ end }
         ensures other { is_other self.new.before ≡ true }
         ensures first_run { self.new.first_run ≡ self.old.first_run }
         ensures passes { Passes at result end self.old self.new classes.now }
         ensures asked { result < end → is_number_or_terminator (class_at classes.now result) ≡ true }
-        ensures at_least { steps.old ≤ steps.new }
-        ensures at_most { steps.new + (at + 1) + at ≤ steps.old + min (result + 1) end + result }
+        ensures steps_at_least { steps.old ≤ steps.new }
+        ensures steps_at_most { steps.new + (at + 1) + at ≤ steps.old + min (result + 1) end + result }
     {
         let sought = Among {
             test: NumberOrTerminator,
@@ -201,14 +201,14 @@ impl Walk {
         requires some { at < end }
         requires inside { end ≤ length classes.now }
         requires whole { IsWhole (len_at (T.text text)) classes.now end at }
-        ensures some { at < result }
+        ensures advances { at < result }
         ensures within { result ≤ end }
         ensures alike { AreAlike classes.now at result }
         ensures single { let next = next_before (strengthened self.now.strong (class_at classes.now at))
             self.now.before in
             still_to_come next (len_at (T.text text) at) ≡ still_to_come next (result - at) }
-        ensures at_least { steps.old ≤ steps.new }
-        ensures at_most { steps.new ≤ steps.old + min (result - at) (end - (at + 1)) }
+        ensures steps_at_least { steps.old ≤ steps.new }
+        ensures steps_at_most { steps.new ≤ steps.old + min (result - at) (end - (at + 1)) }
     {
         let next = self.before.after(strengthened(self.strong, classes[at]));
         if next.is_separator() {
@@ -235,12 +235,12 @@ impl Walk {
         ensures waiting { WaitsBelow (map bounds runs.now) self.new stretch.end }
         ensures before { self.new.before
             ≡ next_before (strengthened self.old.strong (class_at classes.old stretch.start)) self.old.before }
-        ensures rest { (k : ℕ) → stretch.end ≤ k → class_at classes.new k ≡ class_at classes.old k }
-        ensures long { length classes.new ≡ length classes.old }
+        ensures outside { (k : ℕ) → stretch.end ≤ k → class_at classes.new k ≡ class_at classes.old k }
+        ensures same_len { length classes.new ≡ length classes.old }
         ensures reads { Reads (map bounds runs.now) run stretch.start stretch.end self.old self.new classes.old
             classes.new }
-        ensures at_least { steps.old ≤ steps.new }
-        ensures at_most { steps.new + 2 * count_below (map bounds runs.now) (resolved_to self.old stretch.start)
+        ensures steps_at_least { steps.old ≤ steps.new }
+        ensures steps_at_most { steps.new + 2 * count_below (map bounds runs.now) (resolved_to self.old stretch.start)
             ≤ steps.old + 2 * count_below (map bounds runs.now) (resolved_to self.new stretch.end) }
     {
         let Range { start, end } = stretch;
@@ -279,9 +279,9 @@ impl Walk {
         ensures held { waits self.now.before ≡ true
             → IsWrittenOver (is_seen (drop self.now.first_run (map bounds runs.now)) classes.old) class self.now.first
             to classes.old classes.new }
-        ensures idle { waits self.now.before ≡ false → classes.new ≡ classes.old }
-        ensures at_least { steps.old ≤ steps.new }
-        ensures at_most { steps.new + 2 * count_below (map bounds runs.now) (resolved_to self.now to)
+        ensures unchanged { waits self.now.before ≡ false → classes.new ≡ classes.old }
+        ensures steps_at_least { steps.old ≤ steps.new }
+        ensures steps_at_most { steps.new + 2 * count_below (map bounds runs.now) (resolved_to self.now to)
             ≤ steps.old + 2 * count_below (map bounds runs.now) to }
     {
         if self.before.waits() {
@@ -371,7 +371,7 @@ fn last_strong<S: Ledger>(
 fn alike_end<S: Ledger>(classes: &[BidiClass], at: usize, end: usize, steps: &mut Steps<S>) -> usize
     requires some { at < end }
     requires inside { end ≤ length classes.now }
-    ensures some { at < result }
+    ensures advances { at < result }
     ensures within { result ≤ end }
     ensures alike { AreAlike classes.now at result }
     ensures steps { steps.new ≡ steps.old + min (result - at) (end - (at + 1)) }

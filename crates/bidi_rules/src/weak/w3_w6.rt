@@ -19,10 +19,10 @@ pub fn resolve_w3_w6<S: Ledger>(runs: &[LevelRun], classes: &mut [BidiClass], st
     requires within { All (λ r. r.1 ≤ length classes.old) (map bounds runs.now) }
     ensures changed { (u : ℕ) → in_runs (map bounds runs.now) u ≡ true
         → class_at classes.new u ≡ left_over (class_at classes.old u) }
-    ensures same { KeepsOutside runs.now classes.old classes.new }
-    ensures long { length classes.new ≡ length classes.old }
-    ensures at_least { steps.old + length (units_in_runs (map bounds runs.now)) ≤ steps.new }
-    ensures at_most { steps.new ≤ steps.old + two_a_unit runs.now }
+    ensures outside { KeepsOutside runs.now classes.old classes.new }
+    ensures same_len { length classes.new ≡ length classes.old }
+    ensures steps_at_least { steps.old + length (units_in_runs (map bounds runs.now)) ≤ steps.new }
+    ensures steps_at_most { steps.new ≤ steps.old + two_a_unit runs.now }
 {
     for run in runs {
         steps.tick();
@@ -68,7 +68,7 @@ fn change_many<S: Ledger>(start: usize, end: usize, classes: &mut [BidiClass], s
 fn change_at(classes: &mut [BidiClass], unit: usize)
     requires { unit < length classes.old }
     ensures changed { class_at classes.new unit ≡ left_over (class_at classes.old unit) }
-    ensures others { (u : ℕ) → u ≢ unit → class_at classes.new u ≡ class_at classes.old u }
+    ensures outside { (u : ℕ) → u ≢ unit → class_at classes.new u ≡ class_at classes.old u }
 {
     if !stays(classes[unit]) {
         classes[unit] = left_over(classes[unit]);

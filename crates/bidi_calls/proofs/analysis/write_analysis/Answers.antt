@@ -32,7 +32,7 @@ returns-clause-writes g c =
     ∙ count-found source call.base call.rule a (found_paragraphs c.analyse.new.self) c.in_ok-analyse.ensures.analysis in
     let structs = structs-found source call.base call.rule a (found_paragraphs c.analyse.new.self) c.in_ok-analyse.ensures.analysis in
     record {
-      kept = search rules;
+      unchanged = search rules;
       classes = search (rules, c.in_ok-analyse.ensures.analysis.paragraphs.classes);
       levels = search (rules, c.in_ok-analyse.ensures.analysis.levels);
       paragraphs = rw (← structs) (search rules);

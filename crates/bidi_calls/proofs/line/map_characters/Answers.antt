@@ -24,4 +24,4 @@ returns-clause-writes g c =
     let levels = c.as_slice-levels.ensures ∙ c.keep_first_units.ensures ∙ ap (per_char 0 g.T.TextSource.encoding.len_of (g.T.TextSource.text c.args.text).chars) c.in_ok-after_l1.ensures.levels in
     let long = ap length levels ∙ sym (length-visual_order (per_char 0 g.T.TextSource.encoding.len_of (g.T.TextSource.text c.args.text).chars (caller_line_levels c.args.line.now))) in
     let order = c.write_visual_order.ensures.order ∙ ap visual_order levels in
-    record { kept = search rules; list = rw (order, long) refl; count = long }
+    record { unchanged = search rules; list = rw (order, long) refl; count = long }

@@ -15,7 +15,7 @@ returns-in_err-check-clause-fault c =
     let runs = c.as_slice-count.ensures ∙ c.in_ok-find.ensures.runs ∙ ap (visual_runs 0) (c.as_slice.ensures ∙ c.in_ok-after_l1.ensures.levels) in
     let count = length-structs l.start (caller_line_levels l) c.as_slice-count.result.now runs in
     rw (reported-room one_unit cs l (reordered_chars cs l) c.args.out.now (length cs) (length c.as_slice-count.result.now) (length cs) c.have_room-fits.result
-    (length-shown_chars cs l c.requires.valid c.requires.units) count (length-reordered_chars cs l c.requires.valid c.requires.units) refl c.have_room-fits.ensures)
+    (length-shown_chars cs l c.requires.valid c.requires.same_len) count (length-reordered_chars cs l c.requires.valid c.requires.same_len) refl c.have_room-fits.ensures)
     (grind arith)
 
 pub put_runs-requires-clause-room : goal.put_runs-requires-clause-room
@@ -31,7 +31,7 @@ returns-clause-fault c =
     let runs = c.as_slice-count.ensures ∙ c.in_ok-find.ensures.runs ∙ ap (visual_runs 0) (c.as_slice.ensures ∙ c.in_ok-after_l1.ensures.levels) in
     let count = length-structs l.start (caller_line_levels l) c.as_slice-count.result.now runs in
     rw (reported-room one_unit cs l (reordered_chars cs l) c.args.out.now (length cs) (length c.as_slice-count.result.now) (length cs) c.have_room-fits.result
-    (length-shown_chars cs l c.requires.valid c.requires.units) count (length-reordered_chars cs l c.requires.valid c.requires.units) refl c.have_room-fits.ensures)
+    (length-shown_chars cs l c.requires.valid c.requires.same_len) count (length-reordered_chars cs l c.requires.valid c.requires.same_len) refl c.have_room-fits.ensures)
     (grind arith)
 
 pub returns-clause-writes : goal.returns-clause-writes
@@ -39,10 +39,10 @@ unfolding reordered_chars
 returns-clause-writes c =
     let l = c.args.line.now in
     let cs = c.args.chars.now in
-    let order = sym (order_of_line-one_unit cs l c.requires.valid c.requires.units) in
+    let order = sym (order_of_line-one_unit cs l c.requires.valid c.requires.same_len) in
     let runs = c.as_slice-count.ensures ∙ c.in_ok-find.ensures.runs ∙ ap (visual_runs 0) (c.as_slice.ensures ∙ c.in_ok-after_l1.ensures.levels) in
     record {
-      kept = search rules;
+      unchanged = search rules;
       parts = record {
         levels = c.put_levels.ensures ∙ ap (λ xs. written_if_room xs c.args.out.now.levels.now) (c.as_slice-2.ensures ∙ c.in_ok-after_l1.ensures.levels);
         runs = c.put_runs.ensures ∙ ap (λ xs. written_if_room (map (run_struct l.start xs) (visual_runs l.start xs)) c.args.out.now.runs.now) (c.as_slice-3.ensures ∙ c.in_ok-after_l1.ensures.levels);

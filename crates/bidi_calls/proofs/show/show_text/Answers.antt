@@ -19,7 +19,7 @@ returns-in_err-check-clause-fault g c =
     let runs = c.as_slice-count.ensures ∙ c.in_ok-find.ensures.runs ∙ ap (visual_runs 0) (c.as_slice.ensures ∙ c.in_ok-after_l1.ensures.levels) in
     let count = length-structs l.start (caller_line_levels l) c.as_slice-count.result.now runs in
     let text = visual_units len g.T.LineText.encode cs (g.T.LineText.units_of c.args.text) 0 (caller_line_levels l) in
-    let long = length-after_l1 len g.T.TextSource.encoding.positive cs l c.requires.valid c.requires.even c.requires.units g.T.LineText.encode (g.T.LineText.units_of c.args.text) c.requires.one_a_unit c.requires.encoded in
+    let long = length-after_l1 len g.T.TextSource.encoding.positive cs l c.requires.valid c.requires.even c.requires.units_same_len g.T.LineText.encode (g.T.LineText.units_of c.args.text) c.requires.same_len c.requires.encoded in
     rw (reported-room len cs l text c.args.out.now (length c.as_slice-units.result.now) (length c.as_slice-count.result.now) c.count_characters-len.result c.have_room-fits.result
     (ap length (sym levels)) count (long ∙ ap length (sym levels)) c.count_characters-len.ensures c.have_room-fits.ensures)
     (grind arith)
@@ -30,19 +30,19 @@ put_runs-requires-clause-room g c =
     let long : length c.as_slice-4.result.now ≡ length c.as_slice-count.result.now = sym (length-map c.as_slice-4.result.now run_of) ∙ ap length same ∙ length-map c.as_slice-count.result.now run_of in
     rw long (grind arith)
 
-pub put_text-requires-clause-boundaries : goal.put_text-requires-clause-boundaries
-put_text-requires-clause-boundaries g c =
+pub put_text-requires-clause-are_lines : goal.put_text-requires-clause-are_lines
+put_text-requires-clause-are_lines g c =
     let len = g.T.TextSource.encoding.len_of in
     let cs : List ℕ = (g.T.TextSource.text c.args.text).chars in
     let l = c.args.line.now in
     let runs = c.as_slice-6.ensures ∙ c.in_ok-find.ensures.runs ∙ ap (visual_runs 0) (c.as_slice.ensures ∙ c.in_ok-after_l1.ensures.levels) in
-    ranges_at_boundaries len cs c.as_slice-6.result.now _ runs (caller-runs len g.T.TextSource.encoding.positive cs l c.requires.valid c.requires.even c.requires.units)
+    ranges_at_boundaries len cs c.as_slice-6.result.now _ runs (caller-runs len g.T.TextSource.encoding.positive cs l c.requires.valid c.requires.even c.requires.units_same_len)
 
 pub put_order_of-requires-clause-even : goal.put_order_of-requires-clause-even
 put_order_of-requires-clause-even g c =
     let len = g.T.TextSource.encoding.len_of in
     let cs : List ℕ = (g.T.TextSource.text c.args.text).chars in
-    subst (IsPerChar len cs) (sym c.in_ok-after_l1.ensures.levels) (caller-even len g.T.TextSource.encoding.positive cs c.args.line.now c.requires.valid c.requires.even c.requires.units)
+    subst (IsPerChar len cs) (sym c.in_ok-after_l1.ensures.levels) (caller-even len g.T.TextSource.encoding.positive cs c.args.line.now c.requires.valid c.requires.even c.requires.units_same_len)
 
 pub returns-clause-fault : goal.returns-clause-fault
 returns-clause-fault g c =
@@ -53,7 +53,7 @@ returns-clause-fault g c =
     let runs = c.as_slice-count.ensures ∙ c.in_ok-find.ensures.runs ∙ ap (visual_runs 0) (c.as_slice.ensures ∙ c.in_ok-after_l1.ensures.levels) in
     let count = length-structs l.start (caller_line_levels l) c.as_slice-count.result.now runs in
     let text = visual_units len g.T.LineText.encode cs (g.T.LineText.units_of c.args.text) 0 (caller_line_levels l) in
-    let long = length-after_l1 len g.T.TextSource.encoding.positive cs l c.requires.valid c.requires.even c.requires.units g.T.LineText.encode (g.T.LineText.units_of c.args.text) c.requires.one_a_unit c.requires.encoded in
+    let long = length-after_l1 len g.T.TextSource.encoding.positive cs l c.requires.valid c.requires.even c.requires.units_same_len g.T.LineText.encode (g.T.LineText.units_of c.args.text) c.requires.same_len c.requires.encoded in
     rw (reported-room len cs l text c.args.out.now (length c.as_slice-units.result.now) (length c.as_slice-count.result.now) c.count_characters-len.result c.have_room-fits.result
     (ap length (sym levels)) count (long ∙ ap length (sym levels)) c.count_characters-len.ensures c.have_room-fits.ensures)
     (grind arith)
@@ -69,7 +69,7 @@ returns-clause-writes g c =
     let after_l1 = c.in_ok-after_l1.ensures.levels in
     let found = c.as_slice-count.ensures ∙ c.in_ok-find.ensures.runs ∙ ap (visual_runs 0) (c.as_slice.ensures ∙ after_l1) in
     record {
-      kept = search rules;
+      unchanged = search rules;
       parts = record {
         levels = c.put_levels.ensures ∙ ap (λ xs. written_if_room xs c.args.out.now.levels.now) (c.as_slice-2.ensures ∙ after_l1);
         runs = c.put_runs.ensures ∙ ap (λ xs. written_if_room (map (run_struct l.start xs) (visual_runs l.start xs)) c.args.out.now.runs.now) (c.as_slice-3.ensures ∙ after_l1);

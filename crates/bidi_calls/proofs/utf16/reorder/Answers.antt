@@ -13,8 +13,8 @@ write_text-requires-clause-even c =
     let even = rw (c.class_numbers.ensures, c.level_numbers.ensures) at c.is_even_utf16-even.ensures in
     rw c.new.ensures (grind arith)
 
-pub write_text-requires-clause-units : goal.write_text-requires-clause-units
-write_text-requires-clause-units c = rw c.new.ensures (ap (λ n. n + c.args.line.now.start) (text_len-utf16 c.args.text.now) ∙ c.requires.units)
+pub write_text-requires-clause-same_len : goal.write_text-requires-clause-same_len
+write_text-requires-clause-same_len c = rw c.new.ensures (ap (λ n. n + c.args.line.now.start) (text_len-utf16 c.args.text.now) ∙ c.requires.same_len)
 
 pub write_text-requires-clause-room : goal.write_text-requires-clause-room
 write_text-requires-clause-room c = rw c.new.ensures (length-take-le (length c.args.text.now) c.args.out.now (grind arith) ∙ sym (text_len-utf16 c.args.text.now))
@@ -30,7 +30,7 @@ returns-in_err-check-2-clause-fault c =
     let even = rw (c.class_numbers.ensures, c.level_numbers.ensures) at c.is_even_utf16-even.ensures in
     let holds : is_even utf16_len (utf16_text c.args.text.now) c.args.line.now ≡ true = grind arith in
     let long = text_len-utf16 c.args.text.now in
-    let units = ap (λ n. n + c.args.line.now.start) long ∙ c.requires.units in
+    let units = ap (λ n. n + c.args.line.now.start) long ∙ c.requires.same_len in
     rw (reported-room utf16_len encode_utf16 (utf16_text c.args.text.now) c.args.text.now c.args.line.now (length c.args.out.now) (length c.args.text.now) holds (length-caller utf16_len has_units (utf16_text c.args.text.now) c.args.line.now c.requires.valid holds units encode_utf16 c.args.text.now (sym long) length-encode)) (grind arith)
 
 pub returns-in_err-write_text-clause-fault : goal.returns-in_err-write_text-clause-fault
@@ -41,7 +41,7 @@ returns-clause-fault c =
     let even = rw (c.class_numbers.ensures, c.level_numbers.ensures) at c.is_even_utf16-even.ensures in
     let holds : is_even utf16_len (utf16_text c.args.text.now) c.args.line.now ≡ true = grind arith in
     let long = text_len-utf16 c.args.text.now in
-    let units = ap (λ n. n + c.args.line.now.start) long ∙ c.requires.units in
+    let units = ap (λ n. n + c.args.line.now.start) long ∙ c.requires.same_len in
     rw (reported-room utf16_len encode_utf16 (utf16_text c.args.text.now) c.args.text.now c.args.line.now (length c.args.out.now) (length c.args.text.now) holds (length-caller utf16_len has_units (utf16_text c.args.text.now) c.args.line.now c.requires.valid holds units encode_utf16 c.args.text.now (sym long) length-encode)) (grind arith)
 
 pub returns-clause-writes : goal.returns-clause-writes
@@ -49,7 +49,7 @@ returns-clause-writes c =
     let even = rw (c.class_numbers.ensures, c.level_numbers.ensures) at c.is_even_utf16-even.ensures in
     let holds : is_even utf16_len (utf16_text c.args.text.now) c.args.line.now ≡ true = grind arith in
     let long = text_len-utf16 c.args.text.now in
-    let units = ap (λ n. n + c.args.line.now.start) long ∙ c.requires.units in
+    let units = ap (λ n. n + c.args.line.now.start) long ∙ c.requires.same_len in
     let text = (rw c.new.ensures at c.in_ok-write_text.ensures.text) ∙ caller-text utf16_len has_units (utf16_text c.args.text.now) c.args.line.now c.requires.valid holds units encode_utf16 c.args.text.now (sym long) in
     let count = length-caller utf16_len has_units (utf16_text c.args.text.now) c.args.line.now c.requires.valid holds units encode_utf16 c.args.text.now (sym long) length-encode in
-    record { kept = search rules; list = rw (text, count) refl; count = sym count }
+    record { unchanged = search rules; list = rw (text, count) refl; count = sym count }

@@ -14,7 +14,7 @@ returns-clause-writes c =
     let same : length c.args.text.now ≡ length c.args.line.now.levels.now = grind arith in
     let valid = c.in_ok-check.ensures.valid in
     record {
-      kept = search rules;
+      unchanged = search rules;
       list = rw (order_of_line-one_unit (own_units c.args.text.now c.args.line.now) c.args.line.now valid (length-own_units c.args.text.now c.args.line.now valid same)) c.order_units.ensures.order;
       count = rw (length-order_of_line (own_units c.args.text.now c.args.line.now) c.args.line.now valid (length-own_units c.args.text.now c.args.line.now valid same)) c.order_units.ensures.count;
     }

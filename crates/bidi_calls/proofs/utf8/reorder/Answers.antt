@@ -10,8 +10,8 @@ write_text-requires-clause-even c =
     let even = rw (c.class_numbers.ensures, c.level_numbers.ensures) at c.is_even_utf8-even.ensures in
     rw c.new.ensures (grind arith)
 
-pub write_text-requires-clause-units : goal.write_text-requires-clause-units
-write_text-requires-clause-units c = rw c.new.ensures (ap (λ n. n + c.args.line.now.start) (text_len-chars c.args.text.now c.utf8.text) ∙ c.requires.units)
+pub write_text-requires-clause-same_len : goal.write_text-requires-clause-same_len
+write_text-requires-clause-same_len c = rw c.new.ensures (ap (λ n. n + c.args.line.now.start) (text_len-chars c.args.text.now c.utf8.text) ∙ c.requires.same_len)
 
 pub write_text-requires-clause-room : goal.write_text-requires-clause-room
 write_text-requires-clause-room c = rw c.new.ensures (length-take-le (length c.args.text.now) c.args.out.now (grind arith) ∙ sym (text_len-chars c.args.text.now c.utf8.text))
@@ -27,7 +27,7 @@ returns-in_err-check-2-clause-fault c =
     let even = rw (c.class_numbers.ensures, c.level_numbers.ensures) at c.is_even_utf8-even.ensures in
     let holds : is_even len_utf8 (chars c.args.text.now) c.args.line.now ≡ true = grind arith in
     let long = text_len-chars c.args.text.now c.utf8.text in
-    let units = ap (λ n. n + c.args.line.now.start) long ∙ c.requires.units in
+    let units = ap (λ n. n + c.args.line.now.start) long ∙ c.requires.same_len in
     rw (reported-room len_utf8 encode_utf8 (chars c.args.text.now) c.args.text.now c.args.line.now (length c.args.out.now) (length c.args.text.now) holds (length-caller len_utf8 has_units (chars c.args.text.now) c.args.line.now c.requires.valid holds units encode_utf8 c.args.text.now (sym long) length-encode)) (grind arith)
 
 pub returns-in_err-write_text-clause-fault : goal.returns-in_err-write_text-clause-fault
@@ -38,7 +38,7 @@ returns-clause-fault c =
     let even = rw (c.class_numbers.ensures, c.level_numbers.ensures) at c.is_even_utf8-even.ensures in
     let holds : is_even len_utf8 (chars c.args.text.now) c.args.line.now ≡ true = grind arith in
     let long = text_len-chars c.args.text.now c.utf8.text in
-    let units = ap (λ n. n + c.args.line.now.start) long ∙ c.requires.units in
+    let units = ap (λ n. n + c.args.line.now.start) long ∙ c.requires.same_len in
     rw (reported-room len_utf8 encode_utf8 (chars c.args.text.now) c.args.text.now c.args.line.now (length c.args.out.now) (length c.args.text.now) holds (length-caller len_utf8 has_units (chars c.args.text.now) c.args.line.now c.requires.valid holds units encode_utf8 c.args.text.now (sym long) length-encode)) (grind arith)
 
 pub returns-clause-writes : goal.returns-clause-writes
@@ -46,7 +46,7 @@ returns-clause-writes c =
     let even = rw (c.class_numbers.ensures, c.level_numbers.ensures) at c.is_even_utf8-even.ensures in
     let holds : is_even len_utf8 (chars c.args.text.now) c.args.line.now ≡ true = grind arith in
     let long = text_len-chars c.args.text.now c.utf8.text in
-    let units = ap (λ n. n + c.args.line.now.start) long ∙ c.requires.units in
+    let units = ap (λ n. n + c.args.line.now.start) long ∙ c.requires.same_len in
     let text = (rw c.new.ensures at c.in_ok-write_text.ensures.text) ∙ caller-text len_utf8 has_units (chars c.args.text.now) c.args.line.now c.requires.valid holds units encode_utf8 c.args.text.now (sym long) in
     let count = length-caller len_utf8 has_units (chars c.args.text.now) c.args.line.now c.requires.valid holds units encode_utf8 c.args.text.now (sym long) length-encode in
-    record { kept = search rules; list = rw (text, count) refl; count = sym count }
+    record { unchanged = search rules; list = rw (text, count) refl; count = sym count }

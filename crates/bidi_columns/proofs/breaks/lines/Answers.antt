@@ -37,7 +37,7 @@ loop-rest-preserved g c = record {
   shown = grind (arith, lines_of-more, map-append, append_assoc);
   ranges =
       let P : Run → Type 0 = λ r. IsRangeOf c.args.text.now (record { start = r.0; end = r.1 }) in
-      let some : 1 ≤ c.first_line-line.result.shown = omega (arith, c.first_line-line.ensures.some) in
+      let some : 1 ≤ c.first_line-line.result.shown = omega (arith, c.first_line-line.ensures.advances) in
       let within : c.first_line-line.result.shown ≤ length c.loop-rest.rest.now = omega (arith, c.first_line-line.ensures.ordered, c.first_line-line.ensures.within) in
       let here = IsRangeOf-line_range c.args.text.now c.first_line-line.result c.loop-rest.rest.now c.loop-rest.invariant.placed some within in
       rw c.in_ok-push.ensures.items (All-push (IsRangeOf c.args.text.now) c.loop-rest.lines.items c.range_of.result c.loop-rest.invariant.ranges (subst P (sym c.range_of.ensures) here));

@@ -23,9 +23,9 @@ pub stages_of-requires-clause-stored : goal.stages_of-requires-clause-stored
 stages_of-requires-clause-stored g c =
     c.original_classes.ensures ∙ alone-classes _ _ _ _ _ _ _ (alone g (goal.at.stages_of-requires-clause-stored g c).After-first_level-level)
 
-pub stages_of-requires-clause-levels : goal.stages_of-requires-clause-levels
-stages_of-requires-clause-levels g c =
-    ap length c.levels.ensures ∙ length-alone_levels _ _ _ _ _ _ _ (alone g (goal.at.stages_of-requires-clause-levels g c).After-first_level-level)
+pub stages_of-requires-clause-same_len : goal.stages_of-requires-clause-same_len
+stages_of-requires-clause-same_len g c =
+    ap length c.levels.ensures ∙ length-alone_levels _ _ _ _ _ _ _ (alone g (goal.at.stages_of-requires-clause-same_len g c).After-first_level-level)
 
 pub returns : goal.returns
 returns g c =

@@ -35,8 +35,8 @@ loop-class-preserved g c =
     record {
       fits = omega (arith, it.fits);
       written = search (rules, runs-more);
-      at_least = omega (arith, c.loop-class.invariant.at_least, c.write_over.ensures.steps);
-      at_most = λ some first. grind (arith, ends_ascend, run_some, count_below-more);
+      steps_at_least = omega (arith, c.loop-class.invariant.steps_at_least, c.write_over.ensures.steps);
+      steps_at_most = λ some first. grind (arith, ends_ascend, run_some, count_below-more);
     }
 
 pub returns-clause-written : goal.returns-clause-written
@@ -53,8 +53,8 @@ returns-clause-written g c =
       | inr all ↦ grind (arith, take_all)
     ]
 
-pub returns-clause-at_most : goal.returns-clause-at_most
-returns-clause-at_most g c =
+pub returns-clause-steps_at_most : goal.returns-clause-steps_at_most
+returns-clause-steps_at_most g c =
     grind (
       arith,
       count_below-parts c.loop-class.index (map bounds c.args.runs.now) c.args.from,

@@ -10,8 +10,8 @@ invariant-loop-class g l =
     record {
       fits : l.index ≤ length l.runs;
       written : IsWrittenOver (is_seen so_far l.fn.classes) l.class l.from l.to l.fn.classes l.classes;
-      at_least : l.fn.steps ≤ l.steps;
-      at_most : l.from < l.to → l.from < (get_or runs 0 (0, 0)).1 → l.steps + 2 * count_below so_far l.from ≤ l.fn.steps + 2 * count_below so_far l.to;
+      steps_at_least : l.fn.steps ≤ l.steps;
+      steps_at_most : l.from < l.to → l.from < (get_or runs 0 (0, 0)).1 → l.steps + 2 * count_below so_far l.from ≤ l.fn.steps + 2 * count_below so_far l.to;
     }
 
 abbrev pub decreases-loop-class : goal.decreases-loop-class

@@ -9,11 +9,11 @@ few_before len cs levels out n at units taken within = omega (arith, IsTaken-le 
 
 pub bounds-out-copied : goal.bounds-out-copied
 bounds-out-copied g c =
-    few_before g.T.TextSource.encoding.len_of (g.T.TextSource.text c.args.text).chars c.args.levels.now c.loop-at.out c.loop-at.copied c.loop-at.at g.T.TextSource.encoding.positive c.loop-at.invariant (omega (arith, c.loop-at-test.true, c.len-at-end.ensures, c.requires.one_a_unit))
+    few_before g.T.TextSource.encoding.len_of (g.T.TextSource.text c.args.text).chars c.args.levels.now c.loop-at.out c.loop-at.copied c.loop-at.at g.T.TextSource.encoding.positive c.loop-at.invariant (omega (arith, c.loop-at-test.true, c.len-at-end.ensures, c.requires.same_len))
 
 pub overflow_add-copied : goal.overflow_add-copied
 overflow_add-copied g c =
-    let below : c.loop-at.copied < length c.loop-at.out = few_before g.T.TextSource.encoding.len_of (g.T.TextSource.text c.args.text).chars c.args.levels.now c.loop-at.out c.loop-at.copied c.loop-at.at g.T.TextSource.encoding.positive c.loop-at.invariant (omega (arith, c.loop-at-test.true, c.len-at-end.ensures, c.requires.one_a_unit)) in
+    let below : c.loop-at.copied < length c.loop-at.out = few_before g.T.TextSource.encoding.len_of (g.T.TextSource.text c.args.text).chars c.args.levels.now c.loop-at.out c.loop-at.copied c.loop-at.at g.T.TextSource.encoding.positive c.loop-at.invariant (omega (arith, c.loop-at-test.true, c.len-at-end.ensures, c.requires.same_len)) in
     search rules
 
 pub loop-at-preserved : goal.loop-at-preserved
@@ -22,11 +22,11 @@ loop-at-preserved g c =
     let cs : List ℕ = (g.T.TextSource.text c.args.text).chars in
     let units = g.T.TextSource.encoding.positive in
     let levels = c.args.levels.now in
-    let read = c.index-levels-at.is ∙ get_or_default levels c.loop-at.at c.index-levels-at.result 0 (omega (arith, c.loop-at-test.true, c.len-at-end.ensures, c.requires.one_a_unit)) in
+    let read = c.index-levels-at.is ∙ get_or_default levels c.loop-at.at c.index-levels-at.result 0 (omega (arith, c.loop-at-test.true, c.len-at-end.ensures, c.requires.same_len)) in
     let new = slice_set c.loop-at.out c.loop-at.copied c.index-levels-at.result in
     elim (cases_Bool (is_boundary len cs c.loop-at.at)) [
       | inl begins ↦ subst (λ n. IsTaken len cs levels new n (c.loop-at.at + 1)) (grind (arith, common_steps, begins, c.from-copied.ensures, c.is_boundary.ensures))
-          (IsTaken-more len cs levels units c.loop-at.out c.loop-at.copied c.loop-at.at c.index-levels-at.result begins (omega (arith, c.loop-at-test.true, c.len-at-end.ensures)) c.requires.one_a_unit read c.loop-at.invariant)
+          (IsTaken-more len cs levels units c.loop-at.out c.loop-at.copied c.loop-at.at c.index-levels-at.result begins (omega (arith, c.loop-at-test.true, c.len-at-end.ensures)) c.requires.same_len read c.loop-at.invariant)
       | inr inside ↦ subst (λ n. IsTaken len cs levels new n (c.loop-at.at + 1)) (grind (arith, common_steps, inside, c.from-copied.ensures, c.is_boundary.ensures))
           (IsTaken-inside len cs levels units c.loop-at.out c.loop-at.copied c.loop-at.at c.index-levels-at.result inside c.loop-at.invariant)
     ]

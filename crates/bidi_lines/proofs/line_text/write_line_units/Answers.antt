@@ -13,7 +13,7 @@ one : (g : Over) (c : Then-first-levels g) → map run_of (c.args.line ∷ []) �
 one g c =
     let is_whole : c.first_run_end-first.result ≡ length c.args.levels.now = grind arith in
     let whole = c.first_run_end-first.ensures.whole is_whole c.args.line.start in
-    let end : c.args.line.start + c.first_run_end-first.result ≡ c.args.line.end = omega (arith, is_whole, c.requires.levels) in
+    let end : c.args.line.start + c.first_run_end-first.result ≡ c.args.line.end = omega (arith, is_whole, c.requires.same_len) in
     sym (whole ∙ ap (λ e. (c.args.line.start, e) ∷ []) end)
 
 pub write_runs-requires-clause-within : goal.write_runs-requires-clause-within
@@ -24,9 +24,9 @@ pub write_runs-requires-clause-whole : goal.write_runs-requires-clause-whole
 write_runs-requires-clause-whole g c =
     visual_runs-whole c.args.line.start c.args.levels.now (c.args.line ∷ []) (AreVisualRuns-from_same c.args.line.start c.args.levels.now _ (one g (goal.at.write_runs-requires-clause-whole g c).Then-first-levels))
 
-pub write_runs-requires-clause-boundaries : goal.write_runs-requires-clause-boundaries
-write_runs-requires-clause-boundaries g c =
-    ranges_at_boundaries g.T.TextSource.encoding.len_of (g.T.TextSource.text c.args.text).chars (c.args.line ∷ []) _ (one g (goal.at.write_runs-requires-clause-boundaries g c).Then-first-levels) c.requires.runs
+pub write_runs-requires-clause-are_lines : goal.write_runs-requires-clause-are_lines
+write_runs-requires-clause-are_lines g c =
+    ranges_at_boundaries g.T.TextSource.encoding.len_of (g.T.TextSource.text c.args.text).chars (c.args.line ∷ []) _ (one g (goal.at.write_runs-requires-clause-are_lines g c).Then-first-levels) c.requires.runs
 
 pub write_runs-requires-2-clause-within : goal.write_runs-requires-2-clause-within
 write_runs-requires-2-clause-within g c =
@@ -36,8 +36,8 @@ pub write_runs-requires-2-clause-whole : goal.write_runs-requires-2-clause-whole
 write_runs-requires-2-clause-whole g c =
     visual_runs-whole c.args.line.start c.args.levels.now c.as_slice.result.now (rw c.as_slice.ensures c.in_ok-find_behind.ensures.visual)
 
-pub write_runs-requires-2-clause-boundaries : goal.write_runs-requires-2-clause-boundaries
-write_runs-requires-2-clause-boundaries g c =
+pub write_runs-requires-2-clause-are_lines : goal.write_runs-requires-2-clause-are_lines
+write_runs-requires-2-clause-are_lines g c =
     ranges_at_boundaries g.T.TextSource.encoding.len_of (g.T.TextSource.text c.args.text).chars c.as_slice.result.now _ (c.as_slice.ensures ∙ c.in_ok-find_behind.ensures.runs) c.requires.runs
 
 pub returns-then-first-levels-clause-text : goal.returns-then-first-levels-clause-text

@@ -3,7 +3,7 @@ use Rattle.bidi_base.proofs.TextLemmas.{length-le-text_len}
 use Rattle.bidi_lines.proofs.reused_levels.gather_front.Goals as goal
 
 pub returns-clause-within : goal.returns-clause-within
-returns-clause-within g c = grind (arith, length-le-text_len _ g.T.TextSource.encoding.positive (g.T.TextSource.text c.args.text).chars, c.gather.ensures.count, c.requires.one_a_unit)
+returns-clause-within g c = grind (arith, length-le-text_len _ g.T.TextSource.encoding.positive (g.T.TextSource.text c.args.text).chars, c.gather.ensures.count, c.requires.same_len)
 
 -- the front of a list whose own front was rewritten
 front_of : {X : Type 0} (front new rest : List X) (count len : ℕ) → length new ≡ length front → length front ≡ len → count ≤ len → take count (new ++ rest) ≡ take count new

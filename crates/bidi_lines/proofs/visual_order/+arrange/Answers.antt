@@ -6,7 +6,7 @@ use Rattle.bidi_lines.proofs.visual_order.+arrange.Goals.{then-next-len, else-ne
 
 pub loop-at-preserved-then-level-threshold : goal.loop-at-preserved-then-level-threshold
 loop-at-preserved-then-level-threshold g t c =
-    IsArrangedTo-run _ _ _ _ _ c.loop-at.at _ (omega arith) c.run_end-next.ensures.ends (λ p a b. omega (arith, c.run_end-next.ensures.same p a b)) c.requires.untouched c.loop-at.invariant
+    IsArrangedTo-run _ _ _ _ _ c.loop-at.at _ (omega arith) c.run_end-next.ensures.within (λ p a b. omega (arith, c.run_end-next.ensures.same p a b)) c.requires.untouched c.loop-at.invariant
 
 pub loop-at-preserved-then-level-threshold-eq1 : goal.loop-at-preserved-then-level-threshold-eq1
 loop-at-preserved-then-level-threshold-eq1 g t c =
@@ -15,7 +15,7 @@ loop-at-preserved-then-level-threshold-eq1 g t c =
     (IsNextPart-turned _ _ _ _ _ _ _ (omega arith)
     (IsNextPart-level _ (slice_index (g.L.LevelList.numbers c.args.levels) c.loop-at.at) _ c.loop-at.at c.run_end-next.result (omega arith, omega arith) c.run_end-next.ensures.same
     (λ p a b. c.loop-at.invariant.after p a ∙ c.requires.untouched p (omega (arith, c.loop-at.invariant.begins)) (omega arith)))
-    _ (omega arith) c.flip.ensures.before c.flip.ensures.after c.flip.ensures.inside c.flip.ensures.permutation)
+    _ (omega arith) c.flip.ensures.outside_before c.flip.ensures.outside_after c.flip.ensures.inside c.flip.ensures.permutation)
     c.loop-at.invariant
 
 pub loop-at-preserved-else-level-threshold-eq1 : goal.loop-at-preserved-else-level-threshold-eq1
@@ -41,8 +41,8 @@ loop-at-preserved-then-least-threshold-eq1 g t c =
     IsArrangedTo-stretch _ _ _ _ _ _ c.loop-at.at _ (omega arith) (omega arith)
     (λ b. edge_after _ _ _ c.loop-at.at _ c.least_above-least.ensures.above r.at_least (λ k h. c.least_above-least.ensures.least c.arrange-end.result b h c.arrange-end.result (omega arith) (le_refl _)) (r.stops b))
     (IsNextPart-turned _ _ _ _ _ _ _ (omega arith)
-    (record { within = (r.begins, r.ends); at_least = r.at_least; before = r.before; after = r.after; arranged = r.arranged; permutation = r.permutation })
-    _ (omega arith) c.flip-then-least-threshold-eq1.ensures.before c.flip-then-least-threshold-eq1.ensures.after c.flip-then-least-threshold-eq1.ensures.inside c.flip-then-least-threshold-eq1.ensures.permutation)
+    (record { within = (r.begins, r.within); at_least = r.at_least; before = r.outside_before; after = r.outside_after; arranged = r.arranged; permutation = r.permutation })
+    _ (omega arith) c.flip-then-least-threshold-eq1.ensures.outside_before c.flip-then-least-threshold-eq1.ensures.outside_after c.flip-then-least-threshold-eq1.ensures.inside c.flip-then-least-threshold-eq1.ensures.permutation)
     c.loop-at.invariant
 
 pub loop-at-preserved : goal.loop-at-preserved
@@ -51,6 +51,6 @@ loop-at-preserved g t c =
     IsArrangedTo-stretch _ _ _ _ _ _ c.loop-at.at _ (omega arith) (omega arith)
     (λ b. edge_after _ _ _ c.loop-at.at _ c.least_above-least.ensures.above r.at_least (λ k h. c.least_above-least.ensures.least c.arrange-end.result b h c.arrange-end.result (omega arith) (le_refl _)) (r.stops b))
     (IsNextPart-nested _ _ _ _ _ _ _ (omega arith)
-    (record { within = (r.begins, r.ends); at_least = r.at_least; before = r.before; after = r.after; arranged = r.arranged; permutation = r.permutation })
+    (record { within = (r.begins, r.within); at_least = r.at_least; before = r.outside_before; after = r.outside_after; arranged = r.arranged; permutation = r.permutation })
     (omega arith))
     c.loop-at.invariant

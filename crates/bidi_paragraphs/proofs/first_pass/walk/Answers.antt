@@ -30,7 +30,7 @@ next_stop-requires g c = record {
 met_at : (g : Over) (c : In-Some g)
     → IsAt (g.D.BidiDataSource.source c.args.data_source.now) g.T.TextSource.encoding.len_of (g.T.TextSource.text c.args.text).chars c.args.rule c.args.base_level c.in-Some.stop (seen c.next_stop.new.classes c.loop-stop.walk) c.next_stop.new.state
 met_at g c =
-    subst (λ (r : ParagraphState). IsAt (g.D.BidiDataSource.source c.args.data_source.now) g.T.TextSource.encoding.len_of (g.T.TextSource.text c.args.text).chars c.args.rule c.args.base_level c.in-Some.stop (seen c.next_stop.new.classes c.loop-stop.walk) r) (sym c.next_stop.ensures.kept)
+    subst (λ (r : ParagraphState). IsAt (g.D.BidiDataSource.source c.args.data_source.now) g.T.TextSource.encoding.len_of (g.T.TextSource.text c.args.text).chars c.args.rule c.args.base_level c.in-Some.stop (seen c.next_stop.new.classes c.loop-stop.walk) r) (sym c.next_stop.ensures.outside)
     (IsAt-stop _ _ _ g.T.TextSource.encoding.positive _ _ _ _ _ _ c.loop-stop.invariant.0 c.next_stop.auto.classes c.in-Some.stop c.next_stop.new.state.flags c.in-Some.ensures.stop)
 
 pub overflow_add-at : goal.overflow_add-at
@@ -93,7 +93,7 @@ answered g c =
     let cs : List ℕ = (g.T.TextSource.text c.args.text).chars in
     let n : ℕ = length cs in
     let kept = IsRead-end _ _ _ g.T.TextSource.encoding.positive _ _ _ _ _ _ c.loop-stop.invariant.0 c.next_stop.auto.classes c.next_stop.new.state.flags c.in_default.ensures.stop in
-    let h = subst (λ (r : ParagraphState). IsRead (g.D.BidiDataSource.source c.args.data_source.now) g.T.TextSource.encoding.len_of cs rule c.args.base_level n old r) (sym c.next_stop.ensures.kept) kept in
+    let h = subst (λ (r : ParagraphState). IsRead (g.D.BidiDataSource.source c.args.data_source.now) g.T.TextSource.encoding.len_of cs rule c.args.base_level n old r) (sym c.next_stop.ensures.outside) kept in
     let end : c.len-end.result ≡ unit_index g.T.TextSource.encoding.len_of cs n = c.len-end.ensures ∙ sym (unit_index-end _ cs n (omega arith)) in
     elim c.if-is_none.branch [
       | then-is_none+in_ok-close w ↦

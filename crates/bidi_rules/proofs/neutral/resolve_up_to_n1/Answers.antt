@@ -10,7 +10,7 @@ use Rattle.bidi_rules.proofs.neutral.resolve_up_to_n1.Goals as goal
 use Rattle.bidi_rules.proofs.neutral.resolve_up_to_n1.Goals.{After-sos-sos, After-eos-eos, After-resolve_pairs, After-resolve_opposite}
 
 ready : (g : Over) (c : After-sos-sos g) → IsReady g.T.TextSource.encoding.len_of (g.T.TextSource.text c.args.leveled.now.text).chars c.runs-runs.result.now c.sos-sos.result c.args.processing_classes.now
-ready g c = IsReady-sequence g.T.TextSource.encoding.len_of g.T.TextSource.encoding.positive (g.T.TextSource.text c.args.leveled.now.text).chars c.args.sequence c.runs-runs.result.now c.sos-sos.result c.args.processing_classes.now c.runs-runs.ensures c.sos-sos.ensures c.requires.per_char c.requires.fits c.requires.resolved
+ready g c = IsReady-sequence g.T.TextSource.encoding.len_of g.T.TextSource.encoding.positive (g.T.TextSource.text c.args.leveled.now.text).chars c.args.sequence c.runs-runs.result.now c.sos-sos.result c.args.processing_classes.now c.runs-runs.ensures c.sos-sos.ensures c.requires.per_char c.requires.are_lines c.requires.resolved
 
 units_long : (g : Over) (c : After-sos-sos g) → length c.args.processing_classes.now ≡ text_len g.T.TextSource.encoding.len_of (g.T.TextSource.text c.args.leveled.now.text).chars
 units_long g c = long g.T.TextSource.encoding.len_of g.T.TextSource.encoding.positive (g.T.TextSource.text c.args.leveled.now.text).chars c.runs-runs.result.now c.sos-sos.result c.args.processing_classes.now (ready g c)
@@ -44,7 +44,7 @@ returns-in_default g c =
     record {
       resolved = IsUpToN1-sequence g.T.TextSource.encoding.len_of (g.T.TextSource.text c.args.leveled.now.text).chars (g.D.BidiDataSource.source c.args.data_source.now) c.args.leveled.now.levels.now c.args.leveled.now.original_classes.now c.args.processing_classes.now c.args.processing_classes.now c.args.sequence c.runs-runs.result.now c.sos-sos.result eos c.runs-runs.ensures c.sos-sos.ensures refl
           (IsUpToN1-none g.T.TextSource.encoding.len_of g.T.TextSource.encoding.positive (g.T.TextSource.text c.args.leveled.now.text).chars (g.D.BidiDataSource.source c.args.data_source.now) c.args.leveled.now.levels.now c.args.leveled.now.original_classes.now c.args.processing_classes.now c.runs-runs.result.now c.sos-sos.result eos (ready g (goal.at.returns-in_default g c).After-sos-sos) (sym c.in_default.is ∙ c.first_kept.ensures));
-      refused = grind arith;
+      unchanged = grind arith;
     }
 
 pub bounds-levels-first : goal.bounds-levels-first
@@ -63,14 +63,14 @@ returns-then-stands_alone g c =
         IsUpToN1-sequence g.T.TextSource.encoding.len_of (g.T.TextSource.text c.args.leveled.now.text).chars (g.D.BidiDataSource.source c.args.data_source.now) c.args.leveled.now.levels.now c.args.leveled.now.original_classes.now c.args.processing_classes.now c.args.processing_classes.now c.args.sequence c.runs-runs.result.now c.sos-sos.result c.eos-eos.result c.runs-runs.ensures c.sos-sos.ensures c.eos-eos.ensures,
         IsUpToN1-one g.T.TextSource.encoding.len_of g.T.TextSource.encoding.positive (g.T.TextSource.text c.args.leveled.now.text).chars c.runs-runs.result.now c.sos-sos.result c.args.processing_classes.now (ready g (goal.at.returns-then-stands_alone g c).After-sos-sos) c.bidi_class-embedding.result (side g (goal.at.returns-then-stands_alone g c).After-eos-eos (ready g (goal.at.returns-then-stands_alone g c).After-sos-sos)) (c.stands_alone.ensures.classes c.if-stands_alone.true) (g.D.BidiDataSource.source c.args.data_source.now) c.args.leveled.now.levels.now c.args.leveled.now.original_classes.now c.eos-eos.result c.in-Some.first (c.stands_alone.ensures.sos c.if-stands_alone.true) (c.stands_alone.ensures.eos c.if-stands_alone.true),
       );
-      refused = grind arith;
+      unchanged = grind arith;
     }
 
-pub gather-requires-clause-lines : goal.gather-requires-clause-lines
-gather-requires-clause-lines g c = (ready g (goal.at.gather-requires-clause-lines g c).After-sos-sos).lines
+pub gather-requires-clause-are_lines : goal.gather-requires-clause-are_lines
+gather-requires-clause-are_lines g c = (ready g (goal.at.gather-requires-clause-are_lines g c).After-sos-sos).lines
 
-pub gather-requires-clause-long : goal.gather-requires-clause-long
-gather-requires-clause-long g c = units_long g (goal.at.gather-requires-clause-long g c).After-sos-sos
+pub gather-requires-clause-same_len : goal.gather-requires-clause-same_len
+gather-requires-clause-same_len g c = units_long g (goal.at.gather-requires-clause-same_len g c).After-sos-sos
 
 pub resolve_pairs-requires-clause-ready : goal.resolve_pairs-requires-clause-ready
 resolve_pairs-requires-clause-ready g c = ready g (goal.at.resolve_pairs-requires-clause-ready g c).After-sos-sos
@@ -79,8 +79,8 @@ pub resolve_pairs-requires-clause-side : goal.resolve_pairs-requires-clause-side
 resolve_pairs-requires-clause-side g c =
     side g (goal.at.resolve_pairs-requires-clause-side g c).After-eos-eos (ready g (goal.at.resolve_pairs-requires-clause-side g c).After-sos-sos)
 
-pub resolve_pairs-requires-clause-long : goal.resolve_pairs-requires-clause-long
-resolve_pairs-requires-clause-long g c = units_long g (goal.at.resolve_pairs-requires-clause-long g c).After-sos-sos
+pub resolve_pairs-requires-clause-same_len : goal.resolve_pairs-requires-clause-same_len
+resolve_pairs-requires-clause-same_len g c = units_long g (goal.at.resolve_pairs-requires-clause-same_len g c).After-sos-sos
 
 pub resolve_pairs-requires-clause-pairs : goal.resolve_pairs-requires-clause-pairs
 resolve_pairs-requires-clause-pairs g c =
@@ -135,7 +135,7 @@ resolved : (g : Over) (c : After-resolve_opposite g)
 resolved g c embedding r paired_here =
     IsUpToN1-sequence g.T.TextSource.encoding.len_of (g.T.TextSource.text c.args.leveled.now.text).chars (g.D.BidiDataSource.source c.args.data_source.now) c.args.leveled.now.levels.now c.args.leveled.now.original_classes.now c.args.processing_classes.now c.resolve_opposite.new.classes c.args.sequence c.runs-runs.result.now c.sos-sos.result c.eos-eos.result c.runs-runs.ensures c.sos-sos.ensures c.eos-eos.ensures
     (IsUpToN1-paired g.T.TextSource.encoding.len_of g.T.TextSource.encoding.positive (g.T.TextSource.text c.args.leveled.now.text).chars (g.D.BidiDataSource.source c.args.data_source.now) c.args.leveled.now.original_classes.now c.args.processing_classes.now c.resolve_pairs.new.classes c.runs-runs.result.now c.bidi_class-embedding.result c.sos-sos.result
-    r paired_here (ap is_l_or_r embedding ∙ direction_of-l_or_r (level_at c.args.leveled.now.levels.now c.in-Some.first)) c.eos-eos.result c.resolve_opposite.new.classes c.resolve_opposite.auto.classes c.resolve_opposite.ensures.kept c.resolve_opposite.ensures.others c.resolve_opposite.ensures.own c.args.leveled.now.levels.now c.in-Some.first (sym c.in-Some.is ∙ c.first_kept.ensures) embedding)
+    r paired_here (ap is_l_or_r embedding ∙ direction_of-l_or_r (level_at c.args.leveled.now.levels.now c.in-Some.first)) c.eos-eos.result c.resolve_opposite.new.classes c.resolve_opposite.auto.classes c.resolve_opposite.ensures.kept c.resolve_opposite.ensures.outside c.resolve_opposite.ensures.own c.args.leveled.now.levels.now c.in-Some.first (sym c.in-Some.is ∙ c.first_kept.ensures) embedding)
 
 pub returns : goal.returns
 returns g c =
@@ -143,5 +143,5 @@ returns g c =
     record {
       resolved = resolved g (goal.at.returns g c).After-resolve_opposite (begins g (goal.at.returns g c).After-eos-eos r) r
           (paired g (goal.at.returns g c).After-resolve_pairs r);
-      refused = grind arith;
+      unchanged = grind arith;
     }

@@ -9,11 +9,11 @@ use Rattle.bidi_rules.proofs.weak.resolve_marks_and_numbers.Goals as goal
 
 pub resolve_marks-requires-clause-within : goal.resolve_marks-requires-clause-within
 resolve_marks-requires-clause-within g c =
-    lines-within g.T.TextSource.encoding.len_of g.T.TextSource.encoding.positive (g.T.TextSource.text c.args.text).chars (map bounds c.args.runs.now) c.requires.lines c.requires.ordered c.args.sos c.args.classes.now c.requires.per_char
+    lines-within g.T.TextSource.encoding.len_of g.T.TextSource.encoding.positive (g.T.TextSource.text c.args.text).chars (map bounds c.args.runs.now) c.requires.are_lines c.requires.ordered c.args.sos c.args.classes.now c.requires.per_char
 
 pub resolve_numbers-requires-clause-per_char : goal.resolve_numbers-requires-clause-per_char
 resolve_numbers-requires-clause-per_char g c =
-    marked-IsPerChar g.T.TextSource.encoding.len_of g.T.TextSource.encoding.positive (g.T.TextSource.text c.args.text).chars (map bounds c.args.runs.now) c.requires.lines c.requires.ordered c.args.sos c.args.classes.now c.requires.per_char
+    marked-IsPerChar g.T.TextSource.encoding.len_of g.T.TextSource.encoding.positive (g.T.TextSource.text c.args.text).chars (map bounds c.args.runs.now) c.requires.are_lines c.requires.ordered c.args.sos c.args.classes.now c.requires.per_char
     c.resolve_marks.new.classes c.resolve_marks.ensures.marked
 
 pub returns-then-has_marks_or_numbers-clause-walked : goal.returns-then-has_marks_or_numbers-clause-walked
@@ -23,7 +23,7 @@ pub returns-else-has_marks_or_numbers-clause-walked : goal.returns-else-has_mark
 returns-else-has_marks_or_numbers-clause-walked g c =
     grind (
       arith,
-      lines-within g.T.TextSource.encoding.len_of g.T.TextSource.encoding.positive (g.T.TextSource.text c.args.text).chars (map bounds c.args.runs.now) c.requires.lines c.requires.ordered c.args.sos c.args.classes.now c.requires.per_char,
+      lines-within g.T.TextSource.encoding.len_of g.T.TextSource.encoding.positive (g.T.TextSource.text c.args.text).chars (map bounds c.args.runs.now) c.requires.are_lines c.requires.ordered c.args.sos c.args.classes.now c.requires.per_char,
       is_any_in_blocks-none is_mark_or_number c.args.runs.now c.args.classes.now,
       or_parts,
       IsMarked-none c.args.runs.now (carried c.args.sos) c.args.classes.now,

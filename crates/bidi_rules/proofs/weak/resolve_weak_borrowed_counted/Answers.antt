@@ -32,8 +32,8 @@ resolved : (len_of : ℕ → ℕ) → HasUnits len_of → (chars : List ℕ) (se
 resolved len_of h chars sequence read sos runs_are sos_is old c1 c2 c3 w marks numbers changed same long =
     rw (runs_are, sos_is) at (AreWeakTypesResolved-passes len_of h chars (map bounds read) w.lines w.ordered sos old w.per c1 marks c2 c3 numbers changed same long)
 
-pub resolve_marks_and_numbers-requires-clause-lines : goal.resolve_marks_and_numbers-requires-clause-lines
-resolve_marks_and_numbers-requires-clause-lines g c = grind arith
+pub resolve_marks_and_numbers-requires-clause-are_lines : goal.resolve_marks_and_numbers-requires-clause-are_lines
+resolve_marks_and_numbers-requires-clause-are_lines g c = grind arith
 
 pub resolve_marks_and_numbers-requires-clause-per_char : goal.resolve_marks_and_numbers-requires-clause-per_char
 resolve_marks_and_numbers-requires-clause-per_char g c =

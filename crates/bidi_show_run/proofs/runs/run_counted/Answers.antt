@@ -13,15 +13,15 @@ returns g c =
       device = rw (c.into_watched.ensures, c.into_watched-2.ensures)
           (reported_by_either _ _ _ input.failed output.failed input.reports_failed output.reports_failed
           (rw (new.failed, c.new-output.ensures.failed) at run.device));
-      utf8 = rw c.into_watched.ensures
-          (reported_at_end _ _ _ _ input.ended input.reports_ended (rw (new.reader, new.ended) at run.utf8));
+      not_utf8 = rw c.into_watched.ensures
+          (reported_at_end _ _ _ _ input.ended input.reports_ended (rw (new.reader, new.ended) at run.not_utf8));
       ended = rw c.into_watched.ensures
           (leaves_at_end _ _ _ input.ended _ input.reports_ended (rw new.ended at run.ended));
       written = rw (c.into_watched.ensures, c.into_watched-2.ensures) (rw (new.reader, c.new-output.ensures.writer) at run.written);
-      unwritten = search rules;
-      untouched = λ failed.
+      unchanged = search rules;
+      unchanged_if_read_fails = λ failed.
           let rose = risen _ input.failed input.reports_failed (rw c.into_watched.ensures at failed) in
-          let same = (rw new.failed at run.untouched) rose in
+          let same = (rw new.failed at run.unchanged_if_read_fails) rose in
           search rules;
       unread = search rules;
     }

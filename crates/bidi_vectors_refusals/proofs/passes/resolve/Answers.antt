@@ -36,7 +36,7 @@ pub resolve-requires : goal.resolve-requires
 unfolding kept_in_place
 resolve-requires c = record {
   per_char = grind arith;
-  fits = grind arith;
+  are_lines = grind arith;
   levels = grind arith;
   original = grind arith;
   resolved = all_resolved _ _ c.args.classes.now _ (sym c.are_left_or_removed.ensures ∙ c.if-not-are_left_or_removed.false);
@@ -46,7 +46,7 @@ pub resolve_neutral-requires : goal.resolve_neutral-requires
 unfolding kept_in_place
 resolve_neutral-requires c = record {
   per_char = grind arith;
-  fits = grind arith;
+  are_lines = grind arith;
   levels = grind arith;
   original = grind arith;
   resolved = all_resolved _ _ c.args.classes.now _ (sym c.are_left_or_removed.ensures ∙ c.if-not-are_left_or_removed.false);

@@ -26,5 +26,5 @@ returns-clause-lines g c =
     let end : c.loop-start.start ≡ c.args.range.end = omega (arith, c.loop-start.invariant.0.ordered, c.loop-start-test.false) in
     simp (line_ranges-none (g.W.CharWidth.width_of c.args.widths.now) c.args.limit len g.T.TextSource.encoding.positive cs c.loop-start.start c.args.range.end end, append-nil) at c.loop-start.invariant.1
 
-pub returns-clause-parted : goal.returns-clause-parted
-returns-clause-parted g c = grind (arith, line_ranges-IsPartition, returns-clause-lines)
+pub returns-clause-partition : goal.returns-clause-partition
+returns-clause-partition g c = grind (arith, line_ranges-IsPartition, returns-clause-lines)

@@ -24,7 +24,7 @@ loop-first-preserved g c =
     let runs = map bounds c.args.runs.items in
     let first = c.loop-first.first in
     let h = c.loop-first.invariant in
-    let kept = c.in_ok-sequence.ensures.kept ∙ h.kept in
+    let kept = c.in_ok-sequence.ensures.outside ∙ h.kept in
     elim c.match-branch-3.branch [
       | in-Some+in_ok-copied+in_ok-push w ↦
           let here : begins links first ≡ true = sym c.in_ok-sequence.ensures.begins ∙ ap is_some w.in-Some.is in
@@ -56,5 +56,5 @@ returns g c =
       sequences = same ∙ (rw same_runs at c.in_ok-link.ensures.sequences);
       explicit = λ levels. same ∙ (rw same_runs at c.in_ok-link.ensures.explicit) levels;
       runs = rw (run_bounds-joined out (linked_sequences links (map bounds runs)) all) (rw same_runs at c.in_ok-link.ensures.runs);
-      fits = AreLines-joined out (linked_sequences links (map bounds runs)) all len cs (rw same_runs at c.in_ok-link.ensures.fits);
+      are_lines = AreLines-joined out (linked_sequences links (map bounds runs)) all len cs (rw same_runs at c.in_ok-link.ensures.are_lines);
     }

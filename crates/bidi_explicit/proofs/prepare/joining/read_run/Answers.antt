@@ -26,58 +26,58 @@ bounds-classes-control g c = search (arith, within)
 
 pub loop-at-init : goal.loop-at-init
 loop-at-init g c =
-    IsCountedTo-start _ _ c.requires.per_char _ _ _ _ c.requires.line c.requires.kept_end c.args.waiting.now
+    IsCountedTo-start _ _ c.requires.per_char _ _ _ _ c.requires.is_line c.requires.kept_end c.args.waiting.now
 
 pub end_within-at-requires-clause-begins : goal.end_within-at-requires-clause-begins
 end_within-at-requires-clause-begins g c =
     let below : c.next_control-control.result < c.args.run.now.end = omega (arith, c.next_control-control.ensures.ends, c.if-control-end.false) in
-    let jumped = IsReadTo-jump _ _ c.requires.per_char _ _ _ _ c.requires.line c.requires.kept_end _ _ _ _ c.loop-at.invariant.read c.next_control-control.ensures in
-    (IsReadTo-tested _ _ c.requires.per_char _ _ _ _ c.requires.line c.requires.kept_end _ _ _ below jumped).begins
+    let jumped = IsReadTo-jump _ _ c.requires.per_char _ _ _ _ c.requires.is_line c.requires.kept_end _ _ _ _ c.loop-at.invariant.read c.next_control-control.ensures in
+    (IsReadTo-tested _ _ c.requires.per_char _ _ _ _ c.requires.is_line c.requires.kept_end _ _ _ below jumped).begins
 
-pub end_within-at-requires-clause-long : goal.end_within-at-requires-clause-long
-end_within-at-requires-clause-long g c = long _ g.T.TextSource.encoding.positive _ _ c.requires.per_char
+pub end_within-at-requires-clause-same_len : goal.end_within-at-requires-clause-same_len
+end_within-at-requires-clause-same_len g c = long _ g.T.TextSource.encoding.positive _ _ c.requires.per_char
 
 pub loop-at-smaller-then-unwaited-gt0 : goal.loop-at-smaller-then-unwaited-gt0
 loop-at-smaller-then-unwaited-gt0 g c =
-    counted-smaller _ _ c.requires.per_char _ _ _ _ c.requires.line c.requires.kept_end
+    counted-smaller _ _ c.requires.per_char _ _ _ _ c.requires.is_line c.requires.kept_end
     _ _ _ _ _ _ c.next_control-control.ensures c.if-control-end.false c.end_within-at.ensures c.loop-at.invariant
 
 pub loop-at-smaller-else-unwaited-gt0 : goal.loop-at-smaller-else-unwaited-gt0
 loop-at-smaller-else-unwaited-gt0 g c =
-    counted-smaller _ _ c.requires.per_char _ _ _ _ c.requires.line c.requires.kept_end
+    counted-smaller _ _ c.requires.per_char _ _ _ _ c.requires.is_line c.requires.kept_end
     _ _ _ _ _ _ c.next_control-control.ensures c.if-control-end.false c.end_within-at.ensures c.loop-at.invariant
 
 pub loop-at-smaller-then-at-kept_end : goal.loop-at-smaller-then-at-kept_end
 loop-at-smaller-then-at-kept_end g c =
-    counted-smaller _ _ c.requires.per_char _ _ _ _ c.requires.line c.requires.kept_end
+    counted-smaller _ _ c.requires.per_char _ _ _ _ c.requires.is_line c.requires.kept_end
     _ _ _ _ _ _ c.next_control-control.ensures c.if-control-end.false c.end_within-at.ensures c.loop-at.invariant
 
 pub loop-at-smaller : goal.loop-at-smaller
 loop-at-smaller g c =
-    counted-smaller _ _ c.requires.per_char _ _ _ _ c.requires.line c.requires.kept_end
+    counted-smaller _ _ c.requires.per_char _ _ _ _ c.requires.is_line c.requires.kept_end
     _ _ _ _ _ _ c.next_control-control.ensures c.if-control-end.false c.end_within-at.ensures c.loop-at.invariant
 
 pub loop-at-preserved-then-unwaited-gt0 : goal.loop-at-preserved-then-unwaited-gt0
 loop-at-preserved-then-unwaited-gt0 g c =
-    counted-closed _ _ c.requires.per_char _ _ _ _ c.requires.line c.requires.kept_end
+    counted-closed _ _ c.requires.per_char _ _ _ _ c.requires.is_line c.requires.kept_end
     _ _ _ _ _ _ c.next_control-control.ensures c.if-control-end.false c.end_within-at.ensures c.loop-at.invariant
     (sym c.is_pdi.ensures ∙ c.if-is_pdi.true) c.if-unwaited-gt0.true
 
 pub loop-at-preserved-else-unwaited-gt0 : goal.loop-at-preserved-else-unwaited-gt0
 loop-at-preserved-else-unwaited-gt0 g c =
-    counted-closed_before _ _ c.requires.per_char _ _ _ _ c.requires.line c.requires.kept_end
+    counted-closed_before _ _ c.requires.per_char _ _ _ _ c.requires.is_line c.requires.kept_end
     _ _ _ _ _ _ c.next_control-control.ensures c.if-control-end.false c.end_within-at.ensures c.loop-at.invariant
     _ (sym c.is_pdi.ensures ∙ c.if-is_pdi.true) (omega arith) c.pop.ensures
 
 pub loop-at-preserved-then-at-kept_end : goal.loop-at-preserved-then-at-kept_end
 loop-at-preserved-then-at-kept_end g c =
-    counted-waits _ _ c.requires.per_char _ _ _ _ c.requires.line c.requires.kept_end
+    counted-waits _ _ c.requires.per_char _ _ _ _ c.requires.is_line c.requires.kept_end
     _ _ _ _ _ _ c.next_control-control.ensures c.if-control-end.false c.end_within-at.ensures c.loop-at.invariant
     _ _ (sym c.is_pdi.ensures ∙ c.if-is_pdi.false) c.if-at-kept_end.true c.in_ok-push_unwaited.ensures c.in_ok-push.ensures
 
 pub loop-at-preserved : goal.loop-at-preserved
 loop-at-preserved g c =
-    counted-opened _ _ c.requires.per_char _ _ _ _ c.requires.line c.requires.kept_end
+    counted-opened _ _ c.requires.per_char _ _ _ _ c.requires.is_line c.requires.kept_end
     _ _ _ _ _ _ c.next_control-control.ensures c.if-control-end.false c.end_within-at.ensures c.loop-at.invariant
     (sym c.is_pdi.ensures ∙ c.if-is_pdi.false) c.if-at-kept_end.false
 
@@ -85,9 +85,9 @@ pub returns : goal.returns
 returns g c =
     elim c.loop-at-test.branch [
       | else-loop-at-test w ↦
-          rw (counted-all _ _ c.requires.per_char _ _ _ _ c.requires.line c.requires.kept_end
+          rw (counted-all _ _ c.requires.per_char _ _ _ _ c.requires.is_line c.requires.kept_end
           _ _ _ _ w.loop-at-test.false c.loop-at.invariant) at c.push_unwaited-2.ensures
       | then-loop-at-test+then-control-end w ↦
-          rw (counted-end _ _ c.requires.per_char _ _ _ _ c.requires.line c.requires.kept_end
+          rw (counted-end _ _ c.requires.per_char _ _ _ _ c.requires.is_line c.requires.kept_end
           _ _ _ _ _ w.next_control-control.ensures w.if-control-end.true c.loop-at.invariant) at c.push_unwaited-2.ensures
     ]

@@ -19,8 +19,8 @@ slice_bounds-show-end-2 g c = grind (arith, within)
 is : (g : Over) (c : In_ok-show g) → let a = with_lists (g.T.TextSource.text c.args.text) c.args.classes.now c.args.levels.now in levels_in c.show.new.self ≡ levels_of_line c.args.para_level a.classes a.levels c.args.line.start c.args.line.end
 is g c = grind arith
 
-pub returns-in_err-show-clause-empty : goal.returns-in_err-show-clause-empty
-returns-in_err-show-clause-empty g c =
+pub returns-in_err-show-clause-emptied : goal.returns-in_err-show-clause-emptied
+returns-in_err-show-clause-emptied g c =
     let s = c.clear.new.self in
     let a = with_lists (g.T.TextSource.text c.args.text) c.args.classes.now c.args.levels.now in
     on_err c.from_residual.result (record {
@@ -33,7 +33,7 @@ returns-in_err-show-clause-empty g c =
 
 pub find-requires : goal.find-requires
 find-requires g c =
-    let all = stored-levels g.T.TextSource.encoding.len_of g.T.TextSource.encoding.positive (g.T.TextSource.text c.args.text).chars c.args.para_level c.args.classes.now c.args.levels.now c.args.line c.requires.classes c.requires.levels c.requires.line _
+    let all = stored-levels g.T.TextSource.encoding.len_of g.T.TextSource.encoding.positive (g.T.TextSource.text c.args.text).chars c.args.para_level c.args.classes.now c.args.levels.now c.args.line c.requires.classes c.requires.levels c.requires.is_line _
     (is g (goal.at.find-requires g c).In_ok-show) in
     omega (arith, all.one_a_unit, ap length c.as_slice.ensures)
 
@@ -48,8 +48,8 @@ invariant_of-self-in-Break-branch-2 g c =
       of_levels = s.of_levels ∙ ap has_rtl (none-shown g.T.TextSource.encoding.len_of [] s.start s.end c.clear.ensures.start c.clear.ensures.end _ ∙ sym (none-shown g.T.TextSource.encoding.len_of [] s.start s.end c.clear.ensures.start c.clear.ensures.end _));
     }
 
-pub returns-in_err-find-clause-empty : goal.returns-in_err-find-clause-empty
-returns-in_err-find-clause-empty g c =
+pub returns-in_err-find-clause-emptied : goal.returns-in_err-find-clause-emptied
+returns-in_err-find-clause-emptied g c =
     let s = c.clear.new.self in
     let a = with_lists (g.T.TextSource.text c.args.text) c.args.classes.now c.args.levels.now in
     on_err c.from_residual-in_err-find.result (record {
@@ -66,12 +66,12 @@ invariant_of-self-2 g c =
     let some = g.T.TextSource.encoding.positive in
     let chars : List ℕ = (g.T.TextSource.text c.args.text).chars in
     let levels = is g (goal.at.invariant_of-self-2 g c).In_ok-show in
-    let all = stored-all len some chars c.args.para_level c.args.classes.now c.args.levels.now c.args.line c.requires.classes c.requires.levels c.requires.line _ levels in
-    let each = stored-levels len some chars c.args.para_level c.args.classes.now c.args.levels.now c.args.line c.requires.classes c.requires.levels c.requires.line _ levels in
-    let runs = stored-runs_of_chars len some chars c.args.para_level c.args.classes.now c.args.levels.now c.args.line c.requires.classes c.requires.levels c.requires.line _ levels in
+    let all = stored-all len some chars c.args.para_level c.args.classes.now c.args.levels.now c.args.line c.requires.classes c.requires.levels c.requires.is_line _ levels in
+    let each = stored-levels len some chars c.args.para_level c.args.classes.now c.args.levels.now c.args.line c.requires.classes c.requires.levels c.requires.is_line _ levels in
+    let runs = stored-runs_of_chars len some chars c.args.para_level c.args.classes.now c.args.levels.now c.args.line c.requires.classes c.requires.levels c.requires.is_line _ levels in
     let text = c.clear.ensures.text in
     record {
-      is_line = subst (λ t. IsLine len (g.T.TextSource.text t).chars c.args.line.start c.args.line.end) (sym text) c.requires.line;
+      is_line = subst (λ t. IsLine len (g.T.TextSource.text t).chars c.args.line.start c.args.line.end) (sym text) c.requires.is_line;
       one_a_unit = omega (arith, each.one_a_unit);
       runs_of_levels = c.in_ok-find.ensures.runs ∙ ap (visual_runs c.args.line.start) (c.as_slice.ensures ∙ sym all);
       runs_of_chars = subst (λ t. AreRunsOfChars len (g.T.TextSource.text t).chars c.args.line.start (take (c.args.line.end - c.args.line.start) (levels_in c.show.new.self))) (sym text) (subst (AreRunsOfChars len chars c.args.line.start) (sym all) runs);
@@ -84,8 +84,8 @@ returns-clause-shows g c =
     let some = g.T.TextSource.encoding.positive in
     let chars : List ℕ = (g.T.TextSource.text c.args.text).chars in
     let levels = is g (goal.at.returns-clause-shows g c).In_ok-show in
-    let all = stored-all len some chars c.args.para_level c.args.classes.now c.args.levels.now c.args.line c.requires.classes c.requires.levels c.requires.line _ levels in
-    let each = stored-levels len some chars c.args.para_level c.args.classes.now c.args.levels.now c.args.line c.requires.classes c.requires.levels c.requires.line _ levels in
+    let all = stored-all len some chars c.args.para_level c.args.classes.now c.args.levels.now c.args.line c.requires.classes c.requires.levels c.requires.is_line _ levels in
+    let each = stored-levels len some chars c.args.para_level c.args.classes.now c.args.levels.now c.args.line c.requires.classes c.requires.levels c.requires.is_line _ levels in
     record {
       len_of = refl;
       chars = ap (λ t. (g.T.TextSource.text t).chars) (sym (c.clear.ensures.text));

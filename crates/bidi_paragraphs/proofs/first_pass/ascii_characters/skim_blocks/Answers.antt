@@ -53,7 +53,7 @@ passed g c =
 pub loop-next-preserved : goal.loop-next-preserved
 loop-next-preserved g c =
     let fits = room g (goal.at.loop-next-preserved g c).In-Some in
-    let kept = IsSkimmed-kept _ _ _ _ _ _ _ _ _ _ c.loop-next.invariant.3 c.write_block-found.new.classes c.write_block-found.ensures.kept in
+    let kept = IsSkimmed-kept _ _ _ _ _ _ _ _ _ _ c.loop-next.invariant.3 c.write_block-found.new.classes c.write_block-found.ensures.outside in
     let written = c.write_block-found.ensures.written in
     let w = passed g c in (
       omega (arith, c.loop-next.invariant.0),
@@ -66,6 +66,6 @@ loop-next-preserved g c =
 
 pub returns-clause-read : goal.returns-clause-read
 returns-clause-read g c = elim c.match-next.branch [
-  | in-Some+then-meets+then-meets-2 w ↦ rw w.classes-is (IsSkimmed-kept _ _ _ _ _ _ _ _ _ _ c.loop-next.invariant.3 _ w.write_block-found.ensures.kept)
+  | in-Some+then-meets+then-meets-2 w ↦ rw w.classes-is (IsSkimmed-kept _ _ _ _ _ _ _ _ _ _ c.loop-next.invariant.3 _ w.write_block-found.ensures.outside)
   | in_default w ↦ rw w.classes-is c.loop-next.invariant.3
 ]

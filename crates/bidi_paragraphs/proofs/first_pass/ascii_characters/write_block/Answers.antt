@@ -16,4 +16,4 @@ pub returns : goal.returns
 returns g c =
     let all : c.loop-i.i ≡ 16 = omega (arith, c.loop-i-test.false) in
     let h = rw all at c.loop-i.invariant in
-    record { kept = h.kept; written = h.written; found = h.found_is }
+    record { outside = h.kept; written = h.written; found = h.found_is }

@@ -65,8 +65,8 @@ pub returns-clause-sequences : goal.returns-clause-sequences
 returns-clause-sequences g c =
     rw (all_linked g (goal.at.returns-clause-sequences g c).In_ok-link) (rw (c.as_slice.ensures.value, read g (goal.at.returns-clause-sequences g c).In_ok-find_levels_counted) at c.in_ok-link.ensures.sequences)
 
-pub returns-clause-fits : goal.returns-clause-fits
-returns-clause-fits g c = rw (all_linked g (goal.at.returns-clause-fits g c).In_ok-link) (rw c.as_slice.ensures.value at c.in_ok-link.ensures.fits)
+pub returns-clause-are_lines : goal.returns-clause-are_lines
+returns-clause-are_lines g c = rw (all_linked g (goal.at.returns-clause-are_lines g c).In_ok-link) (rw c.as_slice.ensures.value at c.in_ok-link.ensures.are_lines)
 
 pub returns-clause-linked : goal.returns-clause-linked
 returns-clause-linked g c = rw (all_linked g (goal.at.returns-clause-linked g c).In_ok-link) (rw c.as_slice.ensures.value at c.in_ok-link.ensures.linked)

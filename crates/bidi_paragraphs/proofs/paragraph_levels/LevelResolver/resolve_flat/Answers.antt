@@ -59,14 +59,14 @@ module _ (g : Over) (c : After-new-sequence g) where
 pub resolve_weak_borrowed_counted-requires : goal.resolve_weak_borrowed_counted-requires
 resolve_weak_borrowed_counted-requires g c =
     let n = (goal.at.resolve_weak_borrowed_counted-requires g c).After-new-sequence in
-    record { per_char = AreResolvedTo-per_char _ _ _ _ _ _ [] _ (fits g n) (begun g n); fits = lines g n }
+    record { per_char = AreResolvedTo-per_char _ _ _ _ _ _ [] _ (fits g n) (begun g n); are_lines = lines g n }
 
 pub invariant_of-leveled : goal.invariant_of-leveled
 invariant_of-leveled g c =
     let p = c.args.paragraph.now in
     record {
       class_each = stored-long _ _ (g.D.BidiDataSource.source p.data_source.now).class_of p.original_classes.now p.stored;
-      level_each = omega (arith, c.requires.long, c.fill.auto.self);
+      level_each = omega (arith, c.requires.same_len, c.fill.auto.self);
     }
 
 pub resolve_up_to_n1-requires : goal.resolve_up_to_n1-requires
@@ -77,16 +77,16 @@ resolve_up_to_n1-requires g c =
     c.resolve_weak_borrowed_counted.ensures.resolved.kept c.resolve_weak_borrowed_counted.ensures.resolved.removed c.resolve_weak_borrowed_counted.ensures.resolved.outside c.resolve_weak_borrowed_counted.ensures.resolved.per_char in
     record {
       per_char = c.resolve_weak_borrowed_counted.ensures.resolved.per_char;
-      fits = lines g n;
-      levels = omega (arith, c.requires.long, c.fill.auto.self, c.resolve_weak_borrowed_counted.auto.processing_classes, long g n);
+      are_lines = lines g n;
+      levels = omega (arith, c.requires.same_len, c.fill.auto.self, c.resolve_weak_borrowed_counted.auto.processing_classes, long g n);
       original = grind (arith, length-map);
       resolved = AreWeakTo-resolved _ _ _ _ _ _ (fits g n) [] _ (lines g n) (next g n) _ weak;
     }
 
-pub resolve_levels-requires-clause-lengths : goal.resolve_levels-requires-clause-lengths
-resolve_levels-requires-clause-lengths g c =
-    let units_long = long g (goal.at.resolve_levels-requires-clause-lengths g c).After-new-sequence in
-    omega (arith, c.requires.long, c.fill.auto.self, c.resolve_weak_borrowed_counted.auto.processing_classes, c.resolve_up_to_n1.auto.processing_classes, units_long)
+pub resolve_levels-requires-clause-same_len : goal.resolve_levels-requires-clause-same_len
+resolve_levels-requires-clause-same_len g c =
+    let units_long = long g (goal.at.resolve_levels-requires-clause-same_len g c).After-new-sequence in
+    omega (arith, c.requires.same_len, c.fill.auto.self, c.resolve_weak_borrowed_counted.auto.processing_classes, c.resolve_up_to_n1.auto.processing_classes, units_long)
 
 -- the levels are those of the rules
 answered : (g : Over) (c : _) → let n = (goal.at.returns g c).After-new-sequence in
@@ -97,7 +97,7 @@ answered g c =
     AreWeakTo-from _ _ _ _ _ _ (fits g n) [] _ (lines g n) (next g n) _ _ (begun g n)
     c.resolve_weak_borrowed_counted.ensures.resolved.kept c.resolve_weak_borrowed_counted.ensures.resolved.removed c.resolve_weak_borrowed_counted.ensures.resolved.outside c.resolve_weak_borrowed_counted.ensures.resolved.per_char in
     let levels_are =
-    levels-whole _ g.T.TextSource.encoding.positive _ (source g n) (given g n).bracket_of _ (fits g n) c.requires.flat c.args.levels.now c.fill.new.self c.requires.long (c.fill.ensures.after (λ y e. e)) in
+    levels-whole _ g.T.TextSource.encoding.positive _ (source g n) (given g n).bracket_of _ (fits g n) c.requires.flat c.args.levels.now c.fill.new.self c.requires.same_len (c.fill.ensures.after (λ y e. e)) in
     AreLevels-all _ _ _ _ _ _ _ c.resolve_up_to_n1.new.processing_classes c.fill.new.self c.resolve_levels.new.levels (fits g n) levels_are
     (joined-sequences _ g.T.TextSource.encoding.positive _ (source g n) (given g n).bracket_of _ (fits g n) c.requires.flat _ (same g n))
     (AreResolvedTo-more _ _ _ _ _ _ (fits g n) [] _ (lines g n) (next g n) _ c.resolve_up_to_n1.new.processing_classes c.args.paragraph.now.original_classes.now c.fill.new.self

@@ -36,7 +36,7 @@ ready g c =
     let len = g.T.TextSource.encoding.len_of in
     let cs : List ℕ = (g.T.TextSource.text c.args.paragraph.now.text).chars in
     let given = g.D.BidiDataSource.source c.args.paragraph.now.data_source.now in
-    prepared len _ cs _ given.bracket_of _ c.args.paragraph.now.original_classes.now _ _ (length-map cs given.class_of) c.args.paragraph.now.stored c.in_ok-prepare.ensures.levels c.in_ok-prepare.ensures.sequences c.in_ok-prepare.ensures.fits
+    prepared len _ cs _ given.bracket_of _ c.args.paragraph.now.original_classes.now _ _ (length-map cs given.class_of) c.args.paragraph.now.stored c.in_ok-prepare.ensures.levels c.in_ok-prepare.ensures.sequences c.in_ok-prepare.ensures.are_lines
 
 -- the sequence at hand: it begins with the run at hand, and it is the one that the links lead to
 record IsAtHand (links : RunLinks) (runs : List (ℕ × ℕ)) (first : ℕ) (s : BorrowedSequence) : Type 0 where
@@ -70,9 +70,9 @@ has_known_levels-requires-clause-inside g c =
     (AreResolvedTo-long _ _ _ _ _ _ _ _ (length-map (g.T.TextSource.text c.args.paragraph.now.text).chars _) c.loop-first.invariant.resolved)
     (prepared-lines _ _ _ _ _ _ _ _ _ _ (ready g at.In_ok-prepare) c.loop-first.first (borrowed_joined c.borrowed-sequence.result) hand.within hand.here hand.is)
 
-pub has_known_levels-requires-clause-levels : goal.has_known_levels-requires-clause-levels
-has_known_levels-requires-clause-levels g c =
-    let is_ready = ready g (goal.at.has_known_levels-requires-clause-levels g c).In_ok-prepare in
+pub has_known_levels-requires-clause-same_len : goal.has_known_levels-requires-clause-same_len
+has_known_levels-requires-clause-same_len g c =
+    let is_ready = ready g (goal.at.has_known_levels-requires-clause-same_len g c).In_ok-prepare in
     omega (arith, prepared-long _ _ _ _ _ _ _ _ _ _ is_ready, AreResolvedTo-long _ _ _ _ _ _ _ _ is_ready.fits c.loop-first.invariant.resolved)
 
 pub write_l_over_numbers-requires-clause-inside : goal.write_l_over_numbers-requires-clause-inside
@@ -83,9 +83,9 @@ write_l_over_numbers-requires-clause-inside g c =
     (AreResolvedTo-long _ _ _ _ _ _ _ _ (length-map (g.T.TextSource.text c.args.paragraph.now.text).chars _) c.loop-first.invariant.resolved)
     (prepared-lines _ _ _ _ _ _ _ _ _ _ (ready g at.In_ok-prepare) c.loop-first.first (borrowed_joined c.borrowed-sequence.result) hand.within hand.here hand.is)
 
-pub write_l_over_numbers-requires-clause-levels : goal.write_l_over_numbers-requires-clause-levels
-write_l_over_numbers-requires-clause-levels g c =
-    let is_ready = ready g (goal.at.write_l_over_numbers-requires-clause-levels g c).In_ok-prepare in
+pub write_l_over_numbers-requires-clause-same_len : goal.write_l_over_numbers-requires-clause-same_len
+write_l_over_numbers-requires-clause-same_len g c =
+    let is_ready = ready g (goal.at.write_l_over_numbers-requires-clause-same_len g c).In_ok-prepare in
     omega (arith, prepared-long _ _ _ _ _ _ _ _ _ _ is_ready, AreResolvedTo-long _ _ _ _ _ _ _ _ is_ready.fits c.loop-first.invariant.resolved)
 
 pub loop-first-preserved-then-has_known_levels : goal.loop-first-preserved-then-has_known_levels
@@ -104,7 +104,7 @@ loop-first-preserved-then-has_known_levels g c =
     let h = c.loop-first.invariant.resolved in
     let more = prepared-more _ _ _ _ _ _ _ _ _ _ is_ready c.loop-first.first s hand.within hand.here hand.is in
     record {
-      kept = c.in_ok-found.ensures.kept ∙ c.loop-first.invariant.kept;
+      kept = c.in_ok-found.ensures.outside ∙ c.loop-first.invariant.kept;
       resolved = elim c.then-has_known_levels.branch [
         | then-has_known_levels-via-then-has_known_levels w ↦
             let keeps = known_levels-keeps len units chars c.borrowed-sequence.result c.prepare.new.levels c.loop-first.classes line per _ _ (c.has_known_levels.ensures w.if-has_known_levels.true) kept in
@@ -127,7 +127,7 @@ resolve_weak_borrowed_counted-requires g c =
     let at = goal.at.resolve_weak_borrowed_counted-requires g c in
     let hand = at_hand g at.After-borrowed-sequence in record {
       per_char = rw (c.write_l_over_numbers.ensures.unchanged c.if-write_l_over_numbers.false) (AreResolvedTo-per_char _ _ _ _ _ _ _ _ (length-map (g.T.TextSource.text c.args.paragraph.now.text).chars _) c.loop-first.invariant.resolved);
-      fits = prepared-lines _ _ _ _ _ _ _ _ _ _ (ready g at.In_ok-prepare) c.loop-first.first (borrowed_joined c.borrowed-sequence.result) hand.within hand.here hand.is;
+      are_lines = prepared-lines _ _ _ _ _ _ _ _ _ _ (ready g at.In_ok-prepare) c.loop-first.first (borrowed_joined c.borrowed-sequence.result) hand.within hand.here hand.is;
     }
 
 pub invariant_of-leveled : goal.invariant_of-leveled
@@ -151,7 +151,7 @@ resolve_up_to_n1-requires g c =
     c.resolve_weak_borrowed_counted.ensures.resolved.kept c.resolve_weak_borrowed_counted.ensures.resolved.removed c.resolve_weak_borrowed_counted.ensures.resolved.outside c.resolve_weak_borrowed_counted.ensures.resolved.per_char in
     record {
       per_char = first_of (search rules, grind arith);
-      fits = line;
+      are_lines = line;
       levels = omega (arith, prepared-long _ _ _ _ _ _ _ _ _ _ is_ready, AreResolvedTo-long _ _ _ _ _ _ _ _ is_ready.fits c.loop-first.invariant.resolved, c.write_l_over_numbers.auto.classes, c.resolve_weak_borrowed_counted.auto.processing_classes);
       original = grind (arith, length-map, length-per_unit, length-stored_classes);
       resolved = AreWeakTo-resolved _ _ _ _ _ _ is_ready.fits _ s line next _ weak;
@@ -164,7 +164,7 @@ loop-first-preserved g c =
     let links = c.prepare.new.self.links in
     let runs = linked_runs links c.prepare.new.self.runs.items in
     let h = c.loop-first.invariant in
-    let kept = c.in_ok-found.ensures.kept ∙ h.kept in
+    let kept = c.in_ok-found.ensures.outside ∙ h.kept in
     elim c.match-branch-3.branch [
       | in-Some+else-has_known_levels+else-write_l_over_numbers+in_ok-resolve_up_to_n1 w ↦
           let found = rw w.in-Some.is at c.in_ok-found.ensures.sequence in
@@ -192,7 +192,7 @@ loop-first-preserved g c =
 pub resolve_levels-requires : goal.resolve_levels-requires
 resolve_levels-requires g c =
     let is_ready = ready g (goal.at.resolve_levels-requires g c).In_ok-prepare in record {
-      lengths = omega (arith, prepared-long _ _ _ _ _ _ _ _ _ _ is_ready, AreResolvedTo-long _ _ _ _ _ _ _ _ is_ready.fits c.loop-first.invariant.resolved);
+      same_len = omega (arith, prepared-long _ _ _ _ _ _ _ _ _ _ is_ready, AreResolvedTo-long _ _ _ _ _ _ _ _ is_ready.fits c.loop-first.invariant.resolved);
       explicit = prepared-low _ _ _ _ _ _ _ _ _ _ is_ready c.args.paragraph.now.low;
     }
 

@@ -7,8 +7,8 @@ use Rattle.bidi_rules.proofs.neutral.NeutralResolver.gather.Goals as goal
 pub loop-run-init : goal.loop-run-init
 loop-run-init g c = grind (arith, kept_in_place-none)
 
-pub gather_run-requires-clause-line : goal.gather_run-requires-clause-line
-gather_run-requires-clause-line g c = search (rules, line_at)
+pub gather_run-requires-clause-is_line : goal.gather_run-requires-clause-is_line
+gather_run-requires-clause-is_line g c = search (rules, line_at)
 
 pub loop-run-preserved : goal.loop-run-preserved
 loop-run-preserved g c =

@@ -62,4 +62,4 @@ returns g c =
     let run = c.args.run.now in
     let i = c.loop-at.invariant in
     let end : c.loop-at.at ≡ run.end = omega (arith, i.ends, c.loop-at-test.false) in
-    λ before h. simp (end, unit_brackets-line len_of chars source c.args.classes.now h-units run.start run.end c.requires.line) at (i.held before h)
+    λ before h. simp (end, unit_brackets-line len_of chars source c.args.classes.now h-units run.start run.end c.requires.is_line) at (i.held before h)

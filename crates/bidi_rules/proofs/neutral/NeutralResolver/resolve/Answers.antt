@@ -18,7 +18,7 @@ given g c = rw c.borrowed-borrowed.ensures.runs c.requires
 ready : (g : Over) (c : After-runs-runs g) → IsReady g.T.TextSource.encoding.len_of (g.T.TextSource.text c.args.text).chars (borrowed_runs c.borrowed-borrowed.result) (borrowed_sos c.borrowed-borrowed.result) c.args.processing_classes.now
 ready g c =
     IsReady-sequence g.T.TextSource.encoding.len_of g.T.TextSource.encoding.positive (g.T.TextSource.text c.args.text).chars c.borrowed-borrowed.result (borrowed_runs c.borrowed-borrowed.result) (borrowed_sos c.borrowed-borrowed.result) c.args.processing_classes.now refl refl
-    (given g c).per_char (given g c).fits (given g c).resolved
+    (given g c).per_char (given g c).are_lines (given g c).resolved
 
 pub first_kept-requires : goal.first_kept-requires
 first_kept-requires g c =
@@ -47,7 +47,7 @@ returns-in_default g c =
       resolved = IsResolved-alike _ _ _ _ _ _ _ _ _ _ _ _ _ c.borrowed-borrowed.ensures.runs c.borrowed-borrowed.ensures.sos c.borrowed-borrowed.ensures.eos
           (resolved-none g.T.TextSource.encoding.len_of g.T.TextSource.encoding.positive (g.T.TextSource.text c.args.text).chars (g.D.BidiDataSource.source c.args.data_source.now) c.args.levels.now c.args.original_classes.now c.args.processing_classes.now
           (borrowed_runs c.borrowed-borrowed.result) (borrowed_sos c.borrowed-borrowed.result) (borrowed_eos c.borrowed-borrowed.result) c.requires.per_char (ready g (goal.at.returns-in_default g c).After-runs-runs) none);
-      refused = grind arith;
+      unchanged = grind arith;
     }
 
 pub invariant_of-leveled : goal.invariant_of-leveled
@@ -81,12 +81,12 @@ resolved g c =
     IsResolved-decided units g.T.TextSource.encoding.positive chars runs sos (borrowed_eos c.borrowed-borrowed.result) (g.D.BidiDataSource.source c.args.data_source.now) c.args.levels.now c.args.original_classes.now old r now c.apply_n2.new.classes up
     c.bidi_class-embedding.result
     (simp (c.bidi_class-embedding.ensures, first-is units g.T.TextSource.encoding.positive chars runs sos old r c.in-Some.first (found g first)) (ap direction_of (c.index-levels-first.is ∙ get_or_default c.args.levels.now c.in-Some.first c.index-levels-first.result 0 (within g first))))
-    c.apply_n2.ensures.long
+    c.apply_n2.ensures.same_len
     (λ u inside. c.apply_n2.ensures.changed u (simp same_runs inside))
-    (λ u out. c.apply_n2.ensures.same u (simp same_runs out))
+    (λ u out. c.apply_n2.ensures.outside u (simp same_runs out))
 
 pub returns : goal.returns
 returns g c = record {
   resolved = IsResolved-alike _ _ _ _ _ _ _ _ _ _ _ _ _ c.borrowed-borrowed.ensures.runs c.borrowed-borrowed.ensures.sos c.borrowed-borrowed.ensures.eos (resolved g c);
-  refused = grind arith;
+  unchanged = grind arith;
 }

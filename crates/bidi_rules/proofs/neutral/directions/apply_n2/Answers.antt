@@ -27,5 +27,5 @@ loop-run-preserved c =
 pub returns-clause-changed : goal.returns-clause-changed
 returns-clause-changed c = grind (arith, length-map, take_all)
 
-pub returns-clause-same : goal.returns-clause-same
-returns-clause-same c = grind (arith, length-map, take_all)
+pub returns-clause-outside : goal.returns-clause-outside
+returns-clause-outside c = grind (arith, length-map, take_all)

@@ -48,13 +48,13 @@ turned : (c : goal.After-classes-then-stands_for-1) → IsFinished (sequence (go
 turned c =
     let before = (goal.at.returns-then-stands_for-clause-kept c).After-loop-run in
     IsFinished-opposite (sequence before) _ _ _ c.requires.eos (sym (asked (goal.at.returns-then-stands_for-clause-kept c).After-stands_for-2) ∙ c.if-stands_for.true)
-    (λ waiting. simp (c.loop-run.invariant.opposite, c.loop-run.invariant.long) at (c.write_waiting.ensures.held waiting)) c.write_waiting.ensures.idle (read before)
+    (λ waiting. simp (c.loop-run.invariant.opposite, c.loop-run.invariant.long) at (c.write_waiting.ensures.held waiting)) c.write_waiting.ensures.unchanged (read before)
 
 pub returns-then-stands_for-clause-kept : goal.returns-then-stands_for-clause-kept
 returns-then-stands_for-clause-kept c = (turned c).answers
 
-pub returns-then-stands_for-clause-others : goal.returns-then-stands_for-clause-others
-returns-then-stands_for-clause-others c = (turned c).unseen
+pub returns-then-stands_for-clause-outside : goal.returns-then-stands_for-clause-outside
+returns-then-stands_for-clause-outside c = (turned c).unseen
 
 pub returns-then-stands_for-clause-own : goal.returns-then-stands_for-clause-own
 returns-then-stands_for-clause-own c = (turned c).own
@@ -68,8 +68,8 @@ kept c =
 pub returns-else-stands_for-clause-kept : goal.returns-else-stands_for-clause-kept
 returns-else-stands_for-clause-kept c = (kept c).answers
 
-pub returns-else-stands_for-clause-others : goal.returns-else-stands_for-clause-others
-returns-else-stands_for-clause-others c = (kept c).unseen
+pub returns-else-stands_for-clause-outside : goal.returns-else-stands_for-clause-outside
+returns-else-stands_for-clause-outside c = (kept c).unseen
 
 pub returns-else-stands_for-clause-own : goal.returns-else-stands_for-clause-own
 returns-else-stands_for-clause-own c = (kept c).own

@@ -24,11 +24,11 @@ pub loop-at-init : goal.loop-at-init
 loop-at-init g c =
     grind (
       arith,
-      line_at g.T.TextSource.encoding.len_of (g.T.TextSource.text c.args.text).chars c.args.runs.now c.loop-run.run-index c.loop-run-test.true c.requires.lines,
+      line_at g.T.TextSource.encoding.len_of (g.T.TextSource.text c.args.text).chars c.args.runs.now c.loop-run.run-index c.loop-run-test.true c.requires.are_lines,
     )
 
 pub bounds-classes-at : goal.bounds-classes-at
-bounds-classes-at g c = omega (arith, inside g c, c.requires.long)
+bounds-classes-at g c = omega (arith, inside g c, c.requires.same_len)
 
 pub bounds-original_classes-at : goal.bounds-original_classes-at
 bounds-original_classes-at g c = grind (arith, inside) steps 400000

@@ -60,7 +60,7 @@ set_direction-requires g c =
     let st = here g (goal.at.set_direction-requires g c).In-loop-pair in
     record {
       fits = record {
-        lines = c.requires.ready.lines;
+        lines = c.requires.ready.are_lines;
         ordered = c.requires.ready.ordered;
         long = grind arith steps 400000;
         stored = grind arith steps 400000;
@@ -76,7 +76,7 @@ set_direction-requires-in-Some g c =
     let st = here g (goal.at.set_direction-requires-in-Some g c).In-loop-pair in
     record {
       fits = record {
-        lines = c.requires.ready.lines;
+        lines = c.requires.ready.are_lines;
         ordered = c.requires.ready.ordered;
         long = grind arith steps 400000;
         stored = grind arith steps 400000;

@@ -58,8 +58,8 @@ returns-then-no_mark_follows g c = λ k within there.
     let set = IsSet-unmarked len_of chars (drop c.args.bracket.run rs) _ _ c.args.bracket (k + 1) _ _ ends order (simp same at (c.no_mark_follows.ensures c.if-no_mark_follows.true)) c.write_bracket.ensures in
     IsSet-later _ _ (drop c.args.bracket.run rs) rs _ _ c.args.bracket.unit _ _ _ _ p.run.later (omega (arith, order, ends)) set.0 set.1
 
-pub set_with_marks-requires-clause-lines : goal.set_with_marks-requires-clause-lines
-set_with_marks-requires-clause-lines g c = grind (arith, common_steps, part_after)
+pub set_with_marks-requires-clause-are_lines : goal.set_with_marks-requires-clause-are_lines
+set_with_marks-requires-clause-are_lines g c = grind (arith, common_steps, part_after)
 
 pub set_with_marks-requires-clause-ordered : goal.set_with_marks-requires-clause-ordered
 set_with_marks-requires-clause-ordered g c = grind (arith, forwards-in_order) steps 400000

@@ -39,6 +39,6 @@ loop-at-preserved g c =
       end = h.end;
       long = h.long;
       marked = Marks-more c.args.run.now.start at (at + 16) c.args.before last c.unwrap_or-last.result c.args.classes.now now now h.starts (omega arith) h.marked block;
-      at_least = omega (arith, h.at_least);
-      at_most = omega (arith, h.at_most, h.starts);
+      steps_at_least = omega (arith, h.steps_at_least);
+      steps_at_most = omega (arith, h.steps_at_most, h.starts);
     }

@@ -19,12 +19,12 @@ loop-run-init g c =
     let runs = map bounds c.args.runs.now in
     let old = c.args.classes.now in
     let p : Pass = record { runs = runs; sos = c.args.sos; old = old; len = len_at len_of chars } in
-    let under_way = IsUnderWay-first_run p c.requires.ordered (lines-within len_of g.T.TextSource.encoding.positive chars runs c.requires.lines c.requires.ordered c.args.sos old c.requires.per_char) in
+    let under_way = IsUnderWay-first_run p c.requires.ordered (lines-within len_of g.T.TextSource.encoding.positive chars runs c.requires.are_lines c.requires.ordered c.args.sos old c.requires.per_char) in
     grind (arith, WaitsBelow-idle, under_way)
 
 pub read_run-requires-clause-inside : goal.read_run-requires-clause-inside
 read_run-requires-clause-inside g c =
-    omega (arith, lines-within _ g.T.TextSource.encoding.positive _ (map bounds c.args.runs.now) c.requires.lines c.requires.ordered c.args.sos _ c.requires.per_char c.loop-run.run (0, 0) (omega (arith, c.loop-run-test.true, length-map c.args.runs.now bounds)), c.loop-run.invariant.under_way.long)
+    omega (arith, lines-within _ g.T.TextSource.encoding.positive _ (map bounds c.args.runs.now) c.requires.are_lines c.requires.ordered c.args.sos _ c.requires.per_char c.loop-run.run (0, 0) (omega (arith, c.loop-run-test.true, length-map c.args.runs.now bounds)), c.loop-run.invariant.under_way.long)
 
 pub read_run-requires-clause-whole : goal.read_run-requires-clause-whole
 read_run-requires-clause-whole g c =
@@ -46,7 +46,7 @@ loop-run-preserved g c =
     let p : Pass = record { runs = runs; sos = c.args.sos; old = old; len = len_at len_of chars } in
     let start = start_or-at runs index (length old) fits in
     let begin = simp start at c.loop-run.invariant.under_way in
-    let inside = lines-within len_of g.T.TextSource.encoding.positive chars runs c.requires.lines c.requires.ordered c.args.sos old c.requires.per_char in
+    let inside = lines-within len_of g.T.TextSource.encoding.positive chars runs c.requires.are_lines c.requires.ordered c.args.sos old c.requires.per_char in
     let next = next_start 0 index runs (length old) c.requires.ordered fits (inside index (0, 0) fits) in
     let end = (get_or runs index (0, 0)).1 in
     let some = run_some 0 index runs c.requires.ordered fits in
@@ -69,22 +69,22 @@ returns-clause-walked g c =
     let top : start_or runs c.loop-run.run (length old) ≡ length old = grind (arith, start_or-past, length-map) in
     let h = simp top at c.loop-run.invariant.under_way in
     IsWalked-decided p now w (length old) h c.write_waiting.new.classes (omega arith)
-    (IsWrittenOver-decided p now w (length old) h ON c.write_waiting.new.classes c.requires.ordered (λ t. simp h.long at (c.write_waiting.ensures.held t)) c.write_waiting.ensures.idle)
+    (IsWrittenOver-decided p now w (length old) h ON c.write_waiting.new.classes c.requires.ordered (λ t. simp h.long at (c.write_waiting.ensures.held t)) c.write_waiting.ensures.unchanged)
 
 pub returns-then-not-has_numbers-clause-walked : goal.returns-then-not-has_numbers-clause-walked
 returns-then-not-has_numbers-clause-walked g c =
     IsWalked-none _ c.args.runs.now _ c.args.classes.now
-    (is_any-none is_number c.args.runs.now c.args.classes.now (lines-within _ g.T.TextSource.encoding.positive _ _ c.requires.lines c.requires.ordered c.args.sos _ c.requires.per_char) (sym c.has_numbers.ensures ∙ c.if-not-has_numbers.true))
+    (is_any-none is_number c.args.runs.now c.args.classes.now (lines-within _ g.T.TextSource.encoding.positive _ _ c.requires.are_lines c.requires.ordered c.args.sos _ c.requires.per_char) (sym c.has_numbers.ensures ∙ c.if-not-has_numbers.true))
 
 -- all runs are read
 record AreRead (runs : List (ℕ × ℕ)) (w : Walk) (n steps first : ℕ) : Type 0 where
   waiting : WaitsBelow runs w n
-  at_most : steps ≤ first + 2 * count_below runs n + 2 * count_below runs (resolved_to w n)
+  steps_at_most : steps ≤ first + 2 * count_below runs n + 2 * count_below runs (resolved_to w n)
 
 read : (runs : List (ℕ × ℕ)) (w : Walk) (index n steps first : ℕ) → length runs ≤ index → WaitsBelow runs w (start_or runs index n)
     → steps ≤ first + 2 * count_below runs (start_or runs index n) + 2 * count_below runs (resolved_to w (start_or runs index n))
     → AreRead runs w n steps first
-read runs w index n steps first past waiting at_most = grind (arith, start_or-past)
+read runs w index n steps first past waiting steps_at_most = grind (arith, start_or-past)
 
 pub read_run-requires-clause-waiting : goal.read_run-requires-clause-waiting
 read_run-requires-clause-waiting g c = grind (arith, start_or-at, length-map)
@@ -92,9 +92,9 @@ read_run-requires-clause-waiting g c = grind (arith, start_or-at, length-map)
 pub write_waiting-requires-clause-waiting : goal.write_waiting-requires-clause-waiting
 write_waiting-requires-clause-waiting g c = grind arith
 
-pub returns-clause-at_most : goal.returns-clause-at_most
-returns-clause-at_most g c =
+pub returns-clause-steps_at_most : goal.returns-clause-steps_at_most
+returns-clause-steps_at_most g c =
     let runs = map bounds c.args.runs.now in
     let long : length c.loop-run.classes ≡ length c.args.classes.now = omega (arith, c.loop-run.auto.classes) in
-    let all = read runs c.loop-run.walk c.loop-run.run (length c.args.classes.now) c.loop-run.steps c.args.steps.now (omega (arith, c.loop-run-test.false, length-map c.args.runs.now bounds)) c.loop-run.invariant.waiting c.loop-run.invariant.at_most in
-    omega (arith, all.at_most, simp long at c.write_waiting.ensures.at_most, count_below-all 0 runs (length c.args.classes.now) c.requires.ordered (lines-within _ g.T.TextSource.encoding.positive _ runs c.requires.lines c.requires.ordered c.args.sos _ c.requires.per_char))
+    let all = read runs c.loop-run.walk c.loop-run.run (length c.args.classes.now) c.loop-run.steps c.args.steps.now (omega (arith, c.loop-run-test.false, length-map c.args.runs.now bounds)) c.loop-run.invariant.waiting c.loop-run.invariant.steps_at_most in
+    omega (arith, all.steps_at_most, simp long at c.write_waiting.ensures.steps_at_most, count_below-all 0 runs (length c.args.classes.now) c.requires.ordered (lines-within _ g.T.TextSource.encoding.positive _ runs c.requires.are_lines c.requires.ordered c.args.sos _ c.requires.per_char))

@@ -12,6 +12,6 @@ invariant-loop-run g l =
     record {
       waiting : WaitsBelow runs l.walk next;
       under_way : IsUnderWay (record { runs = runs; sos = l.fn.sos; old = l.fn.classes; len = len_at g.T.TextSource.encoding.len_of (g.T.TextSource.text l.fn.text).chars }) l.classes l.walk next;
-      at_least : l.fn.steps ≤ l.steps;
-      at_most : l.steps ≤ l.fn.steps + 2 * count_below runs next + 2 * count_below runs (resolved_to l.walk next);
+      steps_at_least : l.fn.steps ≤ l.steps;
+      steps_at_most : l.steps ≤ l.fn.steps + 2 * count_below runs next + 2 * count_below runs (resolved_to l.walk next);
     }

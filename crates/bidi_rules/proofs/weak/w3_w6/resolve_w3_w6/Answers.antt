@@ -36,15 +36,15 @@ loop-run-preserved g c =
 pub returns-clause-changed : goal.returns-clause-changed
 returns-clause-changed g c = grind (arith, length-map, take_all)
 
-pub returns-clause-same : goal.returns-clause-same
-returns-clause-same g c = grind (arith, length-map, take_all)
+pub returns-clause-outside : goal.returns-clause-outside
+returns-clause-outside g c = grind (arith, length-map, take_all)
 
 -- all runs came
 all_runs : (i : ℕ) (runs : List (ℕ × ℕ)) → length runs ≤ i → length (units_in_runs (take i runs)) ≡ length (units_in_runs runs)
 all_runs i runs past = ap (λ (rs : List (ℕ × ℕ)). length (units_in_runs rs)) (take_all i runs past)
 
-pub returns-clause-at_least : goal.returns-clause-at_least
-returns-clause-at_least g c = grind (arith, length-map, all_runs)
+pub returns-clause-steps_at_least : goal.returns-clause-steps_at_least
+returns-clause-steps_at_least g c = grind (arith, length-map, all_runs)
 
-pub returns-clause-at_most : goal.returns-clause-at_most
-returns-clause-at_most g c = grind (arith, length-map, all_runs)
+pub returns-clause-steps_at_most : goal.returns-clause-steps_at_most
+returns-clause-steps_at_most g c = grind (arith, length-map, all_runs)

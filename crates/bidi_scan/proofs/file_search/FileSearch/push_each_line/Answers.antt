@@ -29,7 +29,7 @@ loop-rest-preserved c =
       record {
         all = ap (λ t. map line_of c.loop-rest.found.items ++ t) (sym same) ∙ h.all;
         count = let before = h.count in omega arith;
-        few = let before = h.few in omega (arith, c.split_at.ensures.back_len, c.first_line_len.ensures.some);
+        few = let before = h.few in omega (arith, c.split_at.ensures.back_len, c.first_line_len.ensures.advances);
       },
       c.loop-rest.invariant.1,
       c.loop-rest.invariant.2,

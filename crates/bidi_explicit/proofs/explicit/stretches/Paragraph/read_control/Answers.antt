@@ -20,8 +20,8 @@ returns g c =
           λ runs run h. control-after _ _ _ _ _ runs run h c.requires.inside c.end_of-end.result c.end_of-end.ensures _ _ _ c.read-answer.ensures.state c.read-answer.ensures.level
           c.read-answer.ensures.class
           _ _ c.write_control.ensures.levels c.write_control.ensures.classes _ (grind (arith, c.then_some.ensures));
-      some = control-some _ _ _ _ _ _ _ c.requires.read.2 c.requires.inside c.end_of-end.result c.end_of-end.ensures;
+      advances = control-some _ _ _ _ _ _ _ c.requires.read.2 c.requires.inside c.end_of-end.result c.end_of-end.ensures;
       one = control-index _ _ _ _ _ _ _ c.requires.read.2 c.requires.inside c.end_of-end.result c.end_of-end.ensures;
-      at_least = omega (arith, c.read-answer.ensures.at_least);
-      at_most = omega (arith, c.read-answer.ensures.at_most);
+      steps_at_least = omega (arith, c.read-answer.ensures.steps_at_least);
+      steps_at_most = omega (arith, c.read-answer.ensures.steps_at_most);
     }

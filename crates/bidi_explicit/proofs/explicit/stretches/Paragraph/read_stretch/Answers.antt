@@ -13,9 +13,9 @@ returns g c =
       read =
           λ stack levels written same is runs run h. stretch-met _ _ _ _ _ _ runs run h c.stretch_end-end.ensures.first _ _ _ _ (ap (λ entry. entry.status.level) same) (ap (λ entry. entry.status.override) same)
           is c.write_override.ensures.put _ c.first_kept-first_kept.ensures.first _ (λ e. grind arith) (λ e. grind arith) _ c.then_some.ensures;
-      some = some;
+      advances = some;
       within = grind arith;
       more = more;
-      at_least = omega (arith, c.stretch_end-end.ensures.at_least, c.write_override.ensures.at_least, c.first_kept-first_kept.ensures.at_least);
-      at_most = omega (arith, more, c.stretch_end-end.ensures.at_most, c.write_override.ensures.at_most, c.first_kept-first_kept.ensures.at_most);
+      steps_at_least = omega (arith, c.stretch_end-end.ensures.steps_at_least, c.write_override.ensures.steps_at_least, c.first_kept-first_kept.ensures.steps_at_least);
+      steps_at_most = omega (arith, more, c.stretch_end-end.ensures.steps_at_most, c.write_override.ensures.steps_at_most, c.first_kept-first_kept.ensures.steps_at_most);
     }

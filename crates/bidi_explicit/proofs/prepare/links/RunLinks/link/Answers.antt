@@ -50,8 +50,8 @@ level_after-requires g c = grind (arith, run_at)
 pub bounds-original_classes-run : goal.bounds-original_classes-run
 bounds-original_classes-run g c = grind (arith, run_at)
 
-pub read-requires-clause-line : goal.read-requires-clause-line
-read-requires-clause-line g c = grind (arith, run_at)
+pub read-requires-clause-is_line : goal.read-requires-clause-is_line
+read-requires-clause-is_line g c = grind (arith, run_at)
 
 pub read-requires-clause-kept_end : goal.read-requires-clause-kept_end
 read-requires-clause-kept_end g c =

@@ -35,8 +35,8 @@ above_written : (w : Walk) (runs : List (ℕ × ℕ)) (held : BidiClass) (i k : 
     → (waits w.before ≡ false → now1 ≡ now) → class_at now1 k ≡ class_at now k
 above_written w runs held i k now now1 order some none = grind arith
 
-pub returns-clause-rest : goal.returns-clause-rest
-returns-clause-rest g c =
+pub returns-clause-outside : goal.returns-clause-outside
+returns-clause-outside g c =
     let w = c.args.self.now in
     let i = c.args.stretch.start in
     let now = c.args.classes.now in
@@ -44,8 +44,8 @@ returns-clause-rest g c =
     λ k order. let past : i ≤ k = omega (arith, c.requires.some) in
     elim c.if-not-is_joined_by.branch [
       | then-not-is_joined_by+then-waits b ↦ grind arith
-      | then-not-is_joined_by+else-waits+then-ne b ↦ ap (λ (cs : List BidiClass). class_at cs k) b.classes-is ∙ (filled_over c.args.stretch.end b.numbered-own.result i b.write_waiting.new.classes b.fill.new.classes b.fill.ensures (omega (arith, c.requires.some)) (omega (arith, c.requires.inside, b.write_waiting.auto.classes))).above k order ∙ above_written w runs _ i k now b.write_waiting.new.classes past b.write_waiting.ensures.held b.write_waiting.ensures.idle
-      | then-not-is_joined_by+else-waits+else-ne b ↦ ap (λ (cs : List BidiClass). class_at cs k) b.classes-is ∙ above_written w runs _ i k now b.write_waiting.new.classes past b.write_waiting.ensures.held b.write_waiting.ensures.idle
+      | then-not-is_joined_by+else-waits+then-ne b ↦ ap (λ (cs : List BidiClass). class_at cs k) b.classes-is ∙ (filled_over c.args.stretch.end b.numbered-own.result i b.write_waiting.new.classes b.fill.new.classes b.fill.ensures (omega (arith, c.requires.some)) (omega (arith, c.requires.inside, b.write_waiting.auto.classes))).above k order ∙ above_written w runs _ i k now b.write_waiting.new.classes past b.write_waiting.ensures.held b.write_waiting.ensures.unchanged
+      | then-not-is_joined_by+else-waits+else-ne b ↦ ap (λ (cs : List BidiClass). class_at cs k) b.classes-is ∙ above_written w runs _ i k now b.write_waiting.new.classes past b.write_waiting.ensures.held b.write_waiting.ensures.unchanged
       | else-not-is_joined_by b ↦ ap (λ (cs : List BidiClass). class_at cs k) b.classes-is
     ]
 
@@ -63,14 +63,14 @@ returns-clause-reads g c =
     let z_is : c.strengthened-strong.result ≡ z = c.strengthened-strong.ensures ∙ ap (strengthened w.strong) read in
     elim c.if-not-is_joined_by.branch [
       | then-not-is_joined_by+then-waits b ↦
-          let written = written_by p runs s.runs_are i w now b.write_waiting.new.classes h _ b.numbered-held.result (grind arith) c.requires.ordered b.write_waiting.ensures.held b.write_waiting.ensures.idle in
+          let written = written_by p runs s.runs_are i w now b.write_waiting.new.classes h _ b.numbered-held.result (grind arith) c.requires.ordered b.write_waiting.ensures.held b.write_waiting.ensures.unchanged in
           grind (arith, z_is, IsUnderWay-waits p now w i h runs c.args.run j s b.write_waiting.new.classes written)
       | then-not-is_joined_by+else-waits+then-ne b ↦
-          let written = written_by p runs s.runs_are i w now b.write_waiting.new.classes h _ b.numbered-held.result (grind arith) c.requires.ordered b.write_waiting.ensures.held b.write_waiting.ensures.idle in
+          let written = written_by p runs s.runs_are i w now b.write_waiting.new.classes h _ b.numbered-held.result (grind arith) c.requires.ordered b.write_waiting.ensures.held b.write_waiting.ensures.unchanged in
           let fill = filled_over j b.numbered-own.result i b.write_waiting.new.classes b.fill.new.classes b.fill.ensures (omega (arith, c.requires.some)) (omega (arith, c.requires.inside, b.write_waiting.auto.classes)) in
           grind (arith, z_is, fill, resolved-stays x w.strong (is_l w.strong) w.before, IsUnderWay-decides p now w i h runs c.args.run j s b.write_waiting.new.classes written)
       | then-not-is_joined_by+else-waits+else-ne b ↦
-          let written = written_by p runs s.runs_are i w now b.write_waiting.new.classes h _ b.numbered-held.result (grind arith) c.requires.ordered b.write_waiting.ensures.held b.write_waiting.ensures.idle in
+          let written = written_by p runs s.runs_are i w now b.write_waiting.new.classes h _ b.numbered-held.result (grind arith) c.requires.ordered b.write_waiting.ensures.held b.write_waiting.ensures.unchanged in
           let same : left_over (class_at now i) ≡ b.numbered-own.result = sym b.left_over.ensures ∙ class_test.same b.left_over.result b.numbered-own.result (equal _ (sym b.ne.ensures ∙ b.if-ne.false)) in
           grind (arith, z_is, same, IsUnderWay-decides p now w i h runs c.args.run j s b.write_waiting.new.classes written)
       | else-not-is_joined_by b ↦ grind (arith, z_is, IsUnderWay-joins p now w i h runs c.args.run j s)
@@ -87,8 +87,8 @@ paid_idle : (runs : List (ℕ × ℕ)) (t : Bool) (first start end a b : ℕ) �
     → a ≤ b + 2 * count_below runs start → a ≤ b + 2 * count_below runs (cond t first end)
 paid_idle runs t first start end a b ordered idle order paid = omega (arith, paid, ap (count_below runs) (cond-false t first end idle), count_below-monotone 0 runs start end ordered (omega arith))
 
-pub returns-clause-at_most : goal.returns-clause-at_most
-returns-clause-at_most g c =
+pub returns-clause-steps_at_most : goal.returns-clause-steps_at_most
+returns-clause-steps_at_most g c =
     grind (
       arith,
       paid_idle (map bounds c.args.runs.now) (waits c.after-next.result) c.if-not-is_joined_by.self.first c.args.stretch.start c.args.stretch.end (c.if-not-is_joined_by.steps + 2 * count_below (map bounds c.args.runs.now) (resolved_to c.args.self.now c.args.stretch.start)) c.args.steps.now c.requires.ordered,

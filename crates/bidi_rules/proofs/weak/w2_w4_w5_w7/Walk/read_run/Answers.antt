@@ -28,8 +28,8 @@ loop-at-preserved g c =
       waiting = grind (arith, WaitsBelow-later);
       rest = grind arith;
       reads = grind (arith, IsUnderWay-unseen, and_right);
-      at_least = grind arith;
-      at_most = omega (arith, counted);
+      steps_at_least = grind arith;
+      steps_at_most = omega (arith, counted);
       ended = λ done. omega (arith, counted);
     }
 

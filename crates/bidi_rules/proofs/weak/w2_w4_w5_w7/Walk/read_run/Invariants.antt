@@ -16,8 +16,8 @@ invariant-loop-at g l =
       waiting : WaitsBelow runs l.self l.at;
       rest : (k : ℕ) → l.at ≤ k → class_at l.classes k ≡ class_at l.fn.classes k;
       reads : ReadsTo (len_at g.T.TextSource.encoding.len_of (g.T.TextSource.text l.sequence.text).chars) runs r.0 l.at l.fn.self l.self l.fn.classes l.classes;
-      at_least : l.fn.steps ≤ l.steps;
-      at_most : l.steps + 2 * count_below runs (resolved_to l.fn.self r.0) ≤ l.fn.steps + 2 * (l.at - r.0) + 2 * count_below runs (resolved_to l.self l.at);
+      steps_at_least : l.fn.steps ≤ l.steps;
+      steps_at_most : l.steps + 2 * count_below runs (resolved_to l.fn.self r.0) ≤ l.fn.steps + 2 * (l.at - r.0) + 2 * count_below runs (resolved_to l.self l.at);
       ended : l.end ≤ l.at → l.steps + 1 + 2 * count_below runs (resolved_to l.fn.self r.0) ≤ l.fn.steps + 2 * (r.1 - r.0) + 2 * count_below runs (resolved_to l.self l.at);
     }
 

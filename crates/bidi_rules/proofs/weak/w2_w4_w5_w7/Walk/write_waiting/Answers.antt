@@ -20,10 +20,10 @@ paid : (runs : List (ℕ × ℕ)) (w : Walk) (to old new : ℕ) → are_ordered 
 paid runs w to old new ordered waiting t turns =
     grind (arith, get_or-drop, paid-by-part w.first_run runs w.first to new old ordered, resolved_to-waits w to t)
 
-pub returns-then-waits-clause-at_most : goal.returns-then-waits-clause-at_most
-returns-then-waits-clause-at_most g c =
+pub returns-then-waits-clause-steps_at_most : goal.returns-then-waits-clause-steps_at_most
+returns-then-waits-clause-steps_at_most g c =
     paid (map bounds c.args.runs.now) c.args.self.now c.args.to _ _ c.requires.ordered c.requires.waiting (sym c.waits.ensures ∙ c.if-waits.true)
-    (rw (part_after c.args.runs.now c.args.runs.now c.args.self.now.first_run refl) at c.write_over_runs_counted.ensures.at_most)
+    (rw (part_after c.args.runs.now c.args.runs.now c.args.self.now.first_run refl) at c.write_over_runs_counted.ensures.steps_at_most)
 
-pub returns-else-waits-clause-at_most : goal.returns-else-waits-clause-at_most
-returns-else-waits-clause-at_most g c = grind arith
+pub returns-else-waits-clause-steps_at_most : goal.returns-else-waits-clause-steps_at_most
+returns-else-waits-clause-steps_at_most g c = grind arith
