@@ -3,10 +3,10 @@ use crate::files::{
     STANDARD_INPUT, end_without_memory, read_standard_input, refuse, refuse_rest, write_out,
 };
 use bidi_arguments::operands::{Operands, STANDARD_INPUT_NAME};
-use bidi_inputs::input::{explain_input, explain_text};
-use bidi_inputs::status::Status;
 use bidi_explain::frame;
 use bidi_explain::view::{Form, StageView};
+use bidi_inputs::input::{explain_input, explain_text};
+use bidi_inputs::status::Status;
 use std::fs;
 use std::rt::Files;
 

@@ -5,11 +5,11 @@ use bidi_arguments::check_options::CheckOptions;
 use bidi_bytes::decode::{BINARY_PREFIX, is_binary, is_utf16};
 use bidi_bytes::pieces::read_piece;
 use bidi_inputs::input::check_input;
-use bidi_inputs::status::Status;
 use bidi_inputs::line_reports::push_lines_reported;
-use bidi_terminal::names::shown_name;
+use bidi_inputs::status::Status;
 use bidi_reports::report::Report;
 use bidi_scan::file_search::{FileSearch, FoundLine};
+use bidi_terminal::names::shown_name;
 use std::alloc::AllocError;
 use std::io::{ErrorKind, Read};
 

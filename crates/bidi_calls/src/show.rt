@@ -15,9 +15,9 @@ ghost use Rattle.bidi_numbers.specs.Structs.{run_struct};
 ghost use Rattle.bidi_lines.specs.LineLevels.{levels as levels_of};
 ghost use Rattle.bidi_lines.specs.InText.{run_units, visual_units};
 
+use crate::analysis::write_levels;
 use crate::buffers::LineBuffers;
 use crate::char_order::{COUNTED_RUNS, write_char_order};
-use crate::analysis::write_levels;
 use crate::counted::CountedText;
 use crate::line::CallerLine;
 use crate::run_structs::put_runs;

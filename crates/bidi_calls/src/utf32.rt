@@ -11,8 +11,8 @@ ghost use Rattle.bidi_numbers.specs.Numbers.{direction_in};
 ghost use Rattle.bidi_calls.specs.LineText.{own_units, fault_of_line, reordered_chars, chars_fault, text_fault, order_of_line, map_fault};
 ghost use Rattle.bidi_numbers.specs.Texts.{is_scalar};
 
-use crate::buffers::{AnalysisBuffers, LineBuffers, Settings};
 use crate::analysis;
+use crate::buffers::{AnalysisBuffers, LineBuffers, Settings};
 use crate::line::{CallerLine, order_units};
 use crate::show::{show_chars, write_chars};
 use bidi_lines::visual_runs::LineRuns;

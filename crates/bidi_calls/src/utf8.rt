@@ -11,10 +11,10 @@ ghost use Rattle.bidi_calls.specs.LineText.{own_units, fault_of_line, ReportsNot
 ghost use Rattle.std.specs.Option.{option_or};
 ghost use Rattle.std.specs.Result.{result_err};
 
-use crate::buffers::{AnalysisBuffers, LineBuffers, Settings};
 use crate::analysis;
-use crate::per_char::is_even_utf8;
+use crate::buffers::{AnalysisBuffers, LineBuffers, Settings};
 use crate::line::{CallerLine, map_characters, write_text};
+use crate::per_char::is_even_utf8;
 use crate::show::show_text;
 use bidi_numbers::fault::{Fault, check};
 use bidi_numbers::texts::{goes_on, utf8};

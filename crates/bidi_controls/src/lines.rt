@@ -151,8 +151,14 @@ pub(crate) fn first_file_line<D: BidiDataSource>(
             has_no_controls = false;
         }
         if ends_file_line(c, &chars[at..]) {
-            return FirstLine { len: at, has_no_controls };
+            return FirstLine {
+                len: at,
+                has_no_controls,
+            };
         }
     }
-    FirstLine { len: at, has_no_controls }
+    FirstLine {
+        len: at,
+        has_no_controls,
+    }
 }

@@ -15,7 +15,10 @@ use std::alloc::AllocError;
 pub(crate) fn is_control(class: BidiClass) -> bool
     ensures { result ≡ is_control class }
 {
-    is_isolate_initiator(class) || is_embedding_initiator(class) || is_pdi(class) || matches!(class, BidiClass::PDF)
+    is_isolate_initiator(class)
+        || is_embedding_initiator(class)
+        || is_pdi(class)
+        || matches!(class, BidiClass::PDF)
 }
 
 /// Notes a character of this class, which has closed what is at a place, or nothing.

@@ -10,16 +10,16 @@ ghost use Rattle.bidi_shown.specs.Faults.{ReportsBytes};
 ghost use Rattle.bidi_shown.specs.declared.stream.StreamFault.TheVariants.{Memory};
 ghost use Rattle.bidi_inputs.specs.LineReports.{is_any_reported, lines_report};
 
-use crate::status::Status;
 use crate::line_reports::push_lines_reported;
+use crate::status::Status;
 use bidi_allowed::allowed::AllowList;
 use bidi_controls::finding::Wanted;
-use bidi_terminal::names::chars_of;
+use bidi_explain::explain::explain;
+use bidi_explain::view::StageView;
 use bidi_reports::report::Report;
 use bidi_scan::file_search::found_lines;
 use bidi_shown::stream::StreamFault;
-use bidi_explain::explain::explain;
-use bidi_explain::view::StageView;
+use bidi_terminal::names::chars_of;
 use bidi_unicode::UnicodeData;
 use std::alloc::{AllocError, Global};
 

@@ -94,7 +94,13 @@ impl<T: TextSource> Analysed<T> {
         requires { IsLineOf (analysed self.now) line }
         ensures { IfOk result (λ v. AreLevelsWithLine (analysed self.now) para_level line v.items) }
     {
-        levels_with_line(alloc, para_level, self.original_classes(), self.levels(), line)
+        levels_with_line(
+            alloc,
+            para_level,
+            self.original_classes(),
+            self.levels(),
+            line,
+        )
     }
 
     /// Returns the level of each character of the text: after L1 in the line, and as stored outside it.
@@ -124,7 +130,13 @@ impl<T: TextSource> Analysed<T> {
         ensures levels { IfOk result (λ r. AreLevelsWithLine (analysed self.now) para_level line r.0.items) }
         ensures runs { IfOk result (λ r. AreRunsOfLine (analysed self.now) para_level line (map run_of r.1.items)) }
     {
-        levels_and_runs(alloc, para_level, self.original_classes(), self.levels(), line)
+        levels_and_runs(
+            alloc,
+            para_level,
+            self.original_classes(),
+            self.levels(),
+            line,
+        )
     }
 
     /// Returns the level of each code unit of the line after L1.
@@ -137,7 +149,13 @@ impl<T: TextSource> Analysed<T> {
         requires { IsLineOf (analysed self.now) line }
         ensures { IfOk result (λ v. AreLevelsOfLine (analysed self.now) para_level line v.items) }
     {
-        levels_of_line(alloc, para_level, self.original_classes(), self.levels(), line)
+        levels_of_line(
+            alloc,
+            para_level,
+            self.original_classes(),
+            self.levels(),
+            line,
+        )
     }
 
     /// Returns the level runs (BD7) of the line from left to right (L2), as ranges of code units of the text.

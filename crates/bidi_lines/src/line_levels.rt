@@ -244,7 +244,11 @@ pub fn levels_of_line(
     ensures { IfOk result (λ v. v.items ≡ levels_of_line para_level classes.now levels.now line.start line.end) }
 {
     let mut after_l1 = Vec::from_slice(alloc, &levels[line.start..line.end])?;
-    reset_levels(para_level, &classes[line.start..line.end], after_l1.as_mut_slice());
+    reset_levels(
+        para_level,
+        &classes[line.start..line.end],
+        after_l1.as_mut_slice(),
+    );
     Ok(after_l1)
 }
 

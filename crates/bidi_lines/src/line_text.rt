@@ -10,8 +10,8 @@ ghost use Rattle.bidi_lines.specs.LineUnits.{line_units};
 
 use crate::analysed::Analysed;
 use crate::line_levels::line_has_rtl;
-use crate::reused_levels::LineLevels;
 use crate::lists::{ClassList, LevelList};
+use crate::reused_levels::LineLevels;
 use crate::visual_runs::{LineRuns, first_run_end};
 use bidi_base::level::Level;
 use bidi_text::text::TextSource;

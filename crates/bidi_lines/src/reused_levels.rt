@@ -15,7 +15,12 @@ use std::alloc::{AllocError, Global};
 pub const FEW_UNITS: usize = 256;
 
 // Writes the levels of a line after L1, given its stored classes and levels.
-fn write_levels<C: ClassList, L: LevelList>(para_level: Level, classes: C, levels: L, out: &mut [Level])
+fn write_levels<C: ClassList, L: LevelList>(
+    para_level: Level,
+    classes: C,
+    levels: L,
+    out: &mut [Level],
+)
     requires valid { L.are_levels levels }
     requires same_len { length (L.numbers levels) ≡ length (C.classes classes) }
     requires room { length out.old ≡ length (L.numbers levels) }
@@ -26,7 +31,12 @@ fn write_levels<C: ClassList, L: LevelList>(para_level: Level, classes: C, level
 }
 
 // Writes the levels of a line after L1 to the front of a list that may be longer.
-fn write_front<C: ClassList, L: LevelList>(para_level: Level, classes: C, levels: L, out: &mut [Level])
+fn write_front<C: ClassList, L: LevelList>(
+    para_level: Level,
+    classes: C,
+    levels: L,
+    out: &mut [Level],
+)
     requires valid { L.are_levels levels }
     requires same_len { length (L.numbers levels) ≡ length (C.classes classes) }
     requires room { length (L.numbers levels) ≤ length out.old }

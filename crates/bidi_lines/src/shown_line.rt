@@ -127,7 +127,13 @@ impl<T: TextSource> ShownLine<T> {
         ensures emptied { OnErr result (Shows self.new (analysed_of analysed.now) para_level (record { start = 0; end = 0 })) }
     {
         let classes = analysed.original_classes();
-        self.show_lists(analysed.text(), classes, analysed.levels(), para_level, line)
+        self.show_lists(
+            analysed.text(),
+            classes,
+            analysed.levels(),
+            para_level,
+            line,
+        )
     }
 
     /// Shows a line of a text, given the text's classes and levels.

@@ -99,7 +99,9 @@ impl TextState {
         ensures state { self.new.state ≡ self.old.state }
         ensures base { self.new.base_level ≡ self.old.base_level }
     {
-        let level = self.base_level.unwrap_or(level_of_class(self.state.deciding));
+        let level = self
+            .base_level
+            .unwrap_or(level_of_class(self.state.deciding));
         self.paragraphs
             .push(ParagraphInfo::from_range(self.state.start..end, level))?;
         self.flags.push(self.state.flags)?;

@@ -18,7 +18,11 @@ use bidi_explicit::run_search::none_passes;
 ///
 /// Most isolates and embeddings are such sequences: a name, or a few words of one language. Many texts around them
 /// are too. The look takes the place of two passes.
-pub fn has_known_levels(sequence: BorrowedSequence<'_>, levels: &[Level], classes: &[BidiClass]) -> bool
+pub fn has_known_levels(
+    sequence: BorrowedSequence<'_>,
+    levels: &[Level],
+    classes: &[BidiClass],
+) -> bool
     requires inside { AreInside sequence classes.now }
     requires same_len { length levels.now ≡ length classes.now }
     ensures { IsTrue result → HasOneDirection sequence.entry levels.now classes.now ⊎ HasNoNeutral sequence.entry classes.now }
@@ -30,7 +34,11 @@ pub fn has_known_levels(sequence: BorrowedSequence<'_>, levels: &[Level], classe
 ///
 /// X9 must keep the first character, because its level is that of the sequence. If sos is the other direction, it
 /// must not be a nonspacing mark either, because such a mark takes sos.
-fn has_one_direction(sequence: BorrowedSequence<'_>, levels: &[Level], classes: &[BidiClass]) -> bool
+fn has_one_direction(
+    sequence: BorrowedSequence<'_>,
+    levels: &[Level],
+    classes: &[BidiClass],
+) -> bool
     requires inside { AreInside sequence classes.now }
     requires same_len { length levels.now ≡ length classes.now }
     ensures { IsTrue result → HasOneDirection sequence.entry levels.now classes.now }
@@ -96,7 +104,11 @@ pub fn write_l_over_numbers(
 }
 
 /// Whether European numbers are all that raises a level in a sequence whose direction and sos are L.
-fn has_european_numbers(sequence: BorrowedSequence<'_>, levels: &[Level], classes: &[BidiClass]) -> bool
+fn has_european_numbers(
+    sequence: BorrowedSequence<'_>,
+    levels: &[Level],
+    classes: &[BidiClass],
+) -> bool
     requires inside { AreInside sequence classes.now }
     requires same_len { length levels.now ≡ length classes.now }
     ensures { IsTrue result → HasEuropeanNumbers sequence.entry levels.now classes.now }

@@ -7,7 +7,7 @@
 
 mod class_set;
 pub mod first_pass;
+mod known_levels;
 pub mod paragraph_flags;
 pub mod paragraph_info;
 pub mod paragraph_levels;
-mod known_levels;

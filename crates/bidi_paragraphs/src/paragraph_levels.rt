@@ -14,8 +14,8 @@ ghost use Rattle.bidi_explicit.specs.Links.{linked_runs, linked_sequences, AreLi
 ghost use Rattle.bidi_paragraphs.specs.Updated.{IsWritten};
 ghost use Rattle.bidi_paragraphs.specs.ParagraphFlags.{flags_of};
 
-use crate::paragraph_flags::ParagraphFlags;
 use crate::known_levels::{has_known_levels, write_l_over_numbers};
+use crate::paragraph_flags::ParagraphFlags;
 use bidi_base::char_data::BidiClass;
 use bidi_base::classes::is_removed;
 use bidi_base::data_source::BidiDataSource;

@@ -18,7 +18,7 @@ mod w2_w4_w5_w7;
 mod w3_w6;
 
 use bidi_base::char_data::BidiClass::{self, NSM};
-use bidi_explicit::prepare::{IsolatingRunSequence, BorrowedSequence, LevelRun, Steps};
+use bidi_explicit::prepare::{BorrowedSequence, IsolatingRunSequence, LevelRun, Steps};
 use bidi_text::text::TextSource;
 use std::marker::Brand;
 use std::sync::ledger::{Blank, Ledger};

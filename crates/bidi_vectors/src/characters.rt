@@ -3,8 +3,8 @@
 use bidi_base::char_data::BidiClass::{L, R};
 use bidi_base::char_data::{BidiClass, is_rtl};
 use bidi_base::classes::{
-    as_direction, is_blank, is_embedding_initiator, is_isolate_initiator, is_ni, is_nsm, is_paragraph_separator,
-    is_pdi, is_removed, is_separator, is_strong, may_turn, stands_for,
+    as_direction, is_blank, is_embedding_initiator, is_isolate_initiator, is_ni, is_nsm,
+    is_paragraph_separator, is_pdi, is_removed, is_separator, is_strong, may_turn, stands_for,
 };
 use bidi_base::data_source::BidiDataSource;
 use bidi_base::format_chars;

@@ -6,10 +6,10 @@
 #![tactic(auto)]
 
 mod any_text;
-mod stored_lines;
 mod lists;
 mod passes;
 mod program;
+mod stored_lines;
 mod texts;
 mod trial;
 mod utf16;

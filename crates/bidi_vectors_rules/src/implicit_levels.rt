@@ -8,7 +8,7 @@ use bidi_plain::plain::implicit;
 use bidi_rules::implicit::resolve_levels;
 use bidi_vectors_format::answer::{level_words, number_words};
 use bidi_vectors_format::class::classes_of;
-use bidi_vectors_format::conditions::{have_directions, explicit_level};
+use bidi_vectors_format::conditions::{explicit_level, have_directions};
 use bidi_vectors_format::fault::RowFault;
 use bidi_vectors_format::row::Row;
 use bidi_vectors_format::tally::Tally;

@@ -20,7 +20,7 @@ use bidi_text::text::{StrText, is_per_char};
 use bidi_vectors_format::answer::{class_words, classes_in, level_words};
 use bidi_vectors_format::class::classes_of;
 use bidi_vectors_format::conditions::{
-    have_directions, are_kept, are_left, are_left_or_removed, explicit_level, is_side,
+    are_kept, are_left, are_left_or_removed, explicit_level, have_directions, is_side,
 };
 use bidi_vectors_format::fault::{RowFault, Why};
 use bidi_vectors_format::item::levels;

@@ -177,7 +177,11 @@ impl<T: TextSource> ParagraphBidiInfo<T> {
     /// Returns the level of each code unit of the line after L1, that of `line.start` first.
     ///
     /// Takes time linear in the line. `reordered_levels` takes time linear in the text.
-    pub fn levels_of_line(&self, alloc: Global, line: Range<usize>) -> Result<Vec<Level>, AllocError>
+    pub fn levels_of_line(
+        &self,
+        alloc: Global,
+        line: Range<usize>,
+    ) -> Result<Vec<Level>, AllocError>
         requires { IsLineOf (analysed_of self.now) line }
         ensures { IfOk result (λ v. AreLevelsOfLine (analysed_of self.now) (paragraph_level self.now) line v.items) }
     {

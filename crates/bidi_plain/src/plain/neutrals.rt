@@ -146,10 +146,7 @@ fn neutrals(classes: &[BidiClass]) -> usize
     ensures count { result ≡ prefix_len is_ni classes.now }
     ensures within { result ≤ length classes.now }
 {
-    classes
-        .iter()
-        .take_while(|class| is_ni(**class))
-        .count()
+    classes.iter().take_while(|class| is_ni(**class)).count()
 }
 
 /// The direction at an index, or eos past the end.
