@@ -195,7 +195,7 @@ fn seek_stop<D: BidiDataSource, T: TextSource>(
 
 // After an isolate control, the characters that begin among so many code units are read one by one, unless the
 // state is decided. Often the next control is among them, and a search for it costs more.
-const NEAR: usize = 4;
+const TESTED_SINGLY: usize = 4;
 
 // Writes the classes of the characters from an index on, up to the first one that would change more of the
 // paragraph's state than its flags. Returns that one, or `None` at the text's end. The flags of those before
@@ -238,7 +238,7 @@ fn near_end_after(near_end: usize, end: usize, class: BidiClass, state: &Paragra
         return near_end;
     }
     if is_isolate_initiator(class) || is_pdi(class) {
-        end.saturating_add(NEAR)
+        end.saturating_add(TESTED_SINGLY)
     } else {
         near_end
     }
