@@ -40,7 +40,7 @@ impl ParagraphInfo {
         ParagraphInfo { range, level }
     }
 
-    /// Returns the paragraph's code units in the text, with those of its separator.
+    /// Returns the range of the paragraph's code units in the text, including those of the separator that ends it.
     pub fn range(&self) -> Range<usize>
         ensures { result ≡ range_of self.now }
     {

@@ -39,7 +39,7 @@ pub type InitialInfo<'t> = initial_info::InitialInfo<StrText<'t>>;
 /// A paragraph, and the result of the algorithm for its text.
 pub type Paragraph<'a, 't> = paragraph::Paragraph<'a, StrText<'t>>;
 
-/// A line as it is shown: its levels after L1, its visual runs (L2), the order of its characters, and its text.
+/// A line as it is displayed: its levels after L1, its visual runs (L2), the order of its characters, and its text.
 ///
 /// Shows one line after another (see `show_line` of the info types), and reuses its memory. Runs are ranges of
 /// bytes.
@@ -101,8 +101,8 @@ impl<'t> info::BidiInfo<StrText<'t>> {
     /// Returns the text of the line from left to right: its characters in the order of L2, by their levels
     /// after L1.
     ///
-    /// Combining marks (L3) are not moved, and characters are not mirrored (L4). The text is borrowed, and
-    /// nothing is allocated for it, exactly if no level of the line is odd after L1.
+    /// Combining marks (L3) are not moved, and characters are not mirrored (L4). The text is borrowed, and nothing is
+    /// allocated for it, exactly if no level of the line is odd after L1. Takes time linear in the line.
     pub fn reorder_line(
         &self,
         alloc: Global,
@@ -158,8 +158,8 @@ impl<'t> paragraph_bidi_info::ParagraphBidiInfo<StrText<'t>> {
     /// Returns the text of the line from left to right: its characters in the order of L2, by their levels
     /// after L1.
     ///
-    /// Combining marks (L3) are not moved, and characters are not mirrored (L4). The text is borrowed, and
-    /// nothing is allocated for it, exactly if no level of the line is odd after L1.
+    /// Combining marks (L3) are not moved, and characters are not mirrored (L4). The text is borrowed, and nothing is
+    /// allocated for it, exactly if no level of the line is odd after L1. Takes time linear in the line.
     pub fn reorder_line(&self, alloc: Global, line: Range<usize>) -> Result<CowStr<'t>, AllocError>
         requires { IsLineOf (analysed_of self.now) line }
         ensures text { IfOk result (λ c. IsTextOfLine encode_utf8 (text_of self.now) (analysed_of self.now)
@@ -177,7 +177,8 @@ impl<'t> initial_info::InitialInfo<StrText<'t>> {
 
     /// Finds the paragraphs of a text with their levels (P1 to P3), and the class of each character.
     ///
-    /// A base level, which may be any, is the level of every paragraph. Each FSI is resolved (X5c).
+    /// A base level, which may be any level, is the level of every paragraph. Without one, each paragraph gets its
+    /// level from its characters (P2, P3). Each FSI is resolved (X5c).
     pub fn new_with_data_source<D: BidiDataSource>(
         alloc: Global,
         data_source: &D,

@@ -25,8 +25,8 @@ const LOW_BLOCK: usize = 16;
 // The first code above those characters.
 const LOW_LIMIT: u16 = 0x800;
 
-// The character below U+0800 with this code. The remainder shows the compiler that the code is valid, so
-// that it adds no test.
+// Returns the character below U+0800 with this code. The remainder shows the compiler that the code is valid, so that
+// it adds no test.
 fn char_of_low(code: u16) -> char
     requires { code < LOW_LIMIT }
     ensures { result ≡ code }
@@ -68,7 +68,7 @@ fn write_low_block<D: BidiDataSource>(
 // How many code units are read before the next test for ASCII.
 const BLOCK: usize = 256;
 
-// The end of the block of characters that begins at an index.
+// Returns the end of the block of characters that begins at an index.
 fn block_end<T: TextSource>(text: T, from: usize) -> usize
     requires { from ≤ text_len (T.text text) }
     ensures begins { from ≤ result }
@@ -145,8 +145,9 @@ fn read_block<D: BidiDataSource, T: TextSource>(
     None
 }
 
-/// Writes the class of the character that begins at an index, and returns the character. Reads the text by
-/// index. From that index on there must be at least `AT_ONCE` code units.
+/// Writes the class of the character that begins at an index, and returns the character.
+///
+/// Reads the text by index. From that index on there must be at least `AT_ONCE` code units.
 pub(super) fn read_next<D: BidiDataSource, T: TextSource>(
     data_source: &D,
     text: T,
@@ -210,9 +211,9 @@ fn read_in_place<D: BidiDataSource, T: TextSource>(
     None
 }
 
-// Writes the classes of consecutive characters below U+0800, each one code unit long, sixteen at a time, up
-// to the first one whose class is in `sought`. Returns that one. If there is none, the index moves to where
-// the text gives no block of sixteen, or by `BLOCK` code units.
+// Writes the classes of consecutive characters below U+0800, each one code unit long, sixteen at a time, up to the
+// first one whose class is in `sought`. Returns that one. If there is none, the index moves to where the text returns
+// no block of sixteen, or by `BLOCK` code units.
 fn read_low_blocks<D: BidiDataSource, T: TextSource>(
     data_source: &D,
     text: T,
@@ -250,9 +251,9 @@ fn read_low_blocks<D: BidiDataSource, T: TextSource>(
 
 /// Writes the classes of some characters, up to one whose class is in `stop_classes`, or would change the flags.
 ///
-/// Returns that one. If there is none, the index moves past them. The characters are read sixteen at a time
-/// as long as the text gives such blocks, and then by index. The iterator reads texts that do not set
-/// `READS_IN_PLACE`, and the end of a text with fewer than `AT_ONCE` code units left.
+/// Returns that one. If there is none, the index moves past them. The characters are read sixteen at a time as long as
+/// the text returns such blocks, and then by index. If the text does not set `READS_IN_PLACE`, or fewer than `AT_ONCE`
+/// code units are left, they are read by the iterator.
 pub(super) fn read_on<D: BidiDataSource, T: TextSource>(
     data_source: &D,
     text: T,
