@@ -105,8 +105,8 @@ fn skim_blocks<D: BidiDataSource, T: TextSource>(
         // write if the last twelve bits of their addresses are equal.
         next = text.ascii_block_at(start + ASCII_BLOCK);
         let found = write_block(data_source, block, classes, start);
-        if sought.meets(found) {
-            if stop_classes.meets(found) {
+        if sought.intersects(found) {
+            if stop_classes.intersects(found) {
                 break;
             }
             progress.flags = progress.flags.with_all(found);

@@ -4,7 +4,7 @@ use Rattle.bidi_paragraphs.proofs.AsciiBlocks.{IsBlockPassed, IsBlockPassed-othe
 use Rattle.bidi_paragraphs.proofs.Skimmed.{ascii-inside, IsSkimmed-start, IsSkimmed-kept, IsSkimmed-ascii_block}
 use Rattle.bidi_paragraphs.proofs.first_pass.ascii_characters.skim_blocks.Given.{Over}
 use Rattle.bidi_paragraphs.proofs.first_pass.ascii_characters.skim_blocks.Goals as goal
-use Rattle.bidi_paragraphs.proofs.first_pass.ascii_characters.skim_blocks.Goals.{In-Some, then-meets+else-meets-2, else-meets, in-Some+then-meets+then-meets-2, in_default}
+use Rattle.bidi_paragraphs.proofs.first_pass.ascii_characters.skim_blocks.Goals.{In-Some, then-intersects+else-intersects-2, else-intersects, in-Some+then-intersects+then-intersects-2, in_default}
 
 pub loop-next-init : goal.loop-next-init
 loop-next-init g c = (omega arith, c.ascii_block_at-next.ensures, c.sought_with-sought.ensures, IsSkimmed-start _ _ _ _ _ _ _)
@@ -31,23 +31,23 @@ overflow_add-start-in-Some g c = omega (arith, room g (goal.at.overflow_add-star
 pub loop-next-smaller : goal.loop-next-smaller
 loop-next-smaller g c = omega (arith, room g (goal.at.loop-next-smaller g c).In-Some, c.loop-next.auto.classes)
 
-pub meets-requires : goal.meets-requires
-meets-requires g c = found-small (g.D.BidiDataSource.source c.args.data_source.now) c.in-Some.block c.args.stop_classes c.loop-next.progress.flags _ c.write_block-found.ensures.found
+pub intersects-requires : goal.intersects-requires
+intersects-requires g c = found-small (g.D.BidiDataSource.source c.args.data_source.now) c.in-Some.block c.args.stop_classes c.loop-next.progress.flags _ c.write_block-found.ensures.found
 
-pub meets-requires-then-meets : goal.meets-requires-then-meets
-meets-requires-then-meets g c = found-small (g.D.BidiDataSource.source c.args.data_source.now) c.in-Some.block c.args.stop_classes c.loop-next.progress.flags _ c.write_block-found.ensures.found
+pub intersects-requires-then-intersects : goal.intersects-requires-then-intersects
+intersects-requires-then-intersects g c = found-small (g.D.BidiDataSource.source c.args.data_source.now) c.in-Some.block c.args.stop_classes c.loop-next.progress.flags _ c.write_block-found.ensures.found
 
 -- the block has no stop class
-passed : (g : Over) (c : goal.Joined-meets g)
-    → IsBlockPassed (g.D.BidiDataSource.source c.args.data_source.now) c.in-Some.block c.args.stop_classes c.loop-next.progress.flags c.if-meets.progress.flags c.if-meets.sought
+passed : (g : Over) (c : goal.Joined-intersects g)
+    → IsBlockPassed (g.D.BidiDataSource.source c.args.data_source.now) c.in-Some.block c.args.stop_classes c.loop-next.progress.flags c.if-intersects.progress.flags c.if-intersects.sought
 passed g c =
     let source = g.D.BidiDataSource.source c.args.data_source.now in
     let found_is = c.write_block-found.ensures.found in
-    elim c.if-meets.branch [
-      | then-meets+else-meets-2 w ↦
-          rw (w.progress-is, w.sought-is, w.with_all-progress.ensures) (IsBlockPassed-noted source c.in-Some.block c.args.stop_classes c.loop-next.progress.flags _ found_is _ (rw w.with_all-progress.ensures at w.sought_with-sought-then-meets.ensures) (sym w.meets-then-meets.ensures ∙ w.if-meets-2.false))
-      | else-meets w ↦
-          rw (w.progress-is, w.sought-is) (IsBlockPassed-other source c.in-Some.block c.args.stop_classes c.loop-next.progress.flags _ found_is _ c.loop-next.invariant.2 (sym c.meets.ensures ∙ w.if-meets.false))
+    elim c.if-intersects.branch [
+      | then-intersects+else-intersects-2 w ↦
+          rw (w.progress-is, w.sought-is, w.with_all-progress.ensures) (IsBlockPassed-noted source c.in-Some.block c.args.stop_classes c.loop-next.progress.flags _ found_is _ (rw w.with_all-progress.ensures at w.sought_with-sought-then-intersects.ensures) (sym w.intersects-then-intersects.ensures ∙ w.if-intersects-2.false))
+      | else-intersects w ↦
+          rw (w.progress-is, w.sought-is) (IsBlockPassed-other source c.in-Some.block c.args.stop_classes c.loop-next.progress.flags _ found_is _ c.loop-next.invariant.2 (sym c.intersects.ensures ∙ w.if-intersects.false))
     ]
 
 pub loop-next-preserved : goal.loop-next-preserved
@@ -66,6 +66,6 @@ loop-next-preserved g c =
 
 pub returns-clause-read : goal.returns-clause-read
 returns-clause-read g c = elim c.match-next.branch [
-  | in-Some+then-meets+then-meets-2 w ↦ rw w.classes-is (IsSkimmed-kept _ _ _ _ _ _ _ _ _ _ c.loop-next.invariant.3 _ w.write_block-found.ensures.outside)
+  | in-Some+then-intersects+then-intersects-2 w ↦ rw w.classes-is (IsSkimmed-kept _ _ _ _ _ _ _ _ _ _ c.loop-next.invariant.3 _ w.write_block-found.ensures.outside)
   | in_default w ↦ rw w.classes-is c.loop-next.invariant.3
 ]
