@@ -1,5 +1,5 @@
 /* The Unicode Bidirectional Algorithm (UAX #9, revision 46) for callers in C and C++. With the package, link
- * libunicode_bidi. Without it, link libbidi_c.a, and after it the kit's liblibc_c.a, through which the library allocates.
+ * libunicode_bidi. Without it, link libbidi_c.a, and after it the kit's liblibc_c.a: the library allocates with it.
  *
  * A call accepts any numbers in its arguments and buffers. It first checks all that the library requires, and
  * returns one of the negative codes below if a check fails. Only pointers can't be checked. The caller must
@@ -174,8 +174,8 @@ int64_t unicode_bidi_brackets_utf16(const uint16_t *text, size_t text_len, uint3
 int64_t unicode_bidi_brackets_utf32(const uint32_t *text, size_t text_len, uint32_t *brackets, size_t brackets_len);
 
 /* Returns the base direction (P2, P3) of characters with these classes, one class for each character: UNICODE_BIDI_LTR,
- * _RTL or _MIXED. With full 0 it is the direction of the first paragraph, otherwise that of the first paragraph that has
- * one. A paragraph ends after each class B. The call does not allocate.
+ * _RTL or _MIXED. With full 0 it is the direction of the first paragraph, otherwise that of the first paragraph that
+ * has one. A paragraph ends after each class B.
  * Faults   BAD_CLASS, in any of the classes
  * Cost     the classes
  * Proved   the direction (base_direction, full_base_direction), with the numbers as the characters of a data source in

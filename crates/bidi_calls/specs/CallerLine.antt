@@ -49,11 +49,11 @@ line_fault l =
 unfoldable pub caller_line_levels : CallerLine → List ℕ
 caller_line_levels l = line_levels l.paragraph.now.level (map class_numbered (own_classes l)) (own_levels l)
 
--- the first fault of a call for its levels, with so much room for them
+-- the first fault of a call for the levels of a line, with so much room for them
 abbrev pub levels_fault : CallerLine → ℕ → Option Fault
 levels_fault l room = option_or (line_fault l) (fault_unless (nat_le (l.end - l.start) room) NoRoom)
 
--- the same for its runs
+-- the same for the runs of a line
 abbrev pub runs_fault : CallerLine → ℕ → Option Fault
 runs_fault l room =
     option_or (line_fault l)

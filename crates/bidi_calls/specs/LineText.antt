@@ -69,7 +69,7 @@ reordered_fault len_of encode chars units l room =
 unfoldable pub order_of_line : (ℕ → ℕ) → List ℕ → CallerLine → List ℕ
 order_of_line len_of chars l = visual_order (per_char 0 len_of chars (caller_line_levels l))
 
--- the fault of the room for that
+-- the fault of the room for that order
 abbrev pub map_fault : (ℕ → ℕ) → List ℕ → CallerLine → ℕ → Option Fault
 map_fault len_of chars l room = fault_unless (nat_le (length (order_of_line len_of chars l)) room) NoRoom
 

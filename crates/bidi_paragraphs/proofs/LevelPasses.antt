@@ -84,7 +84,7 @@ module _ (len_of : ℕ → ℕ) (h : HasUnits len_of) (chars : List ℕ) (source
   pub AreResolvedTo-same : (seqs : List RunSequence) (old new : List BidiClass) → new ≡ old → AreResolvedTo seqs old → AreResolvedTo seqs new
   AreResolvedTo-same seqs old new same now = rw same now
 
-  -- they have one entry a unit, equal within each character
+  -- they have one entry for each code unit, equal within each character
   pub AreResolvedTo-per_char : (seqs : List RunSequence) (classes : List BidiClass) → length source_classes ≡ length chars → AreResolvedTo seqs classes → is_per_char class_eq len_of chars classes ≡ true
   AreResolvedTo-per_char seqs classes fits now = grind (arith, is_per_char-per_unit, class_test, length-stored_classes)
 

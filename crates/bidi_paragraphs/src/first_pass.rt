@@ -291,8 +291,8 @@ fn ends_paragraph<D: BidiDataSource, T: TextSource>(
 /// text.
 ///
 /// If `rule` is `None`, the whole text is one paragraph, even if it is empty. Any base level is accepted. The result
-/// reuses the lists of `memory`, which are emptied first. The allocator of `memory.paragraphs` is used for all
-/// allocations.
+/// reuses the lists of `memory`, which are emptied first. The lists of open FSI are allocated with the allocator of
+/// `memory.paragraphs`.
 ///
 /// A text of one paragraph without FSI needs no allocation. If an allocation fails, `classes` may hold anything.
 pub fn walk<D: BidiDataSource, T: TextSource>(

@@ -8,7 +8,7 @@ use bidi_base::level::{LTR_LEVEL, Level};
 use bidi_plain::plain::{
     Explicit, PlainSequence, explicit_levels, implicit, neutral, pairs, sequences, weak,
 };
-use bidi_vectors_format::conditions::{are_directed, are_kept, are_left, is_side};
+use bidi_vectors_format::conditions::{are_kept, are_left, have_directions, is_side};
 
 // The characters' classes, their classes under overrides, and their brackets.
 #[derive(Clone, Copy)]
@@ -77,7 +77,7 @@ fn try_sequence(
         "plain::neutral",
         neutral(alloc, level, sos, eos, classes, brackets, resolved)
     );
-    if !are_directed(directed.as_slice()) {
+    if !have_directions(directed.as_slice()) {
         return Err(Fault::NoTrial("neutral classes"));
     }
     tried!(
