@@ -24,8 +24,8 @@ pub struct AnalysisBuffers<'b> {
 
 /// The buffers for all parts of a line: its levels, visual runs, character order, text, and number of characters.
 ///
-/// `levels` and `text` need an entry for each code unit of the line, `runs` one for each run, and `order` one for
-/// each character. A part whose buffer is empty is left out.
+/// `levels` and `text` need an entry for each code unit of the line, `runs` one for each run, and `order` one for each
+/// character. A call leaves out a part if its buffer is empty.
 #[derive(Drop)]
 pub struct LineBuffers<'b, U> {
     pub levels: &'b mut [u8],

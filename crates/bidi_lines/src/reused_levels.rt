@@ -46,7 +46,7 @@ fn write_front<C: ClassList, L: LevelList>(
     write_levels(para_level, classes, levels, &mut out[..len]);
 }
 
-// Gives a list at least `len` levels. New entries hold any level. If an allocation fails, the list is unchanged.
+// Grows a list to at least `len` levels. New entries hold any level. If an allocation fails, the list is unchanged.
 fn grow(levels: &mut Vec<Level>, len: usize) -> Result<(), AllocError>
     ensures len { OnOk result (len ≤ vec_len levels.new) }
     ensures unchanged { OnErr result (levels.new.items ≡ levels.old.items) }

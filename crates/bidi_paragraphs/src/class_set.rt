@@ -8,7 +8,7 @@ use bidi_base::char_data::BidiClass;
 /// A set of classes.
 #[derive(Clone, Copy, PartialEq, Debug)]
 pub(crate) struct ClassSet {
-    // Each bit tells whether the class of that number is in the set.
+    // Each bit says whether the class of that number is in the set.
     bits: u32,
 }
 

@@ -148,7 +148,7 @@ impl TextState {
     }
 }
 
-// Writes the classes of some characters, up to one whose class is in `stop_classes`, or would change the flags.
+// Writes the classes of some characters, up to one with a class that is in `stop_classes` or would change the flags.
 // Returns that one. If there is none, the index moves past them.
 fn read_some<D: BidiDataSource, T: TextSource>(
     data_source: &D,
@@ -167,8 +167,8 @@ fn read_some<D: BidiDataSource, T: TextSource>(
     read_on(data_source, text, classes, progress, stop_classes)
 }
 
-// Writes the classes of the next characters, up to the first one whose class is in `stop_classes`, and adds the
-// flags of those before it. Returns that one, or `None` at the text's end.
+// Writes the classes of the next characters, up to the first one with a class in `stop_classes`, and adds the flags of
+// those before it. Returns that one, or `None` at the text's end.
 fn seek_stop<D: BidiDataSource, T: TextSource>(
     data_source: &D,
     text: T,

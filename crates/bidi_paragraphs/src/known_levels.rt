@@ -1,4 +1,4 @@
-//! Sequences whose levels are known without W1 to N2.
+//! Sequences with levels that are known without W1 to N2.
 
 ghost use Rattle.std.specs.Prelude.{◌≡◌, ◌⊎◌, ℕ, ◌<◌, ◌≤◌, true, false, length, map, All, IsTrue};
 ghost use Rattle.bidi_base.specs.Indexes.{class_at};
@@ -32,8 +32,8 @@ pub fn has_known_levels(
 
 /// Returns true only if sos or eos is the direction of a sequence's level, and none of its classes raises a level.
 ///
-/// X9 must keep the first character, because its level is that of the sequence. If sos is the other direction, it
-/// must not be a nonspacing mark either, because such a mark takes sos.
+/// X9 must keep the first character, because its level is that of the sequence. If sos is the other direction, it must
+/// not be a nonspacing mark either, because it would take sos.
 fn has_one_direction(
     sequence: BorrowedSequence<'_>,
     levels: &[Level],

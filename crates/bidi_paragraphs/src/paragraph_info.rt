@@ -31,7 +31,7 @@ impl ParagraphInfo {
         }
     }
 
-    /// Creates a paragraph of a range whose start is at most its end.
+    /// Creates a paragraph of a range of code units, which must not be reversed.
     pub fn from_range(range: Range<usize>, level: Level) -> ParagraphInfo
         requires { range.start ≤ range.end }
         ensures range { range_of result ≡ range }

@@ -1,4 +1,4 @@
--- Tables whose rows are a character and a value.
+-- Tables with a character and a value in each row.
 use Rattle.std.specs.Prelude.{◌≡◌, ℕ, ◌<◌, ◌+◌, Bool, true, ◌&&◌, ◌==◌, nat_le, List, [], ◌∷◌, find, length, slice_index_or, Option, Some, option_map}
 
 -- the value in the first row of a character, if it has a row

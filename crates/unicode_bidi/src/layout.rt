@@ -136,7 +136,7 @@ fn is_in_order(order: &[usize]) -> bool
     true
 }
 
-// Returns the entry of a list at an index, or `None` from `len` on. An empty list stands for the indexes up to `len`.
+// Returns the entry of a list at an index, or `None` from `len` on. An empty list stands for the indexes below `len`.
 fn entry_at(list: &[usize], len: usize, index: usize) -> Option<usize>
     ensures { result ≡ slice_get (entries list.now len) index }
 {

@@ -27,7 +27,7 @@ fn resolved_by(class: BidiClass) -> BidiClass
     }
 }
 
-/// Returns the level of a paragraph whose deciding character has this class (P3).
+/// Returns the level of a paragraph, from the class of its deciding character (P3). Without one, it is 0.
 pub(super) fn level_of_class(deciding: Option<BidiClass>) -> Level
     ensures { result ≡ level_by deciding }
 {
