@@ -178,7 +178,8 @@ impl Analyser {
     /// its characters (P2, P3). `rule` says where paragraphs end. Without a rule the whole text is one paragraph.
     /// Writes the stored class of each code unit to `classes` and its stored level to `levels`, which both have one
     /// entry for each code unit. [`Analyser::paragraphs`] then returns the paragraphs, and [`Analyser::flags`] their
-    /// classes. If an allocation fails, the two lists hold anything, and there are no paragraphs.
+    /// classes. Reads the text a few times. If an allocation fails, the two lists hold anything, and there are no
+    /// paragraphs.
     pub fn analyse<D: BidiDataSource, T: TextSource>(
         &mut self,
         alloc: Global,
@@ -259,8 +260,9 @@ pub(crate) fn analyse_by<D: BidiDataSource, T: TextSource>(
 /// Finds the paragraphs of a text, and the class and the level of each character (P1 to I2).
 ///
 /// `base_level` is the level of every paragraph, at most 125. If it is `None`, each paragraph gets its level from its
-/// characters (P2, P3). Each FSI is resolved (X5c). With `split` false the whole text is one paragraph, even an
-/// empty text.
+/// characters (P2, P3). Each FSI is resolved (X5c). With `split`, each paragraph separator ends a paragraph (P1).
+/// Without it, the whole text is one paragraph, even an empty text. Reads the text a few times. The result has two
+/// bytes for each code unit: its class and its level.
 pub fn analyse<D: BidiDataSource, T: TextSource>(
     alloc: Global,
     data_source: &D,
@@ -281,8 +283,8 @@ pub fn analyse<D: BidiDataSource, T: TextSource>(
 /// I2).
 ///
 /// `base_level` is the level of every paragraph, at most 125. If it is `None`, each paragraph gets its level from its
-/// characters (P2, P3). Each FSI is resolved (X5c). Without a rule the whole text is one paragraph, even an empty
-/// text.
+/// characters (P2, P3). Each FSI is resolved (X5c). Without a rule the whole text is one paragraph, even an empty text.
+/// Reads the text a few times. The result has two bytes for each code unit: its class and its level.
 pub fn analyse_with_rule<D: BidiDataSource, T: TextSource>(
     alloc: Global,
     data_source: &D,

@@ -50,8 +50,9 @@ impl<'t> info::BidiInfo<StrText<'t>> {
 
     /// Finds the paragraphs of a text, and the class and the level of each character (P1 to I2).
     ///
-    /// A base level, at most 125, is the level of every paragraph. Without one, each paragraph gets its level
-    /// from its characters (P2, P3). Each FSI is resolved (X5c).
+    /// A base level, at most 125, is the level of every paragraph. Without one, each paragraph gets its level from its
+    /// characters (P2, P3). Each FSI is resolved (X5c). Reads the text a few times. The result has two bytes for each
+    /// code unit: its class and its level.
     pub fn new_with_data_source<D: BidiDataSource>(
         alloc: Global,
         data_source: &D,
@@ -70,8 +71,9 @@ impl<'t> info::BidiInfo<StrText<'t>> {
     /// Finds the paragraphs of a text, which end where `rule` says, and the class and the level of each character
     /// (P1 to I2).
     ///
-    /// A base level, at most 125, is the level of every paragraph. Without one, each paragraph gets its level
-    /// from its characters (P2, P3). Each FSI is resolved (X5c).
+    /// A base level, at most 125, is the level of every paragraph. Without one, each paragraph gets its level from its
+    /// characters (P2, P3). Each FSI is resolved (X5c). Reads the text a few times. The result has two bytes for each
+    /// code unit: its class and its level.
     ///
     /// With `CrLfTogether`, a U+000D of class B directly before a U+000A of class B stays with it. The U+000D
     /// has the paragraph level, and closes nothing.
@@ -124,8 +126,9 @@ impl<'t> paragraph_bidi_info::ParagraphBidiInfo<StrText<'t>> {
     /// Finds the level of a text that is one paragraph, and the class and the level of each character (P2 to
     /// I2).
     ///
-    /// A base level, at most 125, is the level of the paragraph. Without one, the characters decide (P2, P3).
-    /// Each FSI is resolved (X5c).
+    /// A base level, at most 125, is the level of the paragraph. Without one, the characters decide (P2, P3). Each FSI
+    /// is resolved (X5c). Reads the text a few times. The result has two bytes for each code unit: its class and its
+    /// level.
     pub fn new_with_data_source<D: BidiDataSource>(
         alloc: Global,
         data_source: &D,
@@ -178,7 +181,8 @@ impl<'t> initial_info::InitialInfo<StrText<'t>> {
     /// Finds the paragraphs of a text with their levels (P1 to P3), and the class of each character.
     ///
     /// A base level, which may be any level, is the level of every paragraph. Without one, each paragraph gets its
-    /// level from its characters (P2, P3). Each FSI is resolved (X5c).
+    /// level from its characters (P2, P3). Each FSI is resolved (X5c). Takes time linear in the text. The result has
+    /// one byte for each code unit: its class.
     pub fn new_with_data_source<D: BidiDataSource>(
         alloc: Global,
         data_source: &D,
