@@ -1,1 +1,1 @@
-mod Widths
+pub mod Widths

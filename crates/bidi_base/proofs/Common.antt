@@ -30,11 +30,11 @@ pub use Rattle.std.proofs.lemmas.List.Kept.{AllPairs-cons}
 pub use Rattle.std.proofs.lemmas.List.Sorted.{All-permutation, Contains-permutation, IsPermutation-append_comm, IsPermutation-append_left, IsPermutation-append_right, IsPermutation-cons}
 pub use Rattle.std.proofs.lemmas.List.Sorted.{IsPermutation-middle, IsPermutation-refl, IsPermutation-reverse, IsPermutation-sym, IsPermutation-trans, length_permutation, sum_by-IsPermutation}
 pub use Rattle.std.proofs.lemmas.List.Sorted.{IsPermutation-map}
-pub use Rattle.std.proofs.lemmas.List.Sums.{count_by-le-length, fails_before_first, fold_push, prefix_len-le-length, sum_by-append, sum_by-cons, sum_by_more, sum_by_more_le, take_while-cons}
+pub use Rattle.std.proofs.lemmas.List.Sums.{count_by-le-length, fold_push, prefix_len-le-length, sum_by-append, sum_by-cons, sum_by_more, sum_by_more_le, take_while-cons}
 pub use Rattle.std.proofs.lemmas.Nat.Bits.{bit_at-lt, bit_at-pow_other, bit_at-zero, bit_at_and, bit_at_or, same_from_bits}
 pub use Rattle.std.proofs.lemmas.Option.{slice_get-get_or, get_or_from_slice_get, slice_get_within}
 pub use Rattle.std.proofs.lemmas.Result.{IfOk-weaker}
-pub use Rattle.std.proofs.lemmas.Simd.{bitmask_splat, length-chunk, map-map, run_in_chunk_fails, run_in_chunk_stops, mask_l-mod, tops_compared, zip2_splat_left}
+pub use Rattle.std.proofs.lemmas.Simd.{bitmask_splat, map-map, mask_l-mod, tops_compared, zip2_splat_left}
 pub use Rattle.std.proofs.lemmas.Slice.Zip.{get_or-zip, length-zip}
 pub use Rattle.std.proofs.lemmas.Str.{IsUtf8-past_char, chars-nil, chars_from_encodes, encodes-append, encodes-chars, length-encode, IsCharBoundary-after_ascii, IsCharBoundary-before_ascii}
 pub use Rattle.std.proofs.lemmas.Str.{IsCharBoundary-from_take, IsCharBoundary-start, IsUtf8-append, IsUtf8-between, IsUtf8-drop, IsUtf8-encode, IsUtf8-nil, IsUtf8-string_bytes, IsUtf8-take}
@@ -92,7 +92,7 @@ pub use Rattle.bidi_base.specs.Openers.{left_open, outside_isolate}
 unfoldable pub use Rattle.bidi_base.specs.Order.{index_at_visual, least_between, order_by_reversals, stands_left, visual_order, visual_index}
 pub use Rattle.bidi_base.specs.Order.{IsVisualOrder, least}
 pub use Rattle.bidi_base.specs.PairSearch.{AreWithin, HasRead, IsAt, IsUnderWay, closed_before}
-pub use Rattle.bidi_base.specs.Paragraphs.{IsPartition, SplitTest, begins_with_line_feed, cr_lf_together, cut_after, each_separator, ends_with_separator, ends_after, ends_by, paragraphs_of, pieces_by, ranges_from}
+pub use Rattle.bidi_base.specs.Paragraphs.{IsPartition, SplitTest, begins_with_line_feed, cr_lf_together, cut_after, each_separator, ends_with_separator, ends_by, paragraphs_of, pieces_by, ranges_from}
 pub use Rattle.bidi_base.specs.Indexes.{at_indexes, between, chain, class_at, count_between, find_last, first_or, holds_number, in_context, indexes, last_or, nearest, nearest_is}
 pub use Rattle.bidi_base.specs.OpenIsolates.{decided_by, filled, innermost, is_fsi, met_units, opened_by, outer}
 pub use Rattle.bidi_base.specs.Search.{IsFirst, passing}
@@ -115,6 +115,5 @@ pub use Rattle.bidi_base.specs.declared.brackets.Bracket.{Bracket}
 pub use Rattle.bidi_base.specs.declared.brackets.Waiting.{Waiting}
 pub use Rattle.bidi_base.specs.declared.char_data.BidiClass.{BidiClass}
 pub use Rattle.bidi_base.specs.declared.char_data.BidiClass.TheVariants.{AL, AN, B, BN, CS, EN, ES, ET, FSI, L, LRE, LRI, LRO, NSM, ON, PDF, PDI, R, RLE, RLI, RLO, S, WS}
-pub use Rattle.bidi_base.specs.declared.char_data.Direction.{Direction}
 pub use Rattle.bidi_base.specs.declared.char_data.Direction.TheVariants.{Ltr, Mixed, Rtl}
 pub use Rattle.bidi_base.specs.declared.data_source.BidiMatchedOpeningBracket.{BidiMatchedOpeningBracket}

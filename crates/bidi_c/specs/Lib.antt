@@ -1,2 +1,2 @@
-mod Mirroring
-mod Versions
+pub mod Mirroring
+pub mod Versions

@@ -1,11 +1,11 @@
 //! The calls over a whole text in any encoding.
-ghost use Rattle.std.specs.Prelude.{◌≡◌, ◌<◌, ◌≤◌, ◌&&◌, nat_le, length, map, slice_index, IsTrue, OnOk, OnErr, IfOk, IfSome};
+ghost use Rattle.std.specs.Prelude.{◌≡◌, ◌<◌, ◌≤◌, ◌&&◌, nat_le, length, map, slice_index, IfSome};
 ghost use Rattle.bidi_base.specs.Classes.{class_number};
 ghost use Rattle.bidi_base.specs.Texts.{text_len};
 ghost use Rattle.std.specs.Result.{result_err};
-ghost use Rattle.bidi_numbers.specs.Faults.{FaultsAs, fault_unless, has_room_or_none};
+ghost use Rattle.bidi_numbers.specs.Faults.{FaultsAs, fault_unless};
 ghost use Rattle.bidi_calls.specs.Buffers.{written, written_if_room, HasRoomOrNone, analysis_of, analysis_by, analysis_fault, paragraphs_fault, WritesAnalysis};
-ghost use Rattle.bidi_numbers.specs.Numbers.{base_of, split_of, direction_number, direction_in};
+ghost use Rattle.bidi_numbers.specs.Numbers.{direction_number, direction_in};
 ghost use Rattle.bidi_numbers.specs.Structs.{paragraph_struct};
 ghost use Rattle.unicode_bidi.specs.ParagraphInfo.{range_of, level_of};
 

@@ -1,5 +1,5 @@
 //! The calls over a whole text that read classes and brackets from the caller's tables.
-ghost use Rattle.std.specs.Prelude.{◌≡◌, length, OnOk, OnErr, IfOk, IsUtf8, Some};
+ghost use Rattle.std.specs.Prelude.{◌≡◌, length, IfOk, IsUtf8};
 ghost use Rattle.std.specs.Char.{len_utf8};
 ghost use Rattle.std.specs.List.{list_all};
 ghost use Rattle.std.specs.Option.{option_or};

@@ -3,7 +3,6 @@ ghost use Rattle.std.specs.Prelude.{◌≡◌, ◌+◌, ◌≤◌, if◌then◌e
 ghost use Rattle.bidi_base.specs.Display.{run_of, visual_runs};
 ghost use Rattle.bidi_base.specs.Order.{visual_order};
 ghost use Rattle.bidi_base.specs.Indexes.{between};
-ghost use Rattle.bidi_base.specs.Text.{text_len};
 ghost use Rattle.bidi_base.specs.Texts.{char_index, is_boundary, per_char, subrange, IsLine, IsPerChar};
 ghost use Rattle.bidi_calls.specs.LineParts.{AreCharsIf};
 

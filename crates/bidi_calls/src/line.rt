@@ -1,16 +1,13 @@
 //! The calls over a line, given the classes and levels that the caller passes.
-ghost use Rattle.std.specs.Prelude.{◌≡◌, ◌+◌, ◌-◌, ◌<◌, ◌≤◌, ◌&&◌, IsTrue, true, length, map, slice_index, slice_range, nat_le, OnOk, OnErr, IfOk, All};
-ghost use Rattle.std.specs.List.{list_all};
+ghost use Rattle.std.specs.Prelude.{◌≡◌, ◌+◌, ◌-◌, ◌<◌, ◌&&◌, true, length, map, nat_le, OnOk, OnErr, IfOk};
 ghost use Rattle.std.specs.Result.{result_err};
-ghost use Rattle.bidi_base.specs.Display.{run_of, visual_runs};
+ghost use Rattle.bidi_base.specs.Display.{visual_runs};
 ghost use Rattle.bidi_base.specs.Order.{visual_order as visual_order_of};
-ghost use Rattle.bidi_base.specs.Text.{unit_index, per_char};
 ghost use Rattle.bidi_base.specs.Texts.{text_len};
 ghost use Rattle.bidi_lines.specs.LineLevels.{levels as levels_of};
-ghost use Rattle.bidi_numbers.specs.Faults.{FaultsAs, fault_unless, has_room_or_none};
+ghost use Rattle.bidi_numbers.specs.Faults.{FaultsAs, fault_unless};
 ghost use Rattle.bidi_calls.specs.Buffers.{written, written_if_room, WritesList};
 ghost use Rattle.bidi_calls.specs.CallerLine.{lies_in, IsValid, IsAsLongAs, own_classes, own_levels, line_fault, levels_fault, runs_fault, order_fault, caller_line_levels};
-ghost use Rattle.bidi_numbers.specs.Numbers.{class_numbered, is_class, is_level};
 ghost use Rattle.bidi_calls.specs.LineText.{is_even, order_of_line, map_fault};
 ghost use Rattle.bidi_lines.specs.InText.{visual_units};
 ghost use Rattle.bidi_numbers.specs.Structs.{run_struct};

@@ -1,9 +1,8 @@
 //! The visual runs of a line, as the structs that a caller reads.
-ghost use Rattle.std.specs.Prelude.{◌≡◌, ◌+◌, ◌<◌, ◌≤◌, IsTrue, length, map, All};
+ghost use Rattle.std.specs.Prelude.{◌≡◌, ◌+◌, ◌<◌, ◌≤◌, length, map};
 ghost use Rattle.bidi_base.specs.Display.{run_of, visual_runs, AreVisualRuns};
 ghost use Rattle.bidi_calls.specs.LineParts.{AreWithin};
 ghost use Rattle.bidi_calls.specs.Buffers.{written_if_room, HasRoomOrNone};
-ghost use Rattle.bidi_numbers.specs.Faults.{has_room_or_none};
 ghost use Rattle.bidi_numbers.specs.Structs.{run_struct};
 
 use bidi_numbers::structs::Run;

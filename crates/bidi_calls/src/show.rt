@@ -1,17 +1,15 @@
 //! All parts of a line in one call: its levels, its visual runs, the order of its characters, and its text from left to
 //! right.
-ghost use Rattle.std.specs.Prelude.{◌≡◌, ℕ, ◌+◌, ◌-◌, ◌<◌, ◌≤◌, ◌&&◌, if◌then◌else◌, IsTrue, true, length, map, flat_map, reverse, slice_index, get_or, sum_by, OnOk, OnErr, IfOk, All};
+ghost use Rattle.std.specs.Prelude.{◌≡◌, ℕ, ◌+◌, ◌-◌, ◌<◌, ◌≤◌, ◌&&◌, if◌then◌else◌, IsTrue, true, length, map, flat_map, reverse, sum_by, All};
 ghost use Rattle.bidi_base.specs.Display.{run_of, visual_runs, AreVisualRuns};
-ghost use Rattle.bidi_base.specs.Levels.{is_odd};
 ghost use Rattle.bidi_base.specs.Order.{visual_order as visual_order_of};
-ghost use Rattle.bidi_base.specs.Text.{one_unit, IsLine};
+ghost use Rattle.bidi_base.specs.Text.{IsLine};
 ghost use Rattle.bidi_base.specs.Texts.{text_len, per_char, IsPerChar};
 ghost use Rattle.bidi_calls.specs.LineParts.{everything_of_chars, line_parts, room_fault, WritesLine, AreWithin};
 ghost use Rattle.bidi_calls.specs.Buffers.{written_if_room, HasRoomOrNone};
 ghost use Rattle.bidi_calls.specs.CallerLine.{IsValid, IsAsLongAs, caller_line_levels};
 ghost use Rattle.bidi_calls.specs.LineText.{is_even, chars_at};
 ghost use Rattle.bidi_numbers.specs.Faults.{FaultsAs, has_room_or_none};
-ghost use Rattle.bidi_numbers.specs.Structs.{run_struct};
 ghost use Rattle.bidi_lines.specs.LineLevels.{levels as levels_of};
 ghost use Rattle.bidi_lines.specs.InText.{run_units, visual_units};
 

@@ -1,15 +1,14 @@
 //! The calls over texts of UTF-16. An unpaired surrogate is the character U+FFFD.
-ghost use Rattle.std.specs.Prelude.{◌≡◌, ◌+◌, length, map, OnOk, OnErr, IfOk};
+ghost use Rattle.std.specs.Prelude.{◌≡◌, ◌+◌, length};
 ghost use Rattle.std.specs.Char.Escape.{encode_utf16};
 ghost use Rattle.bidi_base.specs.Text.{is_boundary};
 ghost use Rattle.bidi_base.specs.Utf16.{utf16_text, utf16_len};
 ghost use Rattle.bidi_numbers.specs.Faults.{FaultsAs};
 ghost use Rattle.bidi_calls.specs.LineParts.{everything, everything_fault, WritesLine};
 ghost use Rattle.bidi_calls.specs.Buffers.{analysis_by, analysis_fault, WritesAnalysis, WritesList};
-ghost use Rattle.bidi_calls.specs.CallerLine.{IsValid, line_fault};
+ghost use Rattle.bidi_calls.specs.CallerLine.{IsValid};
 ghost use Rattle.bidi_numbers.specs.Numbers.{direction_in};
 ghost use Rattle.bidi_calls.specs.LineText.{own_units, fault_of_line, reordered, text_fault, cuts_utf16, reordered_fault, order_of_line, map_fault};
-ghost use Rattle.std.specs.Option.{option_or};
 ghost use Rattle.std.specs.Result.{result_err};
 
 use crate::analysis;

@@ -1,14 +1,14 @@
 //! The calls over lists of characters. Each code unit is the number of a character.
-ghost use Rattle.std.specs.Prelude.{◌≡◌, ◌+◌, ◌<◌, All, false, get_or, length, map, OnOk, OnErr, IfOk};
+ghost use Rattle.std.specs.Prelude.{◌≡◌, ◌+◌, false, length, OnOk, OnErr, IfOk};
 ghost use Rattle.std.specs.List.{list_all};
 ghost use Rattle.std.specs.Option.{option_or};
 ghost use Rattle.bidi_base.specs.Text.{one_unit};
 ghost use Rattle.bidi_numbers.specs.Faults.{FaultsAs, fault_unless};
 ghost use Rattle.bidi_calls.specs.LineParts.{everything_of_chars, room_fault, WritesLine};
 ghost use Rattle.bidi_calls.specs.Buffers.{written, analysis_by, analysis_fault, WritesAnalysis, WritesList};
-ghost use Rattle.bidi_calls.specs.CallerLine.{IsValid, line_fault};
+ghost use Rattle.bidi_calls.specs.CallerLine.{IsValid};
 ghost use Rattle.bidi_numbers.specs.Numbers.{direction_in};
-ghost use Rattle.bidi_calls.specs.LineText.{own_units, fault_of_line, reordered_chars, chars_fault, text_fault, order_of_line, map_fault};
+ghost use Rattle.bidi_calls.specs.LineText.{own_units, fault_of_line, reordered_chars, chars_fault, order_of_line, map_fault};
 ghost use Rattle.bidi_numbers.specs.Texts.{is_scalar};
 
 use crate::analysis;

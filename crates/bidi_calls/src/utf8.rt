@@ -1,14 +1,13 @@
 //! The calls over texts of UTF-8. A code unit is a byte.
-ghost use Rattle.std.specs.Prelude.{◌≡◌, ◌+◌, ◌-◌, ◌≤◌, nat_eq, length, map, slice_range, IsUtf8, IsTrue, OnOk, OnErr, IfOk, encode_utf8, MatchResult};
+ghost use Rattle.std.specs.Prelude.{◌≡◌, ◌+◌, ◌-◌, length, IsUtf8, encode_utf8, MatchResult};
 ghost use Rattle.std.specs.Char.{len_utf8};
 ghost use Rattle.std.specs.Str.{chars};
 ghost use Rattle.bidi_numbers.specs.Faults.{FaultsAs};
 ghost use Rattle.bidi_calls.specs.LineParts.{everything, everything_fault, WritesLine};
 ghost use Rattle.bidi_calls.specs.Buffers.{analysis_by, analysis_fault, WritesAnalysis, WritesList};
-ghost use Rattle.bidi_calls.specs.CallerLine.{IsValid, line_fault};
+ghost use Rattle.bidi_calls.specs.CallerLine.{IsValid};
 ghost use Rattle.bidi_numbers.specs.Numbers.{direction_in};
-ghost use Rattle.bidi_calls.specs.LineText.{own_units, fault_of_line, ReportsNotUtf8, reordered, text_fault, cuts_utf8, is_even, reordered_fault, order_of_line, map_fault};
-ghost use Rattle.std.specs.Option.{option_or};
+ghost use Rattle.bidi_calls.specs.LineText.{own_units, fault_of_line, ReportsNotUtf8, reordered, text_fault, cuts_utf8, reordered_fault, order_of_line, map_fault};
 ghost use Rattle.std.specs.Result.{result_err};
 
 use crate::analysis;

@@ -1,6 +1,6 @@
 //! Wide tables, in blocks of columns.
 ghost use Rattle.std.specs.Prelude.{◌≡◌, ℕ, ◌<◌, List, length, flat_map, IfOk};
-ghost use Rattle.bidi_explain.specs.Blocks.{columns_in, block_count, block_at, blocks_of, part_of};
+ghost use Rattle.bidi_explain.specs.Blocks.{columns_in, block_count, blocks_of, part_of};
 
 use std::alloc::{AllocError, Global};
 

@@ -236,10 +236,6 @@ module _ (classes : List BidiClass) (levels : List ℕ) (links : RunLinks) (whol
         ap (λ r. kept_in_runs text classes (r ∷ [])) (run_is k within)
         ∙ kept_in_run text classes (start_of k) (start_of (k + 1)) (omega (arith, run.not_empty, run.within, long)) (omega (arith, run.within, long))
 
-    kept_in_none : kept_in_runs text classes [] ≡ []
-    unfolding in_units.kept_in_runs in_units.chars_in_runs
-    kept_in_none = refl
-
     -- the characters of the runs of a chain
     kept_along : (r : ℕ) (rs : List ℕ) → r < n → FollowRuns (r ∷ rs) → kept_in_runs text classes (map (λ k. get_or runs k (0, 0)) (r ∷ rs)) ≡ flat_map (members classes levels) (r ∷ rs)
     kept_along r [] within steps = kept_at r within ∙ sym (append-nil (members classes levels r))

@@ -1,7 +1,7 @@
 //! Explicit levels and directions (X1 to X8), and level runs (BD7), in place over the code units of one
 //! paragraph.
 
-ghost use Rattle.std.specs.Prelude.{◌≡◌, ℕ, ◌+◌, ◌*◌, ◌-◌, ◌≤◌, length, map, OnOk, IfOk};
+ghost use Rattle.std.specs.Prelude.{◌≡◌, ◌+◌, ◌*◌, ◌-◌, ◌≤◌, length, map, OnOk, IfOk};
 ghost use Rattle.bidi_base.specs.Texts.{AreExplicitLevels, CanFindExplicitLevels};
 ghost use Rattle.bidi_base.specs.Units.{bounds};
 ghost use Rattle.bidi_explicit.specs.Paragraph.{AreLevelsOf, CanFindLevels, least_count, whole_count};

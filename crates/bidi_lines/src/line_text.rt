@@ -1,5 +1,5 @@
 //! The text of a line from left to right (L2), written to a slice.
-ghost use Rattle.std.specs.Prelude.{◌≡◌, ℕ, ◌+◌, ◌-◌, ◌<◌, ◌≤◌, List, length, slice_range, reverse, flat_map, map, sum_by, IfOk, IfSome, OnOk, OnErr, IsNone, IsTrue, All, ◌↔◌};
+ghost use Rattle.std.specs.Prelude.{◌≡◌, ℕ, ◌+◌, ◌-◌, List, length, slice_range, reverse, flat_map, map, sum_by, IfOk, IfSome, OnOk, OnErr, IsNone, All, ◌↔◌};
 ghost use Rattle.bidi_base.specs.AnalysedText.{IsLineOf, StaysInOrder};
 ghost use Rattle.bidi_base.specs.Display.{run_of};
 ghost use Rattle.bidi_base.specs.Texts.{subrange, IsLine};

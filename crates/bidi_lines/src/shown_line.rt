@@ -1,5 +1,5 @@
 //! A line of a text as it is displayed, in memory that is reused for the next line.
-ghost use Rattle.std.specs.Prelude.{◌≡◌, ℕ, ◌+◌, ◌-◌, ◌≤◌, List, [], ◌++◌, length, take, map, not, IsTrue, OnOk, OnErr, ◌↔◌};
+ghost use Rattle.std.specs.Prelude.{◌≡◌, ℕ, ◌-◌, ◌≤◌, [], ◌++◌, length, take, map, not, IsTrue, OnOk, OnErr, ◌↔◌};
 ghost use Rattle.std.specs.declared.ops.Range.{Range as RangeOf};
 ghost use Rattle.bidi_base.specs.AnalysedText.{AnalysedText, IsLineOf, AreLevelsOfLine, AreRunsOfLine, StaysInOrder, line_levels_per_char};
 ghost use Rattle.bidi_base.specs.Display.{run_of, visual_runs};

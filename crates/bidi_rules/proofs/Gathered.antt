@@ -37,9 +37,9 @@ unfolding found_brackets
 pairs-placed len_of h chars source runs sos old ready brackets pairs is search =
     let ks = kept_in_place len_of chars old (map bounds runs) in
     let f = unit_index_at len_of chars ks in
-    let rises = unit_index_at-rises len_of h chars old (map bounds runs) ready.lines ready.ordered in
+    let rises = unit_index_at-rises len_of h chars old (map bounds runs) ready.are_lines ready.ordered in
     bracket_pairs-moved f rises brackets pairs (values_of L len_of chars old ks) (map source.bracket_of (at_indexes 0 chars ks)) search
-    (is ∙ placed-moved len_of chars source old f rises 0 ks (λ i below. let same : 0 + i ≡ i = omega arith in ap f same ∙ unit_index_at-in len_of h chars old (map bounds runs) ready.lines ready.ordered i below))
+    (is ∙ placed-moved len_of chars source old f rises 0 ks (λ i below. let same : 0 + i ≡ i = omega arith in ap f same ∙ unit_index_at-in len_of h chars old (map bounds runs) ready.are_lines ready.ordered i below))
 
 pub pairs-nested : (len_of : ℕ → ℕ) (chars : List ℕ) (source : Source) (runs : List (Range ℕ)) (old : List BidiClass)
     → AreNestedPairs (length (kept_in_place len_of chars old (map bounds runs))) (pairs_in len_of chars source old runs)

@@ -4,7 +4,7 @@
 //! of a character is the number of code units before it. The contract of each method is stated on the
 //! text's list of characters.
 
-ghost use Rattle.std.specs.Prelude.{◌≡◌, ℕ, ◌+◌, ◌<◌, ◌≤◌, ◌↔◌, true, List, get_or, Some, option_map, IfSome, IsTrue};
+ghost use Rattle.std.specs.Prelude.{◌≡◌, ℕ, ◌+◌, ◌<◌, ◌↔◌, true, get_or, Some, option_map, IfSome, IsTrue};
 ghost use Rattle.std.specs.List.{list_all};
 ghost use lib.Utf8.{scalar};
 ghost use Rattle.bidi_base.specs.Text.{all_same, Gives};

@@ -53,7 +53,7 @@ module _ (len_of : ℕ → ℕ) (chars : List ℕ) where
 -- a pass that may fail
 pub done-clauses : {A E : Type 0} (result : Result A E) (done : Type 0) (old new : List BidiClass)
     → IsDoneOrUnchanged result done old new ↔ OnOk result done × OnErr result (new ≡ old)
-done-clauses result done old new = (λ all. (all.resolved, all.refused), λ all. record { resolved = all.0; unchanged = all.1 })
+done-clauses result done old new = (λ all. (all.resolved, all.unchanged), λ all. record { resolved = all.0; unchanged = all.1 })
 
 -- a constructor
 pub constructor-clauses : {I E : Type 0} (source : Source) (base_level : Option ℕ) (text_of : I → List ℕ) (units : List ℕ) (is_analysis : I → Type 0) (result : Result I E)

@@ -1,6 +1,6 @@
 //! The passes in place, over the code units of one paragraph.
 
-ghost use Rattle.std.specs.Prelude.{◌≡◌, ◌≤◌, not, ◌||◌, length};
+ghost use Rattle.std.specs.Prelude.{◌≡◌, ◌≤◌, ◌||◌, length};
 
 use crate::texts::{TEXT, WITHOUT_ISOLATES};
 use crate::trial::{Fault, NoAnswer, tried};

@@ -1,5 +1,5 @@
 -- The search for a base direction, step by step, finds what the walk over a whole text finds.
-use Rattle.bidi_base.proofs.Common.{◌≡◌, ◌∙◌, ap, sym, ℕ, zero, suc, ◌+◌, ◌-◌, ◌≤◌, replicate, Bool, true, false, not, ◌&&◌, ◌||◌, ◌==◌, if◌then◌else◌, List, [], ◌∷◌, ◌++◌, length, map, list_any, refl}
+use Rattle.bidi_base.proofs.Common.{◌≡◌, ◌∙◌, ap, sym, ℕ, zero, suc, ◌+◌, ◌≤◌, replicate, Bool, true, false, not, ◌&&◌, ◌||◌, ◌==◌, if◌then◌else◌, List, [], ◌∷◌, ◌++◌, length, map, list_any, refl}
 use Rattle.bidi_base.proofs.Common.{◌<◌, append-nil, Some, direction_by, arith, cases_Bool, is_strong, is_isolate_initiator, is_pdi, is_paragraph_separator, ne_eqb, base_direction, paragraphs_of}
 use Rattle.bidi_base.proofs.Common.{each_separator, Source, full_base_direction}
 use Rattle.bidi_base.specs.declared.char_data.BidiClass.{BidiClass}

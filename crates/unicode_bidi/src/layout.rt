@@ -8,7 +8,6 @@ ghost use Rattle.bidi_base.specs.Layout.{line_length, line_ranges, visual_indexe
 ghost use Rattle.bidi_base.specs.Order.{visual_order};
 ghost use Rattle.bidi_base.specs.Indexes.{indexes};
 ghost use Rattle.bidi_base.specs.Paragraphs.{IsPartition};
-ghost use Rattle.bidi_base.specs.Text.{per_char, text_len};
 ghost use Rattle.bidi_base.specs.Texts.{unit_index, IsLine};
 ghost use Rattle.bidi_lines.specs.LineLevels.{levels as kept_levels};
 ghost use Rattle.unicode_bidi.specs.BidiInfo.{analysed as analysed_of};

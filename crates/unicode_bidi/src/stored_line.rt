@@ -1,14 +1,13 @@
 //! The text of a line from left to right (L1, L2), given its stored classes and levels. The calls take time linear in
 //! the line.
 
-ghost use Rattle.std.specs.Prelude.{◌≡◌, ◌↔◌, IfOk, length, encode_utf8};
+ghost use Rattle.std.specs.Prelude.{◌↔◌, IfOk, length, encode_utf8};
 ghost use Rattle.std.specs.Char.{len_utf8};
 ghost use Rattle.std.specs.Char.Escape.{encode_utf16};
 ghost use Rattle.std.specs.Cow.{cow_slice_items, cow_str_bytes, IsBorrowedSlice, IsBorrowedStr};
 ghost use Rattle.std.specs.Str.{chars};
 ghost use Rattle.bidi_base.specs.AnalysedText.{IsTextOfLine, StaysInOrder};
 ghost use Rattle.bidi_base.specs.PerChar.{HaveClass, HaveLevel};
-ghost use Rattle.bidi_base.specs.Text.{is_per_char};
 ghost use Rattle.bidi_base.specs.Utf16.{utf16_text, utf16_len};
 
 use bidi_base::char_data::BidiClass;

@@ -10,7 +10,7 @@ ghost use Rattle.bidi_base.specs.Texts.{text_len, HaveClass};
 ghost use Rattle.bidi_base.specs.Units.{bounds};
 ghost use Rattle.bidi_explicit.specs.RunCutting.{filled};
 ghost use Rattle.bidi_explicit.specs.Control.{is_control};
-ghost use Rattle.bidi_explicit.specs.ExplicitStretches.{open_run_after, runs_after, IsOverridden, IsReadTo, IsUnread, ReadsOn};
+ghost use Rattle.bidi_explicit.specs.ExplicitStretches.{open_run_after, runs_after, IsReadTo, IsUnread, ReadsOn};
 ghost use Rattle.bidi_explicit.specs.Status.{entry_count, seen};
 
 use super::status::{StatusEntry, StatusStack};

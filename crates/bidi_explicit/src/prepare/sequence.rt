@@ -1,6 +1,6 @@
 //! Isolating run sequences as lists of level runs, and iterators over their code units.
 
-ghost use Rattle.std.specs.Prelude.{◌≡◌, ◌≤◌, ◌<◌, ◌↔◌, IsTrue, IfSome, IfOk, OnOk, All, [], ◌∷◌, ◌++◌, map, length, get_or, is_some};
+ghost use Rattle.std.specs.Prelude.{◌≡◌, ◌≤◌, ◌<◌, ◌↔◌, IsTrue, IfSome, IfOk, map, length, get_or, is_some};
 ghost use Rattle.bidi_base.specs.Classes.{is_l_or_r};
 ghost use Rattle.bidi_base.specs.Units.{bounds, are_ordered, is_run_sequence};
 
@@ -22,7 +22,7 @@ pub struct IsolatingRunSequence {
 }
 
 impl IsolatingRunSequence {
-    ghost use Rattle.bidi_explicit.specs.RunSequence.{runs as runs_of, run_bounds, joined, borrowed_joined, sos as sos_of, eos as eos_of, forwards_left, backwards_left};
+    ghost use Rattle.bidi_explicit.specs.RunSequence.{runs as runs_of, joined, borrowed_joined, sos as sos_of, eos as eos_of, forwards_left, backwards_left};
     ghost use Rattle.bidi_base.specs.Texts.{AreLines};
     ghost use Rattle.bidi_base.specs.Units.{units_from, units_below};
 

@@ -1,8 +1,7 @@
 //! The nonspacing marks after a bracket.
 
-ghost use Rattle.std.specs.Prelude.{◌≡◌, ◌&&◌, not, ℕ, ◌<◌, ◌≤◌, ◌+◌, length, map, IsTrue};
+ghost use Rattle.std.specs.Prelude.{◌≡◌, ◌&&◌, not, ◌<◌, length, map, IsTrue};
 ghost use Rattle.bidi_base.specs.Classes.{is_kept_in_place, is_nsm};
-ghost use Rattle.bidi_base.specs.Text.{unit_index};
 ghost use Rattle.bidi_base.specs.Texts.{is_boundary, text_len, AreLines};
 ghost use Rattle.bidi_base.specs.Units.{bounds, are_ordered};
 ghost use Rattle.bidi_rules.specs.InText.{IsMarksEnd};

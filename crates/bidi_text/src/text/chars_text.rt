@@ -1,6 +1,6 @@
 //! Lists of characters as texts. A code unit is a character.
 
-ghost use Rattle.std.specs.Prelude.{◌≡◌, ℕ, ◌+◌, ◌<◌, ◌≤◌, ◌^◌, length};
+ghost use Rattle.std.specs.Prelude.{◌≡◌, ◌+◌, ◌<◌, ◌^◌, length};
 ghost use Rattle.std.specs.Iterator.{YieldsFirst, item_count};
 ghost use Rattle.bidi_base.specs.Texts.{one_each};
 ghost use Rattle.bidi_base.specs.Text.{char_indices_from, indices_lengths_from, one_unit};

@@ -37,13 +37,13 @@ resolve_marks_and_numbers-requires-clause-are_lines g c = grind arith
 
 pub resolve_marks_and_numbers-requires-clause-per_char : goal.resolve_marks_and_numbers-requires-clause-per_char
 resolve_marks_and_numbers-requires-clause-per_char g c =
-    (ready g.T.TextSource.encoding.len_of g.T.TextSource.encoding.positive (g.T.TextSource.text c.args.text).chars c.args.sequence c.runs-runs.result.now c.args.processing_classes.now c.runs-runs.ensures c.requires.fits c.requires.per_char).per
+    (ready g.T.TextSource.encoding.len_of g.T.TextSource.encoding.positive (g.T.TextSource.text c.args.text).chars c.args.sequence c.runs-runs.result.now c.args.processing_classes.now c.runs-runs.ensures c.requires.are_lines c.requires.per_char).per
 
 pub resolve_w3_w6-requires-clause-within : goal.resolve_w3_w6-requires-clause-within
 resolve_w3_w6-requires-clause-within g c =
     grind (
       arith,
-      ready g.T.TextSource.encoding.len_of g.T.TextSource.encoding.positive (g.T.TextSource.text c.args.text).chars c.args.sequence c.runs-runs.result.now c.args.processing_classes.now c.runs-runs.ensures c.requires.fits c.requires.per_char,
+      ready g.T.TextSource.encoding.len_of g.T.TextSource.encoding.positive (g.T.TextSource.text c.args.text).chars c.args.sequence c.runs-runs.result.now c.args.processing_classes.now c.runs-runs.ensures c.requires.are_lines c.requires.per_char,
       lines-within g.T.TextSource.encoding.len_of g.T.TextSource.encoding.positive (g.T.TextSource.text c.args.text).chars (map bounds c.runs-runs.result.now),
     )
 
@@ -51,7 +51,7 @@ pub returns : goal.returns
 returns g c =
     grind (
       arith,
-      ready g.T.TextSource.encoding.len_of g.T.TextSource.encoding.positive (g.T.TextSource.text c.args.text).chars c.args.sequence c.runs-runs.result.now c.args.processing_classes.now c.runs-runs.ensures c.requires.fits c.requires.per_char,
+      ready g.T.TextSource.encoding.len_of g.T.TextSource.encoding.positive (g.T.TextSource.text c.args.text).chars c.args.sequence c.runs-runs.result.now c.args.processing_classes.now c.runs-runs.ensures c.requires.are_lines c.requires.per_char,
       resolved g.T.TextSource.encoding.len_of g.T.TextSource.encoding.positive (g.T.TextSource.text c.args.text).chars c.args.sequence c.runs-runs.result.now c.sos-sos.result c.runs-runs.ensures c.sos-sos.ensures c.args.processing_classes.now c.resolve_marks_and_numbers.ensures.walked.0 c.resolve_marks_and_numbers.new.classes c.resolve_w3_w6.new.classes,
       characters-at_most g.T.TextSource.encoding.len_of g.T.TextSource.encoding.positive (g.T.TextSource.text c.args.text).chars (map bounds c.runs-runs.result.now),
     )

@@ -21,7 +21,7 @@ pub write_line-requires-clause-runs : goal.write_line-requires-clause-runs
 write_line-requires-clause-runs g c =
     let len = g.T.TextSource.encoding.len_of in
     let some = g.T.TextSource.encoding.positive in
-    rw c.text-text.ensures (visual_runs_at_boundaries len some (g.T.TextSource.text (text_of c.args.self.now)).chars c.args.level c.original_classes.result.now c.levels.result.now c.args.line.start c.args.line.end
+    rw c.text-text.ensures (visual_runs_at_boundaries len some (g.T.TextSource.text (text_of c.args.self.now)).chars c.args.para_level c.original_classes.result.now c.levels.result.now c.args.line.start c.args.line.end
     (classes_IsPerChar len some _ _ c.original_classes.ensures.per_char) (levels_IsPerChar len some _ _ c.levels.ensures.per_char) c.requires)
 
 pub returns-clause-text : goal.returns-clause-text

@@ -29,8 +29,8 @@ loop-at-preserved c =
         | inl below ↦ other j (omega (arith, inside, c.requires.same_len)) (λ e. absurd (omega arith)) ∙ inv.turned j low below
         | inr past ↦ let e : j ≡ at = omega arith in rw e (own ∙ read)
       ];
-      outside_before = λ j below fits. other j fits (λ e. absurd (omega (arith, c.loop-at.auto.at))) ∙ inv.before j below fits;
-      outside_after = λ j past fits. other j fits (λ e. absurd (omega arith)) ∙ inv.after j (omega arith) fits;
+      before = λ j below fits. other j fits (λ e. absurd (omega (arith, c.loop-at.auto.at))) ∙ inv.before j below fits;
+      after = λ j past fits. other j fits (λ e. absurd (omega arith)) ∙ inv.after j (omega arith) fits;
     }
 
 pub returns-clause-outside_after : goal.returns-clause-outside_after

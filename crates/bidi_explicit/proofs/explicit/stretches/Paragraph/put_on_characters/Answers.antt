@@ -20,7 +20,7 @@ pub write_class-requires-clause-ordered : goal.write_class-requires-clause-order
 write_class-requires-clause-ordered g c = omega (arith, next g (goal.at.write_class-requires-clause-ordered g c).After-end_of-next)
 
 pub write_class-requires-clause-within : goal.write_class-requires-clause-within
-write_class-requires-clause-within g c = omega (arith, next g (goal.at.write_class-requires-clause-within g c).After-end_of-next, c.loop-at.invariant.2.long, c.requires.classes, c.requires.within)
+write_class-requires-clause-within g c = omega (arith, next g (goal.at.write_class-requires-clause-within g c).After-end_of-next, c.loop-at.invariant.2.long, c.requires.same_len, c.requires.within)
 
 pub loop-at-init : goal.loop-at-init
 loop-at-init g c = grind arith steps 400000
@@ -37,7 +37,7 @@ loop-at-preserved-then-passes g c =
     let on = next g a.After-end_of-next in (
       omega (arith, on.some, c.loop-at.invariant.0),
       on.within,
-      simp c.write_class.ensures (IsOverridden-more _ _ _ _ _ _ c.loop-at.invariant.2 c.loop-at.invariant.0 (omega (arith, on.some)) (omega (arith, on.within, c.requires.within, c.requires.classes))
+      simp c.write_class.ensures (IsOverridden-more _ _ _ _ _ _ c.loop-at.invariant.2 c.loop-at.invariant.0 (omega (arith, on.some)) (omega (arith, on.within, c.requires.within, c.requires.same_len))
           (λ u above below. ap is_kept_in_place (was g a.After-end_of-next u above below) ∙ sym c.passes.ensures ∙ c.if-passes.true)),
       on.begins,
       omega (arith, on.index),

@@ -2,8 +2,8 @@ use Rattle.bidi_base.proofs.Common.{arith}
 use Rattle.bidi_explicit.proofs.CharEnds.{index-le}
 use Rattle.bidi_explicit.proofs.explicit.stretches.Paragraph.write_override.Goals as goal
 
-pub returns-in-Character-clause-at_least : goal.returns-in-Character-clause-at_least
-returns-in-Character-clause-at_least g c =
+pub returns-in-Character-clause-steps_at_least : goal.returns-in-Character-clause-steps_at_least
+returns-in-Character-clause-steps_at_least g c =
     let text = g.T.TextSource.text c.args.self.now.text in
     omega (
       arith,

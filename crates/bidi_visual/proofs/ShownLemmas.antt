@@ -1,1 +1,0 @@
--- What holds of every element of a list that a function makes.
