@@ -12,7 +12,7 @@ use Rattle.bidi_calls.specs.LineText.{own_units, order_of_line, reordered_chars}
 has_units : HasUnits one_unit
 has_units c = omega arith
 
--- one level a unit is one a character
+-- one level for each code unit is one for each character
 pub per_char-one_unit : (chars levels : List ℕ) → length levels ≡ length chars → per_char 0 one_unit chars levels ≡ levels
 per_char-one_unit chars levels e =
     ap (per_char 0 one_unit chars) (sym (per_unit-one_unit chars levels e)) ∙ per_char-per_unit one_unit has_units 0 chars levels e

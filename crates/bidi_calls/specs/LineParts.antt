@@ -1,4 +1,4 @@
--- Everything about a line: what one call writes of it, and which buffers have room for that.
+-- All parts of a line, which one call writes, and the buffers with room for them.
 use Rattle.std.specs.Prelude.{◌≡◌, ℕ, ◌<◌, ◌≤◌, All, IsTrue, Bool, ◌&&◌, ◌||◌, nat_le, nat_lt, List, length, map, Option, Result, OnOk, OnErr, IfOk}
 use Rattle.std.specs.Option.{option_or}
 use Rattle.std.specs.declared.ops.Range.{Range}
@@ -15,7 +15,7 @@ use Rattle.bidi_numbers.specs.declared.structs.Run.{Run}
 use Rattle.bidi_numbers.specs.Faults.{fault_unless, has_room_or_none}
 use Rattle.bidi_numbers.specs.Structs.{run_struct}
 
--- what a line shows, one list for each buffer of the call. The units of the text may have any type.
+-- the parts of a line, one list for each buffer of the call; the code units of the text may have any type
 pub record LineParts (X : Type 0) : Type 0 where
   pub levels : List ℕ
   pub runs : List Run
@@ -39,7 +39,7 @@ has_room_for parts before =
     && (has_room_or_none (length parts.order) (length before.order.now)
     && has_room_or_none (length parts.text) (length before.text.now)))
 
--- what is wrong with the room for all of it
+-- the fault of the room for all parts
 abbrev pub room_fault : {X : Type 0} → LineParts X → LineBuffers X → Option Fault
 room_fault parts before = fault_unless (has_room_for parts before) NoRoom
 
@@ -51,7 +51,7 @@ pub record IsWritten {X : Type 0} (parts : LineParts X) (before after : LineBuff
   pub text : after.text.now ≡ written_if_room parts.text before.text.now
   pub characters : after.characters.now ≡ length parts.order
 
--- no buffer has changed
+-- every buffer is unchanged
 pub record IsUnchanged {X : Type 0} (before after : LineBuffers X) : Type 0 where
   pub levels : after.levels.now ≡ before.levels.now
   pub runs : after.runs.now ≡ before.runs.now
@@ -59,7 +59,7 @@ pub record IsUnchanged {X : Type 0} (before after : LineBuffers X) : Type 0 wher
   pub text : after.text.now ≡ before.text.now
   pub characters : after.characters.now ≡ before.characters.now
 
--- the fields still are the buffers of the caller
+-- the fields are the same buffers as before
 pub record AreTheSameBuffers {X : Type 0} (before after : LineBuffers X) : Type 0 where
   pub levels : after.levels.ghost_name ≡ before.levels.ghost_name
   pub runs : after.runs.ghost_name ≡ before.runs.ghost_name
@@ -67,7 +67,7 @@ pub record AreTheSameBuffers {X : Type 0} (before after : LineBuffers X) : Type 
   pub text : after.text.ghost_name ≡ before.text.ghost_name
   pub characters : after.characters.ghost_name ≡ before.characters.ghost_name
 
--- the call writes what a line shows to the buffers, or nothing after a fault, and returns the number of runs
+-- the call writes the parts of a line to the buffers, or nothing after a fault, and returns the number of runs
 pub record WritesLine {X : Type 0} (line : LineParts X) (result : Result ℕ Fault) (before after : LineBuffers X)
     : Type 0 where
   pub unchanged : OnErr result (IsUnchanged before after)
@@ -75,17 +75,17 @@ pub record WritesLine {X : Type 0} (line : LineParts X) (result : Result ℕ Fau
   pub count : IfOk result (λ count. count ≡ length line.runs)
   pub buffers : AreTheSameBuffers before after
 
--- a line of UTF-8 or UTF-16 with these characters and units, and its text from left to right
+-- a line of UTF-8 or UTF-16 with these characters and code units, and its text from left to right
 abbrev pub everything : (ℕ → ℕ) → (ℕ → List ℕ) → List ℕ → List ℕ → CallerLine → LineParts ℕ
 everything len_of encode chars units l = line_parts len_of chars l (reordered len_of encode chars units l)
 
--- what is wrong with the units of that line, and with the room for all of it
+-- the first fault of the code units of that line, and of the room for all parts
 abbrev pub everything_fault : (ℕ → ℕ) → (ℕ → List ℕ) → List ℕ → List ℕ → CallerLine → LineBuffers ℕ → Option Fault
 everything_fault len_of encode chars units l before =
     option_or (fault_unless (is_even len_of chars l) UnevenCharacter)
     (room_fault (everything len_of encode chars units l) before)
 
--- a line of characters of one unit each
+-- a line of characters of one code unit each
 abbrev pub everything_of_chars : List ℕ → CallerLine → LineParts ℕ
 everything_of_chars chars l = line_parts one_unit chars l (reordered_chars chars l)
 
@@ -93,10 +93,10 @@ everything_of_chars chars l = line_parts one_unit chars l (reordered_chars chars
 abbrev pub begins_character : ℕ → Bool
 begins_character byte = nat_lt byte 0x80 || nat_le 0xC0 byte
 
--- each unit of a text is a character, if the flag is set
+-- each code unit of a text is a character, if the flag is set
 abbrev pub AreCharsIf : Bool → (ℕ → ℕ) → List ℕ → Type 0
 AreCharsIf flag len_of chars = IsTrue flag → text_len len_of chars ≡ length chars
 
--- each range begins at one of so many units, and ends with them
+-- each range begins below this number of code units, and ends at most there
 abbrev pub AreWithin : ℕ → List (Range ℕ) → Type 0
 AreWithin units ranges = All (λ r. r.start < units × r.end ≤ units) ranges

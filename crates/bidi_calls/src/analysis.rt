@@ -1,4 +1,4 @@
-//! The calls over a whole text in any encoding. They test every condition.
+//! The calls over a whole text in any encoding.
 ghost use Rattle.std.specs.Prelude.{◌≡◌, ◌<◌, ◌≤◌, ◌&&◌, nat_le, length, map, slice_index, IfSome};
 ghost use Rattle.bidi_base.specs.Classes.{class_number};
 ghost use Rattle.bidi_base.specs.Texts.{text_len};
@@ -115,8 +115,8 @@ struct AnalysisCall<'a, D: BidiDataSource, T: TextSource> {
     rule: Option<SplitRule>,
 }
 
-// Analyses a text into lists of its own, and then copies the result to the caller's buffers. So a late fault leaves
-// those unchanged.
+// Analyses a text into `own_classes` and `own_levels`, and then copies the result to the caller's buffers. So a late
+// fault leaves those unchanged.
 fn write_analysis<D: BidiDataSource, T: TextSource>(
     alloc: Global,
     call: &AnalysisCall<D, T>,
@@ -156,8 +156,10 @@ fn write_analysis<D: BidiDataSource, T: TextSource>(
 
 /// Writes the class and the level of each code unit of a text, and its paragraphs.
 ///
-/// Returns the number of paragraphs. If the buffer for paragraphs is empty, only counts them. Writes nothing after a
-/// fault.
+/// Returns the number of paragraphs. If the buffer for paragraphs is empty, only counts them. The faults are
+/// `BadBaseLevel`, `BadSplit`, and `NoRoom` for classes and levels or for paragraphs, in this order. Writes nothing
+/// after a fault. A text of up to 256 code units that is one paragraph needs no allocation if no character opens an
+/// embedding or an isolate, and none is a bracket.
 pub fn analyse<D: BidiDataSource, T: TextSource>(
     alloc: Global,
     data_source: &D,

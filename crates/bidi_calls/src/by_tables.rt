@@ -21,8 +21,9 @@ use std::alloc::Global;
 
 /// Writes the class and the level of each byte of a text of UTF-8, and its paragraphs.
 ///
-/// Returns the number of paragraphs. Reads `ranges` and `brackets` in place of a data source, and returns a fault
-/// in them first. The rest is as in [`utf8::analyse`].
+/// Returns the number of paragraphs. Reads `ranges` and `brackets` in place of a data source, and copies them. Returns
+/// a fault in them first: `NotScalar` in a range or in a pair, `BadClass` or `BadRanges`. The rest is as in
+/// [`utf8::analyse`].
 pub fn analyse_utf8(
     alloc: Global,
     ranges: &[ClassRange],
@@ -48,8 +49,8 @@ pub fn analyse_utf8(
 
 /// Returns the number of the base direction of a text of UTF-8: 0 for left to right, 1 for right to left, 2 for mixed.
 ///
-/// Without `full` it is that of the first paragraph, and with `full` that of the first paragraph that has one.
-/// Returns a fault in the tables first, and then `NotUtf8`.
+/// Without `full` it is that of the first paragraph, and with `full` that of the first paragraph that has one. Returns
+/// a fault in the tables first, as [`analyse_utf8`] does, and then `NotUtf8`.
 pub fn base_direction_utf8(
     alloc: Global,
     ranges: &[ClassRange],
@@ -70,8 +71,9 @@ pub fn base_direction_utf8(
 
 /// Writes the class and the level of each code unit of a text of UTF-16, and its paragraphs.
 ///
-/// Returns the number of paragraphs. Reads `ranges` and `brackets` in place of a data source, and returns a fault
-/// in them first. The rest is as in [`utf16::analyse`].
+/// Returns the number of paragraphs. Reads `ranges` and `brackets` in place of a data source, and copies them. Returns
+/// a fault in them first: `NotScalar` in a range or in a pair, `BadClass` or `BadRanges`. The rest is as in
+/// [`utf16::analyse`].
 pub fn analyse_utf16(
     alloc: Global,
     ranges: &[ClassRange],
@@ -97,8 +99,8 @@ pub fn analyse_utf16(
 
 /// Returns the number of the base direction of a text of UTF-16: 0 for left to right, 1 for right to left, 2 for mixed.
 ///
-/// Without `full` it is that of the first paragraph, and with `full` that of the first paragraph that has one. The
-/// only faults are those of the tables.
+/// Without `full` it is that of the first paragraph, and with `full` that of the first paragraph that has one. The only
+/// faults are those of the tables, as in [`analyse_utf16`].
 pub fn base_direction_utf16(
     alloc: Global,
     ranges: &[ClassRange],
@@ -118,8 +120,9 @@ pub fn base_direction_utf16(
 
 /// Writes the class and the level of each character of a list, and its paragraphs.
 ///
-/// Returns the number of paragraphs. Reads `ranges` and `brackets` in place of a data source, and returns a fault
-/// in them first. The rest is as in [`utf32::analyse`].
+/// Returns the number of paragraphs. Reads `ranges` and `brackets` in place of a data source, and copies them. Returns
+/// a fault in them first: `NotScalar` in a range or in a pair, `BadClass` or `BadRanges`. The rest is as in
+/// [`utf32::analyse`].
 pub fn analyse_utf32(
     alloc: Global,
     ranges: &[ClassRange],
@@ -145,8 +148,8 @@ pub fn analyse_utf32(
 /// Returns the number of the base direction of a list of characters: 0 for left to right, 1 for right to left, 2 for
 /// mixed.
 ///
-/// Without `full` it is that of the first paragraph, and with `full` that of the first paragraph that has one.
-/// Returns a fault in the tables first, and then `NotScalar`.
+/// Without `full` it is that of the first paragraph, and with `full` that of the first paragraph that has one. Returns
+/// a fault in the tables first, as [`analyse_utf32`] does, and then `NotScalar`.
 pub fn base_direction_utf32(
     alloc: Global,
     ranges: &[ClassRange],

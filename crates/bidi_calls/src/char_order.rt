@@ -46,7 +46,8 @@ fn write_indexes(first: usize, is_rtl: bool, out: &mut [usize])
     }
 }
 
-// Returns how many characters a range of units has. If each unit of the text is a character, this does not count.
+// Returns how many characters a range of code units has. If each code unit of the text is a character, this does not
+// count.
 fn count_in<T: CountedText>(text: T, units: Range<usize>, are_chars: bool) -> usize
     requires is_line { IsLine (T.text text) units.start units.end }
     requires are_chars { AreCharsIf are_chars T.encoding.len_of (T.text text).chars }
@@ -58,7 +59,8 @@ fn count_in<T: CountedText>(text: T, units: Range<usize>, are_chars: bool) -> us
     text.subrange(units).count_characters()
 }
 
-// Returns how many characters come before the unit `at`, given that `before` characters come before the unit `near`.
+// Returns how many characters come before the code unit `at`, given that `before` characters come before the code unit
+// `near`.
 fn index_at<T: CountedText>(
     text: T,
     at: usize,
@@ -103,11 +105,12 @@ fn first_index<T: CountedText>(
     index_at(text, run.start, left.end, indexes.end, are_chars)
 }
 
-/// Writes the visual order of a line's characters, run by run.
+/// Writes the visual order of a line's characters (L2), run by run.
 ///
-/// `levels` has the level of each code unit of the line after L1, equal within each character. `runs` has its visual
-/// runs, counted from its first code unit. For each run the time is linear in the line, or less if it touches the run
-/// on its left. Does not allocate.
+/// `text` is the line's text. `levels` has the level of each code unit of the line after L1, equal within each
+/// character. `runs` has its visual runs, counted from its first code unit. `out` has one entry for each character. For
+/// each run, the time is at most linear in the line. It is linear in the run if the run touches the one on its left.
+/// Does not allocate.
 pub fn write_char_order<T: CountedText>(
     text: T,
     levels: &[Level],

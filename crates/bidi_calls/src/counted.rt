@@ -12,7 +12,7 @@ use unicode_bidi::text::{StrText, TextSource, Utf16Text, are_characters};
 
 /// A text that can count its characters.
 pub trait CountedText: LineText {
-    /// Returns how many characters the text has.
+    /// Returns how many characters the text has. Takes time linear in the text, and does not allocate.
     fn count_characters(self) -> usize
         ensures { result ≡ length (Self.text self).chars };
 }
@@ -72,7 +72,7 @@ fn count_one_by_one<T: TextSource>(text: T, units: usize) -> usize
     count
 }
 
-// Returns how many characters a text has. Most texts have no surrogates, so each unit is a character.
+// Returns how many characters a text has. Most texts have no surrogates, so each code unit is a character.
 fn count_utf16(units: &[u16]) -> usize
     ensures { result ≡ length (utf16_text units.now) }
 {

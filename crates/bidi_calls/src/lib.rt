@@ -1,4 +1,8 @@
 //! The library's calls over numbers and buffers. Each call tests every condition that the library requires.
+//!
+//! A call writes its result to the front of the caller's buffers, and leaves the rest unchanged. It returns the first
+//! fault in the order of its contract, and then leaves every buffer unchanged. A failed allocation is the fault
+//! `NoMemory`, which may come in place of another.
 #![tactic(auto)]
 
 pub mod analysis;

@@ -1,4 +1,4 @@
-//! The calls over a line, given classes and levels that the caller has kept.
+//! The calls over a line, given the classes and levels that the caller passes.
 ghost use Rattle.std.specs.Prelude.{◌≡◌, ◌+◌, ◌-◌, ◌<◌, ◌&&◌, true, length, map, nat_le, OnOk, OnErr, IfOk};
 ghost use Rattle.std.specs.Result.{result_err};
 ghost use Rattle.bidi_base.specs.Display.{visual_runs};
@@ -28,8 +28,9 @@ use unicode_bidi::{Level, TextSource};
 
 /// A line, as the caller passes it.
 ///
-/// `classes` and `levels` have the number of the stored class and the stored level of each code unit of a text.
-/// `paragraph` is a paragraph of the text, and the line is its code units from `start` up to `end`.
+/// `classes` and `levels` have the numbers of the stored class and the stored level of each code unit of a text.
+/// `paragraph` is a paragraph of the text. The line is the range of code units of the text from `start` up to `end`.
+/// Nothing is checked before [`CallerLine::check`].
 #[derive(Clone, Copy, Debug)]
 pub struct CallerLine<'t> {
     pub classes: &'t [u8],
@@ -47,7 +48,11 @@ fn lies_in(paragraph: &Paragraph, start: usize, end: usize, units: usize) -> boo
 }
 
 impl<'t> CallerLine<'t> {
-    /// Checks that the range is a line of its paragraph, and that its classes and levels are valid.
+    /// Checks that the line is inside its paragraph, and that its classes and levels are valid.
+    ///
+    /// Returns the first fault: `UnequalLengths` of the two lists, `BadLine`, `BadClass` and `BadLevel` in the line, or
+    /// `BadLevel` of the paragraph. It does not see the text, so the line may cut a character. Takes time linear in the
+    /// line.
     pub fn check(&self) -> Result<(), Fault>
         ensures fault { result_err result ≡ line_fault self.now }
         ensures valid { OnOk result (IsValid self.now) }
@@ -66,7 +71,7 @@ impl<'t> CallerLine<'t> {
         check(self.paragraph.level < 127, Fault::BadLevel)
     }
 
-    /// Returns the level of the paragraph.
+    /// Returns the level of the paragraph. The line must be valid.
     pub fn level(&self) -> Level
         requires { IsValid self.now }
         ensures { result ≡ self.now.paragraph.now.level }
@@ -77,7 +82,7 @@ impl<'t> CallerLine<'t> {
         }
     }
 
-    /// Returns the numbers of the line's stored classes.
+    /// Returns the numbers of the line's stored classes. The line must be valid.
     pub fn class_numbers(&self) -> &'t [u8]
         requires { IsValid self.now }
         ensures { result.now ≡ own_classes self.now }
@@ -85,7 +90,7 @@ impl<'t> CallerLine<'t> {
         &self.classes[self.start..self.end]
     }
 
-    /// Returns the numbers of the line's stored levels.
+    /// Returns the numbers of the line's stored levels. The line must be valid.
     pub fn level_numbers(&self) -> &'t [u8]
         requires { IsValid self.now }
         ensures { result.now ≡ own_levels self.now }
@@ -93,7 +98,9 @@ impl<'t> CallerLine<'t> {
         &self.levels[self.start..self.end]
     }
 
-    /// Returns the level of each code unit of the line after L1. A line of up to 256 code units needs no allocation.
+    /// Returns the level of each code unit of the line after L1.
+    ///
+    /// The line must be valid. Takes time linear in the line. A line of up to 256 code units needs no allocation.
     pub fn after_l1(&self, alloc: Global) -> Result<LineLevels, AllocError>
         requires { IsValid self.now }
         ensures levels { IfOk result (λ s. levels_of s ≡ caller_line_levels self.now) }
@@ -108,8 +115,8 @@ impl<'t> CallerLine<'t> {
 
 /// Writes the text of a line from left to right (L2).
 ///
-/// `text` is the line's text, with one class and one level for each of its characters. If an allocation fails, writes
-/// nothing.
+/// The line must be valid. `text` is the line's text, `out` is as long, and all code units of a character have one
+/// class and one level. Takes time linear in the line. If an allocation fails, writes nothing.
 pub fn write_text<T: LineText>(
     alloc: Global,
     text: T,
@@ -134,7 +141,10 @@ pub fn write_text<T: LineText>(
     write_line(alloc, text, units, &stored, out)
 }
 
-/// Writes the level of each code unit of a line after L1, and returns their number. Writes nothing after a fault.
+/// Writes the level of each code unit of a line after L1, and returns their number.
+///
+/// Returns a fault of [`CallerLine::check`], or else `NoRoom` if `out` is shorter than the line. Writes nothing after a
+/// fault. Takes time linear in the line. A line of up to 256 code units needs no allocation.
 pub fn line_levels(alloc: Global, line: &CallerLine<'_>, out: &mut [u8]) -> Result<usize, Fault>
     ensures fault { FaultsAs result (levels_fault line.now (length out.old)) }
     ensures unchanged { OnErr result (out.new ≡ out.old) }
@@ -151,7 +161,9 @@ pub fn line_levels(alloc: Global, line: &CallerLine<'_>, out: &mut [u8]) -> Resu
 
 /// Writes the visual runs of a line to `out`, and returns their number.
 ///
-/// If `out` is empty, only counts them. Writes nothing after a fault.
+/// If `out` is empty, only counts them. Returns a fault of [`CallerLine::check`], or else `NoRoom` if `out` is too
+/// short and not empty. Writes nothing after a fault. Takes time linear in the line. A line of up to 256 code units
+/// with up to 16 runs needs no allocation.
 pub fn line_runs(alloc: Global, line: &CallerLine<'_>, out: &mut [Run]) -> Result<usize, Fault>
     ensures fault { FaultsAs result (runs_fault line.now (length out.old)) }
     ensures unchanged { OnErr result (out.new ≡ out.old) }
@@ -174,7 +186,8 @@ pub fn line_runs(alloc: Global, line: &CallerLine<'_>, out: &mut [Run]) -> Resul
 
 /// Writes the visual order of a line's characters (L2), and returns their number.
 ///
-/// `text` is the line's text. Writes nothing after a fault.
+/// The line must be valid, and `text` is its text. Returns `NoRoom` if `out` has fewer entries than the line has
+/// characters. Writes nothing after a fault.
 pub fn map_characters<T: TextSource>(
     alloc: Global,
     text: T,
@@ -195,7 +208,9 @@ pub fn map_characters<T: TextSource>(
     Ok(characters)
 }
 
-/// Writes the visual order of a line's code units, each of which is a character (L2), and returns their number.
+/// Writes the visual order of a line's code units (L2), and returns their number. Each code unit is a character.
+///
+/// The line must be valid. Returns `NoRoom` if `out` is shorter than the line. Writes nothing after a fault.
 pub fn order_units(alloc: Global, line: &CallerLine<'_>, out: &mut [usize]) -> Result<usize, Fault>
     requires { IsValid line.now }
     ensures fault { FaultsAs result (fault_unless (nat_le (line.now.end - line.now.start) (length out.old)) Fault.NoRoom) }
@@ -210,7 +225,10 @@ pub fn order_units(alloc: Global, line: &CallerLine<'_>, out: &mut [usize]) -> R
     Ok(units)
 }
 
-/// Writes the visual order of a list of levels (L2), and returns their number.
+/// Writes the visual order of items by their levels (L2), and returns their number.
+///
+/// Returns `BadLevel` if a level is above 126, or else `NoRoom` if `out` has fewer entries. Writes nothing after a
+/// fault. Does not allocate.
 pub fn visual_order(levels: &[u8], out: &mut [usize]) -> Result<usize, Fault>
     ensures fault { FaultsAs result (order_fault levels.now (length out.old)) }
     ensures unchanged { OnErr result (out.new ≡ out.old) }

@@ -14,7 +14,7 @@ ghost use Rattle.bidi_numbers.specs.Texts.{goes_on};
 use bidi_base::search::{Tested, first_passing};
 use unicode_bidi::text::are_characters;
 
-/// The bytes of a text after the first one, of which those pass that continue a character and have another class or
+/// The bytes of a text after the first one, with a test for those that continue a character and have another class or
 /// level than the byte before them.
 #[derive(Clone, Copy, Debug)]
 struct Uneven<'t> {
@@ -44,8 +44,8 @@ impl<'t> Tested for Uneven<'t> {
 
 /// Returns whether the classes and levels of a text's bytes are equal within each character.
 ///
-/// There is one class and one level for each byte, and each class is a number below 23. Reads sixteen bytes at a
-/// time, and never decodes the text.
+/// There is one class and one level for each byte, and each class is a number below 23. Takes time linear in the text:
+/// reads sixteen bytes at a time, and decodes none.
 pub fn is_even_utf8(text: &str, classes: &[u8], levels: &[u8]) -> bool
     requires classes_same_len { length classes.now ≡ length text.now }
     requires levels_same_len { length levels.now ≡ length text.now }
@@ -70,7 +70,7 @@ fn is_pair(high: u16, low: u16) -> bool
     (0xD800 <= high && high < 0xDC00) && (0xDC00 <= low && low < 0xE000)
 }
 
-// Returns whether a unit that continues a character has the class and the level of the unit before it.
+// Returns whether a code unit that continues a character has the class and the level of the code unit before it.
 fn is_even_at(goes_on: bool, classes: &[u8], levels: &[u8], at: usize) -> bool
     requires before { 0 < at }
     requires classes { at < length classes.now }
@@ -80,7 +80,7 @@ fn is_even_at(goes_on: bool, classes: &[u8], levels: &[u8], at: usize) -> bool
     !goes_on | (classes[at] == classes[at - 1]) & (levels[at] == levels[at - 1])
 }
 
-// Returns whether each unit that ends a surrogate pair has the class and the level of the unit before it.
+// Returns whether each code unit that ends a surrogate pair has the class and the level of the code unit before it.
 fn is_even_by_units(units: &[u16], classes: &[u8], levels: &[u8]) -> bool
     requires classes_same_len { length classes.now ≡ length units.now }
     requires levels_same_len { length levels.now ≡ length units.now }
@@ -96,7 +96,8 @@ fn is_even_by_units(units: &[u16], classes: &[u8], levels: &[u8]) -> bool
 /// Returns whether the classes and levels of a UTF-16 text's code units are equal within each character.
 ///
 /// There is one class and one level for each code unit, and each class is a number below 23. Only a low surrogate
-/// directly after a high one continues a character. Most texts have no surrogates, so this is tested first.
+/// directly after a high one continues a character. Most texts have no surrogates, so this is tested first. Takes time
+/// linear in the text.
 pub fn is_even_utf16(units: &[u16], classes: &[u8], levels: &[u8]) -> bool
     requires classes_same_len { length classes.now ≡ length units.now }
     requires levels_same_len { length levels.now ≡ length units.now }

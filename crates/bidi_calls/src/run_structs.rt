@@ -9,8 +9,8 @@ use bidi_numbers::structs::Run;
 use std::ops::Range;
 use unicode_bidi::Level;
 
-// Returns a run of a line as a struct. The run counts from the line's first unit, and the line begins at the unit `start`
-// of the text.
+// Returns a run of a line as a struct. The run counts from the line's first code unit, and the line begins at the code
+// unit `start` of the text.
 fn struct_of(levels: &[Level], start: usize, run: &Range<usize>) -> Run
     requires begins { run.now.start < length levels.now }
     requires ends { run.now.end ≤ length levels.now }
@@ -39,7 +39,8 @@ fn write_structs(out: &mut [Run], levels: &[Level], start: usize, runs: &[Range<
 /// Writes the visual runs of a line as structs to the front of a buffer, unless the buffer is empty.
 ///
 /// `levels` has the level of each code unit of the line after L1. `runs` count from the line's first code unit. The
-/// structs count from the text's first code unit: the line begins at the code unit `start`.
+/// structs count from the text's first code unit, and the line begins at the code unit `start` of the text. `out` must
+/// have room for all runs, or be empty.
 pub fn put_runs(out: &mut [Run], levels: &[Level], start: usize, runs: &[Range<usize>])
     requires room { HasRoomOrNone runs.now out.old }
     requires visual { AreVisualRuns 0 levels.now (map run_of runs.now) }

@@ -1,4 +1,4 @@
-//! All about a line in one call: its levels, its visual runs, the order of its characters, and its text from left to
+//! All parts of a line in one call: its levels, its visual runs, the order of its characters, and its text from left to
 //! right.
 ghost use Rattle.std.specs.Prelude.{◌≡◌, ℕ, ◌+◌, ◌-◌, ◌<◌, ◌≤◌, ◌&&◌, if◌then◌else◌, IsTrue, true, length, map, flat_map, reverse, sum_by, All};
 ghost use Rattle.bidi_base.specs.Display.{run_of, visual_runs, AreVisualRuns};
@@ -84,7 +84,7 @@ fn have_room<U>(units: usize, runs: usize, characters: usize, out: &LineBuffers<
         && has_room(units, out.text.len())
 }
 
-// Keeps one level for each of a line's `len` characters. If each character is one unit, there is nothing to do.
+// Keeps one level for each of a line's `len` characters. If each character is one code unit, this does nothing.
 fn keep_characters<T: TextSource>(text: T, len: usize, after_l1: &mut LineLevels)
     requires units_same_len { length (levels_of after_l1.old) ≡ text_len (T.text text) }
     requires same_len { len ≡ length (T.text text).chars }
@@ -95,8 +95,8 @@ fn keep_characters<T: TextSource>(text: T, len: usize, after_l1: &mut LineLevels
     }
 }
 
-// Writes the visual order of a line's characters. `after_l1` has one level for each unit. If there are many runs, the
-// order is found from one level for each character, and `after_l1` keeps only those.
+// Writes the visual order of a line's characters. `after_l1` has one level for each code unit. If there are many runs,
+// the order is found from one level for each character, and `after_l1` keeps only those.
 fn write_order<T: CountedText>(
     text: T,
     runs: &[Range<usize>],
@@ -136,11 +136,12 @@ fn put_order_of<T: CountedText>(
     }
 }
 
-/// Writes all about a line: its levels after L1, its visual runs, its character order, and its text (L2).
+/// Writes all parts of a line: its levels after L1, its visual runs, its character order, and its text (L2).
 ///
 /// Writes each part to its buffer, unless that buffer is empty. Also writes the number of the line's characters, and
-/// returns the number of runs. `text` is the line's text, with one class and one level for each of its characters. A
-/// line of up to 256 code units with up to 16 runs needs no allocation. Writes nothing after a fault.
+/// returns the number of runs. The line must be valid. `text` is the line's text, and all code units of a character
+/// have one class and one level. Returns `NoRoom` if a buffer is too short and not empty. A line of up to 256 code
+/// units with up to 16 runs needs no allocation. Writes nothing after a fault.
 pub fn show_text<T: CountedText>(
     alloc: Global,
     text: T,
@@ -175,7 +176,7 @@ pub fn show_text<T: CountedText>(
     Ok(count)
 }
 
-// Writes a run of a line, with its characters in reverse order at an odd level. Each unit is a character.
+// Writes a run of a line, with its characters in reverse order at an odd level. Each code unit is a character.
 fn write_run(chars: &[u32], is_rtl: bool, out: &mut [u32])
     requires { length out.old ≡ length chars.now }
     ensures { out.new ≡ (if is_rtl then reverse chars.now else chars.now) }
@@ -208,8 +209,8 @@ fn write_each_run(chars: &[u32], levels: &[Level], runs: &[Range<usize>], out: &
 
 /// Writes the characters of a line from left to right (L2). Each code unit is a character.
 ///
-/// `levels` has the level of each character after L1. `runs` has the visual runs, counted from the line's first
-/// character. Takes time linear in the line, and does not allocate.
+/// `levels` has the level of each character after L1, and `out` is as long. `runs` has the visual runs, counted from
+/// the line's first character. Takes time linear in the line, and does not allocate.
 pub fn write_chars(chars: &[u32], levels: &[Level], runs: &[Range<usize>], out: &mut [u32])
     requires same_len { length chars.now ≡ length levels.now }
     requires room { length out.old ≡ length levels.now }
@@ -231,12 +232,13 @@ fn put_chars(chars: &[u32], levels: &[Level], runs: &[Range<usize>], out: &mut [
     }
 }
 
-/// Writes all about a line of a list of characters: its levels after L1, its visual runs, its character order, and its
-/// text (L2).
+/// Writes all parts of a line of a list of characters: its levels after L1, its visual runs, its character order, and
+/// its text (L2).
 ///
 /// Writes each part to its buffer, unless that buffer is empty. Also writes the number of the line's characters, and
-/// returns the number of runs. `chars` has the line's characters. A line of up to 256 characters with up to 16 runs
-/// needs no allocation. Writes nothing after a fault.
+/// returns the number of runs. The line must be valid, and `chars` has its characters. Returns `NoRoom` if a buffer is
+/// too short and not empty. A line of up to 256 characters with up to 16 runs needs no allocation. Writes nothing after
+/// a fault.
 pub fn show_chars(
     alloc: Global,
     chars: &[u32],

@@ -23,8 +23,8 @@ use unicode_bidi::text::{TextSource, Utf16Text};
 
 /// Writes the class and the level of each code unit of a text, and its paragraphs.
 ///
-/// Returns the number of paragraphs. If the buffer for paragraphs is empty, only counts them. Writes nothing after a
-/// fault.
+/// Returns the number of paragraphs. If the buffer for paragraphs is empty, only counts them. The faults are those of
+/// [`analysis::analyse`]. Writes nothing after a fault.
 pub fn analyse<D: BidiDataSource>(
     alloc: Global,
     data_source: &D,
@@ -42,21 +42,24 @@ pub fn analyse<D: BidiDataSource>(
 
 /// Returns the number of a text's base direction: 0 for left to right, 1 for right to left, 2 for mixed.
 ///
-/// Without `full` it is that of the first paragraph, and with `full` that of the first paragraph that has one.
+/// Without `full` it is that of the first paragraph, and with `full` that of the first paragraph that has one. Stops at
+/// the character that decides, and does not allocate.
 pub fn base_direction<D: BidiDataSource>(data_source: &D, text: &[u16], full: bool) -> usize
     ensures { result ≡ direction_in (D.source data_source.now) full (utf16_text text.now) }
 {
     analysis::base_direction(data_source, Utf16Text::new(text), full)
 }
 
-// Returns whether the unit at an index does not continue a character.
+// Returns whether a character begins at an index, or the text ends there.
 fn is_boundary(text: &[u16], index: usize) -> bool
     ensures { result ≡ is_boundary utf16_len (utf16_text text.now) index }
 {
     Utf16Text::new(text).is_boundary(index)
 }
 
-// Checks that there is one entry for each code unit of the text, and that the line cuts no character.
+/// Checks that there is one entry for each code unit of the text, and that the line cuts no character.
+///
+/// Returns `UnequalLengths`, or else `CutCharacter`.
 pub fn check_text(text: &[u16], line: &CallerLine<'_>) -> Result<(), Fault>
     ensures { result_err result ≡ text_fault text.now line.now (cuts_utf16 text.now line.now) }
 {
@@ -88,7 +91,11 @@ fn reorder(
     Ok(count)
 }
 
-/// Writes the text of a line from left to right (L2), and returns its length. Writes nothing after a fault.
+/// Writes the text of a line from left to right (L2), and returns its length.
+///
+/// Returns a fault of [`CallerLine::check`] or of [`check_text`], or else `UnevenCharacter` or `NoRoom`, in this order.
+/// An unpaired surrogate is unchanged at an even level, and 0xFFFD at an odd one. Writes nothing after a fault. Takes
+/// time linear in the line.
 pub fn reorder_line(
     alloc: Global,
     text: &[u16],
@@ -107,7 +114,10 @@ pub fn reorder_line(
     reorder(alloc, &text[line.start..line.end], line, out)
 }
 
-/// Writes the visual order of a line's characters (L2), and returns their number. Writes nothing after a fault.
+/// Writes the visual order of a line's characters (L2), and returns their number.
+///
+/// Returns a fault of [`CallerLine::check`] or of [`check_text`], or else `NoRoom`. A character has the level of its
+/// first code unit. Writes nothing after a fault.
 pub fn line_map(
     alloc: Global,
     text: &[u16],
@@ -127,7 +137,7 @@ pub fn line_map(
     map_characters(alloc, own, line, out)
 }
 
-// Writes all about a line, given its text, and returns the number of its runs.
+// Writes all parts of a line, given its text, and returns the number of its runs.
 fn show(
     alloc: Global,
     text: &[u16],
@@ -147,10 +157,11 @@ fn show(
     show_text(alloc, own, line, out)
 }
 
-/// Writes all about a line: its levels after L1, its visual runs, its character order, and its text (L2).
+/// Writes all parts of a line: its levels after L1, its visual runs, its character order, and its text (L2).
 ///
 /// Writes each part to its buffer, unless that buffer is empty. Also writes the number of the line's characters, and
-/// returns the number of its runs. Writes nothing after a fault.
+/// returns the number of its runs. The faults are those of [`reorder_line`], with `NoRoom` if a buffer is too short and
+/// not empty. Writes nothing after a fault. Takes time linear in the line.
 pub fn show_line(
     alloc: Global,
     text: &[u16],

@@ -24,8 +24,9 @@ use unicode_bidi::text::CharsText;
 
 /// Writes the class and the level of each character of a list, and its paragraphs.
 ///
-/// Returns the number of paragraphs. If the buffer for paragraphs is empty, only counts them. Writes nothing after a
-/// fault.
+/// Returns the number of paragraphs. If the buffer for paragraphs is empty, only counts them. Returns `NotScalar` if a
+/// number is not a scalar value. The other faults are those of [`analysis::analyse`]. Allocates a list of the
+/// characters. Writes nothing after a fault.
 pub fn analyse<D: BidiDataSource>(
     alloc: Global,
     data_source: &D,
@@ -48,7 +49,8 @@ pub fn analyse<D: BidiDataSource>(
 /// Returns the number of a text's base direction: 0 for left to right, 1 for right to left, 2 for mixed.
 ///
 /// Without `full` it is that of the first paragraph, and with `full` that of the first paragraph that has one. Returns
-/// `NotScalar` if a number is not a scalar value. Allocates a list of the characters.
+/// `NotScalar` if a number is not a scalar value, even if a character before it decides. Allocates a list of the
+/// characters.
 pub fn base_direction<D: BidiDataSource>(
     alloc: Global,
     data_source: &D,
@@ -91,7 +93,10 @@ fn reorder(
     Ok(chars.len())
 }
 
-/// Writes the characters of a line from left to right (L2), and returns their number. Writes nothing after a fault.
+/// Writes the characters of a line from left to right (L2), and returns their number.
+///
+/// Returns a fault of [`CallerLine::check`], or else `UnequalLengths` of the text, `NotScalar` of the line or `NoRoom`,
+/// in this order. Writes nothing after a fault. Takes time linear in the line.
 pub fn reorder_line(
     alloc: Global,
     text: &[u32],
@@ -109,7 +114,9 @@ pub fn reorder_line(
     reorder(alloc, &text[line.start..line.end], line, out)
 }
 
-/// Writes the visual order of a line's characters (L2), and returns their number. Writes nothing after a fault.
+/// Writes the visual order of a line's characters (L2), and returns their number.
+///
+/// The faults are those of [`reorder_line`]. Writes nothing after a fault.
 pub fn line_map(
     alloc: Global,
     text: &[u32],
@@ -128,10 +135,11 @@ pub fn line_map(
     order_units(alloc, line, out)
 }
 
-/// Writes all about a line: its levels after L1, its visual runs, its character order, and its text (L2).
+/// Writes all parts of a line: its levels after L1, its visual runs, its character order, and its text (L2).
 ///
 /// Writes each part to its buffer, unless that buffer is empty. Also writes the number of the line's characters, and
-/// returns the number of its runs. Writes nothing after a fault.
+/// returns the number of its runs. The faults are those of [`reorder_line`], with `NoRoom` if a buffer is too short and
+/// not empty. Writes nothing after a fault. Takes time linear in the line.
 pub fn show_line(
     alloc: Global,
     text: &[u32],

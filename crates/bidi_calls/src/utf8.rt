@@ -23,8 +23,8 @@ use unicode_bidi::text::StrText;
 
 /// Writes the class and the level of each byte of a text, and its paragraphs.
 ///
-/// Returns the number of paragraphs. If the buffer for paragraphs is empty, only counts them. Writes nothing after a
-/// fault.
+/// Returns the number of paragraphs. If the buffer for paragraphs is empty, only counts them. Returns `NotUtf8` if the
+/// text is not UTF-8. The other faults are those of [`analysis::analyse`]. Writes nothing after a fault.
 pub fn analyse<D: BidiDataSource>(
     alloc: Global,
     data_source: &D,
@@ -45,7 +45,7 @@ pub fn analyse<D: BidiDataSource>(
 /// Returns the number of a text's base direction: 0 for left to right, 1 for right to left, 2 for mixed.
 ///
 /// Without `full` it is that of the first paragraph, and with `full` that of the first paragraph that has one. Returns
-/// `NotUtf8` if the text is not UTF-8.
+/// `NotUtf8` if the text is not UTF-8, even if a character before that decides. Does not allocate.
 pub fn base_direction<D: BidiDataSource>(
     data_source: &D,
     text: &[u8],
@@ -59,7 +59,9 @@ pub fn base_direction<D: BidiDataSource>(
     Ok(analysis::base_direction(data_source, text, full))
 }
 
-// Checks that there is one entry for each byte of the text, and that the line cuts no character.
+/// Checks that there is one entry for each byte of the text, and that the line cuts no character.
+///
+/// Returns `UnequalLengths`, or else `CutCharacter`.
 pub fn check_text(text: &[u8], line: &CallerLine<'_>) -> Result<(), Fault>
     ensures { result_err result ≡ text_fault text.now line.now (cuts_utf8 text.now line.now) }
 {
@@ -86,7 +88,10 @@ fn reorder(alloc: Global, text: &str, line: &CallerLine<'_>, out: &mut [u8]) -> 
     Ok(count)
 }
 
-/// Writes the text of a line from left to right (L2), and returns its length. Writes nothing after a fault.
+/// Writes the text of a line from left to right (L2), and returns its length.
+///
+/// Returns a fault of [`CallerLine::check`] or of [`check_text`], or else `NotUtf8` of the line, `UnevenCharacter` or
+/// `NoRoom`, in this order. Writes nothing after a fault. Takes time linear in the line.
 pub fn reorder_line(
     alloc: Global,
     text: &[u8],
@@ -107,7 +112,10 @@ pub fn reorder_line(
     reorder(alloc, own, line, out)
 }
 
-/// Writes the visual order of a line's characters (L2), and returns their number. Writes nothing after a fault.
+/// Writes the visual order of a line's characters (L2), and returns their number.
+///
+/// Returns a fault of [`CallerLine::check`] or of [`check_text`], or else `NotUtf8` of the line or `NoRoom`, in this
+/// order. A character has the level of its first byte. Writes nothing after a fault.
 pub fn line_map(
     alloc: Global,
     text: &[u8],
@@ -128,7 +136,7 @@ pub fn line_map(
     map_characters(alloc, own, line, out)
 }
 
-// Writes all about a line, given its text, and returns the number of its runs.
+// Writes all parts of a line, given its text, and returns the number of its runs.
 fn show(
     alloc: Global,
     text: &str,
@@ -148,10 +156,11 @@ fn show(
     show_text(alloc, own, line, out)
 }
 
-/// Writes all about a line: its levels after L1, its visual runs, its character order, and its text (L2).
+/// Writes all parts of a line: its levels after L1, its visual runs, its character order, and its text (L2).
 ///
 /// Writes each part to its buffer, unless that buffer is empty. Also writes the number of the line's characters, and
-/// returns the number of its runs. Writes nothing after a fault.
+/// returns the number of its runs. The faults are those of [`reorder_line`], with `NoRoom` if a buffer is too short and
+/// not empty. Writes nothing after a fault. Takes time linear in the line.
 pub fn show_line(
     alloc: Global,
     text: &[u8],

@@ -80,7 +80,7 @@ list_any-per_unit test len_of h [] values e = simp (nil_from_length values (omeg
 list_any-per_unit test len_of h (c ∷ chars) [] e = absurd (omega arith)
 list_any-per_unit test len_of h (c ∷ chars) (v ∷ values) e = grind (arith, list_any-append, list_any-units test v, list_any-per_unit test len_of h chars values)
 
--- the levels of the whole text, one a unit, are those of its characters
+-- the levels of the whole text, one for each code unit, are those of its characters
 pub levels_with_line-per_unit : (len_of : ℕ → ℕ) → HasUnits len_of → (level : ℕ) (chars : List ℕ) (classes : List BidiClass) (levels : List ℕ) (start end : ℕ)
     → length classes ≡ length chars → length levels ≡ length chars → IsLine len_of chars start end
     → levels_with_line level (per_unit len_of chars classes) (per_unit len_of chars levels) start end

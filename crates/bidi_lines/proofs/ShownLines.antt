@@ -58,7 +58,7 @@ module _ {T C I L : Type 0} {t : _} {c : _} {i : _} {l : _} (s : ShownLine T C I
   pub stays_of_shown : IsTrue (not s.has_rtl) ↔ StaysInOrder a level line
   stays_of_shown = shown-stays a some_of level line is_line_of (levels s) shows.levels s.has_rtl s.of_levels
 
-  -- its levels, one a character
+  -- its levels, one for each character
   pub chars_of_shown : per_char 0 t.encoding.len_of (subrange t.encoding.len_of (t.text (text_of s)).chars s.start s.end) (levels s) ≡ line_levels_per_char a level line
   chars_of_shown = same_chars _ _ _ _ _ _ _ _ _ _ shows.len_of shows.chars shows.start shows.end (per_char-shown a some_of level line is_line_of (levels s) shows.levels)
 

@@ -1,4 +1,5 @@
--- A line of a text whose classes and levels are one a unit, equal within each character: its levels, its runs and its text are those of its characters.
+-- A line of a text with one class and one level for each code unit, equal within each character: its levels, its
+-- runs and its text are those of its characters.
 use Rattle.bidi_base.proofs.Common.{◌≡◌, ℕ, ◌+◌, ◌-◌, ◌<◌, ◌≤◌, List, [], length, get_or, map, flat_map, sym, ap, ◌∙◌, arith, false, slice_range, Range, get_or-map, length-map, Run, run_of}
 use Rattle.bidi_base.proofs.Common.{run_text_in, visual_runs, reordered_text, line_text, IsLevelRun, AreVisualRuns, is_odd, has_rtl, line_levels, line_levels_after, levels_of_line}
 use Rattle.bidi_base.proofs.Common.{levels_with_line, visual_order, text_len, char_index, subrange, per_unit, per_char, IsLine, IsPerChar, char_levels_of_line, char_levels_with_line, All}
@@ -27,7 +28,7 @@ pub runs_begin : (start : ℕ) (levels : List ℕ) (ranges : List (Range ℕ)) �
     → All (λ r. (start ≤ r.start) × (r.start < start + length levels)) ranges
 runs_begin start levels ranges h k d fits = grind (arith, get_or-map run_of ranges k d (0, 0), length-map, h.are_runs k (0, 0))
 
--- the text of `len_of` and `chars`, and one class and one level a unit
+-- the text of `len_of` and `chars`, and one class and one level for each code unit
 module _ (len_of : ℕ → ℕ) (h : HasUnits len_of) (chars : List ℕ) (level : ℕ) (classes : List BidiClass) (levels : List ℕ) (start end : ℕ)
     (of_classes : IsPerChar len_of chars classes) (of_levels : IsPerChar len_of chars levels) (line : IsLine len_of chars start end) where
   ends : IsLineAt len_of chars start end (char_index len_of chars start) (char_index len_of chars end)

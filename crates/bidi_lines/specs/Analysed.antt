@@ -1,11 +1,11 @@
--- What is stored of a text.
+-- A text with its stored classes and levels.
 use Rattle.std.specs.Prelude.{ℕ, List}
 use Rattle.bidi_base.specs.AnalysedText.{AnalysedText}
 use Rattle.bidi_base.specs.Texts.{Encoding, Text}
 use Rattle.bidi_base.specs.declared.char_data.BidiClass.{BidiClass}
 use Rattle.bidi_lines.specs.declared.analysed.Analysed.{Analysed}
 
--- a text with a class and a level for each of its units
+-- a text with a class and a level for each code unit
 abbrev pub with_lists : {e : Encoding} → Text e → List BidiClass → List ℕ → AnalysedText
 with_lists {e = e} text classes levels = record { len_of = e.len_of; chars = text.chars; classes = classes; levels = levels }
 

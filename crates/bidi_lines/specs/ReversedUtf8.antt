@@ -1,8 +1,9 @@
--- The units of a text whose characters stand last first, each with its units in their own order.
+-- The bytes of a text of UTF-8 with its characters in reverse order, each with its own bytes in order.
 use Rattle.std.specs.Prelude.{ℕ, ◌+◌, ◌&&◌, nat_le, nat_lt, if◌then◌else◌, List, ◌∷◌, slice_index_or}
 
--- what is in the place of a byte when the list is turned round: the byte itself, or the one with which it changes
--- places, which is one or two before or after it. `far` and `near` stand before it, `next` and `later` after it
+-- the byte that the reversed text has at the index from its end that `byte` has from the start: `byte` itself, or the
+-- first or last byte of its character in exchange for it. `far` and `near` come before `byte`, and `next` and `later`
+-- after it.
 abbrev pub reversed_byte : ℕ → ℕ → ℕ → ℕ → ℕ → ℕ
 reversed_byte far near byte next later =
     if nat_le 0xE0 byte then later
@@ -11,11 +12,11 @@ reversed_byte far near byte next later =
     else if nat_le 0xE0 far then far
     else byte
 
--- the same of the byte that has two before it at j
+-- the same for the byte at index j + 2 of a list
 abbrev pub reversed_byte_at : List ℕ → ℕ → ℕ
 reversed_byte_at bytes j =
     reversed_byte (slice_index_or bytes j 0) (slice_index_or bytes (j + 1) 0) (slice_index_or bytes (j + 2) 0) (slice_index_or bytes (j + 3) 0) (slice_index_or bytes (j + 4) 0)
 
--- the bytes of a text, before which two others stand
+-- the bytes of a text after two zeros
 abbrev pub behind_two : List ℕ → List ℕ
 behind_two bytes = 0 ∷ 0 ∷ bytes

@@ -1,4 +1,5 @@
-//! A text in any encoding, with its stored classes and levels, and what its lines show.
+//! A text in any encoding, with its stored classes and levels. Its calls return the levels and the visual runs of a
+//! line.
 ghost use Rattle.std.specs.Prelude.{◌≡◌, IfOk, map};
 ghost use Rattle.bidi_base.specs.AnalysedText.{IsLineOf, AreLevelsWithLine, AreLevelsOfLine, AreRunsOfLine, levels_with_line_per_char};
 ghost use Rattle.bidi_base.specs.Direction.{direction_of_levels};
@@ -70,14 +71,14 @@ impl<T: TextSource> Analysed<T> {
         self.levels.as_slice()
     }
 
-    /// Returns whether some level is odd.
+    /// Returns whether some stored level is odd. Takes time linear in the text.
     pub fn has_rtl(&self) -> bool
         ensures { result ≡ has_rtl_of (analysed self.now).levels }
     {
         has_rtl(self.levels.as_slice())
     }
 
-    /// Returns the direction of the levels.
+    /// Returns the direction of the stored levels (see [`direction_of`]). Takes time linear in the text.
     pub fn direction(&self) -> Direction
         ensures { result ≡ direction_of_levels (analysed self.now).levels }
     {
@@ -85,6 +86,8 @@ impl<T: TextSource> Analysed<T> {
     }
 
     /// Returns the level of each code unit of the text: after L1 in the line, and as stored outside it.
+    ///
+    /// Takes time linear in the text. Allocates only the list that it returns.
     pub fn reordered_levels(
         &self,
         alloc: Global,
@@ -104,6 +107,8 @@ impl<T: TextSource> Analysed<T> {
     }
 
     /// Returns the level of each character of the text: after L1 in the line, and as stored outside it.
+    ///
+    /// Takes time linear in the text. Allocates only the list that it returns.
     pub fn reordered_levels_per_char(
         &self,
         alloc: Global,
@@ -119,7 +124,8 @@ impl<T: TextSource> Analysed<T> {
 
     /// Returns the level of each code unit of the text, and the level runs (BD7) of the line from left to right (L2).
     ///
-    /// The levels are those after L1 in the line, and the stored ones outside it. Runs are ranges of code units.
+    /// The levels are those after L1 in the line, and the stored ones outside it. Runs are ranges of code units of the
+    /// text. An empty line has none. Takes time linear in the text.
     pub fn visual_runs(
         &self,
         alloc: Global,
@@ -140,6 +146,8 @@ impl<T: TextSource> Analysed<T> {
     }
 
     /// Returns the level of each code unit of the line after L1.
+    ///
+    /// Takes time linear in the line. Allocates only the list that it returns.
     pub fn levels_of_line(
         &self,
         alloc: Global,
@@ -160,7 +168,8 @@ impl<T: TextSource> Analysed<T> {
 
     /// Returns the level runs (BD7) of the line from left to right (L2), as ranges of code units of the text.
     ///
-    /// A line of up to 256 code units with up to 16 runs allocates only the list of runs.
+    /// An empty line has none. Takes time linear in the line. A line of up to 256 code units with up to 16 runs
+    /// allocates only the list of runs.
     pub fn line_runs(
         &self,
         alloc: Global,

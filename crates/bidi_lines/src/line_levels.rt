@@ -30,7 +30,8 @@ fn write_level(levels: &mut [Level], from: usize, to: usize, level: Level)
     levels[from..to].fill(level);
 }
 
-// Returns whether a class is a blank. It has no branch, so that many units are tested at once.
+// Returns whether a class is a blank: white space, an isolate formatting character, or a class that X9 removes (L1). It
+// has no branch, so that many code units are tested at once.
 fn is_blank_unit(class: BidiClass) -> bool
     ensures { result ≡ is_blank class }
 {
@@ -42,7 +43,7 @@ fn is_blank_unit(class: BidiClass) -> bool
         | is_removed(class)
 }
 
-/// The units of a line, with a test for those that are not blanks.
+/// The classes of a line, with a test for those that are not blanks.
 #[derive(Clone, Copy, Debug)]
 struct NoBlanks<C: ClassList> {
     classes: C,
@@ -81,15 +82,16 @@ fn blanks_start<C: ClassList>(classes: C, from: usize, to: usize) -> usize
     end_of_last_passing(NoBlanks { classes }, TESTED_SINGLY, from, to)
 }
 
-// Returns whether the pass of L1 stops at a unit that comes after another one: at a separator, and at a unit that X9
-// removes, unless it has the level of the unit before it. It has no branch, so that many units are tested at once.
+// Returns whether the pass of L1 stops at a code unit that comes after another one: at a separator, and at a code unit
+// that X9 removes, unless it has the level of the code unit before it. It has no branch, so that many code units are
+// tested at once.
 fn is_break(class: BidiClass, before: Level, own: Level) -> bool
     ensures { result ≡ is_break class before own }
 {
     is_separator(class) | (is_removed(class) & (before.number() != own.number()))
 }
 
-/// The units of a line after the first one, with a test for those at which the pass of L1 stops.
+/// The code units of a line after the first one, with a test for those at which the pass of L1 stops.
 #[derive(Clone, Copy, Debug)]
 struct Breaks<'l, C: ClassList> {
     classes: C,
@@ -114,8 +116,9 @@ impl<'l, C: ClassList> Tested for Breaks<'l, C> {
     }
 }
 
-// Returns the first index after `at` at which the pass of L1 stops, or the number of units if there is none. The first
-// unit is tested by itself: in a stretch of removed units that get another level, the pass stops at each.
+// Returns the first index after `at` at which the pass of L1 stops, or the number of code units if there is none. The
+// first code unit is tested by itself: in a stretch of removed code units that get another level, the pass stops at
+// each.
 fn next_break<C: ClassList>(classes: C, levels: &[Level], at: usize) -> usize
     requires same_len { length levels.now ≡ length (C.classes classes) }
     requires within { at < length levels.now }
@@ -127,8 +130,10 @@ fn next_break<C: ClassList>(classes: C, levels: &[Level], at: usize) -> usize
 /// Applies L1 to the levels of a line.
 ///
 /// `para_level` is the paragraph level. `classes` has the stored class of each code unit, and `levels` its stored
-/// level. Separators get the paragraph level. So do blanks before a separator or at the line's end. Any other
-/// code unit that X9 removes gets the level of the code unit before it, or `para_level` at the line's start.
+/// level. Separators get the paragraph level. So do white space, isolate formatting characters and characters that X9
+/// removes, if only these come before a separator or the line's end. Any other character that X9 removes gets the level
+/// of the code unit before it, or `para_level` at the line's start. Takes time linear in the line, and does not
+/// allocate.
 pub fn reset_levels<C: ClassList>(para_level: Level, classes: C, levels: &mut [Level])
     requires { length levels.old ≡ length (C.classes classes) }
     ensures { levels.new ≡ line_levels para_level (C.classes classes) levels.old }
@@ -137,8 +142,8 @@ pub fn reset_levels<C: ClassList>(para_level: Level, classes: C, levels: &mut [L
     // There is no separator from here up to `at`.
     let mut start = 0;
     let mut at = 0;
-    // Each iteration reads one separator, a removed unit with the units after it that keep their levels, or a stretch
-    // of other units.
+    // Each iteration reads one separator, a removed code unit with the code units after it that keep their levels, or a
+    // stretch of other code units.
     while at < classes.len() {
         let class = classes.class_at(at);
         if is_separator(class) {
@@ -160,15 +165,16 @@ pub fn reset_levels<C: ClassList>(para_level: Level, classes: C, levels: &mut [L
     write_level(levels, blanks, at, para_level);
 }
 
-// Returns whether L1 resets a unit. `is_next_reset` says whether it resets the next unit, or the line ends there.
+// Returns whether L1 resets a code unit. `is_next_reset` says whether it resets the next code unit, or the line ends
+// there.
 fn is_reset(class: BidiClass, is_next_reset: bool) -> bool
     ensures { result ≡ (is_separator class || (is_blank class && is_next_reset)) }
 {
     is_separator(class) || is_next_reset && is_blank(class)
 }
 
-// Returns whether a unit has an odd level after L1 by itself. A unit that X9 removes and L1 does not reset takes
-// the level of the unit before it, so it does not count.
+// Returns whether a code unit has an odd level after L1 that it does not take from the code unit before it. A code unit
+// that X9 removes takes that level, unless L1 resets it.
 fn shows_rtl(para_level: Level, class: BidiClass, own: Level, is_reset: bool) -> bool
     ensures { result ≡ (if is_reset then is_odd para_level else (not (is_removed class) && is_odd own)) }
 {
@@ -179,7 +185,7 @@ fn shows_rtl(para_level: Level, class: BidiClass, own: Level, is_reset: bool) ->
     }
 }
 
-// Returns whether X9 removes the first unit of a line.
+// Returns whether X9 removes the first code unit of a line.
 fn starts_removed(classes: &[BidiClass]) -> bool
     ensures { result ≡ (nat_lt 0 (length classes.now) && is_removed (class_at classes.now 0)) }
 {
@@ -189,10 +195,10 @@ fn starts_removed(classes: &[BidiClass]) -> bool
     }
 }
 
-/// Returns whether some unit of a line has an odd level after L1.
+/// Returns whether some code unit of a line has an odd level after L1.
 ///
-/// `classes` and `levels` are the stored ones of the line's code units, and `para_level` is the paragraph level. Does
-/// not allocate.
+/// `classes` and `levels` are the stored ones of the line's code units, and `para_level` is the paragraph level. Takes
+/// time linear in the line, and does not allocate.
 pub(crate) fn line_has_rtl(para_level: Level, classes: &[BidiClass], levels: &[Level]) -> bool
     requires { length levels.now ≡ length classes.now }
     ensures { result ≡ has_rtl (line_levels para_level classes.now levels.now) }
@@ -209,7 +215,7 @@ pub(crate) fn line_has_rtl(para_level: Level, classes: &[BidiClass], levels: &[L
             return true;
         }
     }
-    // At the line's start, units that X9 removes have the paragraph level.
+    // At the line's start, code units that X9 removes have the paragraph level.
     para_level.is_rtl() && starts_removed(classes)
 }
 
@@ -229,8 +235,9 @@ fn reset_line(para_level: Level, classes: &[BidiClass], levels: &mut [Level], li
 
 /// Returns the level of each code unit of a line after L1.
 ///
-/// `classes` and `levels` are the stored ones of the whole text. The line is the range `line` of its code units,
-/// and `para_level` is the level of the line's paragraph.
+/// `classes` and `levels` are the stored ones of the whole text. The line is the range `line` of its code units, and
+/// `para_level` is the level of the line's paragraph. Takes time linear in the line. Allocates only the list that it
+/// returns.
 pub fn levels_of_line(
     alloc: Global,
     para_level: Level,
@@ -254,8 +261,9 @@ pub fn levels_of_line(
 
 /// Returns the level of each code unit of a text: after L1 in the line, and as stored outside it.
 ///
-/// `classes` and `levels` are the stored ones of the whole text. The line is the range `line` of its code units,
-/// and `para_level` is the level of the line's paragraph.
+/// `classes` and `levels` are the stored ones of the whole text. The line is the range `line` of its code units, and
+/// `para_level` is the level of the line's paragraph. Takes time linear in the text. Allocates only the list that it
+/// returns.
 pub fn levels_with_line(
     alloc: Global,
     para_level: Level,
@@ -273,11 +281,11 @@ pub fn levels_with_line(
     Ok(after_l1)
 }
 
-// Moves the level of each character's first unit to the character's index, and returns the number of characters.
+// Moves the level of each character's first code unit to the character's index, and returns the number of characters.
 //
-// If the text can test a unit in place, tests each one, with no branch in the loop: a branch on a character's length is
-// hard to predict. That loop ends at the text's own length, so that `is_boundary` need not compare the index with it.
-// In any other text, steps from character to character by their lengths.
+// If the text can test a code unit in place, this tests each one, with no branch in the loop: a branch on a character's
+// length is hard to predict. That loop ends at the text's own length, so that `is_boundary` need not compare the index
+// with it. In any other text, this goes from character to character by their lengths.
 pub(crate) fn gather<T: TextSource>(text: T, levels: &mut [Level]) -> usize
     requires { length levels.old ≡ text_len (T.text text) }
     ensures count { result ≡ length (T.text text).chars }
@@ -301,8 +309,9 @@ pub(crate) fn gather<T: TextSource>(text: T, levels: &mut [Level]) -> usize
 
 /// Writes the level of each character of a text, and returns the number of characters.
 ///
-/// A character has the level of its first code unit. `levels` has one level for each code unit, and `out` is as
-/// long. After the last character, the entries of `out` hold any levels. Does not allocate.
+/// A character has the level of its first code unit. `levels` has one level for each code unit, and `out` is as long.
+/// The entries of `out` after those of the characters hold any levels. Takes time linear in the text, and does not
+/// allocate.
 pub fn write_first_units<T: TextSource>(text: T, levels: &[Level], out: &mut [Level]) -> usize
     requires same_len { length levels.now ≡ text_len (T.text text) }
     requires room { length out.old ≡ length levels.now }
@@ -323,7 +332,8 @@ pub fn write_first_units<T: TextSource>(text: T, levels: &[Level], out: &mut [Le
 
 /// Returns the level of each character of a text.
 ///
-/// A character has the level of its first code unit. `levels` has one level for each code unit. Does not allocate.
+/// A character has the level of its first code unit. `levels` has one level for each code unit. Takes time linear in
+/// the text, and does not allocate: the result reuses the memory of `levels`.
 pub fn first_units<T: TextSource>(text: T, mut levels: Vec<Level>) -> Vec<Level>
     requires { length levels.items ≡ text_len (T.text text) }
     ensures { result.items ≡ per_char 0 (T.text text) levels.items }
@@ -336,7 +346,8 @@ pub fn first_units<T: TextSource>(text: T, mut levels: Vec<Level>) -> Vec<Level>
 /// Returns the level of each character of a text: after L1 in the line, and as stored outside it.
 ///
 /// A character has the level of its first code unit. `classes` and `levels` are the stored ones of the text's code
-/// units. `line` is a range of code units, and `para_level` is the level of its paragraph.
+/// units. `line` is a range of code units, and `para_level` is the level of its paragraph. Takes time linear in the
+/// text. Allocates only the list that it returns.
 pub fn levels_per_char<T: TextSource>(
     alloc: Global,
     text: T,

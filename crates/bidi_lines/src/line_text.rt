@@ -36,6 +36,8 @@ pub trait LineText: TextSource {
     ghost encode: { ℕ → List Self.Unit };
 
     /// Writes the code units of a run unchanged.
+    ///
+    /// The run is a range of code units of the text that cuts no character (see `is_line`), and `out` is as long.
     fn copy_run(self, run: Range<usize>, out: &mut [Self::Unit])
         requires is_line { IsLine (Self.text self) run.start run.end }
         requires room { length out.old + run.start ≡ run.end }
@@ -43,7 +45,9 @@ pub trait LineText: TextSource {
 
     /// Writes the characters of a run in reverse order.
     ///
-    /// The code units of each character keep their order.
+    /// The run is a range of code units of the text that cuts no character, and `out` is as long. Each character is
+    /// written in the encoding of the text. So its code units keep their order, and an unpaired surrogate of UTF-16 is
+    /// written as 0xFFFD.
     fn reverse_run(self, run: Range<usize>, out: &mut [Self::Unit])
         requires is_line { IsLine (Self.text self) run.start run.end }
         requires room { length out.old + run.start ≡ run.end }
@@ -52,9 +56,10 @@ pub trait LineText: TextSource {
 
 /// Writes the runs of a line to `out`, in the order of `runs`.
 ///
-/// Copies a run at an even level, and reverses the characters of a run at an odd level (L2). The line begins at
-/// the code unit `start` of the text. `levels` has the level of each code unit of the line after L1. The lengths
-/// of the runs add up to the line's length. Takes time linear in the line, and does not allocate.
+/// Copies a run at an even level, and reverses the characters of a run at an odd level (L2). The line begins at the
+/// code unit `start` of the text. `levels` has the level of each code unit of the line after L1, and `out` is as long.
+/// Each run is a range of code units of the text that begins in the line and cuts no character. The lengths of the runs
+/// add up to the line's length. Takes time linear in the line, and does not allocate.
 pub fn write_runs<T: LineText>(
     text: T,
     start: usize,
@@ -125,8 +130,10 @@ pub struct StoredLine<C, L> {
 
 /// Writes the text of a line from left to right (L2).
 ///
-/// The line is a range of code units of the text, and `stored` is what is stored of them. A line of up to 256 code
-/// units with up to 16 runs needs no allocation. If an allocation fails, writes nothing.
+/// The line is a range of code units of the text, and `stored` is what is stored of them. Neither the line nor its
+/// visual runs may cut a character. No run does if all code units of a character have one class and one level. `out` is
+/// as long as the line. Takes time linear in the line. A line of up to 256 code units with up to 16 runs needs no
+/// allocation. If an allocation fails, writes nothing.
 pub fn write_line<T: LineText, C: ClassList, L: LevelList>(
     alloc: Global,
     text: T,
@@ -158,7 +165,7 @@ impl<T: LineText> Analysed<T> {
     ghost use Rattle.bidi_lines.specs.Analysed.{analysed, text_of};
 
     // Returns the text of a line from left to right. If no level of the line is odd after L1, the line stays in order:
-    // returns `None`, and does not allocate. `blank` may be any code unit.
+    // this returns `None`, and does not allocate. `blank` may be any code unit.
     fn reversed_line(
         &self,
         alloc: Global,

@@ -13,7 +13,7 @@ use bidi_base::classes::{is_removed, is_separator};
 use bidi_base::level::{Level, MAX_IMPLICIT_DEPTH, has_rtl};
 use bidi_base::search::{Among, ClassTest, first_passing};
 
-/// Tests for separators and characters that X9 removes. It has no branch, so that many units are tested at once.
+/// Tests for separators and characters that X9 removes. It has no branch, so that many code units are tested at once.
 #[derive(Clone, Copy, Debug)]
 struct SeparatorOrRemoved;
 
@@ -36,12 +36,12 @@ pub trait ClassList: Copy {
     fn len(self) -> usize
         ensures { result ≡ length (classes self) };
 
-    /// Returns the class at an index.
+    /// Returns the class at an index below `len`.
     fn class_at(self, index: usize) -> BidiClass
         requires { index < length (classes self) }
         ensures { result ≡ class_at (classes self) index };
 
-    /// Returns the index of the first stop after an index, or the number of classes if there is none.
+    /// Returns the index of the first stop after an index below `len`, or the number of classes if there is none.
     ///
     /// A stop is a separator or a class that X9 removes.
     fn next_stop(self, index: usize) -> usize
@@ -78,7 +78,7 @@ pub trait LevelList: Copy {
     fn len(self) -> usize
         ensures { result ≡ length (numbers self) };
 
-    /// Returns the number of the level at an index.
+    /// Returns the number of the level at an index below `len`.
     fn number_at(self, index: usize) -> u8
         requires { index < length (numbers self) }
         ensures { result ≡ slice_index (numbers self) index };
@@ -87,10 +87,10 @@ pub trait LevelList: Copy {
     fn has_rtl(self) -> bool
         ensures { result ≡ has_rtl (numbers self) };
 
-    /// Says that each number is that of a level.
+    /// Each number is that of a level.
     ghost are_levels: { Self → Type 0 };
 
-    /// Copies the levels to `out`, which is as long.
+    /// Copies the levels to `out`, which is as long. Each number must be that of a level.
     fn copy_to(self, out: &mut [Level])
         requires valid { are_levels self }
         requires same_len { length out.old ≡ length (numbers self) }
@@ -130,7 +130,7 @@ fn any_odd(numbers: &[u8]) -> bool
     all % 2 == 1
 }
 
-// Returns the level with a number.
+// Returns the level with a number, which must be at most 126.
 fn level_of(number: u8) -> Level
     requires { number < 127 }
     ensures { result ≡ number }

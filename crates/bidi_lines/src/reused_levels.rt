@@ -30,7 +30,7 @@ fn write_levels<C: ClassList, L: LevelList>(
     reset_levels(para_level, classes, out);
 }
 
-// Writes the levels of a line after L1 to the front of a list that may be longer.
+// Writes the levels of a line after L1 to the front of a list, which may be longer than the line.
 fn write_front<C: ClassList, L: LevelList>(
     para_level: Level,
     classes: C,
@@ -46,7 +46,7 @@ fn write_front<C: ClassList, L: LevelList>(
     write_levels(para_level, classes, levels, &mut out[..len]);
 }
 
-// Gives a list at least `len` levels. New entries hold any level. If an allocation fails, the list is unchanged.
+// Grows a list to at least `len` levels. New entries hold any level. If an allocation fails, the list is unchanged.
 fn grow(levels: &mut Vec<Level>, len: usize) -> Result<(), AllocError>
     ensures len { OnOk result (len ≤ vec_len levels.new) }
     ensures unchanged { OnErr result (levels.new.items ≡ levels.old.items) }
@@ -57,8 +57,8 @@ fn grow(levels: &mut Vec<Level>, len: usize) -> Result<(), AllocError>
     Ok(())
 }
 
-// Moves the level of each character's first unit to the character's index, and returns the number of characters.
-// The first `len` levels are those of the text's units.
+// Moves the level of each character's first code unit to the character's index, and returns the number of characters.
+// The first `len` levels are those of the text's code units.
 fn gather_front<T: TextSource>(text: T, levels: &mut [Level], len: usize) -> usize
     requires within { len ≤ length levels.old }
     requires same_len { len ≡ text_len (T.text text) }
@@ -75,7 +75,7 @@ fn gather_front<T: TextSource>(text: T, levels: &mut [Level], len: usize) -> usi
 pub struct LineLevels {
     // The levels are the first `len` of these,
     few: [Level; FEW_UNITS],
-    // or of these, if the line had more units.
+    // or of these, if the line had more code units.
     many: Vec<Level>,
     are_many: bool,
     len: usize,
@@ -100,8 +100,8 @@ impl LineLevels {
 
     /// Finds the level of each code unit of a line after L1.
     ///
-    /// `classes` and `levels` are the stored ones of the line's code units, and `para_level` is the paragraph level. If an
-    /// allocation fails, the levels of the previous line are kept.
+    /// `classes` and `levels` are the stored ones of the line's code units, and `para_level` is the paragraph level.
+    /// Takes time linear in the line. If an allocation fails, the levels of the previous line are unchanged.
     pub fn show<C: ClassList, L: LevelList>(
         &mut self,
         para_level: Level,
@@ -126,7 +126,10 @@ impl LineLevels {
         Ok(())
     }
 
-    /// Keeps one level for each character of the line: that of its first code unit. `text` is the line's text.
+    /// Keeps one level for each character of the line: that of its first code unit.
+    ///
+    /// `text` is the line's text, with as many code units as there are levels. Takes time linear in the line, and does
+    /// not allocate.
     pub fn keep_first_units<T: TextSource>(&mut self, text: T)
         requires { length (levels_of self.old) ≡ text_len (T.text text) }
         ensures { levels_of self.new ≡ per_char 0 (T.text text) (levels_of self.old) }

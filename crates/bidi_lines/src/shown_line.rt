@@ -26,7 +26,7 @@ mod chars;
 mod utf16;
 mod utf8;
 
-// Replaces a list by the level of each character of a text: that of its first unit.
+// Replaces a list by the level of each character of a text: that of its first code unit.
 fn gather_levels<T: TextSource>(
     text: T,
     levels: &[Level],
@@ -52,10 +52,10 @@ fn replace_order(levels: &[Level], order: &mut Vec<usize>) -> Result<(), AllocEr
     Ok(())
 }
 
-/// A line of a text as it is shown: its levels after L1 and its visual runs (L2).
+/// A line of a text as it is displayed: its levels after L1 and its visual runs (L2).
 ///
-/// Shows one line after another, of one text or of several, and reuses its memory. A line of up to 256 code
-/// units with up to 16 runs allocates nothing.
+/// Shows one line after another, of one text or of several, and reuses its memory. To show a line of up to 256 code
+/// units with up to 16 runs, it does not allocate.
 #[derive(Drop)]
 pub struct ShownLine<T: TextSource> {
     // The whole text, and the line's range of code units.
@@ -139,8 +139,8 @@ impl<T: TextSource> ShownLine<T> {
     /// Shows a line of a text, given the text's classes and levels.
     ///
     /// `classes` and `levels` have the stored class and the stored level of each code unit of the whole text, equal
-    /// within each character. `line`, `para_level`, the cost and the result of a failed allocation are those of
-    /// [`ShownLine::show`].
+    /// within each character (see `is_per_char`). `line`, `para_level`, the cost and the result of a failed allocation
+    /// are those of [`ShownLine::show`].
     pub fn show_lists(
         &mut self,
         text: T,
@@ -197,12 +197,11 @@ impl<T: TextSource> ShownLine<T> {
         !self.has_rtl
     }
 
-    /// Writes the visual order of the line's characters (L2): for each place from left to right, the index of
-    /// the character that is shown there.
+    /// Writes the visual order of the line's characters (L2): for each visual index, the index of the character there.
     ///
-    /// Characters are counted from the line's start. The order replaces the contents of `order`, and the line
-    /// is unchanged. Allocates room for the levels of the characters only if no earlier line had as many code units.
-    /// If an allocation fails, `order` is unchanged.
+    /// Characters are counted from the line's start. The order replaces the contents of `order`, which grows if it is
+    /// too short. The line is unchanged. Allocates room for the levels of the characters only if no earlier call was
+    /// for a line of as many code units. Takes time linear in the line. If an allocation fails, `order` is unchanged.
     pub fn write_order(&mut self, order: &mut Vec<usize>) -> Result<(), AllocError>
         ensures order { (a : AnalysedText) → (level : ℕ) → (line : RangeOf ℕ) → Shows self.old a level line
             → OnOk result (order.new.items ≡ visual_order (line_levels_per_char a level line)) }

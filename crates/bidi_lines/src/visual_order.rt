@@ -125,7 +125,7 @@ fn least_above<L: LevelList>(levels: L, from: usize, threshold: u8) -> u8
     least_of(levels, from, end)
 }
 
-// Arranges the stretch of items from `from` on that have levels of `threshold` or above, and returns its end.
+// Arranges the stretch of items from `from` on that have at least the level `threshold`, and returns its end.
 fn arrange<L: LevelList>(levels: L, order: &mut [usize], from: usize, threshold: u8) -> usize
     requires same_len { length order.old ≡ length (L.numbers levels) }
     requires begins { from ≤ length (L.numbers levels) }
@@ -172,8 +172,7 @@ fn write_indexes(order: &mut [usize])
     }
 }
 
-// Puts the indexes of a line's items, which ascend at first, into visual order. If no level is odd, they stay
-// unchanged.
+// Puts the indexes of a line's items, which ascend at first, into visual order. If no level is odd, they are unchanged.
 fn put_in_visual_order<L: LevelList>(levels: L, order: &mut [usize])
     requires { order.old ≡ range_with_len 0 (length (L.numbers levels)) }
     ensures { IsLineOrder (L.numbers levels) order.new }
@@ -183,10 +182,11 @@ fn put_in_visual_order<L: LevelList>(levels: L, order: &mut [usize])
     }
 }
 
-/// Writes the visual order of a line (L2): for each place from left to right, the index of the item there.
+/// Writes the visual order of a line (L2): for each visual index, the index of the item there.
 ///
-/// An item is a code unit, a character or a level run. `levels` has the level of each item after L1, and `order`
-/// is as long. Writes each index once. Does not allocate.
+/// An item is a code unit, a character or a level run. `levels` has the level of each item after L1, and `order` is as
+/// long. Writes each index once. The cost is the list, times the nesting depth of its reversed ranges. Does not
+/// allocate.
 pub fn write_visual_order<L: LevelList>(levels: L, order: &mut [usize])
     requires { length order.old ≡ length (L.numbers levels) }
     ensures { IsLineOrder (L.numbers levels) order.new }
@@ -202,9 +202,10 @@ fn indexes_below(alloc: Global, n: usize) -> Result<Vec<usize>, AllocError>
     (0..n).collect(alloc)
 }
 
-/// Returns the visual order of a line (L2): for each place from left to right, the index of the item there.
+/// Returns the visual order of a line (L2): for each visual index, the index of the item there.
 ///
-/// `levels` has the level of each item after L1. Allocates only the list that it returns.
+/// `levels` has the level of each item after L1. The cost is that of [`write_visual_order`]. Allocates only the list
+/// that it returns.
 pub fn reorder_visual(alloc: Global, levels: &[Level]) -> Result<Vec<usize>, AllocError>
     ensures { IfOk result (λ v. IsLineOrder levels.now v.items) }
 {
@@ -215,7 +216,8 @@ pub fn reorder_visual(alloc: Global, levels: &[Level]) -> Result<Vec<usize>, All
 
 /// Returns the inverse of a list that has each index once.
 ///
-/// The inverse of a visual order has the visual index of each index. Takes time linear in the list.
+/// The inverse of a visual order has the visual index of each item. Takes time linear in the list. Allocates only the
+/// list that it returns.
 pub fn inverse(alloc: Global, order: &[usize]) -> Result<Vec<usize>, AllocError>
     requires { IsPermutation (indexes order.now) order.now }
     ensures { IfOk result (λ v. AreInverse order.now v.items) }

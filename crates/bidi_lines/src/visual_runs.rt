@@ -32,8 +32,8 @@ pub(crate) fn first_run_end(levels: &[Level]) -> usize
     run_end(levels, 0)
 }
 
-// Splits a line into its level runs. The line starts at the unit `start` of the text. Its first run ends at its
-// unit `first`.
+// Splits a line into its level runs. The line starts at the code unit `start` of the text. Its first run has `first`
+// code units.
 fn cut_runs(
     runs: &mut SmallVec<Range<usize>, FEW_RUNS>,
     levels: &[Level],
@@ -85,9 +85,9 @@ fn copy_in_order(
     Ok(())
 }
 
-// Copies the level runs of a line from left to right (L2). The line starts at the unit `start` of the text.
-// `numbers` and `order` are buffers with one entry for each run: the number of its level, and the visual order.
-// If an allocation fails, copies nothing.
+// Copies the level runs of a line from left to right (L2). The line starts at the code unit `start` of the text.
+// `numbers` and `order` are buffers with one entry for each run: the number of its level, and the visual order. If an
+// allocation fails, copies nothing.
 fn copy_visual(
     ordered: &mut SmallVec<Range<usize>, FEW_RUNS>,
     levels: &[Level],
@@ -224,8 +224,9 @@ fn copied(alloc: Global, runs: &[Range<usize>]) -> Result<Vec<Range<usize>>, All
 
 /// Returns the level runs (BD7) of a line from left to right (L2).
 ///
-/// Each run is a range of code units of the text. The line starts at the code unit `start`, and `levels` has the
-/// level of each of its code units after L1. A line of up to 16 runs allocates only the list that is returned.
+/// Each run is a range of code units of the text. The line starts at the code unit `start`, and `levels` has the level
+/// of each of its code units after L1. An empty line has no runs. A line of up to 16 runs allocates only the list that
+/// is returned.
 pub fn visual_runs_of(
     alloc: Global,
     levels: &[Level],

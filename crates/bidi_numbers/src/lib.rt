@@ -1,5 +1,5 @@
-//! What callers in other languages pass: numbers, structs, tables and texts. Tests every condition, and names the
-//! faults that a call returns.
+//! What callers in other languages pass: numbers, structs, tables and texts. It tests their values, and has the faults
+//! that a call returns.
 #![tactic(auto)]
 
 pub mod class_numbers;

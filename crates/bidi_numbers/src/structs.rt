@@ -1,6 +1,6 @@
 //! The structs that callers in other languages read and write: plain structs with the layout of C.
 
-/// A paragraph: its range of code units, and its level.
+/// A paragraph: its range of code units, from `start` up to `end`, and its level.
 #[repr(C)]
 #[derive(Clone, Copy, Debug, PartialEq)]
 pub struct Paragraph {
@@ -9,7 +9,7 @@ pub struct Paragraph {
     pub level: u8,
 }
 
-/// A visual run: its range of code units, and their level after L1.
+/// A visual run: its range of code units, from `start` up to `end`, and their level after L1.
 #[repr(C)]
 #[derive(Clone, Copy, Debug, PartialEq)]
 pub struct Run {
@@ -18,7 +18,7 @@ pub struct Run {
     pub level: u8,
 }
 
-/// A range of characters that have one class.
+/// A range of characters that have one class, from `first` to `last`, which is included.
 #[repr(C)]
 #[derive(Clone, Copy, Debug, PartialEq)]
 pub struct ClassRange {

@@ -1,4 +1,5 @@
--- The passes over the units of a paragraph, put together: what they leave once some sequences are resolved, and once all are.
+-- The passes over the units of a paragraph, put together: what they leave once some sequences are resolved, and once
+-- all are.
 use Rattle.bidi_base.proofs.Common.{◌≡◌, ℕ, Range, bounds, take_all, zero, suc, ◌+◌, ◌<◌, ◌≤◌, true, false, List, [], ◌∷◌, ◌++◌, length, get_or, take, map, Option, None, refl, sym, ap, ◌∙◌, arith}
 use Rattle.bidi_base.proofs.Common.{filter, list_all, length-map, get_or-map, get_or_default, get_or-append_seam, take-append_seam, length-append, map-append, is_kept, is_kept_in_place, is_l_or_r}
 use Rattle.bidi_base.proofs.Common.{length-replicate, nil_from_length, get_or-zip, length-zip, is_weak_resolved, class_at, at_indexes, first_or, stored_classes, explicit_levels, explicit_classes}
@@ -84,7 +85,7 @@ module _ (len_of : ℕ → ℕ) (h : HasUnits len_of) (chars : List ℕ) (source
   pub AreResolvedTo-same : (seqs : List RunSequence) (old new : List BidiClass) → new ≡ old → AreResolvedTo seqs old → AreResolvedTo seqs new
   AreResolvedTo-same seqs old new same now = rw same now
 
-  -- they have one entry a unit, equal within each character
+  -- they have one entry for each code unit, equal within each character
   pub AreResolvedTo-per_char : (seqs : List RunSequence) (classes : List BidiClass) → length source_classes ≡ length chars → AreResolvedTo seqs classes → is_per_char class_eq len_of chars classes ≡ true
   AreResolvedTo-per_char seqs classes fits now = grind (arith, is_per_char-per_unit, class_test, length-stored_classes)
 

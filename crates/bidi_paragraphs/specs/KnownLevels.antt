@@ -1,4 +1,4 @@
--- Sequences whose levels are known without W1 to N2.
+-- Sequences with levels that are known without W1 to N2.
 use Rattle.std.specs.Prelude.{◌≡◌, ◌⊎◌, ℕ, ◌≤◌, Bool, true, false, not, ◌||◌, if◌then◌else◌, List, All, length, map, get_or}
 use Rattle.bidi_base.specs.declared.char_data.BidiClass.{BidiClass}
 use Rattle.bidi_base.specs.declared.char_data.BidiClass.TheVariants.{L, R, AL, EN, AN}
@@ -10,7 +10,8 @@ use Rattle.bidi_base.specs.Units.{bounds, in_runs}
 use Rattle.bidi_explicit.specs.RunSequence.{borrowed_runs, borrowed_sos, borrowed_eos}
 use Rattle.bidi_explicit.specs.declared.prepare.borrowed.BorrowedSequence.{BorrowedSequence}
 
--- a class that can raise the level of a character in a sequence of the direction d: numbers, and strong classes of the other direction
+-- a class that can raise the level of a character in a sequence of the direction d: a number, or a strong class of the
+-- other direction
 unfoldable pub raises : BidiClass → BidiClass → Bool
 raises d c = same_class EN c || same_class AN c || (if is_l d then same_class R c || same_class AL c else same_class L c)
 
@@ -30,22 +31,23 @@ number_as_l c = if is_en c then L else c
 abbrev pub AreInside : {X : Type 0} → BorrowedSequence → List X → Type 0
 AreInside s units = All (λ r. r.1 ≤ length units) (map bounds (borrowed_runs s))
 
--- the first unit of a sequence
+-- the first code unit of a sequence
 abbrev pub first_unit : BorrowedSequence → ℕ
 first_unit s = (get_or (map bounds (borrowed_runs s)) 0 (0, 0)).0
 
--- the direction of the level of the first unit
+-- the direction of the level of the first code unit
 abbrev pub own_direction : BorrowedSequence → List ℕ → BidiClass
 own_direction s levels = direction_of (level_at levels (first_unit s))
 
--- the sequence begins with a character that X9 keeps, and no class raises a level; its direction is sos, or it is eos and the first character is no mark
+-- the sequence begins with a character that X9 keeps, and no class raises a level; the direction of its level is sos,
+-- or it is eos and the first character is no mark
 pub record HasOneDirection (s : BorrowedSequence) (levels : List ℕ) (classes : List BidiClass) : Type 0 where
   pub kept : is_kept_in_place (class_at classes (first_unit s)) ≡ true
   pub along : (u : ℕ) → in_runs (map bounds (borrowed_runs s)) u ≡ true → raises (own_direction s levels) (class_at classes u) ≡ false
   pub sides : (borrowed_sos s ≡ own_direction s levels)
       ⊎ ((borrowed_eos s ≡ own_direction s levels) × (is_nsm (class_at classes (first_unit s)) ≡ false))
 
--- the sequence has the direction L after L, begins with a character that X9 keeps, and European numbers are all that raises a level
+-- the direction of the sequence's level and sos are L, X9 keeps its first character, and no class but EN raises a level
 pub record HasEuropeanNumbers (s : BorrowedSequence) (levels : List ℕ) (classes : List BidiClass) : Type 0 where
   pub kept : is_kept_in_place (class_at classes (first_unit s)) ≡ true
   pub own : own_direction s levels ≡ L

@@ -1,4 +1,4 @@
--- What the passes of a paragraph read, and what they leave.
+-- The text of a paragraph, and what its passes require of its levels and promise.
 use Rattle.std.specs.Prelude.{◌≡◌, ℕ, List, length, map}
 use Rattle.bidi_base.specs.Explicit.{explicit_levels, explicit_classes}
 use Rattle.bidi_base.specs.Isolates.{stored_classes}
@@ -15,7 +15,7 @@ module _ {D T C I L : Type 0} {d : _} {t : _} {c : _} {i : _} {l : _} (paragraph
   abbrev pub IsOneAUnit : List ℕ → Type 0
   IsOneAUnit levels = length levels ≡ text_len text_of
 
-  -- each of its characters has one level
+  -- all code units of a character have one level
   abbrev pub HaveCharLevels : List ℕ → Type 0
   HaveCharLevels levels = HaveLevel text_of levels
 

@@ -1,5 +1,5 @@
-//! A single pass over a text. It finds the class of each character, resolves each FSI (X5c), and finds the
-//! paragraphs (P1) and their levels (P2, P3).
+//! The first pass over a text. It finds the class of each character, resolves each FSI (X5c), and finds the paragraphs
+//! (P1) and their levels (P2, P3).
 ghost use Rattle.std.specs.Prelude.{◌≡◌, ℕ, ◌<◌, ◌≤◌, true, false, None, [], length, drop, OnOk, IfOk};
 ghost use Rattle.bidi_base.specs.declared.char_data.BidiClass.{BidiClass};
 ghost use Rattle.bidi_base.specs.AnalysedText.{AreParagraphs};
@@ -39,7 +39,7 @@ use progress::Progress;
 use stop::Stop;
 use unit_classes::AT_ONCE;
 
-/// The paragraphs that the pass over a text finds. A single paragraph needs no allocation.
+/// The paragraphs that the first pass over a text finds. A single paragraph needs no allocation.
 #[derive(PartialEq, Debug, Drop)]
 pub struct FoundParagraphs {
     /// The paragraphs, in order.
@@ -49,7 +49,7 @@ pub struct FoundParagraphs {
 }
 
 impl FoundParagraphs {
-    /// Starts with no paragraphs.
+    /// Returns no paragraphs. Does not allocate.
     pub fn new(alloc: Global) -> FoundParagraphs
         ensures paragraphs { result.paragraphs.items ≡ [] }
         ensures flags { result.flags.items ≡ [] }
@@ -71,7 +71,7 @@ struct TextState {
 }
 
 impl TextState {
-    // Starts before the text. The paragraphs reuse the memory of earlier ones.
+    // Returns the state before the text. The lists reuse the memory of earlier ones.
     fn new(base_level: Option<Level>, memory: FoundParagraphs) -> TextState
         ensures base { result.base_level ≡ base_level }
         ensures state { IsAtStart result.state 0 }
@@ -108,8 +108,8 @@ impl TextState {
         Ok(())
     }
 
-    // Reads a character. Its class must be written to its code units already. `ends` tells whether the
-    // paragraph ends with it.
+    // Reads a character. Its class must already be written to its code units. `ends` says whether the paragraph ends
+    // with it.
     //
     // Without this hint, and that of `ParagraphState::read`, each stop takes 15 to 30 instructions more.
     #[inline(always)]
@@ -148,7 +148,7 @@ impl TextState {
     }
 }
 
-// Writes the classes of some characters, up to one whose class is in `stop_classes`, or would change the flags.
+// Writes the classes of some characters, up to one with a class that is in `stop_classes` or would change the flags.
 // Returns that one. If there is none, the index moves past them.
 fn read_some<D: BidiDataSource, T: TextSource>(
     data_source: &D,
@@ -167,8 +167,8 @@ fn read_some<D: BidiDataSource, T: TextSource>(
     read_on(data_source, text, classes, progress, stop_classes)
 }
 
-// Writes the classes of the next characters, up to the first one whose class is in `stop_classes`, and adds the
-// flags of those before it. Returns that one, or `None` at the text's end.
+// Writes the classes of the next characters, up to the first one with a class in `stop_classes`, and adds the flags of
+// those before it. Returns that one, or `None` at the text's end.
 fn seek_stop<D: BidiDataSource, T: TextSource>(
     data_source: &D,
     text: T,
@@ -193,13 +193,13 @@ fn seek_stop<D: BidiDataSource, T: TextSource>(
     None
 }
 
-// After an isolate control, the characters that begin among so many code units are read one by one, unless the
-// state is decided. Often the next control is among them, and a search for it costs more.
+// After an isolate initiator or a PDI, the characters that begin within this many code units are read one by one,
+// unless the state is decided. The next initiator or PDI is often among them, and a search for it costs more.
 const TESTED_SINGLY: usize = 4;
 
-// Writes the classes of the characters from an index on, up to the first one that would change more of the
-// paragraph's state than its flags. Returns that one, or `None` at the text's end. The flags of those before
-// it are added to the state. If `near`, returns the next character, whatever it changes.
+// Writes the classes of the characters from an index on, up to the first one that would change more of the paragraph's
+// state than its flags. Returns that one, or `None` at the text's end. The flags of those before it are added to the
+// state. If `near`, this may return the next character, whatever it changes.
 fn next_stop<D: BidiDataSource, T: TextSource>(
     data_source: &D,
     text: T,
@@ -232,7 +232,7 @@ fn next_stop<D: BidiDataSource, T: TextSource>(
     stop
 }
 
-// Returns up to where characters are read one by one, once a character of this class was read, up to `end`.
+// Returns the index up to which characters are read one by one, after a character of this class that ends at `end`.
 fn near_end_after(near_end: usize, end: usize, class: BidiClass, state: &ParagraphState) -> usize {
     if state.is_decided() {
         return near_end;
@@ -244,7 +244,8 @@ fn near_end_after(near_end: usize, end: usize, class: BidiClass, state: &Paragra
     }
 }
 
-// Whether a line feed that separates paragraphs begins at an index. The index must be a boundary.
+// Returns whether a line feed that separates paragraphs begins at an index. The index must be that of a character, or
+// the text's length.
 fn goes_on_with_line_feed<D: BidiDataSource, T: TextSource>(
     data_source: &D,
     text: T,
@@ -259,7 +260,7 @@ fn goes_on_with_line_feed<D: BidiDataSource, T: TextSource>(
     }
 }
 
-// Whether a paragraph ends after a character, given its class and its end in the text.
+// Returns whether a paragraph ends after a character, given its class and its end in the text.
 fn ends_paragraph<D: BidiDataSource, T: TextSource>(
     data_source: &D,
     text: T,
@@ -282,15 +283,18 @@ fn ends_paragraph<D: BidiDataSource, T: TextSource>(
     }
 }
 
-/// Writes the stored classes (X5c) of a text, one for each code unit, and returns its paragraphs (P1).
-/// `base_level` or the characters (P2, P3) give their levels.
+/// Writes the stored classes (X5c) of a text, one for each code unit, and returns its paragraphs (P1) with their
+/// levels.
 ///
-/// If `rule` is `None`, the whole text is one paragraph, even if it is empty. Any base level is accepted.
-/// The result reuses the lists of `memory`, which are emptied first. Everything is allocated with the allocator of
+/// `base_level` is the level of every paragraph. If it is `None`, each paragraph gets its level from its characters
+/// (P2, P3). `rule` says where paragraphs end. `classes` has one entry for each code unit. Takes time linear in the
+/// text.
+///
+/// If `rule` is `None`, the whole text is one paragraph, even if it is empty. Any base level is accepted. The result
+/// reuses the lists of `memory`, which are emptied first. The lists of open FSI are allocated with the allocator of
 /// `memory.paragraphs`.
 ///
-/// It allocates for more than one paragraph, and for undecided FSI that are open at the same time. If an
-/// allocation fails, `classes` may hold anything.
+/// A text of one paragraph without FSI needs no allocation. If an allocation fails, `classes` may hold anything.
 pub fn walk<D: BidiDataSource, T: TextSource>(
     data_source: &D,
     text: T,

@@ -1,4 +1,4 @@
-//! Sequences whose levels are known without W1 to N2.
+//! Sequences with levels that are known without W1 to N2.
 
 ghost use Rattle.std.specs.Prelude.{◌≡◌, ◌⊎◌, ℕ, ◌<◌, ◌≤◌, true, false, length, map, All, IsTrue};
 ghost use Rattle.bidi_base.specs.Indexes.{class_at};
@@ -13,11 +13,11 @@ use bidi_base::search::ClassTest;
 use bidi_explicit::prepare::{BorrowedSequence, LevelRun};
 use bidi_explicit::run_search::none_passes;
 
-/// Returns whether I1 and I2 give the classes of a sequence the same levels as those after W1 to N2, as far as a
-/// look at the classes shows.
+/// Returns true only if I1 and I2 give the classes of a sequence the same levels as the classes after W1 to N2.
 ///
-/// Most isolates and embeddings are such sequences: a name, or a few words of one language. Many texts around them
-/// are too. The look takes the place of two passes.
+/// The conditions are those of `HasOneDirection` and `HasNoNeutral`. Other such sequences may exist. Most isolates and
+/// embeddings meet a condition: a name, or a few words of one language. Many texts around them do too. This test then
+/// replaces two passes.
 pub fn has_known_levels(
     sequence: BorrowedSequence<'_>,
     levels: &[Level],
@@ -30,10 +30,10 @@ pub fn has_known_levels(
     has_one_direction(sequence, levels, classes) || has_no_neutral(sequence, classes)
 }
 
-/// Whether sos or eos is the direction of a sequence's level, and none of its classes raises a level.
+/// Returns true only if sos or eos is the direction of a sequence's level, and none of its classes raises a level.
 ///
-/// X9 must keep the first character, because its level is that of the sequence. If sos is the other direction, it
-/// must not be a nonspacing mark either, because such a mark takes sos.
+/// X9 must keep the first character, because its level is that of the sequence. If sos is the other direction, it must
+/// not be a nonspacing mark either, because it would take sos.
 fn has_one_direction(
     sequence: BorrowedSequence<'_>,
     levels: &[Level],
@@ -50,8 +50,8 @@ fn has_one_direction(
     first != BN && follows && none_raises(direction, runs, classes)
 }
 
-/// Whether no class of some runs raises a level in a sequence of this direction. A search for known classes is
-/// shorter, so there is a test for each direction.
+/// Returns true only if no class of some runs raises a level in a sequence of this direction. A search for constant
+/// classes is faster, so there is a test for each direction.
 #[tactic(auto, unfolding(crate::specs::KnownLevels::raises))]
 fn none_raises(direction: BidiClass, runs: &[LevelRun], classes: &[BidiClass]) -> bool
     requires { All (λ r. r.1 ≤ length classes.now) (map bounds runs.now) }
@@ -64,7 +64,7 @@ fn none_raises(direction: BidiClass, runs: &[LevelRun], classes: &[BidiClass]) -
     }
 }
 
-/// The direction of the level at the first code unit of a sequence.
+/// Returns the direction of the level at the first code unit of a sequence.
 fn own_direction(sequence: BorrowedSequence<'_>, levels: &[Level]) -> BidiClass
     requires { AreInside sequence levels.now }
     ensures { result ≡ own_direction sequence.entry levels.now }
@@ -72,7 +72,7 @@ fn own_direction(sequence: BorrowedSequence<'_>, levels: &[Level]) -> BidiClass
     levels[sequence.runs()[0].start].bidi_class()
 }
 
-/// Whether all classes of a sequence are L, R or BN.
+/// Returns true only if all classes of a sequence are L, R or BN.
 fn has_no_neutral(sequence: BorrowedSequence<'_>, classes: &[BidiClass]) -> bool
     requires { AreInside sequence classes.now }
     ensures { IsTrue result → HasNoNeutral sequence.entry classes.now }
@@ -80,8 +80,8 @@ fn has_no_neutral(sequence: BorrowedSequence<'_>, classes: &[BidiClass]) -> bool
     none_passes(NotLOrROrBn, sequence.runs(), classes)
 }
 
-/// Writes L over the European numbers of a sequence, if W7 does so and no other class raises a level. Returns
-/// whether it did.
+/// Writes L over the European numbers of a sequence, if W7 does so and no other class raises a level. Returns whether
+/// it did. If not, the classes are unchanged.
 ///
 /// The direction of the sequence's level and sos must be L, and X9 must keep its first character. An English
 /// sentence with a number is such a sequence.
@@ -103,7 +103,8 @@ pub fn write_l_over_numbers(
     writes
 }
 
-/// Whether European numbers are all that raises a level in a sequence whose direction and sos are L.
+/// Returns true only if X9 keeps the first character of a sequence, the direction of its level and sos are L, and no
+/// class but EN raises a level.
 fn has_european_numbers(
     sequence: BorrowedSequence<'_>,
     levels: &[Level],

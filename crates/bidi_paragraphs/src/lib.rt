@@ -1,7 +1,7 @@
 //! The paragraphs of a text, their levels, and the levels of their code units.
 //!
-//! [`first_pass`] is the first pass over a text. It splits the text into paragraphs (P1), finds their levels (P2, P3), and
-//! stores the class of each character, with each FSI resolved (X5c). [`paragraph_levels`] finds the levels of each
+//! [`first_pass`] is the first pass over a text. It splits the text into paragraphs (P1), finds their levels (P2, P3),
+//! and stores the class of each character, with each FSI resolved (X5c). [`paragraph_levels`] finds the levels of each
 //! paragraph's code units, by the rules from X1 to I2.
 #![tactic(auto)]
 

@@ -1,4 +1,4 @@
-//! What the later steps need to know of a paragraph's classes.
+//! The classes of a paragraph that later steps need to know.
 ghost use Rattle.std.specs.Prelude.{◌≡◌, ◌||◌, not};
 ghost use Rattle.bidi_base.specs.Classes.{is_isolate_initiator, is_opener, is_removed};
 ghost use Rattle.bidi_base.specs.Direction.{may_turn};
@@ -13,8 +13,7 @@ use bidi_base::level::Level;
 use std::alloc::Global;
 use std::default::MadeWith;
 
-/// The classes in a paragraph, as the data source gives them. Only those are kept that the later steps tell
-/// apart.
+/// The source classes of a paragraph's characters. It has only those that later steps tell apart.
 #[derive(Clone, Copy, PartialEq, Debug)]
 pub struct ParagraphFlags {
     pub(crate) seen: ClassSet,
@@ -33,7 +32,7 @@ impl ParagraphFlags {
         seen: ClassSet::NONE,
     };
 
-    /// Adds one more character, of this class.
+    /// Returns the flags with those of one more character, which has this class.
     pub(crate) fn with(self, class: BidiClass) -> ParagraphFlags
         ensures { result ≡ with_class self class }
     {
@@ -46,7 +45,7 @@ impl ParagraphFlags {
         }
     }
 
-    /// Adds characters of these classes.
+    /// Returns the flags with those of characters of these classes.
     pub(crate) fn with_all(self, classes: ClassSet) -> ParagraphFlags
         ensures { result ≡ with_set self classes }
     {
@@ -55,15 +54,16 @@ impl ParagraphFlags {
         }
     }
 
-    /// Returns the classes of a set, and with them those that would change the flags.
+    /// Returns the classes of a set, and those that would change the flags.
     pub(crate) fn sought_with(self, stop_classes: ClassSet) -> ClassSet
         ensures { (c : BidiClass) → has result c ≡ (has stop_classes c || is_missing self c) }
     {
         stop_classes.union(ClassSet::COUNTED.without(self.seen))
     }
 
-    /// Returns whether no character can make the paragraph anything but left to right throughout, at level
-    /// 0.
+    /// Returns whether no character has the class R, AL, AN, LRE, RLE, LRO, RLO, LRI, RLI or FSI.
+    ///
+    /// Without such characters, all levels of a paragraph of level 0 are 0 (the law `stays_left_to_right`).
     pub fn is_pure_ltr(self) -> bool
         ensures { result ≡ not (any_of self.seen may_turn) }
     {
@@ -77,15 +77,14 @@ impl ParagraphFlags {
         self.seen.intersects(ClassSet::INITIATORS)
     }
 
-    /// Returns whether no character begins an embedding or an isolate.
+    /// Returns whether no character opens an embedding or an isolate.
     pub(crate) fn is_flat(self) -> bool
         ensures { result ≡ not (any_of self.seen is_opener) }
     {
         !self.seen.intersects(ClassSet::OPENERS)
     }
 
-    /// Returns whether no character can give the paragraph a level other than this one, if it is the
-    /// paragraph level.
+    /// Returns whether no class can give a character another level than `level`, if that is the paragraph level.
     pub(crate) fn keeps_to(self, level: Level) -> bool
         ensures { result ≡ not (any_of self.seen (may_leave level)) }
     {

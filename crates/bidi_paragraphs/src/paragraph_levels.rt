@@ -40,10 +40,10 @@ pub const FEW_UNITS: usize = 256;
 // The list of level runs begins with room for this many, so that it seldom grows in a short text.
 const FEW_RUNS: usize = 16;
 
-/// A paragraph with its stored classes, from which its levels can be found.
+/// A paragraph with all that is needed to find its levels.
 #[derive(Drop)]
 pub struct ClassifiedParagraph<'a, D: BidiDataSource, T: TextSource> {
-    /// The source of its classes and brackets.
+    /// The data source of its classes and brackets.
     pub data_source: &'a D,
     /// The text of this paragraph only.
     pub text: T,
@@ -138,8 +138,7 @@ impl LevelResolver {
         Ok(())
     }
 
-    /// Copies the classes of a paragraph in which nothing opens a level, with BN for characters that X9
-    /// removes.
+    /// Copies the classes of a paragraph without openers, with BN for characters that X9 removes.
     fn copy_flat<D: BidiDataSource, T: TextSource>(
         &mut self,
         paragraph: &ClassifiedParagraph<D, T>,
@@ -154,9 +153,8 @@ impl LevelResolver {
         Ok(())
     }
 
-    /// Finds the levels of all characters that X9 keeps, in a non-empty paragraph in which nothing opens a
-    /// level. The paragraph is one level run, and one sequence. N2 is left out, since the levels are the
-    /// same with and without it.
+    /// Finds the levels of all characters that X9 keeps, in a non-empty paragraph without openers. The paragraph is one
+    /// level run, and one sequence. N2 is left out, since the levels are the same with and without it.
     fn resolve_flat<D: BidiDataSource, T: TextSource, S: Ledger>(
         &mut self,
         paragraph: &ClassifiedParagraph<D, T>,
@@ -274,7 +272,7 @@ impl LevelResolver {
 
     /// Writes the stored levels of a paragraph, one for each of its code units.
     ///
-    /// `levels` may hold anything before. If an allocation fails, returns an error, and `levels` may hold
+    /// `levels` has one entry for each code unit, and may hold anything before. If an allocation fails, it may hold
     /// anything.
     pub fn write_levels<D: BidiDataSource, T: TextSource>(
         &mut self,
@@ -298,7 +296,7 @@ impl LevelResolver {
     }
 }
 
-// The class that the passes use for a class: BN for what X9 removes.
+// Returns the class that the passes use for a class: BN if X9 removes it.
 fn hidden(class: BidiClass) -> BidiClass
     ensures { result ≡ hidden class }
 {
@@ -318,7 +316,7 @@ fn hide_removed(classes: &mut [BidiClass])
     }
 }
 
-// The level of the code unit before `unit`, or the paragraph level at the start.
+// Returns the level of the code unit before `unit`, or the paragraph level at the start.
 fn level_before(para_level: Level, levels: &[Level], unit: usize) -> Level
     requires { unit ≤ length levels.now }
     ensures front { unit ≡ 0 → result ≡ para_level }
@@ -331,7 +329,7 @@ fn level_before(para_level: Level, levels: &[Level], unit: usize) -> Level
     }
 }
 
-/// What X9 removes.
+/// The classes that X9 removes.
 #[derive(Clone, Copy, Debug)]
 struct Removed;
 

@@ -8,7 +8,7 @@ use bidi_base::level::{LTR_LEVEL, Level};
 use bidi_plain::plain::{
     Explicit, PlainSequence, explicit_levels, implicit, neutral, pairs, sequences, weak,
 };
-use bidi_vectors_format::conditions::{have_directions, are_kept, are_left, is_side};
+use bidi_vectors_format::conditions::{are_kept, are_left, have_directions, is_side};
 
 // The characters' classes, their classes under overrides, and their brackets.
 #[derive(Clone, Copy)]

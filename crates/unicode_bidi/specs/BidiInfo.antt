@@ -1,4 +1,4 @@
--- What the accessors of `BidiInfo` show.
+-- What the accessors of `BidiInfo` return.
 use Rattle.std.specs.Prelude.{ℕ, List}
 use Rattle.bidi_base.specs.AnalysedText.{AnalysedText}
 use Rattle.bidi_base.specs.declared.char_data.BidiClass.{BidiClass}

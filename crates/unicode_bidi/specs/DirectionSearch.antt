@@ -9,8 +9,8 @@ use Rattle.bidi_base.specs.declared.char_data.Direction.TheVariants.{Mixed}
 use Rattle.unicode_bidi.specs.declared.direction_search.DirectionSearch.{DirectionSearch}
 use Rattle.unicode_bidi.specs.declared.direction_search.DirectionSearch.TheVariants.{Found, Open}
 
--- the base direction of characters that follow `depth` open isolates: that of the text that begins with as many
--- isolate initiators
+-- the base direction of characters that follow `depth` open isolates: that of a text with as many isolate initiators
+-- before them
 abbrev pub direction_after : Bool → ℕ → List BidiClass → Direction
 direction_after full depth classes =
     let paragraphs = class_paragraphs (replicate depth LRI ++ classes) in
@@ -27,7 +27,7 @@ abbrev pub IsSearched : Bool → ℕ → List BidiClass → DirectionSearch → 
 IsSearched full depth classes search =
     (more : List BidiClass) → direction_after full depth (classes ++ more) ≡ direction_with full search more
 
--- the direction that a search has found, mixed while it goes on
+-- the direction that a search has found, or mixed while the search goes on
 abbrev pub direction_found : DirectionSearch → Direction
 direction_found (Found direction) = direction
 direction_found (Open depth) = Mixed

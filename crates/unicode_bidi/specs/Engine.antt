@@ -1,4 +1,4 @@
--- What an analysis holds, and what the walk over the paragraphs of a text asks and leaves.
+-- What an analysis has, and what the calls for each paragraph of a text require and write.
 use Rattle.std.specs.Prelude.{◌≡◌, ℕ, ◌≤◌, List, [], ◌∷◌, map, slice_range}
 use Rattle.bidi_base.specs.AnalysedText.{AnalysedText}
 use Rattle.bidi_base.specs.declared.char_data.BidiClass.{BidiClass}
@@ -24,7 +24,7 @@ levels a = a.levels.items
 abbrev pub paragraphs : Analysis → List ParagraphInfo
 paragraphs a = a.paragraphs.items
 
--- what later steps ask of each paragraph
+-- the flags of each paragraph
 abbrev pub flags : Analysis → List ParagraphFlags
 flags a = a.flags.items
 
@@ -36,7 +36,7 @@ found_paragraphs a = a.found.paragraphs.items
 abbrev pub found_flags : Analyser → List ParagraphFlags
 found_flags a = a.found.flags.items
 
--- a text with what was found
+-- a text with the stored classes and levels of an analysis
 abbrev pub with_analysis : {e : Encoding} → Text e → Analysis → AnalysedText
 with_analysis text a = with_lists text (original_classes a) (levels a)
 
@@ -44,18 +44,18 @@ with_analysis text a = with_lists text (original_classes a) (levels a)
 abbrev pub chars_of : (ℕ → ℕ) → List ℕ → ParagraphInfo → List ℕ
 chars_of len_of chars p = subrange len_of chars p.range.start p.range.end
 
--- the stored levels of its units, from its level
+-- the stored levels of a paragraph's code units, from its level
 unfoldable pub unit_levels : Source → (ℕ → ℕ) → List ℕ → ParagraphInfo → List ℕ
 unit_levels source len_of chars p =
     let piece = chars_of len_of chars p in
     per_unit len_of piece (levels_in p.level (map source.class_of piece) (map source.bracket_of piece))
 
--- its flags
+-- the flags of a paragraph
 abbrev pub own_flags : Source → (ℕ → ℕ) → List ℕ → ParagraphInfo → ParagraphFlags
 own_flags source len_of chars p = flags_of (map source.class_of (chars_of len_of chars p))
 
--- a paragraph of whole characters, with a level that the rules take, and with its stored classes in its part of
--- the text's
+-- a paragraph that cuts no character, with a level up to 125 and with its stored classes in its range of those of the
+-- text
 pub record CanWrite (source : Source) (len_of : ℕ → ℕ) (chars : List ℕ) (units : List BidiClass) (p : ParagraphInfo) : Type 0 where
   pub line : IsLine len_of chars p.range.start p.range.end
   pub level : p.level ≤ 125

@@ -1,4 +1,4 @@
--- What the accessors of `InitialInfo` show.
+-- What the accessors of `InitialInfo` return.
 use Rattle.std.specs.Prelude.{ℕ, List}
 use Rattle.bidi_base.specs.declared.char_data.BidiClass.{BidiClass}
 use Rattle.bidi_text.specs.declared.text.str_text.StrText.{StrText}

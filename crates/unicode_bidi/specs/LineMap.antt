@@ -1,4 +1,4 @@
--- What the look-ups of `LineMap` read.
+-- The two lists of a `LineMap`.
 use Rattle.std.specs.Prelude.{ℕ, List}
 use Rattle.unicode_bidi.specs.StoredOrder.{entries}
 use Rattle.unicode_bidi.specs.declared.layout.LineMap.{LineMap}

@@ -1,4 +1,4 @@
--- What the accessors of `ParagraphBidiInfo` show.
+-- What the accessors of `ParagraphBidiInfo` return.
 use Rattle.std.specs.Prelude.{ℕ, Bool, List}
 use Rattle.bidi_base.specs.AnalysedText.{AnalysedText}
 use Rattle.bidi_base.specs.declared.char_data.BidiClass.{BidiClass}

@@ -33,7 +33,7 @@ pub fn get_base_direction_with_data_source<D: BidiDataSource, T: TextSource>(
 
 /// Returns the direction of the first strong character outside isolates in any paragraph of a text (P2, P3).
 ///
-/// Returns `Mixed` if no paragraph has one. Does not allocate.
+/// Returns `Mixed` if no paragraph has one. Stops at the character that decides, and does not allocate.
 pub fn get_base_direction_full_with_data_source<D: BidiDataSource, T: TextSource>(
     data_source: &D,
     text: T,

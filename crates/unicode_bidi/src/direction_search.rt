@@ -14,7 +14,7 @@ use bidi_text::text::TextSource;
 /// The state of a search for the base direction.
 #[derive(Clone, Copy, Debug, PartialEq)]
 pub enum DirectionSearch {
-    /// The search is over: the direction of the deciding character, or `Mixed` if the first paragraph ended
+    /// The search is over. This is the direction of the deciding character, or `Mixed` if the first paragraph ended
     /// before one.
     Found(Direction),
     /// The search goes on in the characters that follow. This is the number of open isolates.
@@ -48,9 +48,9 @@ fn depth_after(depth: usize, class: BidiClass) -> usize
 
 /// Returns the state of the search after one character.
 ///
-/// `class` is the class of the character, and `depth` the number of isolates that are open before it. With `full`, a
-/// paragraph separator closes the open isolates, and the search goes on in the next paragraph (P1). Without `full`, it
-/// ends the search.
+/// `class` is the class of the character, and `depth`, which must be less than the maximum of `usize`, is the number of
+/// isolates that are open before it. With `full`, a paragraph separator closes the open isolates, and the search goes
+/// on in the next paragraph (P1). Without `full`, it ends the search.
 pub fn search_class(class: BidiClass, depth: usize, full: bool) -> DirectionSearch
     requires { depth + 1 < 2 ^ 64 }
     ensures { IsSearched full depth (class ∷ []) result }
@@ -70,9 +70,10 @@ pub fn search_class(class: BidiClass, depth: usize, full: bool) -> DirectionSear
 
 /// Returns the state of the search after the characters of a text.
 ///
-/// `depth` is the number of isolates that are open before the text: 0 at the front of a text. A longer text can be
-/// searched in pieces. Each call then gets the number that the call before it returned. Stops at the character that
-/// decides, and does not allocate.
+/// `depth` is the number of isolates that are open before the text: 0 at the start of a text. The sum of `depth` and
+/// the text's length must fit in `usize`. With `full`, the search goes on in the next paragraph, as in
+/// [`search_class`]. A longer text can be searched in pieces. Each call then gets the number that the call before it
+/// returned. Stops at the character that decides, and does not allocate.
 pub fn search_direction<D: BidiDataSource, T: TextSource>(
     data_source: &D,
     text: T,

@@ -40,7 +40,7 @@ pub struct Analysis {
 impl Analysis {
     /// Returns the class of each code unit's character.
     ///
-    /// An FSI whose isolate has a deciding character is RLI or LRI here (X5c).
+    /// An FSI is RLI or LRI here if a character decides its direction (X5c).
     pub fn original_classes(&self) -> &[BidiClass]
         ensures { result.now ≡ original_classes_of self.now }
     {
@@ -132,8 +132,8 @@ fn write_paragraphs<D: BidiDataSource, T: TextSource>(
 
 /// Analyses one text after another, and reuses the memory of its lists.
 ///
-/// The caller provides the lists of classes and levels. A text of up to 256 code units that is one paragraph allocates
-/// nothing if no character opens an embedding or an isolate, and none is a bracket.
+/// The caller provides the lists of classes and levels. A text of up to 256 code units that is one paragraph needs no
+/// allocation if no character opens an embedding or an isolate, and none is a bracket.
 #[derive(Drop)]
 pub struct Analyser {
     found: FoundParagraphs,
@@ -141,7 +141,7 @@ pub struct Analyser {
 }
 
 impl Analyser {
-    /// Returns an analyser that has read no text. Allocates nothing.
+    /// Returns an analyser that has read no text. Does not allocate.
     pub fn new(alloc: Global) -> Analyser
         ensures paragraphs { found_paragraphs result ≡ [] }
         ensures flags { found_flags result ≡ [] }
@@ -152,31 +152,33 @@ impl Analyser {
         }
     }
 
-    /// Returns the paragraphs of the text that was analysed last, in order. Together they are the whole text.
+    /// Returns the paragraphs of the text that was analysed last, in order. Together they are the whole text. There are
+    /// none before the first text, and after a failed allocation.
     pub fn paragraphs(&self) -> &[ParagraphInfo]
         ensures { result.now ≡ found_paragraphs self.now }
     {
         self.found.paragraphs.as_slice()
     }
 
-    /// Returns which classes are in each of these paragraphs, as the data source gives them.
+    /// Returns one value for each of these paragraphs, with the source classes of its characters that later steps tell
+    /// apart.
     ///
-    /// The flags of a paragraph tell, without another pass over it, whether it is left to right throughout, or has an
-    /// isolate, an embedding or a character that X9 removes.
+    /// [`ParagraphFlags::is_pure_ltr`] reads the value, without another pass over the paragraph.
     pub fn flags(&self) -> &[ParagraphFlags]
         ensures { result.now ≡ found_flags self.now }
     {
         self.found.flags.as_slice()
     }
 
-    /// Finds the paragraphs of a text, and the class and the level of each character (P1 to I2), in the caller's
-    /// lists.
+    /// Finds the paragraphs of a text, and the class and the level of each character (P1 to I2), and writes the two to
+    /// the caller's lists.
     ///
-    /// `base_level` is the level of every paragraph, at most 125. If it is `None`, each paragraph gets its level from its
-    /// characters (P2, P3). `rule` says where paragraphs end. Without a rule the whole text is one paragraph.
-    /// Writes the class of each code unit to `classes` and its level to `levels`, which both have one entry a
-    /// code unit. [`Analyser::paragraphs`] then returns the paragraphs, and [`Analyser::flags`] their classes. If an
-    /// allocation fails, the two lists hold anything, and there are no paragraphs.
+    /// `base_level` is the level of every paragraph, at most 125. If it is `None`, each paragraph gets its level from
+    /// its characters (P2, P3). `rule` says where paragraphs end. Without a rule the whole text is one paragraph.
+    /// Writes the stored class of each code unit to `classes` and its stored level to `levels`, which both have one
+    /// entry for each code unit. [`Analyser::paragraphs`] then returns the paragraphs, and [`Analyser::flags`] their
+    /// classes. Reads the text a few times. If an allocation fails, the two lists hold anything, and there are no
+    /// paragraphs.
     pub fn analyse<D: BidiDataSource, T: TextSource>(
         &mut self,
         alloc: Global,
@@ -257,8 +259,9 @@ pub(crate) fn analyse_by<D: BidiDataSource, T: TextSource>(
 /// Finds the paragraphs of a text, and the class and the level of each character (P1 to I2).
 ///
 /// `base_level` is the level of every paragraph, at most 125. If it is `None`, each paragraph gets its level from its
-/// characters (P2, P3). Each FSI is resolved (X5c). With `split` false the whole text is one paragraph, even an
-/// empty text.
+/// characters (P2, P3). Each FSI is resolved (X5c). With `split`, each paragraph separator ends a paragraph (P1).
+/// Without it, the whole text is one paragraph, even an empty text. Reads the text a few times. The result has two
+/// bytes for each code unit: its class and its level.
 pub fn analyse<D: BidiDataSource, T: TextSource>(
     alloc: Global,
     data_source: &D,
@@ -279,8 +282,8 @@ pub fn analyse<D: BidiDataSource, T: TextSource>(
 /// I2).
 ///
 /// `base_level` is the level of every paragraph, at most 125. If it is `None`, each paragraph gets its level from its
-/// characters (P2, P3). Each FSI is resolved (X5c). Without a rule the whole text is one paragraph, even an empty
-/// text.
+/// characters (P2, P3). Each FSI is resolved (X5c). Without a rule the whole text is one paragraph, even an empty text.
+/// Reads the text a few times. The result has two bytes for each code unit: its class and its level.
 pub fn analyse_with_rule<D: BidiDataSource, T: TextSource>(
     alloc: Global,
     data_source: &D,
@@ -296,10 +299,11 @@ pub fn analyse_with_rule<D: BidiDataSource, T: TextSource>(
     analyse_by(alloc, data_source, text, base_level, rule)
 }
 
-/// Returns the level of each code unit of a text: after L1 in the line, and as analysed outside it.
+/// Returns the level of each code unit of a text: after L1 in the line, and as stored in the analysis outside it.
 ///
-/// The line is a range of code units that cuts no character (see `is_line`). `level` is the level of its
-/// paragraph. The analysis must be of this text (see `is_per_char`).
+/// The line is a range of code units that cuts no character (see `is_line`). `level` is the level of its paragraph. The
+/// analysis must have one class and one level for each code unit of the text, equal within each character (see
+/// `is_per_char`). Takes time linear in the text.
 pub fn line_levels<T: TextSource>(
     alloc: Global,
     text: T,

@@ -52,7 +52,7 @@ impl<T: TextSource> InitialInfo<T> {
 
     /// Returns the class of each code unit's character.
     ///
-    /// An FSI whose isolate has a deciding character is RLI or LRI here (X5c).
+    /// An FSI is RLI or LRI here if a character decides its direction (X5c).
     pub fn original_classes(&self) -> &[BidiClass]
         ensures classes { result.now ≡ original_classes self.now }
         ensures per_char { HaveClass (len_of self.now) (chars_of self.now) result.now }

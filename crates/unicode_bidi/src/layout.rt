@@ -26,7 +26,7 @@ use std::ops::Range;
 
 /// The width of each character on the display.
 pub trait CharWidth {
-    /// The widths, as a function.
+    /// The width of each character, as a function.
     ghost width_of: { Self → ℕ → ℕ };
 
     /// Returns the width of a character, each time the same.
@@ -76,9 +76,10 @@ fn lines_of<T: TextSource, W: CharWidth>(
 
 /// Returns the lines of a paragraph, as ranges of bytes of the text.
 ///
-/// Each line takes as many characters as fit in `limit` columns, and at least one. A character of width 0 stays
-/// in the line before it, unless that line is one character that is too wide. The paragraph's range must cut no
-/// character (see `is_line`). Each line can be passed to `reorder_line` without a test.
+/// Each line takes as many characters as fit in `limit` columns, and at least one. A character of width 0 stays in the
+/// line before it, unless that line is one character that is too wide. The paragraph's range must cut no character (see
+/// `is_line`). Each line can be passed to `reorder_line` without a test. Takes time linear in the paragraph, and calls
+/// `width` at most twice for each character.
 pub fn lines<W: CharWidth>(
     alloc: Global,
     info: &BidiInfo<'_>,
@@ -121,7 +122,7 @@ fn char_levels(
     Ok(after_l1)
 }
 
-// Returns whether each index is at its own place.
+// Returns whether each entry is its own index.
 fn is_in_order(order: &[usize]) -> bool
     ensures ordered { result ≡ true → order.now ≡ indexes order.now }
     ensures other { result ≡ false → order.now ≢ indexes order.now }
@@ -134,7 +135,7 @@ fn is_in_order(order: &[usize]) -> bool
     true
 }
 
-// Returns the entry of a list at an index, or `None` from `len` on. An empty list stands for the indexes up to `len`.
+// Returns the entry of a list at an index, or `None` from `len` on. An empty list stands for the indexes below `len`.
 fn entry_at(list: &[usize], len: usize, index: usize) -> Option<usize>
     ensures { result ≡ slice_get (entries list.now len) index }
 {
@@ -147,9 +148,9 @@ fn entry_at(list: &[usize], len: usize, index: usize) -> Option<usize>
     }
 }
 
-/// Where each character of a line is displayed, and which character is displayed at each place (L2).
+/// The visual index of each character of a line, and the character at each visual index (L2).
 ///
-/// Characters and visual indexes are counted from 0, visual indexes from the left.
+/// Characters are counted from the line's start, and visual indexes from its left, both from 0.
 #[derive(PartialEq, Debug, Drop)]
 pub struct LineMap {
     len: usize,
@@ -195,9 +196,9 @@ impl LineMap {
 
     /// Returns the map of a line.
     ///
-    /// The line is a range of bytes of the text that cuts no character (see `is_line`). Its levels are those
-    /// after L1 with the level of `para`. Takes time linear in the line. A line of up to 256 bytes allocates
-    /// only the two lists of the map, and neither if its characters stay in order.
+    /// The line is a range of bytes of the text that cuts no character (see `is_line`). Its levels are those after L1,
+    /// by the level of `para`. Takes time linear in the line. A line of up to 256 bytes allocates only the two lists of
+    /// the map, and neither if its characters stay in order.
     pub fn new(
         alloc: Global,
         info: &BidiInfo<'_>,
@@ -222,7 +223,7 @@ impl LineMap {
         self.len
     }
 
-    /// Returns the character at a visual index, or `None` from `len()` on.
+    /// Returns the index of the character at a visual index, or `None` from `len()` on.
     pub fn visual_to_logical(&self, visual: usize) -> Option<usize>
         ensures found { result ≡ slice_get (order_of self.now) visual }
         ensures back { IfSome result (λ logical. slice_get (places_of self.now) logical ≡ Some visual) }

@@ -1,5 +1,5 @@
-//! The text of a line from left to right (L1, L2), given its stored classes and levels, in time that depends only
-//! on the line.
+//! The text of a line from left to right (L1, L2), given its stored classes and levels. The calls take time linear in
+//! the line.
 
 ghost use Rattle.std.specs.Prelude.{◌↔◌, IfOk, length, encode_utf8};
 ghost use Rattle.std.specs.Char.{len_utf8};
@@ -17,11 +17,11 @@ use bidi_text::text::{StrText, Utf16Text};
 use std::alloc::{AllocError, Global};
 use std::borrow::{CowSlice, CowStr};
 
-/// Returns the text of a line of UTF-8 from left to right (L2).
+/// Returns the text of a line of UTF-8 from left to right: its characters in the order of L2, by their levels after L1.
 ///
-/// `text` is the line. `classes` and `levels` have the stored class and level of each byte, equal within each
-/// character (see `is_per_char`). `level` is the level of its paragraph. The result is borrowed exactly if no
-/// level of the line is odd after L1.
+/// `text` is the line. `classes` and `levels` have the stored class and level of each byte, equal within each character
+/// (see `is_per_char`). `level` is the level of the line's paragraph. The result is borrowed exactly if no level of the
+/// line is odd after L1.
 pub fn reorder_utf8<'t>(
     alloc: Global,
     text: &'t str,
@@ -42,11 +42,12 @@ pub fn reorder_utf8<'t>(
     analysed.reorder_line(alloc, level, 0..text.len())
 }
 
-/// Returns the text of a line of UTF-16 from left to right (L2).
+/// Returns the text of a line of UTF-16 from left to right: its characters in the order of L2, by their levels after
+/// L1.
 ///
 /// `text` is the line. `classes` and `levels` have the stored class and level of each code unit, equal within each
-/// character (see `is_per_char`). `level` is the level of its paragraph. An unpaired surrogate is unchanged at an even
-/// level, and 0xFFFD at an odd level. The result is borrowed exactly if no level of the line is odd after L1.
+/// character (see `is_per_char`). `level` is the level of the line's paragraph. An unpaired surrogate is unchanged at
+/// an even level, and 0xFFFD at an odd level. The result is borrowed exactly if no level of the line is odd after L1.
 pub fn reorder_utf16<'t>(
     alloc: Global,
     text: &'t [u16],

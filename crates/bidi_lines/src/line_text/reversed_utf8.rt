@@ -1,5 +1,5 @@
-// Reverses the characters of UTF-8 by a loop that handles many bytes at once. It decodes no character: each byte's
-// neighbours tell which byte goes to its mirrored place.
+// Reverses the characters of UTF-8 in a loop that handles many bytes at once. It decodes no character: the two bytes
+// before a byte and the two after it say which byte the reversed text has at the same index from its end.
 ghost use Rattle.std.specs.Prelude.{◌≡◌, ℕ, ◌+◌, ◌-◌, ◌<◌, ◌≤◌, nat_lt, length, slice_index, slice_index_or, if◌then◌else◌};
 ghost use Rattle.std.specs.List.{list_all};
 ghost use Rattle.bidi_lines.specs.ReversedUtf8.{reversed_byte, reversed_byte_at, behind_two};
@@ -31,8 +31,8 @@ fn choose(test: bool, held: u8, other: u8) -> u8
     (held & mask) | (other & !mask)
 }
 
-// Returns the byte that goes to a byte's mirrored place in the reversed text. It depends on the two bytes before
-// and the two bytes after.
+// Returns the byte that the reversed text has at the index from its end that `byte` has from the start. It depends on
+// the two bytes before `byte`, which are `far` and `near`, and on the two after it, `next` and `later`.
 fn reversed_byte(far: u8, near: u8, byte: u8, next: u8, later: u8) -> u8
     ensures { result ≡ reversed_byte far near byte next later }
 {
@@ -61,7 +61,7 @@ fn turn_middle(bytes: &[u8], out: &mut [u8])
     }
 }
 
-// Returns the byte `by` places before an index, or 0 if there is none.
+// Returns the byte `by` bytes before an index, or 0 if there is none.
 fn byte_before(bytes: &[u8], at: usize, by: usize) -> u8
     requires at { at < length bytes.now }
     requires by { by ≤ 2 }
@@ -73,7 +73,7 @@ fn byte_before(bytes: &[u8], at: usize, by: usize) -> u8
     }
 }
 
-// Returns the byte `by` places after an index, or 0 if there is none.
+// Returns the byte `by` bytes after an index, or 0 if there is none.
 fn byte_behind(bytes: &[u8], at: usize, by: usize) -> u8
     requires at { at < length bytes.now }
     requires by { by ≤ 2 }

@@ -14,7 +14,7 @@ use std::alloc::{AllocError, Global};
 use std::borrow::CowSlice;
 use std::ops::Range;
 
-// Writes the characters of some code units in reverse order, one by one. An unpaired surrogate is U+FFFD.
+// Writes the characters of some code units in reverse order, one by one. An unpaired surrogate is written as 0xFFFD.
 fn write_chars_reversed(units: &[u16], out: &mut [u16])
     requires { length out.old ≡ length units.now }
     ensures { out.new ≡ flat_map encode_utf16 (reverse (utf16_text units.now)) }
@@ -39,7 +39,7 @@ impl<'t> LineText for Utf16Text<'t> {
         out.copy_from_slice(&units[run]);
     }
 
-    // An unpaired surrogate is written as U+FFFD.
+    // An unpaired surrogate is written as 0xFFFD.
     fn reverse_run(self, run: Range<usize>, out: &mut [u16]) {
         let units = self.subrange(run).units();
         if are_characters(units) {
@@ -53,10 +53,11 @@ impl<'t> LineText for Utf16Text<'t> {
 impl<'t> Analysed<Utf16Text<'t>> {
     ghost use Rattle.bidi_lines.specs.Analysed.{analysed, text_of};
 
-    /// Returns the text of a line of UTF-16 from left to right (L2).
+    /// Returns the text of a line of UTF-16 from left to right: its characters in the order of L2, by their levels
+    /// after L1.
     ///
-    /// An unpaired surrogate is unchanged at an even level, and 0xFFFD at an odd one. The result is borrowed exactly
-    /// if no level of the line is odd after L1.
+    /// An unpaired surrogate is unchanged at an even level, and 0xFFFD at an odd one. The result is borrowed exactly if
+    /// no level of the line is odd after L1. Takes time linear in the line.
     pub fn reorder_line(
         &self,
         alloc: Global,

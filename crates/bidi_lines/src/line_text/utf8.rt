@@ -52,9 +52,10 @@ impl<'t> LineText for StrText<'t> {
 impl<'t> Analysed<StrText<'t>> {
     ghost use Rattle.bidi_lines.specs.Analysed.{analysed, text_of};
 
-    /// Returns the text of a line of UTF-8 from left to right (L2).
+    /// Returns the text of a line of UTF-8 from left to right: its characters in the order of L2, by their levels after
+    /// L1.
     ///
-    /// The result is borrowed exactly if no level of the line is odd after L1.
+    /// The result is borrowed exactly if no level of the line is odd after L1. Takes time linear in the line.
     pub fn reorder_line(
         &self,
         alloc: Global,

@@ -13,9 +13,9 @@ use bidi_base::char_data::BidiClass;
 use bidi_base::data_source::BidiDataSource;
 use bidi_text::text::TextSource;
 
-// Writes the classes of consecutive ASCII characters, each one code unit long, before a limit, up to the
-// first one whose class is in `sought`. Returns that one. If there is none, the index moves to the first
-// other character, or to the limit.
+// Writes the classes of consecutive ASCII characters, each one code unit long, before a limit, up to the first one with
+// a class in `sought`. Returns that one. If there is none, the index moves to the first other character, or to the
+// limit.
 #[inline(never)]
 fn skim_each<D: BidiDataSource, T: TextSource>(
     data_source: &D,
@@ -117,8 +117,8 @@ fn skim_blocks<D: BidiDataSource, T: TextSource>(
     progress.at = start;
 }
 
-/// Writes the classes of consecutive ASCII characters, each one code unit long, up to one whose class is in
-/// `stop_classes`, or would change the flags.
+/// Writes the classes of consecutive ASCII characters, each one code unit long, up to one with a class that is in
+/// `stop_classes` or would change the flags.
 ///
 /// Returns that one. If there is none, the index moves to the first other character, or to the end. The
 /// characters are read sixteen at a time only after many were read one by one.

@@ -25,8 +25,8 @@ const LOW_BLOCK: usize = 16;
 // The first code above those characters.
 const LOW_LIMIT: u16 = 0x800;
 
-// The character below U+0800 with this code. The remainder shows the compiler that the code is valid, so
-// that it adds no test.
+// Returns the character below U+0800 with this code. The remainder shows the compiler that the code is valid, so that
+// it adds no test.
 fn char_of_low(code: u16) -> char
     requires { code < LOW_LIMIT }
     ensures { result ≡ code }
@@ -37,8 +37,8 @@ fn char_of_low(code: u16) -> char
     }
 }
 
-// Writes the classes of sixteen characters below U+0800 from an index on, up to the first one whose class
-// is in `sought`. Returns how many come before that one, or sixteen if there is none.
+// Writes the classes of sixteen characters below U+0800 from an index on, up to the first one with a class in `sought`.
+// Returns how many come before that one, or sixteen if there is none.
 fn write_low_block<D: BidiDataSource>(
     data_source: &D,
     block: [u16; LOW_BLOCK],
@@ -68,7 +68,7 @@ fn write_low_block<D: BidiDataSource>(
 // How many code units are read before the next test for ASCII.
 const BLOCK: usize = 256;
 
-// The end of the block of characters that begins at an index.
+// Returns the end of the block of characters that begins at an index.
 fn block_end<T: TextSource>(text: T, from: usize) -> usize
     requires { from ≤ text_len (T.text text) }
     ensures begins { from ≤ result }
@@ -86,8 +86,7 @@ fn block_end<T: TextSource>(text: T, from: usize) -> usize
     end
 }
 
-// Writes the classes of a text's characters, up to the first one whose class is in `sought`. Returns that
-// one.
+// Writes the classes of a text's characters, up to the first one with a class in `sought`. Returns that one.
 #[inline(never)]
 fn read_to_sought<D: BidiDataSource, T: TextSource>(
     data_source: &D,
@@ -118,8 +117,8 @@ fn read_to_sought<D: BidiDataSource, T: TextSource>(
     None
 }
 
-// Writes the classes of the characters of the next block, up to the first one whose class is in `sought`.
-// Returns that one. If there is none, the index moves to the block's end.
+// Writes the classes of the characters of the next block, up to the first one with a class in `sought`. Returns that
+// one. If there is none, the index moves to the block's end.
 fn read_block<D: BidiDataSource, T: TextSource>(
     data_source: &D,
     text: T,
@@ -145,8 +144,9 @@ fn read_block<D: BidiDataSource, T: TextSource>(
     None
 }
 
-/// Writes the class of the character that begins at an index, and returns the character. Reads the text by
-/// index. From that index on there must be at least `AT_ONCE` code units.
+/// Writes the class of the character that begins at an index, and returns the character.
+///
+/// Reads the text by index. From that index on there must be at least `AT_ONCE` code units.
 pub(super) fn read_next<D: BidiDataSource, T: TextSource>(
     data_source: &D,
     text: T,
@@ -170,12 +170,11 @@ pub(super) fn read_next<D: BidiDataSource, T: TextSource>(
     }
 }
 
-// Writes the classes of the characters that begin before a limit, up to the first one whose class is in
-// `sought`. Reads the text by index.
+// Writes the classes of the characters that begin before a limit, up to the first one with a class in `sought`. Reads
+// the text by index.
 //
-// From each index before the limit on there must be at least `AT_ONCE` code units. Returns the character
-// whose class is in `sought`. If there is none, the index moves to the first character that begins at or
-// after the limit.
+// From each index before the limit on there must be at least `AT_ONCE` code units. Returns the character with a class
+// in `sought`. If there is none, the index moves to the first character that begins at or after the limit.
 #[inline(never)]
 fn read_in_place<D: BidiDataSource, T: TextSource>(
     data_source: &D,
@@ -210,9 +209,9 @@ fn read_in_place<D: BidiDataSource, T: TextSource>(
     None
 }
 
-// Writes the classes of consecutive characters below U+0800, each one code unit long, sixteen at a time, up
-// to the first one whose class is in `sought`. Returns that one. If there is none, the index moves to where
-// the text gives no block of sixteen, or by `BLOCK` code units.
+// Writes the classes of consecutive characters below U+0800, each one code unit long, sixteen at a time, up to the
+// first one with a class in `sought`. Returns that one. If there is none, the index moves to where the text returns no
+// block of sixteen, or by `BLOCK` code units.
 fn read_low_blocks<D: BidiDataSource, T: TextSource>(
     data_source: &D,
     text: T,
@@ -248,11 +247,11 @@ fn read_low_blocks<D: BidiDataSource, T: TextSource>(
     None
 }
 
-/// Writes the classes of some characters, up to one whose class is in `stop_classes`, or would change the flags.
+/// Writes the classes of some characters, up to one with a class that is in `stop_classes` or would change the flags.
 ///
-/// Returns that one. If there is none, the index moves past them. The characters are read sixteen at a time
-/// as long as the text gives such blocks, and then by index. The iterator reads texts that do not set
-/// `READS_IN_PLACE`, and the end of a text with fewer than `AT_ONCE` code units left.
+/// Returns that one. If there is none, the index moves past them. The characters are read sixteen at a time as long as
+/// the text returns such blocks, and then by index. If the text does not set `READS_IN_PLACE`, or fewer than `AT_ONCE`
+/// code units are left, they are read by the iterator.
 pub(super) fn read_on<D: BidiDataSource, T: TextSource>(
     data_source: &D,
     text: T,

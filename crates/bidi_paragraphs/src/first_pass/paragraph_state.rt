@@ -16,7 +16,7 @@ use bidi_base::level::{LTR_LEVEL, Level, RTL_LEVEL};
 use std::alloc::{AllocError, Global};
 use std::ops::Range;
 
-// The class that an FSI becomes if the character that decides its isolate has this class.
+// Returns the class that an FSI becomes if the character that decides its isolate has this class.
 fn resolved_by(class: BidiClass) -> BidiClass
     ensures { result ≡ resolved_fsi (Some class) }
 {
@@ -27,7 +27,7 @@ fn resolved_by(class: BidiClass) -> BidiClass
     }
 }
 
-/// Returns the level of a paragraph whose deciding character has this class (P3).
+/// Returns the level of a paragraph, from the class of its deciding character (P3). Without one, it is 0.
 pub(super) fn level_of_class(deciding: Option<BidiClass>) -> Level
     ensures { result ≡ level_by deciding }
 {
@@ -64,15 +64,16 @@ pub(super) struct ParagraphState {
     pub(super) start: usize,
     // The number of open isolates. Isolates that were open at any time in a decided state are not counted.
     depth: usize,
-    // The open isolates of each FSI that no character has decided yet, outermost first.
+    // The open isolates of an FSI that no character has decided yet, outermost first.
     undecided: Vec<Undecided>,
-    /// The class of the character that decides its level, once there is one.
+    /// The class of the character that decides its level, if there is one yet.
     pub(super) deciding: Option<BidiClass>,
+    /// The flags of the characters that were read.
     pub(super) flags: ParagraphFlags,
 }
 
 impl ParagraphState {
-    /// Starts before the text.
+    /// Returns the state before the text.
     pub(super) fn new(alloc: Global) -> ParagraphState
         ensures { IsAtStart result 0 }
     {
@@ -96,7 +97,7 @@ impl ParagraphState {
         self.flags = ParagraphFlags::NONE;
     }
 
-    // Whether the innermost open isolate is of an FSI that no character has decided yet.
+    // Returns whether the innermost open isolate is of an FSI that no character has decided yet.
     fn is_waiting(&self) -> bool
         ensures { result ≡ is_some (waiting self.now.depth self.now.undecided.items) }
     {
@@ -106,8 +107,8 @@ impl ParagraphState {
         }
     }
 
-    /// Whether no character can decide anything before the next FSI: the level of the paragraph is decided,
-    /// and so is the direction of each open FSI. Then it does not matter how many isolates are open.
+    /// Returns whether no character can decide anything before the next FSI: the level of the paragraph is decided, and
+    /// so is the direction of each open FSI. Then it does not matter how many isolates are open.
     pub(super) fn is_decided(&self) -> bool
         ensures { result ≡ is_decided self.now }
     {
@@ -121,15 +122,14 @@ impl ParagraphState {
         self.depth = if self.is_decided() { 0 } else { self.depth };
     }
 
-    // Whether a strong character would decide something if it came next.
+    // Returns whether a strong character would decide something if it came next.
     fn wants_strong(&self) -> bool
         ensures { result ≡ wants_strong self.now }
     {
         self.is_waiting() || (self.depth == 0 && self.deciding.is_none())
     }
 
-    /// Returns the classes that would change more of this state than the flags if a character of one came
-    /// next.
+    /// Returns the classes with which the next character would change more of this state than the flags.
     pub(super) fn stop_classes(&self) -> ClassSet
         ensures { (c : BidiClass) → has result c ≡ stops_at self.now c }
     {

@@ -5,9 +5,10 @@ use bidi_base::char_data::BidiClass;
 /// A character at which a search stops.
 #[derive(Clone, Copy)]
 pub(super) struct Stop {
+    /// The index of its first code unit.
     pub(super) start: usize,
     pub(super) c: char,
-    /// How many code units it has.
+    /// The number of its code units.
     pub(super) len: usize,
     pub(super) class: BidiClass,
 }

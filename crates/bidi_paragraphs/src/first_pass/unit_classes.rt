@@ -17,8 +17,8 @@ fn write_each<T: TextSource>(classes: &mut [BidiClass], start: usize, c: char, c
 /// How many code units are written at once, if there are that many.
 pub(super) const AT_ONCE: usize = 4;
 
-/// Writes a character's class to each of its code units, if `AT_ONCE` code units follow from the first one
-/// on. Code units after the character may get the class too. The next write replaces it.
+/// Writes a character's class to each of its code units. From its first code unit on there must be at least `AT_ONCE`
+/// of them in the text. Code units after the character may get the class too. The next write replaces it.
 pub(super) fn write_at_once<T: TextSource>(
     classes: &mut [BidiClass],
     start: usize,

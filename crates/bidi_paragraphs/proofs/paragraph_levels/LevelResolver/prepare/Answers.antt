@@ -20,7 +20,7 @@ found : (g : Over) (c : In_ok-find_levels_counted g) → AreExplicitLevels g.T.T
     c.args.paragraph.now.original_classes.now c.find_levels_counted.new.levels c.find_levels_counted.new.classes (map bounds c.find_levels_counted.new.runs.items)
 found g c = rw (c.new-stored.ensures.text, c.new-stored.ensures.level, c.new-stored.ensures.classes) at c.in_ok-find_levels_counted.ensures.found
 
--- the levels, read one a character
+-- the levels, read by characters
 read : (g : Over) (c : In_ok-find_levels_counted g) → let cs = (g.T.TextSource.text c.args.paragraph.now.text).chars in
     per_char 0 g.T.TextSource.encoding.len_of cs c.find_levels_counted.new.levels ≡ explicit_levels c.args.paragraph.now.level (per_char L g.T.TextSource.encoding.len_of cs c.args.paragraph.now.original_classes.now)
 read g c =
