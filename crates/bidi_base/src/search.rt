@@ -1,4 +1,6 @@
-//! Finds the first or the last item of a range that passes a test: one by one at first, and then sixteen items at a time.
+//! Finds the first or the last item of a range that passes a test.
+//!
+//! A search tests some items one by one at first, and then sixteen items at a time.
 
 ghost use Rattle.std.specs.Prelude.{◌≡◌, ℕ, ◌+◌, ◌-◌, ◌*◌, ◌<◌, ◌≤◌, false, Bool, length, max, min, slice_index, if◌then◌else◌, MatchOption};
 ghost use Rattle.bidi_base.specs.declared.char_data.BidiClass.{BidiClass};

@@ -177,14 +177,14 @@ fn char_of_code(code: u32) -> char
     }
 }
 
-// Whether all entries equal `one`.
+// Returns whether all entries equal `one`.
 fn all_equal_to<E: Copy + Eq>(entries: &[E], one: E) -> bool
     ensures { result ≡ list_all (λ x. E.eq x one) entries.now }
 {
     entries.iter().all(|entry| *entry == one)
 }
 
-// Whether all entries equal the first one.
+// Returns whether all entries equal the first one.
 fn all_equal<E: Copy + Eq>(entries: &[E]) -> bool
     ensures { result ≡ all_same E.eq entries.now }
 {
@@ -196,6 +196,8 @@ fn all_equal<E: Copy + Eq>(entries: &[E]) -> bool
 
 /// Returns whether `units` has one entry for each code unit of the text, and equal entries within each
 /// character.
+///
+/// Reads the text up to the first character without equal entries.
 pub fn is_per_char<T: TextSource, E: Copy + Eq>(text: T, units: &[E]) -> bool
     ensures { result ≡ is_per_char_of E.eq (T.text text) units.now }
 {

@@ -16,7 +16,7 @@ use bidi_base::level::{Error, LTR_LEVEL, Level};
 use std::marker::Model;
 use std::sync::ledger::Ledger;
 
-/// An entry of the directional status stack: the status of the paragraph, or inside an initiator that did not overflow.
+/// An entry of the directional status stack: the status of the paragraph, or inside an opener that did not overflow.
 #[derive(Clone, Copy)]
 pub struct StatusEntry {
     pub level: Level,
@@ -43,7 +43,7 @@ pub struct Answer {
 }
 
 impl StatusEntry {
-    // The answer for an isolate control, which takes the override (X5a to X6a).
+    // Returns what is written for an isolate control, which takes the override (X5a to X6a).
     fn answer_kept(self, class: BidiClass) -> Answer
         ensures level { result.level ≡ self.level }
         ensures class { result.class ≡ unwrap_or self.override_class class }
@@ -56,7 +56,7 @@ impl StatusEntry {
         }
     }
 
-    // The answer for a control that X9 removes.
+    // Returns what is written for a control that X9 removes.
     fn answer_removed(self) -> Answer
         ensures level { result.level ≡ self.level }
         ensures class { result.class ≡ BN }
@@ -91,7 +91,7 @@ impl Model for StatusStack {
     ghost invariant = { λ s. IsLast s.top s.entries.items };
 }
 
-// The class that an initiator gives to the characters inside it, if it is an override.
+// Returns the class that an opener gives to the characters inside it, if it is an override.
 fn override_class(class: BidiClass) -> Option<BidiClass>
     ensures { result ≡ override_of class }
 {
@@ -102,7 +102,7 @@ fn override_class(class: BidiClass) -> Option<BidiClass>
     }
 }
 
-// The level inside an initiator, or an error exactly if it would be above 125.
+// Returns the level inside an opener, or an error exactly if it would be above 125.
 fn next_level(class: BidiClass, level: Level) -> Result<Level, Error>
     ensures { OkIff result (next_level class level ≤ 125) (next_level class level) }
 {
@@ -127,7 +127,7 @@ fn pop_isolate<S: Ledger>(entries: &mut ArrayVec<StatusEntry, 126>, steps: &mut 
     }
 }
 
-// The entries of a stack that has only this one.
+// Returns the entries of a stack that has only this one.
 fn only(entry: StatusEntry) -> ArrayVec<StatusEntry, 126>
     ensures { result.items ≡ entry ∷ [] }
 {
@@ -136,7 +136,7 @@ fn only(entry: StatusEntry) -> ArrayVec<StatusEntry, 126>
     entries
 }
 
-// The last entry.
+// Returns the last entry.
 fn last(entries: &ArrayVec<StatusEntry, 126>) -> StatusEntry
     requires { 0 < length entries.now.items }
     ensures { IsLast result entries.now.items }
@@ -145,7 +145,7 @@ fn last(entries: &ArrayVec<StatusEntry, 126>) -> StatusEntry
 }
 
 impl StatusStack {
-    /// The stack of a paragraph, before its first character (X1).
+    /// Returns the stack of a paragraph, before its first character (X1).
     pub fn new(paragraph: Level) -> Self
         ensures { result ≡ start paragraph }
     {
@@ -163,8 +163,8 @@ impl StatusStack {
         }
     }
 
-    /// Reads a control: closes what it closes, answers by the status at it, and opens what it opens. The steps that
-    /// pop the stack are charged to the popped entries.
+    /// Reads a control: closes what it closes, returns what is written for it by the status then, and opens what it
+    /// opens. The steps that pop the stack are charged to the popped entries.
     ///
     /// One `match` on the class chooses all of that.
     #[inline(always)]
@@ -261,7 +261,7 @@ impl StatusStack {
         }
     }
 
-    // The level inside an initiator. `None` if it would be above 125, or if an open initiator has
+    // Returns the level inside an opener, or `None` if it would be above 125 or if an open opener has
     // overflowed.
     fn taken_level(&self, class: BidiClass) -> Option<Level>
         ensures { result ≡ (if fits_in class self.now then Some (next_level class self.now.top.status.level) else None) }
@@ -273,7 +273,7 @@ impl StatusStack {
         }
     }
 
-    // Pushes an initiator's entry, or counts its overflow.
+    // Pushes an opener's entry, or counts its overflow.
     fn enter(&mut self, class: BidiClass, is_isolate: bool)
         requires depth { (paragraph : ℕ) × IsWithinDepth paragraph self.old }
         requires counts { counted self.old + 1 < 2 ^ 64 }

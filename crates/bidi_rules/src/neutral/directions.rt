@@ -77,7 +77,7 @@ pub fn resolve_opposite(directions: Directions, runs: &[LevelRun], classes: &mut
     }
 }
 
-/// What the pass for N1 knows of the code units that it has read.
+/// The state of the pass for N1 after the code units that it has read.
 #[derive(Clone, Copy, Debug)]
 struct Join {
     /// The direction opposite to the embedding direction.
@@ -251,7 +251,7 @@ fn apply_n2_in_run(embedding: BidiClass, run: &LevelRun, classes: &mut [BidiClas
     }
 }
 
-/// What N2 makes of a class that N1 left.
+/// Returns a class after N2.
 fn n2_class(embedding: BidiClass, class: BidiClass) -> BidiClass
     ensures { result ≡ n2_rule embedding class }
 {
