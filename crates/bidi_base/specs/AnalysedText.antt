@@ -1,4 +1,4 @@
--- A text whose classes and levels are known: what they are, and what a line of the text shows.
+-- A text with its classes and levels: what they are, and what the calls on a line of the text return.
 use Rattle.std.specs.Prelude.{◌≡◌, ℕ, ◌+◌, ◌<◌, ◌≤◌, All, false, List, [], ◌∷◌, length, Option, None, IfSome, slice_range, zip}
 use Rattle.std.specs.declared.ops.Range.{Range}
 use Rattle.bidi_base.specs.declared.char_data.BidiClass.{BidiClass}
@@ -30,7 +30,7 @@ pub record IsPerCharText (a : AnalysedText) : Type 0 where
   pub classes : HaveClass a.len_of a.chars a.classes
   pub levels : HaveLevel a.len_of a.chars a.levels
 
--- ---- what the algorithm finds in a text that a rule splits into paragraphs; without a rule the text is one paragraph
+-- ---- what the algorithm finds in a text that a split rule cuts into paragraphs; without one, the text is one paragraph
 
 module _ (source : Source) (base_level : Option ℕ) (rule : Option SplitRule) where
   -- P1 to P3 and X5c: these are the stored classes of the text, and the ranges and the levels of its paragraphs

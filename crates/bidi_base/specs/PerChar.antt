@@ -1,4 +1,4 @@
--- Lists with one entry for each code unit of a text, whose entries are equal within each character.
+-- Lists with one entry for each code unit of a text, and equal entries within each character.
 use Rattle.std.specs.Prelude.{ℕ, List, IsTrue}
 use Rattle.bidi_base.specs.contracts.char_data.BidiClassPartialEq.TheImpl.{ghosts as class_test}
 use Rattle.bidi_base.specs.contracts.level.LevelPartialEq.TheImpl.{ghosts as level_test}

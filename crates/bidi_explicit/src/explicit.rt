@@ -26,7 +26,7 @@ use stretches::{OpenRun, is_control};
 /// How the pass goes through a stretch without controls, and what it counts there.
 #[derive(Clone, Copy, Debug)]
 pub enum StepUnit {
-    /// From character to character. The text says where each ends.
+    /// From character to character. The pass asks the text for the end of each.
     Character,
     /// From code unit to code unit. The pass reads the text only at controls, and looks for the next control
     /// sixteen code units at a time.
@@ -145,8 +145,9 @@ fn cut_run(
 /// anything, and gets the explicit level of each code unit's character. `processing_classes` must be a copy
 /// of `original_classes`, and gets the classes under overrides, with BN for characters that X9 removes.
 ///
-/// `runs` must be empty. A new run begins exactly at a character that X9 keeps and whose level differs from
-/// that of the kept character before it. The runs cover the text.
+/// `runs` must be empty. The first run begins at the start of the text. Each other one begins at a character
+/// that X9 keeps, exactly if its level differs from that of the kept character before it. The runs cover the
+/// text.
 ///
 /// Returns an error only if `runs`, which has its own allocator, cannot grow. The slices and the runs may
 /// then hold anything. Nothing else allocates. The allocator that is passed is not used.

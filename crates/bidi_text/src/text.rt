@@ -36,7 +36,7 @@ pub trait TextSource: Copy {
     type IndexLenIter: Iterator<Item = (usize, usize)>;
 
     /// Whether `next_at` is as fast as a step of `char_indices`, for example because the code units are in
-    /// one slice. If so, such a text is read by index where that is faster. The results are the same either
+    /// one slice. If it is true, calls read the text by index if that is faster. The results are the same either
     /// way.
     const READS_IN_PLACE: bool = false;
 

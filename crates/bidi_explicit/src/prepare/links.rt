@@ -57,7 +57,7 @@ impl RunLinks {
         }
     }
 
-    /// Removes all links, and makes room for as many runs.
+    /// Removes all links, and makes room for this number of runs.
     fn restart(&mut self, runs: usize) -> Result<(), AllocError>
         ensures next { OnOk result (self.new.next.items ≡ []) }
         ensures sides { OnOk result (self.new.sides.items ≡ []) }

@@ -19,7 +19,7 @@ pub struct Alike {
 
 /// For each open isolate, the run that its PDI continues, outermost first.
 ///
-/// There is none if the level run goes on after the initiator, as it does at the deepest level. Such isolates are
+/// There is none if the level run continues after the initiator, as it does at the deepest level. Such isolates are
 /// counted, and not stored one by one. So deeply nested isolates take no more memory than those that raise a level.
 #[derive(Drop)]
 pub struct Waiting {

@@ -121,8 +121,8 @@ fn pair_direction(
     }
 }
 
-/// Applies N1 and N2. A sequence of neutrals takes the direction that is on both its sides, where sos and
-/// eos count at the ends. If the two sides differ, it takes the embedding direction.
+/// Applies N1 and N2. Neutrals in a row take the direction that is on both their sides: sos counts before the
+/// first character, and eos after the last. If the two sides differ, they take the embedding direction.
 fn apply_n1_n2(
     embedding_direction: BidiClass,
     sos: BidiClass,

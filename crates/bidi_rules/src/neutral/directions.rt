@@ -84,7 +84,7 @@ struct Join {
     opposite: BidiClass,
     /// Whether only neutrals came since this direction.
     waits: bool,
-    /// The code unit where these neutrals begin, if so.
+    /// The code unit at which these neutrals begin, if so.
     first: usize,
     /// The index of that code unit's run.
     first_run: usize,
@@ -117,8 +117,8 @@ impl Join {
         }
     }
 
-    /// Goes on to the next code unit of the opposite direction, and writes over the neutrals that wait for it.
-    /// Returns its index, or `end` if there is none.
+    /// Finds the next code unit of the opposite direction, and writes over the neutrals that wait for it. Returns
+    /// its index, or `end` if there is none.
     fn next_opposite(
         &mut self,
         runs: &[LevelRun],

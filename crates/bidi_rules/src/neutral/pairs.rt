@@ -35,9 +35,9 @@ pub struct StoredRuns<'a> {
 ///
 /// The context of a pair is searched backwards from its opening bracket, and only if the opposite direction
 /// is inside. The opening bracket then takes a direction, and no later search goes past it. Two positions
-/// that only move forwards tell which directions are inside. The exception is a pair whose opening bracket
-/// is a nonspacing mark by its stored class: it may be among the marks that another pair changed, so the
-/// pair is searched by itself. Brackets among marks that already have their direction are not written
+/// that only move forwards tell which directions are inside. There is one exception: if the opening bracket of
+/// a pair is a nonspacing mark by its stored class, it may be among the marks that another pair changed. Such
+/// a pair is searched by itself. Brackets among marks that already have their direction are not written
 /// again. So a series of marks is not passed over for each bracket in it.
 pub fn resolve_pairs<T: TextSource>(
     text: T,
