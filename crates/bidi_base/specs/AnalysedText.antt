@@ -30,7 +30,7 @@ pub record IsPerCharText (a : AnalysedText) : Type 0 where
   pub classes : HaveClass a.len_of a.chars a.classes
   pub levels : HaveLevel a.len_of a.chars a.levels
 
--- ---- what the algorithm finds in a text that a split rule cuts into paragraphs; without one, the text is one paragraph
+-- ---- what the algorithm finds in a text that a split rule cuts into paragraphs; without one, it is one paragraph
 
 module _ (source : Source) (base_level : Option ℕ) (rule : Option SplitRule) where
   -- P1 to P3 and X5c: these are the stored classes of the text, and the ranges and the levels of its paragraphs

@@ -27,7 +27,7 @@ pub record IsUnderWay (brackets : List (Option BidiMatchedOpeningBracket)) (j : 
   pub room : (k : ℕ) → k < j → is_opening (bracket_at brackets k) ≡ true
       → length (available brackets (closed_before brackets k) k) < max_open_brackets
 
--- i is an opening bracket, and the opening brackets before j
+-- i is an opening bracket; the opening brackets before j
 abbrev pub opens : List (Option BidiMatchedOpeningBracket) → ℕ → Bool
 opens counted i = is_opening (bracket_at counted i)
 

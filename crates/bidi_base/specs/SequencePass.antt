@@ -24,8 +24,8 @@ wait_of same s = if same then None else Some s
 abbrev pub choice : Bool → ℕ → BidiClass → List (Option ℕ) → Option ℕ
 choice same s c waits = if same then Some s else waiting_for c waits
 
--- the same for the character at p, by the last kept character before it, if there is one, with the index of its
--- sequence
+-- what waits at the character at p, and the sequence that it continues, by the last kept character before it, if there
+-- is one, and the index of its sequence
 abbrev pub waits_before : List BidiClass → List ℕ → Option (ℕ × ℕ) → ℕ → List (Option ℕ) → List (Option ℕ)
 waits_before classes levels None p waits = waits
 waits_before classes levels (Some e) p waits =
