@@ -36,8 +36,8 @@ pub trait TextSource: Copy {
     type IndexLenIter: Iterator<Item = (usize, usize)>;
 
     /// Whether `next_at` is as fast as a step of `char_indices`, for example because the code units are in
-    /// one slice. If it is true, calls read the text by index if that is faster. The results are the same either
-    /// way.
+    /// one slice. If it is true, passes read the text by index whenever that is faster. The results are the same
+    /// either way.
     const READS_IN_PLACE: bool = false;
 
     /// The length of a character in code units, at least one.

@@ -19,8 +19,11 @@ use std::sync::ledger::Ledger;
 /// An entry of the directional status stack: the status of the paragraph, or inside an opener that did not overflow.
 #[derive(Clone, Copy)]
 pub struct StatusEntry {
+    /// The embedding level.
     pub level: Level,
+    /// The class that an override gives to characters, L or R, if there is an override.
     pub override_class: Option<BidiClass>,
+    /// Whether the opener is an isolate initiator.
     pub is_isolate: bool,
 }
 
@@ -37,8 +40,11 @@ impl Default for StatusEntry {
 /// What the pass writes for a control, and whether X9 keeps it.
 #[derive(Clone, Copy)]
 pub struct Answer {
+    /// Its explicit level.
     pub level: Level,
+    /// Its processing class: BN if X9 removes it.
     pub class: BidiClass,
+    /// Whether X9 keeps it.
     pub is_kept: bool,
 }
 

@@ -25,7 +25,9 @@ use bidi_text::text::TextSource;
 /// The runs of a sequence, and the stored class of each code unit of their text.
 #[derive(Clone, Copy, Debug)]
 pub struct StoredRuns<'a> {
+    /// The level runs of the sequence, in text order.
     pub runs: &'a [LevelRun],
+    /// The stored class of each code unit of the text.
     pub original_classes: &'a [BidiClass],
 }
 
