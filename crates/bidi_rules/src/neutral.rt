@@ -228,8 +228,9 @@ pub fn resolve_up_to_n1<D: BidiDataSource, T: TextSource>(
 /// fails, and all classes are then unchanged. [`NeutralResolver`] does the same for many sequences with the
 /// same memory.
 ///
-/// The cost is linear in the sequence. If the data source says that brackets themselves are nonspacing
-/// marks, a series of marks is passed over a few times for each of the 63 pairs that can be open at once.
+/// The cost is linear in the sequence, but no clause says so. If the data source says that brackets themselves
+/// are nonspacing marks, a series of marks is passed over a few times for each of the 63 pairs that can be open
+/// at once.
 pub fn resolve_neutral<D: BidiDataSource, T: TextSource>(
     alloc: Global,
     text: T,

@@ -41,7 +41,8 @@ fn part_of<'c>(classes: &'c [BidiClass], run: &LevelRun) -> &'c [BidiClass]
 ///
 /// Tests whether there are any nonspacing marks and numbers. Besides these tests, it passes over the code
 /// units at most twice for marks, twice for numbers, and once for what is left. Terminators and separators
-/// that wait for the next character are passed over once more.
+/// that wait for the next character are passed over once more. The clauses of [`resolve_weak_counted`] bound all
+/// iterations.
 pub fn resolve_weak<T: TextSource>(
     text: T,
     sequence: &IsolatingRunSequence,
