@@ -1,4 +1,5 @@
--- The words that proofs cite in more than one file, passed on from one place: the kit's, and those of the definitions. Declares nothing.
+-- The words that proofs cite in more than one file, passed on from one place: the kit's, and those of the definitions.
+-- Declares nothing.
 pub use Rattle.std.proofs.Common.{ℕ, ◌%◌, ◌&&◌, ◌*◌, ◌++◌, ◌+◌, ◌-◌, ◌/◌, ◌<◌, ◌==◌, ◌^◌, ◌||◌, ◌↔◌, ◌∙◌, ◌∷◌, ◌≡◌, ◌≢◌, ◌≤◌, ◌⊎◌, AllPairs, Bool, Contains, Err, List, None, Ok, OnOk, Option}
 pub use Rattle.std.proofs.Common.{Result, Some, [], add-one, ap, append-nil, append_assoc, ap₂, arith, bit_or, cond, count_by, decimal, drop, drop-cons, encode_utf8, eq-eqb, eqb, eqb-true, false}
 pub use Rattle.std.proofs.Common.{filter_map, find, flat_map, fold, get_or, get_or-drop, get_or-set_other, get_or-set_same, get_or-take, if◌then◌else◌, inl, inr, is_ok, is_some, le-ltb, le_refl}

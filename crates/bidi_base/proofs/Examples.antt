@@ -72,7 +72,8 @@ implicit_at_the_greatest : implicit_levels 125 (L ∷ R ∷ AN ∷ EN ∷ []) �
 unfolding opened
 implicit_at_the_greatest = refl
 
--- a mark after a removed character belongs to the letter before both, and the removed one has the letter's level (X9, W1)
+-- a mark after a removed character belongs to the letter before both, and the removed one has the letter's level (X9,
+-- W1)
 mark_behind_a_removed_one : levels_in 0 (R ∷ BN ∷ NSM ∷ L ∷ []) (None ∷ None ∷ None ∷ None ∷ []) ≡ 1 ∷ 1 ∷ 1 ∷ 0 ∷ []
 unfolding opened
 mark_behind_a_removed_one = refl

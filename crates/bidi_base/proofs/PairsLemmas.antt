@@ -1,4 +1,5 @@
--- Bracket pairs in one pass from the front: what is closed and what waits at each place, and what the pass has found at its end.
+-- Bracket pairs in one pass from the front: what is closed and what waits at each place, and what the pass has found at
+-- its end.
 use Rattle.bidi_base.proofs.Common.{◌≡◌, ℕ, zero, suc, ◌+◌, ◌-◌, ◌<◌, ◌≤◌, Bool, true, false, ◌&&◌, eqb, ltb, leb, List, [], ◌∷◌, ◌++◌, length, get_or, take, filter_map, find, Option, Some, None}
 use Rattle.bidi_base.proofs.Common.{refl, ap, subst, ◌∙◌, ◌⊎◌, arith, inl, inr, append-nil, append_assoc, add-one, lt-ltb, le-ltb, rules, common_steps, ⊤, range_with_len, AllByRecursion}
 use Rattle.bidi_base.proofs.Common.{All-from_recursion, find-append, list_any-append, fold_push, BidiClass, BidiMatchedOpeningBracket, between, indexes, find_last, max_open_brackets}

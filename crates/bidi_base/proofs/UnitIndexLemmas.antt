@@ -1,4 +1,4 @@
--- Unit indexes: that of the k-th character, ranges between two, and turns of loops over a text.
+-- Unit indexes: that of the k-th character, ranges between two, and iterations of loops over a text.
 use Rattle.bidi_base.proofs.Common.{zero, suc, drop-cons, ◌≡◌, ℕ, ◌+◌, ◌-◌, ◌<◌, ◌≤◌, true, List, [], ◌∷◌, length, take, drop, get_or, Option, Some, None, inl, inr, refl, sym, ◌∙◌, ap, arith}
 use Rattle.bidi_base.proofs.Common.{length-take, length-drop, length-append, common_steps, cases_lt, slice_range, Count, Yields, take-append-add, take-append_seam, take-append-drop, drop-drop}
 use Rattle.bidi_base.proofs.Common.{take_all, take-take, sum_by-append, sum_by-cons, count_by-le-length, text_len, unit_index, char_indices_from, char_indices, indices_lengths_from, char_at}
@@ -128,7 +128,7 @@ unit_of len_of (c ∷ cs) u within = elim (cases_lt u (len_of c)) [
       record { index = suc w.index; offset = w.offset; at_place = omega (arith, w.at_place, sum_by-cons len_of c (take w.index cs)); within = omega (arith, w.within); below = w.below }
 ]
 
--- ---- a turn of a `for` over `char_indices`, `indices_lengths` or `chars`
+-- ---- an iteration of a `for` over `char_indices`, `indices_lengths` or `chars`
 
 drop-char_indices_from : (len_of : ℕ → ℕ) (from : ℕ) (chars : List ℕ) (k : ℕ) → drop k (char_indices_from len_of from chars) ≡ char_indices_from len_of (from + unit_index len_of chars k) (drop k chars)
 drop-char_indices_from len_of from chars zero = ap (λ m. char_indices_from len_of m chars) (omega arith)
@@ -151,7 +151,7 @@ first_length : (len_of : ℕ → ℕ) (from : ℕ) (chars : List ℕ) (at l : �
 first_length len_of from [] at l rest e = absurd (cc e)
 first_length len_of from (d ∷ ds) at l rest e = grind arith
 
--- after n turns the character c comes, whose place is `at`
+-- after n iterations the character c comes, which begins at the index `at`
 pub record CharTurn (len_of : ℕ → ℕ) (chars : List ℕ) (n at c : ℕ) : Type 0 where
   pub at_place : at ≡ unit_index len_of chars n
   pub next : drop n chars ≡ c ∷ drop (n + 1) chars

@@ -1,4 +1,4 @@
--- A text whose classes and levels are known: what they are, and what a line of the text shows.
+-- A text with its classes and levels: what they are, and what the calls on a line of the text return.
 use Rattle.std.specs.Prelude.{◌≡◌, ℕ, ◌+◌, ◌<◌, ◌≤◌, All, false, List, [], ◌∷◌, length, Option, None, IfSome, slice_range, zip}
 use Rattle.std.specs.declared.ops.Range.{Range}
 use Rattle.bidi_base.specs.declared.char_data.BidiClass.{BidiClass}
@@ -14,23 +14,23 @@ use Rattle.bidi_base.specs.Source.{Source}
 use Rattle.bidi_base.specs.Stored.{text_classes, text_levels, stored_levels, paragraph_levels}
 use Rattle.bidi_base.specs.Text.{subrange, text_len, per_unit, per_char, IsLine}
 
--- a text of these characters and their lengths, with the class and the level of each unit
+-- a text: its characters and their lengths in code units, and the class and the level of each code unit
 pub record AnalysedText : Type 0 where
   pub len_of : ℕ → ℕ
   pub chars : List ℕ
   pub classes : List BidiClass
   pub levels : List ℕ
 
--- a range of its units that cuts no character
+-- a range of its code units that cuts no character
 abbrev pub IsLineOf : AnalysedText → Range ℕ → Type 0
 IsLineOf a line = IsLine a.len_of a.chars line.start line.end
 
--- all units of a character have one class and one level
+-- all code units of a character have the same class and the same level
 pub record IsPerCharText (a : AnalysedText) : Type 0 where
   pub classes : HaveClass a.len_of a.chars a.classes
   pub levels : HaveLevel a.len_of a.chars a.levels
 
--- ---- what the algorithm finds in a text that a rule splits into paragraphs; without a rule the text is one paragraph
+-- ---- what the algorithm finds in a text that a split rule cuts into paragraphs; without one, it is one paragraph
 
 module _ (source : Source) (base_level : Option ℕ) (rule : Option SplitRule) where
   -- P1 to P3 and X5c: these are the stored classes of the text, and the ranges and the levels of its paragraphs
@@ -39,13 +39,13 @@ module _ (source : Source) (base_level : Option ℕ) (rule : Option SplitRule) w
     pub classes : original_classes ≡ per_unit len_of chars (text_classes source (pieces_by rule source chars))
     pub ranges : own_ranges ≡ ranges_from len_of 0 (pieces_by rule source chars)
     pub para_levels : own_levels ≡ paragraph_levels source base_level (pieces_by rule source chars)
-    -- with a rule, every code unit is in one paragraph, and separators are only at the ends of paragraphs; with
+    -- with a split rule, every code unit is in one paragraph, and separators are only at the ends of paragraphs; with
     -- `CrLfTogether`, a U+000D may also come directly before the U+000A that ends its paragraph
     pub partition : IfSome rule (λ r. AreParagraphRanges r source len_of chars own_ranges)
-    -- without a rule, there is one paragraph, the whole text
+    -- without a split rule, there is one paragraph, the whole text
     pub whole : rule ≡ None → own_ranges ≡ (0, text_len len_of chars) ∷ []
-    -- the classes of the characters depend only on the characters, the source and the rule; so two texts with the
-    -- same characters have the same ones, whatever their encodings
+    -- the classes of the characters depend only on the characters, the data source and the split rule; so two texts
+    -- with the same characters have the same ones in all encodings
     pub by_characters : per_char L len_of chars original_classes ≡ text_classes source (pieces_by rule source chars)
     -- all code units of a character have the same class
     pub per_char : HaveClass len_of chars original_classes
@@ -54,7 +54,7 @@ module _ (source : Source) (base_level : Option ℕ) (rule : Option SplitRule) w
   pub record IsAnalysis (a : AnalysedText) (own_ranges : List (ℕ × ℕ)) (own_levels : List ℕ) : Type 0 where
     pub paragraphs : AreParagraphs a.len_of a.chars a.classes own_ranges own_levels
     pub levels : a.levels ≡ per_unit a.len_of a.chars (text_levels source base_level (pieces_by rule source a.chars))
-    -- the levels of the characters depend only on the characters, the source, the base level and the rule
+    -- the levels of the characters depend only on the characters, the data source, the base level and the split rule
     pub by_characters : per_char 0 a.len_of a.chars a.levels ≡ text_levels source base_level (pieces_by rule source a.chars)
     -- all code units of a character have the same level
     pub per_char : HaveLevel a.len_of a.chars a.levels
@@ -65,18 +65,18 @@ module _ (source : Source) (base_level : Option ℕ) (rule : Option SplitRule) w
 
 -- ---- what the calls on a line return
 
--- the levels of all units, those of the line after L1 and all others as they are stored: by characters, and by units
+-- the levels of all code units, after L1 in the line and unchanged outside it: by characters, and by code units
 pub record AreLevelsWithLine (a : AnalysedText) (level : ℕ) (line : Range ℕ) (shown : List ℕ) : Type 0 where
   pub characters : shown
       ≡ per_unit a.len_of a.chars
       (char_levels_with_line a.len_of a.chars level a.classes a.levels line.start line.end)
   pub units : shown ≡ levels_with_line level a.classes a.levels line.start line.end
 
--- the same levels, one a character
+-- these levels, one for each character
 abbrev pub levels_with_line_per_char : AnalysedText → ℕ → Range ℕ → List ℕ
 levels_with_line_per_char a level line = char_levels_with_line a.len_of a.chars level a.classes a.levels line.start line.end
 
--- the levels of the line's units after L1, one a unit: by characters, and by units
+-- the levels of the line after L1, one for each code unit: by characters, and by code units
 pub record AreLevelsOfLine (a : AnalysedText) (level : ℕ) (line : Range ℕ) (shown : List ℕ) : Type 0 where
   pub characters : shown
       ≡ per_unit a.len_of (subrange a.len_of a.chars line.start line.end)
@@ -84,26 +84,26 @@ pub record AreLevelsOfLine (a : AnalysedText) (level : ℕ) (line : Range ℕ) (
   pub units : shown ≡ levels_of_line level a.classes a.levels line.start line.end
   pub one_a_unit : length shown + line.start ≡ line.end
 
--- the same levels, one a character of the line
+-- these levels, one for each character of the line
 abbrev pub line_levels_per_char : AnalysedText → ℕ → Range ℕ → List ℕ
 line_levels_per_char a level line = char_levels_of_line a.len_of a.chars level a.classes a.levels line.start line.end
 
--- a run is a line inside a line, so it cuts no character: it can slice the text
+-- a run is a range of the line that is not empty and cuts no character, so it can slice the text
 pub record IsPartOfLine (a : AnalysedText) (line : Range ℕ) (run : Run) : Type 0 where
   pub begins : line.start ≤ run.0
   pub not_empty : run.0 < run.1
   pub ends : run.1 ≤ line.end
   pub is_line : IsLine a.len_of a.chars run.0 run.1
 
--- the level runs (BD7) of the line after L1, from left to right (L2): as a function, and as the runs that,
--- written out, are the visual order of the line's units
+-- the level runs (BD7) of the line after L1, from left to right (L2): as a function, and as the runs that, written out,
+-- are the visual order of the line's code units
 pub record AreRunsOfLine (a : AnalysedText) (level : ℕ) (line : Range ℕ) (shown : List Run) : Type 0 where
   pub runs : shown ≡ visual_runs line.start (levels_of_line level a.classes a.levels line.start line.end)
   pub visual : AreVisualRuns line.start (levels_of_line level a.classes a.levels line.start line.end) shown
   pub parts : All (IsPartOfLine a line) shown
 
--- the line's characters in the visual order of their levels after L1, from the text's units and how a character
--- is encoded
+-- the line's characters in the visual order of their levels after L1, from the text's code units and the encoding of a
+-- character
 pub record IsTextOfLine (encode : ℕ → List ℕ) (units : List ℕ) (a : AnalysedText) (level : ℕ) (line : Range ℕ)
     (shown : List ℕ) : Type 0 where
   pub text : shown

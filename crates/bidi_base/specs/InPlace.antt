@@ -1,5 +1,5 @@
--- What the passes in place require and establish: the explicit pass over the units of a paragraph, and the weak and
--- neutral passes over those of a sequence.
+-- What the passes in place require and establish: the explicit pass over the code units of a paragraph, and the weak
+-- and neutral passes over those of a sequence.
 use Rattle.std.specs.Prelude.{◌≡◌, ℕ, ◌≤◌, false, List, [], length, map, IsTrue, OnErr, OnOk, Result}
 use Rattle.std.specs.List.{list_all}
 use Rattle.bidi_base.specs.declared.char_data.BidiClass.{BidiClass}
@@ -18,8 +18,8 @@ use Rattle.bidi_base.specs.Weak.{weak_classes}
 
 -- ---- one paragraph
 
--- the paragraph level is at most 125, the units of each character have one stored class, there is a level for each unit,
--- the classes to rewrite are a copy of the stored ones, and there are no runs yet
+-- the paragraph level is at most 125, the code units of each character have one stored class, there is a level for each
+-- code unit, the classes to rewrite are a copy of the stored ones, and there are no runs yet
 pub record CanFindExplicitLevels (len_of : ℕ → ℕ) (chars : List ℕ) (para_level : ℕ) (original_classes : List BidiClass)
     (level_units : List ℕ) (class_units : List BidiClass) (found : List (ℕ × ℕ)) : Type 0 where
   pub explicit : para_level ≤ 125
@@ -28,7 +28,7 @@ pub record CanFindExplicitLevels (len_of : ℕ → ℕ) (chars : List ℕ) (para
   pub processing : class_units ≡ original_classes
   pub runs : found ≡ []
 
--- the units have the explicit levels of their characters and the classes under overrides, and these are the level runs
+-- the code units have the explicit levels and the processing classes of their characters, and these are the level runs
 pub record AreExplicitLevels (len_of : ℕ → ℕ) (chars : List ℕ) (para_level : ℕ) (original_classes : List BidiClass)
     (level_units : List ℕ) (class_units : List BidiClass) (found : List (ℕ × ℕ)) : Type 0 where
   pub levels : let stored = per_char L len_of chars original_classes in
@@ -40,16 +40,17 @@ pub record AreExplicitLevels (len_of : ℕ → ℕ) (chars : List ℕ) (para_lev
 
 -- ---- one sequence
 
--- the classes in `units` of the characters of a sequence; `old` says which of them X9 keeps
+-- the classes in `classes` of a sequence's characters that are kept in place; `old` says which of them are
 abbrev pub classes_in : (ℕ → ℕ) → List ℕ → List (ℕ × ℕ) → List BidiClass → List BidiClass → List BidiClass
 classes_in len_of chars runs old classes = at_indexes L classes (map (unit_index len_of chars) (kept_in_place len_of chars old runs))
 
--- its runs cut no character, and the units of a character have one class
+-- the runs of the sequence cut no character, and the code units of each character have one class
 pub record CanResolveWeakTypes (len_of : ℕ → ℕ) (chars : List ℕ) (runs : List (ℕ × ℕ)) (old : List BidiClass) : Type 0 where
   pub per_char : HaveClass len_of chars old
   pub are_lines : AreLines len_of chars runs
 
--- W1 to W7 are done: its characters have the classes of the rules, BN stays, and nothing else changes
+-- W1 to W7 are done: the sequence's characters have the classes of the rules, BN stays BN, and nothing outside the runs
+-- changes
 pub record AreWeakTypesResolved (len_of : ℕ → ℕ) (chars : List ℕ) (runs : List (ℕ × ℕ)) (sos : BidiClass)
     (old new : List BidiClass) : Type 0 where
   pub kept : classes_in len_of chars runs old new ≡ weak_classes sos (classes_in len_of chars runs old old)
@@ -57,7 +58,8 @@ pub record AreWeakTypesResolved (len_of : ℕ → ℕ) (chars : List ℕ) (runs 
   pub outside : (u : ℕ) → in_runs runs u ≡ false → class_at new u ≡ class_at old u
   pub per_char : HaveClass len_of chars new
 
--- what CanResolveWeakTypes says, a level and a stored class for each unit, and only classes that W7 leaves
+-- what CanResolveWeakTypes requires, a level and a stored class for each code unit, and only classes that there can be
+-- after W7
 pub record CanResolveNeutrals (len_of : ℕ → ℕ) (chars : List ℕ) (runs : List (ℕ × ℕ)) (level_units : List ℕ)
     (original_classes old : List BidiClass) : Type 0 where
   pub per_char : HaveClass len_of chars old
@@ -66,7 +68,7 @@ pub record CanResolveNeutrals (len_of : ℕ → ℕ) (chars : List ℕ) (runs : 
   pub original : length original_classes ≡ length old
   pub resolved : IsTrue (list_all is_weak_resolved (classes_in len_of chars runs old old))
 
--- what N0 to N2 make of the classes of its characters
+-- the classes of the sequence's characters after N0 to N2, with the level at its first kept code unit
 abbrev pub neutral_classes_in : (ℕ → ℕ) → List ℕ → Source → List (ℕ × ℕ) → BidiClass → BidiClass → List ℕ → List BidiClass → List BidiClass → List BidiClass
 neutral_classes_in len_of chars source runs sos eos levels original_classes old =
     let indexes = kept_in_place len_of chars old runs in
@@ -83,7 +85,7 @@ pub record AreNeutralsResolved (len_of : ℕ → ℕ) (chars : List ℕ) (source
   pub outside : (u : ℕ) → in_runs runs u ≡ false → class_at new u ≡ class_at old u
   pub per_char : HaveClass len_of chars new
 
--- N0 and N1 are done: with N2, which changes no level, the classes would be those of the rules
+-- N0 and N1 are done: after N2, which changes no level, the classes would be those of the rules
 pub record AreNeutralsResolvedUpToN1 (len_of : ℕ → ℕ) (chars : List ℕ) (source : Source) (runs : List (ℕ × ℕ))
     (sos eos : BidiClass) (level_units : List ℕ) (original_classes old new : List BidiClass) : Type 0 where
   pub kept : let places = map (unit_index len_of chars) (kept_in_place len_of chars old runs) in
@@ -93,7 +95,7 @@ pub record AreNeutralsResolvedUpToN1 (len_of : ℕ → ℕ) (chars : List ℕ) (
   pub outside : (u : ℕ) → in_runs runs u ≡ false → class_at new u ≡ class_at old u
   pub per_char : HaveClass len_of chars new
 
--- a call that may fail either did its work, or left these classes as they were
+-- a call that succeeds did its work, and a call that returns an error left these classes unchanged
 pub record IsDoneOrUnchanged {A E : Type 0} (result : Result A E) (done : Type 0) (old new : List BidiClass) : Type 0 where
   pub resolved : OnOk result done
   pub unchanged : OnErr result (new ≡ old)

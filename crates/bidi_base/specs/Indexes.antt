@@ -13,11 +13,11 @@ between low high = range_with_len low (high - low)
 abbrev pub indexes : {X : Type 0} → List X → List ℕ
 indexes xs = range_with_len 0 (length xs)
 
--- the class at an index (past the end L, as where contracts read an element)
+-- the class at an index, or L past the end
 abbrev pub class_at : List BidiClass → ℕ → BidiClass
 class_at classes p = get_or classes p L
 
--- the elements at the indexes
+-- the elements at the indexes, or d past the end
 abbrev pub at_indexes : {X : Type 0} → X → List X → List ℕ → List X
 at_indexes d xs [] = []
 at_indexes d xs (p ∷ ps) = get_or xs p d ∷ at_indexes d xs ps
@@ -26,7 +26,7 @@ at_indexes d xs (p ∷ ps) = get_or xs p d ∷ at_indexes d xs ps
 abbrev pub find_last : {X : Type 0} → (X → Bool) → List X → Option X
 find_last test xs = find test (reverse xs)
 
--- the first element that passes the test, or else d: of a list that goes away from a place, the nearest one
+-- the first element that passes the test, or else d; it is the nearest one if the list begins with what is nearest
 abbrev pub nearest : {X : Type 0} → (X → Bool) → List X → X → X
 nearest test xs d = unwrap_or (find test xs) d
 
@@ -39,12 +39,12 @@ in_context rule before (x ∷ after) = rule before x after ∷ in_context rule (
 abbrev pub count_between : (ℕ → Bool) → ℕ → ℕ → ℕ
 count_between test low high = count_by test (between low high)
 
--- the number is there, and is this one
+-- there is a number, and it is n
 abbrev pub holds_number : Option ℕ → ℕ → Bool
 holds_number None n = false
 holds_number (Some m) n = m == n
 
--- the numbers that `next` leads to from one that may be absent, at most n of them
+-- the numbers to which `next` leads from a first one, if there is one: at most n of them, with the first one
 abbrev pub chain : (ℕ → Option ℕ) → ℕ → Option ℕ → List ℕ
 chain next zero p = []
 chain next (suc n) None = []
@@ -59,6 +59,6 @@ abbrev pub last_or : {X : Type 0} → X → List X → X
 last_or d [] = d
 last_or d (x ∷ xs) = last_or x xs
 
--- the nearest element that passes the first test also passes the second
+-- an element passes the first test, and the nearest such element also passes the second
 abbrev pub nearest_is : {X : Type 0} → (X → Bool) → (X → Bool) → List X → Bool
 nearest_is test goal xs = option_map_or goal (find test xs) false

@@ -13,7 +13,7 @@ use Rattle.bidi_base.specs.Text.{one_unit}
 use Rattle.bidi_base.specs.Units as units
 use Rattle.bidi_base.specs.Utf16.{utf16_len}
 
--- how many code units each character has, at least one
+-- how many code units each character has: at least one
 pub record Encoding : Type 0 where
   pub len_of : ℕ → ℕ
   pub positive : (c : ℕ) → 1 ≤ len_of c
@@ -42,11 +42,11 @@ pub record Text (e : Encoding) : Type 0 where
   pub chars : List ℕ
 
 module _ {e : Encoding} (text : Text e) where
-  -- the code units of the text
+  -- the number of code units of the text
   abbrev pub text_len : ℕ
   text_len = list.text_len e.len_of text.chars
 
-  -- the index of the k-th character's first unit: the units before it
+  -- the index of the k-th character: the number of code units before it
   abbrev pub unit_index : ℕ → ℕ
   unit_index k = list.unit_index e.len_of text.chars k
 
@@ -54,71 +54,71 @@ module _ {e : Encoding} (text : Text e) where
   abbrev pub IsNextPlace : ℕ → ℕ → Type 0
   IsNextPlace start next = list.IsNextPlace e.len_of text.chars start next
 
-  -- each character with its place
+  -- each character with its index
   abbrev pub char_indices : List (ℕ × ℕ)
   char_indices = list.char_indices e.len_of text.chars
 
-  -- the place and the length of each character
+  -- the index and the length of each character
   abbrev pub indices_lengths : List (ℕ × ℕ)
   indices_lengths = list.indices_lengths e.len_of text.chars
 
-  -- the character that begins at unit u, with its length; `None` where none begins
+  -- the character that begins at index u, with its length; `None` if none begins there
   abbrev pub char_at : ℕ → Option (ℕ × ℕ)
   char_at u = list.char_at e.len_of text.chars u
 
-  -- the ASCII character, one unit long, that begins at unit u; `None` where none begins or another one does
+  -- the ASCII character that begins at index u, if it is one code unit long; `None` if no such character begins there
   abbrev pub ascii_at : ℕ → Option ℕ
   ascii_at u = list.ascii_at e.len_of text.chars u
 
-  -- u is a place, or the text's length
+  -- a character begins at index u, or u is the text's length
   abbrev pub is_boundary : ℕ → Bool
   is_boundary u = list.is_boundary e.len_of text.chars u
 
-  -- a range of units that lies in the text and cuts no character
+  -- a range of code units that is in the text and cuts no character
   abbrev pub IsLine : ℕ → ℕ → Type 0
   IsLine start end = list.IsLine e.len_of text.chars start end
 
-  -- each range lies in the text and cuts no character
+  -- each range is in the text and cuts no character
   abbrev pub AreLines : List (ℕ × ℕ) → Type 0
   AreLines runs = units.AreLines e.len_of text.chars runs
 
-  -- the index of the character at a boundary: the characters before it
+  -- the character index at a boundary: the number of characters before it
   abbrev pub char_index : ℕ → ℕ
   char_index u = list.char_index e.len_of text.chars u
 
-  -- the text of a range of units
+  -- the text of a range of code units
   abbrev pub subrange : ℕ → ℕ → Text e
   subrange start end = record { chars = list.subrange e.len_of text.chars start end }
 
-  -- one value a unit, from one a character
+  -- one value for each code unit, from one for each character
   abbrev pub per_unit : {X : Type 0} → List X → List X
   per_unit values = list.per_unit e.len_of text.chars values
 
-  -- one entry a unit, equal within each character
+  -- one entry for each code unit, equal within each character
   abbrev pub IsPerChar : {X : Type 0} → List X → Type 0
   IsPerChar units = list.IsPerChar e.len_of text.chars units
 
-  -- a class for each code unit, one class for each character
+  -- a class for each code unit, equal within each character
   abbrev pub HaveClass : List BidiClass → Type 0
   HaveClass classes = entries.HaveClass e.len_of text.chars classes
 
-  -- a level for each code unit, one level for each character
+  -- a level for each code unit, equal within each character
   abbrev pub HaveLevel : List ℕ → Type 0
   HaveLevel units = entries.HaveLevel e.len_of text.chars units
 
-  -- the level runs of a paragraph, as ranges of units that cover it
+  -- the level runs of a paragraph, as ranges of code units that cover it
   abbrev pub level_run_ranges : List BidiClass → List ℕ → List (ℕ × ℕ)
   level_run_ranges classes levels = units.level_run_ranges e.len_of text.chars classes levels
 
-  -- the indexes of the characters in some ranges of units that X9 keeps
+  -- the character indexes in some ranges of code units, without those that X9 removes
   abbrev pub kept_in_runs : List BidiClass → List (ℕ × ℕ) → List ℕ
   kept_in_runs classes runs = units.kept_in_runs e.len_of text.chars classes runs
 
-  -- the indexes of the characters in some ranges of units
+  -- the character indexes in some ranges of code units
   abbrev pub chars_in_runs : List (ℕ × ℕ) → List ℕ
   chars_in_runs runs = units.chars_in_runs e.len_of text.chars runs
 
-  -- of these, those that the passes in place take as kept
+  -- those of them that the passes in place treat as kept; `classes` has one for each code unit
   abbrev pub kept_in_place : List BidiClass → List (ℕ × ℕ) → List ℕ
   kept_in_place classes runs = units.kept_in_place e.len_of text.chars classes runs
 
@@ -148,10 +148,10 @@ module _ {e : Encoding} (text : Text e) where
   AreNeutralsResolvedUpToN1 source runs sos eos level_units original_classes old new =
       passes.AreNeutralsResolvedUpToN1 e.len_of text.chars source runs sos eos level_units original_classes old new
 
--- one value a character, from one a unit: that of the character's first unit
+-- one value for each character, from one for each code unit: that of the character's first code unit
 abbrev pub per_char : {X : Type 0} {e : Encoding} → X → Text e → List X → List X
 per_char {e = e} d text units = list.per_char d e.len_of text.chars units
 
--- one entry a unit, equal within each character by the test `eq`
+-- one entry for each code unit, equal within each character by the test `eq`
 abbrev pub is_per_char : {X : Type 0} {e : Encoding} → (X → X → Bool) → Text e → List X → Bool
 is_per_char {e = e} eq text units = list.is_per_char eq e.len_of text.chars units

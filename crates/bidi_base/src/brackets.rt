@@ -47,7 +47,7 @@ impl Default for Waiting {
 
 /// Replaces the contents of `pairs` with the bracket pairs of a sequence (BD16).
 ///
-/// `brackets` must be the brackets of the sequence with class ON after W7, in order. A pair is the
+/// `brackets` must be the brackets of the sequence with class ON after W7, in order. A pair has the
 /// index of its opening bracket and that of its closing bracket. Pairs are in the order of their
 /// opening brackets.
 ///

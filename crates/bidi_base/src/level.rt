@@ -202,7 +202,7 @@ impl Level {
         Ok(())
     }
 
-    /// Adds `amount` to the level, up to the maximum explicit level.
+    /// Adds `amount` to the level, if the sum is an explicit level.
     ///
     /// Returns an error exactly if the sum is above 125. The level is then unchanged.
     pub fn raise_explicit(&mut self, amount: u8) -> Result<(), Error>
@@ -271,8 +271,8 @@ impl Level {
 
     /// Returns the levels with these numbers, in order.
     ///
-    /// Returns `OutOfRangeNumber` exactly if a number is above 126, and checks this before it
-    /// allocates. Returns `Memory` if an allocation fails.
+    /// Returns `OutOfRangeNumber` exactly if a number is above 126, even if an allocation would fail.
+    /// Otherwise returns `Memory` if an allocation fails.
     pub fn vec(alloc: Global, numbers: &[u8]) -> Result<Vec<Level>, VecError>
         ensures levels { IfOk result (λ v. v.items ≡ numbers.now) }
         ensures fault { IsErrOf result OutOfRangeNumber ↔ Any (λ n. 126 < n) numbers.now }
@@ -307,7 +307,7 @@ impl From<Level> for u8 {
 
 /// Returns whether any level is odd.
 ///
-/// If none is, a line is displayed in the order in which it is stored.
+/// If no level of a line is odd after L1, the line is displayed in the order in which it is stored (L2).
 pub fn has_rtl(levels: &[Level]) -> bool
     ensures { result ≡ has_rtl_of levels.now }
 {

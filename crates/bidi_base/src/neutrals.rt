@@ -23,7 +23,7 @@ pub fn contains_any_direction(classes: &[BidiClass]) -> bool
     classes.iter().any(|class| as_direction(*class).is_some())
 }
 
-/// Returns the last direction in these classes, or `before` if there is none.
+/// Returns the direction of the last class that counts as one, or `before` if there is none.
 ///
 /// This is the context before a bracket pair (N0 c).
 pub fn nearest_direction(before: BidiClass, classes: &[BidiClass]) -> BidiClass
@@ -39,7 +39,7 @@ pub fn nearest_direction(before: BidiClass, classes: &[BidiClass]) -> BidiClass
 
 /// Sets the direction of a bracket and of the nonspacing marks directly after it (N0).
 ///
-/// The original classes decide which characters are marks. Both lists must have the same length,
+/// `original_classes` decides which characters are marks. Both lists must have the same length,
 /// and `bracket` must be an index in them.
 pub fn set_direction(
     original_classes: &[BidiClass],

@@ -1,4 +1,5 @@
--- The explicit pass by stretches: where no control comes the status stands still, so the characters there have one level and are under one override.
+-- The explicit pass by stretches: where no control comes the status stands still, so the characters there have one
+-- level and are under one override.
 use Rattle.bidi_base.proofs.Common.{◌≡◌, ℕ, zero, suc, ◌+◌, ◌-◌, ◌<◌, ◌≤◌, ◌^◌, Bool, true, false, not, List, [], ◌∷◌, ◌++◌, length, get_or, set, Option, Some, None, refl, sym, ap, subst, ◌∙◌}
 use Rattle.bidi_base.proofs.Common.{arith, inl, inr, length-take, eq-eqb, common_steps, cases_Bool, cases_lt, cases_eq, ext_get_or, length-replicate, get_or-append_right, is_kept}
 use Rattle.bidi_base.proofs.Common.{is_kept_in_place, is_removed, then_some, class_at, IsFirst, passing, is_kept_at, level_at, State, start, closed, step, state_at}

@@ -1,4 +1,5 @@
--- The pass over units that gives explicit levels, classes and level runs: what it has written once it read some characters.
+-- The pass over units that gives explicit levels, classes and level runs: what it has written once it read some
+-- characters.
 use native.Mathlib.Numerals.{unary_clauses}
 use Rattle.bidi_base.proofs.Common.{◌≡◌, ℕ, zero, suc, ◌+◌, ◌<◌, ◌≤◌, ◌^◌, true, List, [], ◌∷◌, length, get_or, set, unwrap_or, refl, sym, ap, ◌∙◌, arith, length-append, common_steps}
 use Rattle.bidi_base.proofs.Common.{length-replicate, is_paragraph_separator, is_removed, class_at, text_len, per_unit, per_char, is_per_char, explicit_levels, processing_class}

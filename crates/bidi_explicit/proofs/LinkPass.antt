@@ -1,4 +1,5 @@
--- One level run after another is linked: what a link says, what waits for the match of an open initiator, and what one more run does.
+-- One level run after another is linked: what a link says, what waits for the match of an open initiator, and what one
+-- more run does.
 use Rattle.bidi_base.proofs.Common.{◌≡◌, ◌≢◌, ℕ, zero, suc, ◌+◌, ◌-◌, ◌<◌, ◌≤◌, true, false, cond, eqb, max, List, [], ◌∷◌, ◌++◌, length, get_or, set, take, reverse, Option, Some, None, refl, sym}
 use Rattle.bidi_base.proofs.Common.{ap, subst, ◌∙◌, arith, ◌⊎◌, inl, inr, range_with_len, cases_Bool, cases_eq, cases_lt, get_or_push, get_or_append_left, length-append, length-set}
 use Rattle.bidi_base.proofs.Common.{reverse-append, eq-eqb, ne_eqb, IfSome, direction_of, class_at, first_or, last_or, is_isolate_initiator_at, is_pdi_at, matching_pdi, is_kept_at, kept_before, next_kept}

@@ -25,7 +25,7 @@ use Rattle.bidi_explicit.proofs.LinkPass.{IsLinkedTo, IsLinkedTo-start, IsLinked
 use Rattle.bidi_explicit.proofs.RunMembers.{count}
 use Rattle.bidi_explicit.proofs.RunRemoved.{IsAllRemoved, all_removed, sequences-none, run_starts-removed, read_range-inert}
 
--- classes and levels of a text, one entry a unit, and its level runs
+-- classes and levels of a text, one entry for each code unit, and its level runs
 pub record AreRunsOf {encoding : Encoding} (text : Text encoding) (units : List BidiClass) (unit_levels : List ℕ) (runs : List (Range ℕ)) : Type 0 where
   pub classes : is_per_char class_eq text units ≡ true
   pub levels : is_per_char level_eq text unit_levels ≡ true

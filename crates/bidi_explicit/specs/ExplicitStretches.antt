@@ -1,4 +1,4 @@
--- The explicit pass by stretches between controls: what it has written of the units below one.
+-- The explicit pass by stretches between controls: what it has written once it has read a part of the paragraph.
 use Rattle.std.specs.Prelude.{◌≡◌, ℕ, ◌<◌, ◌≤◌, if◌then◌else◌, List, length, get_or, Option, Some, None}
 use Rattle.bidi_base.specs.declared.char_data.BidiClass.{BidiClass}
 use Rattle.bidi_base.specs.declared.char_data.BidiClass.TheVariants.{L}
@@ -11,27 +11,27 @@ use Rattle.bidi_explicit.specs.RunCutting.{runs_before, run_start, IsCutTo}
 use Rattle.bidi_explicit.specs.declared.explicit.stretches.OpenRun.{OpenRun}
 use Rattle.bidi_explicit.specs.declared.explicit.stretches.Progress.{Progress}
 
--- from a code unit on the classes are still the stored ones
+-- the classes from a code unit on are still the stored ones
 abbrev pub IsUnread : List BidiClass → List BidiClass → ℕ → Type 0
 IsUnread original_classes classes from = (u : ℕ) → from ≤ u → class_at classes u ≡ class_at original_classes u
 
--- what an override that puts a class makes of another, where there is no control (X6)
+-- the class that a class becomes inside an override, if it is no control's (X6): BN stays
 abbrev pub put_over : BidiClass → BidiClass → BidiClass
 put_over put c = if is_kept_in_place c then put else c
 
--- the same of an override that there may be
+-- the same, if there may be no override
 abbrev pub overridden : Option BidiClass → BidiClass → BidiClass
 overridden None c = c
 overridden (Some put) c = put_over put c
 
--- an override was put on the units from `from` up to `to`, and nothing on others
+-- the code units from `from` up to `to` have the class of the override, if there is one, and all others are unchanged
 pub record IsOverridden (override : Option BidiClass) (from to : ℕ) (old new : List BidiClass) : Type 0 where
   pub inside : (u : ℕ) → from ≤ u → u < to → class_at new u ≡ overridden override (class_at old u)
   pub below : (u : ℕ) → u < from → class_at new u ≡ class_at old u
   pub above : (u : ℕ) → to ≤ u → class_at new u ≡ class_at old u
   pub long : length new ≡ length old
 
--- a paragraph, with the stored class of each unit
+-- a paragraph, with the stored class of each code unit
 pub record Paragraph (encoding : Encoding) : Type 0 where
   pub text : Text encoding
   pub level : ℕ
@@ -44,14 +44,14 @@ paragraph_of text level original_classes = record { text = text; level = level; 
 abbrev pub stored : {encoding : Encoding} → Paragraph encoding → List BidiClass
 stored p = per_char L p.text p.original
 
--- its explicit levels and processing classes, one a character
+-- the explicit level and the processing class of each character
 abbrev pub levels_of : {encoding : Encoding} → Paragraph encoding → List ℕ
 levels_of p = explicit_levels p.level (stored p)
 
 abbrev pub classes_of : {encoding : Encoding} → Paragraph encoding → List BidiClass
 classes_of p = processing_classes p.level (stored p)
 
--- the units below u are read, and u is a boundary
+-- the pass has read the code units before u, and u is a boundary
 pub record IsReadTo {encoding : Encoding} (p : Paragraph encoding) (u : ℕ) (stack : State) (levels : List ℕ) (classes : List BidiClass)
     (runs : List (ℕ × ℕ)) (run : OpenRun) : Type 0 where
   pub per_char : IsPerChar p.text p.original
@@ -66,8 +66,8 @@ pub record IsReadTo {encoding : Encoding} (p : Paragraph encoding) (u : ℕ) (st
   pub unread : IsUnread p.original classes u
   pub cut : IsCutTo encoding.len_of p.text.chars (stored p) (levels_of p) index runs run.start run.last_level
 
--- the level runs that have ended once the first kept unit of what was read, if there is one, met the run that
--- is open, and that one then
+-- the level runs that have ended after a stretch or a control of this level, by its first code unit that X9 keeps, if
+-- there is one; and the run that is then open
 abbrev pub runs_after : Option ℕ → ℕ → OpenRun → List (ℕ × ℕ) → List (ℕ × ℕ)
 runs_after None level run runs = runs
 runs_after (Some unit) level run runs = runs_before run.last_level level run.start unit runs
@@ -76,7 +76,7 @@ abbrev pub open_run_after : Option ℕ → ℕ → OpenRun → OpenRun
 open_run_after None level run = run
 open_run_after (Some unit) level run = record { start = run_start run.last_level level run.start unit; last_level = Some level }
 
--- from a unit on a stretch or a control is read, whatever runs came before
+-- the pass has read a stretch or a control from `from` on, whatever runs came before it
 abbrev pub ReadsOn : {encoding : Encoding} → Paragraph encoding → ℕ → State → List ℕ → List BidiClass → Progress → State → List ℕ → List BidiClass → Type 0
 ReadsOn p from stack levels classes read stack_now levels_now classes_now =
     (runs : List (ℕ × ℕ)) (run : OpenRun) → IsReadTo p from stack levels classes runs run

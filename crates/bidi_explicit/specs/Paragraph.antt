@@ -21,13 +21,15 @@ module _ {T C I L : Type 0} {t : _} {c : _} {i : _} {l : _} (paragraph : Paragra
 
   -- ---- what the pass requires and finds
 
-  -- there is a level for each code unit, the classes to rewrite are a copy of the stored ones, and there are no runs yet
+  -- there is a level for each code unit, the classes to rewrite are a copy of the stored ones, and there are no runs
+  -- yet
   pub record CanFindLevels (level_units : List ℕ) (class_units : List BidiClass) (found : List (Range ℕ)) : Type 0 where
     pub levels : length level_units ≡ length paragraph.original_classes.now
     pub processing : class_units ≡ paragraph.original_classes.now
     pub runs : map bounds found ≡ []
 
-  -- the code units have the explicit levels of their characters and the classes under overrides, and these are the level runs
+  -- the code units have the explicit levels and the processing classes of their characters, and these are the level
+  -- runs
   abbrev pub AreLevelsOf : List ℕ → List BidiClass → List (Range ℕ) → Type 0
   AreLevelsOf level_units class_units found =
       AreExplicitLevels text_of paragraph.level paragraph.original_classes.now level_units class_units (map bounds found)
@@ -72,6 +74,6 @@ module _ {T C I L : Type 0} {t : _} {c : _} {i : _} {l : _} (paragraph : Paragra
   abbrev pub counted_to : ℕ → ℕ
   counted_to u = count_to paragraph.step_unit text_of u
 
-  -- a count went up by one for each character from one place to another
+  -- the count has gone up by one for each character from one index to another
   abbrev pub AreCharsCounted : ℕ → ℕ → ℕ → ℕ → Type 0
   AreCharsCounted from to old new = new + chars_to from ≡ old + chars_to to

@@ -26,7 +26,7 @@ use stretches::{OpenRun, is_control};
 /// How the pass goes through a stretch without controls, and what it counts there.
 #[derive(Clone, Copy, Debug)]
 pub enum StepUnit {
-    /// From character to character. The text says where each ends.
+    /// From character to character. The pass asks the text for the end of each.
     Character,
     /// From code unit to code unit. The pass reads the text only at controls, and looks for the next control
     /// sixteen code units at a time.
@@ -140,13 +140,14 @@ fn cut_run(
 /// Finds the explicit levels of a paragraph, its classes under overrides, and its level runs (X1 to X8,
 /// BD7).
 ///
-/// `para_level` is at most 125. The three slices have one entry for each code unit. `original_classes` has
-/// the stored classes, which are equal within each character. `levels` may hold anything, and gets the
-/// explicit level of each code unit's character. `processing_classes` must be a copy of `original_classes`,
-/// and gets the classes under overrides, with BN for characters that X9 removes.
+/// `para_level` must be at most 125. The three slices must have one entry for each code unit.
+/// `original_classes` has the stored classes, which must be equal within each character. `levels` may hold
+/// anything, and gets the explicit level of each code unit's character. `processing_classes` must be a copy
+/// of `original_classes`, and gets the classes under overrides, with BN for characters that X9 removes.
 ///
-/// `runs` must be empty. A new run begins exactly at a character that X9 keeps and whose level differs from
-/// that of the kept character before it. The runs cover the text.
+/// `runs` must be empty. The first run begins at the start of the text. Each other one begins at a character
+/// that X9 keeps, exactly if its level differs from that of the kept character before it. The runs cover the
+/// text.
 ///
 /// Returns an error only if `runs`, which has its own allocator, cannot grow. The slices and the runs may
 /// then hold anything. Nothing else allocates. The allocator that is passed is not used.
@@ -211,8 +212,8 @@ fn compute_with_new_count<T: TextSource, S: Ledger>(
 /// Like [`compute`], and counts each loop iteration in `steps`, including those of the functions it calls.
 ///
 /// There is at least one iteration for each character of the paragraph, and at most four. The iterations
-/// that pop the status stack at a PDI are charged to the initiators that filled it. Calls of the text and
-/// of the library count as no iterations. After an error nothing is promised about the count.
+/// that pop the status stack at a PDI are charged to the openers that filled it. Calls of the text and of
+/// the library count as no iterations. After an error nothing is promised about the count.
 pub fn compute_counted<T: TextSource, S: Ledger>(
     _alloc: Global,
     text: T,
@@ -239,12 +240,12 @@ pub fn compute_counted<T: TextSource, S: Ledger>(
 ///
 /// `levels` must be as long as the paragraph's stored classes, and gets the levels. `classes` must be a copy of the
 /// stored classes, and gets the classes under overrides. `runs` must be empty, and gets the level runs. If an
-/// allocation fails, returns an error, and all three may hold anything.
+/// allocation fails, returns an error, and all three may then hold anything.
 ///
 /// With [`StepUnit::Character`] there is at least one iteration for each character, and at most four. With
 /// [`StepUnit::CodeUnit`] there are at most four for each code unit. No lower bound holds there, because a search tests
 /// sixteen code units in one iteration. The iterations that pop the status stack at a PDI are charged to the
-/// initiators that filled it. Calls of the text and of the library count as no iterations. After an error nothing is
+/// openers that filled it. Calls of the text and of the library count as no iterations. After an error nothing is
 /// promised about the count.
 pub fn find_levels_counted<T: TextSource, S: Ledger>(
     paragraph: &Paragraph<'_, T>,

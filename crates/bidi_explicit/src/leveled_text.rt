@@ -11,8 +11,11 @@ use std::alloc::AllocError;
 /// A text with the stored class and the explicit level of each code unit.
 #[derive(Copy)]
 pub struct LeveledText<'t, T: TextSource> {
+    /// The text.
     pub text: T,
+    /// The stored class of each code unit.
     pub original_classes: &'t [BidiClass],
+    /// The explicit level of each code unit.
     pub levels: &'t [Level],
     ghost class_each: { length original_classes.now ≡ text_len (T.text text) },
     ghost level_each: { length levels.now ≡ text_len (T.text text) },

@@ -8,7 +8,7 @@ use crate::prepare::LevelRun;
 use bidi_base::char_data::BidiClass;
 use bidi_base::search::{Among, ClassTest, first_passing};
 
-/// Whether a class of a run passes a test.
+/// Returns false only if no class of a run passes a test.
 fn one_passes<C: ClassTest>(test: C, run: &LevelRun, classes: &[BidiClass]) -> bool
     requires { run.now.end ≤ length classes.now }
     ensures { result ≡ false → (u : ℕ) → run.now.start ≤ u → u < run.now.end → C.test test (class_at classes.now u) ≡ false }
@@ -18,7 +18,9 @@ fn one_passes<C: ClassTest>(test: C, run: &LevelRun, classes: &[BidiClass]) -> b
     first_passing(Among { test, classes }, 1, start, end) < end
 }
 
-/// Returns whether no class of some runs passes a test.
+/// Returns true only if no class of some runs passes a test.
+///
+/// Each run must end at or before the last class.
 pub fn none_passes<C: ClassTest>(test: C, runs: &[LevelRun], classes: &[BidiClass]) -> bool
     requires { All (λ r. r.1 ≤ length classes.now) (map bounds runs.now) }
     ensures { IsTrue result → (u : ℕ) → in_runs (map bounds runs.now) u ≡ true → C.test test (class_at classes.now u) ≡ false }

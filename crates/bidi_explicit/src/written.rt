@@ -20,7 +20,7 @@ pub fn is_kept_in_place(class: BidiClass) -> bool
     !matches!(class, BN)
 }
 
-/// The class of a code unit of class `before` after `class` is written over it. BN stays.
+/// Returns the class of a code unit of class `before` after `class` is written over it. BN stays.
 fn written_over(before: BidiClass, class: BidiClass) -> BidiClass
     ensures { result ≡ (if is_kept_in_place before then class else before) }
 {
@@ -50,6 +50,9 @@ fn write_over<S: Ledger>(
 }
 
 /// Writes `class` to the code units of `runs` from `from` up to `to`, except to those with BN.
+///
+/// Each run must be non-empty and end at or before the start of the next, and `to` must be at most the number of
+/// classes.
 pub fn write_over_runs(
     runs: &[LevelRun],
     classes: &mut [BidiClass],
@@ -86,8 +89,8 @@ fn write_over_runs_with_new_count<S: Ledger>(
 
 /// Like [`write_over_runs`], and counts each loop iteration in `steps`.
 ///
-/// If every run ends after `from`, each run that begins before `to` has a code unit between `from` and
-/// `to`. So there are at most two iterations for each of these code units.
+/// If `from` is before `to` and the first run ends after `from`, each run that begins before `to` has a code
+/// unit between `from` and `to`. So there are at most two iterations for each code unit of the runs there.
 pub fn write_over_runs_counted<S: Ledger>(
     runs: &[LevelRun],
     classes: &mut [BidiClass],
@@ -113,7 +116,7 @@ pub fn write_over_runs_counted<S: Ledger>(
     }
 }
 
-/// Whether there is a run at `index`, and it begins before `unit`.
+/// Returns whether there is a run at `index`, and it begins before `unit`.
 fn begins_below(runs: &[LevelRun], index: usize, unit: usize) -> bool
     ensures { result ≡ (nat_lt index (length runs.now) && nat_lt (get_or (map bounds runs.now) index (0, 0)).0 unit) }
 {

@@ -1,4 +1,5 @@
--- Isolates in one walk from the front, which counts those that are open: the matching PDI (BD9), the deciding character (P2), and what an FSI becomes (X5c).
+-- Isolates in one walk from the front, which counts those that are open: the matching PDI (BD9), the deciding character
+-- (P2), and what an FSI becomes (X5c).
 use Rattle.bidi_base.proofs.Common.{◌≡◌, ℕ, zero, suc, ◌+◌, ◌-◌, ◌<◌, ◌≤◌, Bool, true, false, not, ◌&&◌, ◌||◌, cond, List, [], ◌∷◌, ◌++◌, length, take, drop, map, find, Option, Some, None}
 use Rattle.bidi_base.proofs.Common.{unwrap_or, option_map, refl, ap, ◌∙◌, arith, inl, inr, lt-ltb, le-ltb, length-drop, range_with_len, list_any, take_more, cases_Bool, is_strong, class_at}
 use Rattle.bidi_base.proofs.Common.{count_between, is_closed_at, is_before, match_of, is_isolate_initiator_at, is_pdi_at, is_isolate_initiator, is_pdi, matching_pdi, is_inside, is_isolated, deciding_class}

@@ -1,4 +1,5 @@
--- The levels of a paragraph: how many they are, where they lie, and that one character of class BN is as good as another.
+-- The levels of a paragraph: how many they are, where they lie, and that one character of class BN is as good as
+-- another.
 use Rattle.bidi_base.proofs.Common.{◌≡◌, ℕ, ◌≤◌, List, [], ◌∷◌, length, map, Option, refl, append-nil, arith, All, IfSome, length-map, All-nil, All-head, All-tail, All-append, paragraph_level}
 use Rattle.bidi_base.proofs.Common.{stored_classes, AreLevelsFrom, Source, stored_levels, text_classes, text_levels, paragraph_levels, per_unit, replicate}
 use Rattle.bidi_base.specs.declared.char_data.BidiClass.{BidiClass}
@@ -27,7 +28,7 @@ pub stored_levels-AreLevelsFrom : (source : Source) (base_level : Option ℕ) (p
 unfolding stored_levels
 stored_levels-AreLevelsFrom source base_level piece few k d within = grind (arith, levels_in-IsStoredIn, paragraph_level-few)
 
--- those of a text are one a character
+-- a text has one of them for each character
 pub length-text_levels : (source : Source) (base_level : Option ℕ) (pieces : List (List ℕ)) (chars : List ℕ) → joined pieces ≡ chars → length (text_levels source base_level pieces) ≡ length chars
 unfolding text_levels
 length-text_levels source base_level pieces chars whole = grind (arith, length-values, length-stored_levels)

@@ -93,7 +93,8 @@ filled_is table (v ∷ new) (c ∷ classes) p before long kept front removed =
     here : v ≡ cond (is_removed c) before (level_in table p)
     here = grind arith
 
--- a list is what fills the table, if it has the table's levels at kept characters, and at a removed one the level before it
+-- a list is what fills the table, if it has the table's levels at kept characters, and at a removed one the level
+-- before it
 pub filled_levels-is : (table : List (ℕ × ℕ)) (new : List ℕ) (classes : List BidiClass) (before : ℕ) → length new ≡ length classes
     → ((p : ℕ) → is_kept_at classes p ≡ true → p < length classes → level_in table p ≡ level_at new p)
     → (0 < length classes → is_kept_at classes 0 ≡ false → level_at new 0 ≡ before)
@@ -105,7 +106,8 @@ filled_levels-is table new classes before long kept front removed =
     (λ some gone. front some (ap not gone))
     (λ k below gone. simp add-one at (removed k (omega arith) (simp (add-one k, gone))))
 
--- the levels of a paragraph, as a pass leaves them: some places were resolved, in sequences of any order, and what X9 removed was filled
+-- the levels of a paragraph, as a pass leaves them: some places were resolved, in sequences of any order, and what X9
+-- removed was filled
 pub levels_in-written : (para_level : ℕ) (source_classes : List BidiClass) (brackets : List (Option BidiMatchedOpeningBracket)) (stored : List BidiClass) (levels : List ℕ) (classes : List BidiClass) (seqs : List RunSequence) (resolved new : List ℕ)
     → stored ≡ stored_classes source_classes → levels ≡ explicit_levels para_level stored → classes ≡ explicit_classes para_level stored → IsPermutation (sequences para_level stored levels) seqs → AreResolved source_classes brackets levels classes resolved seqs
     → length new ≡ length stored

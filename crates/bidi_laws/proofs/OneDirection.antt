@@ -1,4 +1,5 @@
--- A list in which each class is a neutral or one direction, which stands at its ends too: N0 to N2 give that direction to all.
+-- A list in which each class is a neutral or one direction, which stands at its ends too: N0 to N2 give that direction
+-- to all.
 use Rattle.bidi_base.proofs.Common.{◌≡◌, ℕ, Bool, true, false, cond, if◌then◌else◌, List, [], ◌∷◌, length, take, reverse, filter_map, find, Option, Some, None}
 use Rattle.bidi_base.proofs.Common.{option_map, refl, ap, ◌∙◌, arith, ◌⊎◌, inl, inr, sym, and_parts, list_all, list_any, bracket_pairs, as_direction, is_l_or_r}
 use Rattle.bidi_base.proofs.Common.{is_ni, same_class, direction_of, nearest_direction, pair_direction, n0, n1_rule, neutral_classes}

@@ -1,8 +1,8 @@
--- The openers that are open, as one stack of indexes: an opener is pushed, a PDI takes away the innermost isolate and all inside it,
--- a PDF the innermost embedding if no isolate is inside that. It holds exactly what `open_at` counts.
+-- The openers that are open, as one stack of indexes: an opener is pushed, a PDI takes away the innermost isolate and
+-- all inside it, a PDF the innermost embedding if no isolate is inside that. It holds exactly what `open_at` counts.
 --
--- Of that stack the initiators are what a stack of isolates alone holds, and so they are the isolates round a place. The embeddings
--- level with a place c are what a stack of those alone holds, as long as no isolate round c has ended.
+-- Of that stack the initiators are what a stack of isolates alone holds, and so they are the isolates round a place.
+-- The embeddings level with a place c are what a stack of those alone holds, as long as no isolate round c has ended.
 use Rattle.bidi_base.proofs.Common.{◌≡◌, ℕ, zero, suc, ◌+◌, ◌-◌, ◌<◌, ◌≤◌, Bool, true, false, not, ◌||◌, cond, List, [], ◌∷◌, length, reverse, rules, refl, sym, ap, subst, ◌∙◌, arith}
 use Rattle.bidi_base.proofs.Common.{◌⊎◌, inl, inr, add-one, ⊤, filter, range_with_len, cases_Bool, both_ways, and_from, and_right, or_left, false_from_ne_true, reverse-append}
 use Rattle.bidi_base.proofs.Common.{filter-append, is_isolate_initiator, is_embedding_initiator, is_opener, is_pdi, is_pdf, class_at, match_of, is_before, is_isolate_initiator_at, is_pdi_at, matching_pdi}

@@ -1,4 +1,5 @@
--- A pass that begins sequences and lets them go on: once each kept character stands in one of them, once, they are the isolating run sequences.
+-- A pass that begins sequences and lets them go on: once each kept character stands in one of them, once, they are the
+-- isolating run sequences.
 use Rattle.bidi_base.proofs.Common.{◌≡◌, ℕ, zero, suc, ◌+◌, ◌<◌, ◌≤◌, Bool, true, not, cond, List, [], ◌∷◌, ◌++◌, length, map, get_or, set, count_by, append-nil, append_assoc, Some, None, refl}
 use Rattle.bidi_base.proofs.Common.{sym, arith, filter, range_with_len, sum_by, IsPermutation, sum_by-cons, sum_by-append, IsPermutation-trans, IsPermutation-append_left}
 use Rattle.bidi_base.proofs.Common.{IsPermutation-append_right, IsPermutation-append_comm, sum_by-IsPermutation, last_or, RunSequence, is_kept_at, kept_indexes, successor, is_first, with_ends}

@@ -27,7 +27,7 @@ innermost-All P [] x h e = absurd (cc e)
 innermost-All {X} P (y ∷ []) x h e = let same : y ≡ x = cc e in subst P same (All-head P y [] h)
 innermost-All P (y ∷ z ∷ xs) x h e = innermost-All P (z ∷ xs) x (All-tail P y (z ∷ xs) h) e
 
--- ---- one value a unit, where the value of one character changes
+-- ---- one value for each code unit, if the value of one character changes
 
 -- the units of a character
 abbrev pub char_units : (ℕ → ℕ) → List ℕ → ℕ → Range ℕ

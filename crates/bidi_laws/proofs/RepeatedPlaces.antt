@@ -1,4 +1,5 @@
--- The units of some characters: what is at them is what is at the characters, repeated; and the units that a pass reads are those of the characters that it reads.
+-- The units of some characters: what is at them is what is at the characters, repeated; and the units that a pass reads
+-- are those of the characters that it reads.
 use Rattle.bidi_base.proofs.Common.{◌≡◌, ◌≢◌, ◌⊎◌, ℕ, zero, suc, ◌+◌, ◌-◌, ◌<◌, ◌≤◌, Bool, true, List, [], ◌∷◌, ◌++◌, length, map, get_or, replicate, refl, sym, ap, ◌∙◌, arith, inl, inr, filter}
 use Rattle.bidi_base.proofs.Common.{range_with_len, cases_eq, flat_map-append, All-nil, All-cons, All-head, All-tail, All-append, All-filter, filter-append, length-map, ext_get_or}
 use Rattle.bidi_base.proofs.Common.{is_kept_in_place, between, class_at, at_indexes, text_len, unit_index, per_unit, per_char, IsPerChar, IsLine, char_index, chars_in_runs, kept_in_place, units_in_runs}

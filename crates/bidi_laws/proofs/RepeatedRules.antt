@@ -1,4 +1,5 @@
--- Repetition, rule by rule: W1 to W3, W5 to W7, N1 and N2 commute with it, and W4 does where it changes no item of several units.
+-- Repetition, rule by rule: W1 to W3, W5 to W7, N1 and N2 commute with it, and W4 does where it changes no item of
+-- several units.
 use Rattle.bidi_base.proofs.Common.{◌≡◌, ℕ, not, List, length, unwrap_or, refl, if◌then◌else◌, arith, as_direction, is_nsm, is_ni}
 use Rattle.bidi_base.proofs.Common.{same_class, nearest, per_unit, carried, w1_rule, w1, nearest_direction, n1_rule, n1_n2}
 use Rattle.bidi_base.specs.declared.char_data.BidiClass.{BidiClass}

@@ -1,4 +1,5 @@
--- What the levels of sequences are, once some of them are resolved and once all are: bounds, and what they do not depend on.
+-- What the levels of sequences are, once some of them are resolved and once all are: bounds, and what they do not
+-- depend on.
 use Rattle.bidi_base.proofs.Common.{◌≡◌, ℕ, suc, ◌+◌, ◌<◌, ◌≤◌, true, cond, eqb, List, [], ◌∷◌, ◌++◌, length, get_or, map, count_by, Option, None, refl, ap, ◌∙◌, arith, rules, AllByRecursion}
 use Rattle.bidi_base.proofs.Common.{length-map, map-append, sum_by-cons, sum_by-append, is_removed, first_or, Source, stored_classes, explicit_levels, explicit_classes, RunSequence, is_kept_at}
 use Rattle.bidi_base.proofs.Common.{level_at, sequences, weak_classes, n0_pair, n0, neutral_classes, implicit_levels, resolved_levels, sequence_levels, level_in, filled_levels, levels_in}

@@ -1,4 +1,5 @@
--- Level runs: each is a stretch of characters that follow one another, and a sequence that goes on does so at the first character of a run.
+-- Level runs: each is a stretch of characters that follow one another, and a sequence that goes on does so at the first
+-- character of a run.
 use Rattle.bidi_base.proofs.Common.{◌≡◌, ℕ, zero, suc, ◌+◌, ◌-◌, ◌<◌, ◌≤◌, true, false, List, [], ◌∷◌, length, Some, refl, subst, arith, ◌⊎◌, inl, inr, filter, range_with_len, cases_Bool}
 use Rattle.bidi_base.proofs.Common.{false_from_ne_true, last_or, is_isolate_initiator_at, matching_pdi, is_kept_at, next_kept, kept_before, level_at, have_one_level, successor, is_first, begins_run}
 use Rattle.bidi_base.specs.declared.char_data.BidiClass.{BidiClass}
@@ -49,7 +50,8 @@ module _ (classes : List BidiClass) (levels : List ℕ) where
         none p,
       ))
 
-  -- the characters from a up to b are a level run: one begins at a, or a is the front of the paragraph, and none begins after it before b
+  -- the characters from a up to b are a level run: one begins at a, or a is the front of the paragraph, and none begins
+  -- after it before b
   pub record IsLevelRun (a b : ℕ) : Type 0 where
     pub not_empty : a < b
     pub within : b ≤ length classes

@@ -1,4 +1,5 @@
--- Where the characters of sequences stand: each is kept, no two sequences share one, and none stands twice. What their levels and ends are.
+-- Where the characters of sequences stand: each is kept, no two sequences share one, and none stands twice. What their
+-- levels and ends are.
 use Rattle.bidi_base.proofs.Common.{◌≡◌, ℕ, zero, suc, ◌+◌, ◌<◌, ◌≤◌, Bool, true, cond, eqb, List, [], ◌∷◌, length, get_or, take, count_by, arith, filter, range_with_len, length-map, get_or-map}
 use Rattle.bidi_base.proofs.Common.{sum_by-cons, sum_by-append, sum_by-IsPermutation, RunSequence, is_kept_at, kept_indexes, is_first, sequence_from, sequences, flat_map}
 use Rattle.bidi_base.specs.declared.char_data.BidiClass.{BidiClass}

@@ -191,7 +191,8 @@ module _ (para_level : ℕ) (classes : List BidiClass) where
   classes_of-more : (q : ℕ) (stack : List ℕ) → classes_of (q ∷ stack) ≡ classes_of stack ++ class_at classes q ∷ []
   classes_of-more q stack = grind (arith, common_steps)
 
-  -- the status on top is that inside the openers, and nothing overflowed exactly if none of them asks for too high a level
+  -- the status on top is that inside the openers, and nothing overflowed exactly if none of them asks for too high a
+  -- level
   record IsStatusOf (stack : List ℕ) : Type 0 where
     top : (inside_all stack).top.status ≡ status_inside (start_status para_level) (classes_of stack)
     clear : is_clear (inside_all stack) ≡ not (is_cut (start_status para_level) (classes_of stack))

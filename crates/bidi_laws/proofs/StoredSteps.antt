@@ -1,4 +1,6 @@
--- A paragraph that is read from the front, one character more: its stored classes (X5c), its deciding character (P2) and its open isolates. The rules at what was read so far are what a pass holds, since an isolate with no matching PDI ends at the end.
+-- A paragraph that is read from the front, one character more: its stored classes (X5c), its deciding character (P2)
+-- and its open isolates. The rules at what was read so far are what a pass holds, since an isolate with no matching PDI
+-- ends at the end.
 use Rattle.bidi_base.proofs.Common.{◌≡◌, ℕ, suc, ◌<◌, Bool, true, false, not, ◌&&◌, ◌||◌, cond, List, [], ◌∷◌, ◌++◌, length, set, map, Option, Some, None, option_map, refl, ap, ◌∙◌}
 use Rattle.bidi_base.proofs.Common.{arith, inl, inr, cases_Bool, and-true, and_parts, All, option_or, length-map, map-append, length-set, length-map-range_with_len, All-nil, All-map}
 use Rattle.bidi_base.proofs.Common.{is_strong, class_at, innermost, outer, opened_by, decided_by, is_fsi, deciding_class, resolved_fsi, stored_classes}

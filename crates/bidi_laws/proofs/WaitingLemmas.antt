@@ -1,4 +1,5 @@
--- A pass over level runs: what is open waits for its match, and a run goes on with the sequence whose initiator its first character matches.
+-- A pass over level runs: what is open waits for its match, and a run goes on with the sequence whose initiator its
+-- first character matches.
 use Rattle.bidi_base.proofs.Common.{◌≡◌, ◌≢◌, ℕ, zero, suc, ◌+◌, ◌<◌, ◌≤◌, true, false, List, [], ◌∷◌, ◌++◌, length, map, get_or, set, length-append, append-nil, Option, Some, None, refl, subst}
 use Rattle.bidi_base.proofs.Common.{arith, ◌⊎◌, eq-eqb, ne_eqb, filter, range_with_len, IsPermutation, false_from_ne_true, get_or_append_left, length-set, last_or, is_isolate_initiator_at, is_pdi_at}
 use Rattle.bidi_base.proofs.Common.{matching_pdi, is_kept_at, kept_indexes, next_kept, have_one_level, successor, is_first, sequences, get_or-set_same, get_or-set_other}
@@ -57,7 +58,8 @@ module _ (classes : List BidiClass) (levels : List ℕ) where
   begun_at [] s begun within = absurd (omega arith)
   begun_at (xs ∷ out) s begun within = grind (arith, begun_at out)
 
-  -- an open initiator that ended its level run stands in the sequence at s, which waits; one inside its run waits for nothing
+  -- an open initiator that ended its level run stands in the sequence at s, which waits; one inside its run waits for
+  -- nothing
   abbrev pub IsWaiting : List (List ℕ) → ℕ → Option ℕ → Type 0
   IsWaiting out i None = have_one_level levels (next_kept classes i) i ≡ true
   IsWaiting out i (Some s) = (s < length out) × Member i (get_or out s []) × EndsRun classes levels i

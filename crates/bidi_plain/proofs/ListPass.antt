@@ -14,7 +14,8 @@ use Rattle.bidi_base.proofs.Lists.{last_or-append}
 use Rattle.bidi_laws.proofs.WaitingLemmas.{IsPass-end, IsPass-removed, is_first-none_open, Member-append_right, IsWaiting, IsPass, IsPass-begin, IsPass-join, IsPass-skip}
 
 module _ (classes : List BidiClass) (levels : List ℕ) where
-  -- all before p came, l was the last of them that X9 keeps, and came to the sequence at s; what is open was read up to l
+  -- all before p came, l was the last of them that X9 keeps, and came to the sequence at s; what is open was read up to
+  -- l
   pub record IsGoing (p : ℕ) (out : List (List ℕ)) (waits : List (Option ℕ)) (l s : ℕ) : Type 0 where
     pub kept : is_kept_at classes l ≡ true
     pub before : l < p

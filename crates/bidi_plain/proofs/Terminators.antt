@@ -27,7 +27,8 @@ w5_rule-ET before c after e = grind arith
 w5_rule-other : (before : List BidiClass) (c : BidiClass) (after : List BidiClass) → is_et c ≡ false → c ≡ w5_rule before c after
 w5_rule-other before c after e = grind arith
 
--- the classes before `start` are done, and `after_number` says whether a European number stands before the next block of terminators
+-- the classes before `start` are done, and `after_number` says whether a European number stands before the next block
+-- of terminators
 pub record IsAtBlock (old now : List BidiClass) (after_number : Bool) (start : ℕ) : Type 0 where
   pub rewritten : IsRewritten w5_rule old now start
   pub number : start ≤ length old → after_number ≡ is_number_next (reverse (take start old))

@@ -1,4 +1,5 @@
--- The units of some ranges below a unit, as they are counted and paid for by a walk, and the characters that begin in them.
+-- The units of some ranges below a unit, as they are counted and paid for by a walk, and the characters that begin in
+-- them.
 use Rattle.bidi_base.proofs.Common.{◌≡◌, ℕ, zero, suc, ◌+◌, ◌-◌, ◌*◌, ◌<◌, ◌≤◌, List, [], ◌∷◌, length, true, false, get_or, take}
 use Rattle.bidi_base.proofs.Common.{drop, arith, length-append, length-take, length-drop, flat_map-append, All}
 use Rattle.bidi_base.proofs.Common.{slice_range, cond-true, cond-false, All-head, All-tail, char_index, IsLine, are_ordered, are_ordered_from, chars_in_runs, units_in_runs, AreLines, take_more}
@@ -42,7 +43,8 @@ resolved_to-waits w u h = cond-true (waits w.before) w.first u h
 pub resolved_to-idle : (w : Walk) (u : ℕ) → waits w.before ≡ false → resolved_to w u ≡ u
 resolved_to-idle w u h = cond-false (waits w.before) w.first u h
 
--- some of the ranges and the units that they have between two units, where the turns over those ranges are paid by these
+-- some of the ranges and the units that they have between two units, where these pay for the iterations over those
+-- ranges
 pub paid-by-part : (index : ℕ) (runs : List (ℕ × ℕ)) (u v a b : ℕ) → are_ordered runs ≡ true → u ≤ v
     → a + 2 * count_below (drop index runs) u ≤ b + 2 * count_below (drop index runs) v
     → a + 2 * count_below runs u ≤ b + 2 * count_below runs v

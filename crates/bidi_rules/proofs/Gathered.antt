@@ -1,4 +1,5 @@
--- The brackets of a sequence by the units at which they begin: as they are gathered, and that they pair as the definitions say.
+-- The brackets of a sequence by the units at which they begin: as they are gathered, and that they pair as the
+-- definitions say.
 use Rattle.bidi_base.proofs.Common.{◌≡◌, ℕ, suc, ◌+◌, ◌<◌, List, [], ◌∷◌, ◌++◌, length, map, get_or, refl, sym, ap, subst, ◌∙◌, arith, flat_map-append, length-map, counted_brackets}
 use Rattle.bidi_base.proofs.Common.{AreNestedPairs, brackets_from, found_brackets, ArePairsOf, at_indexes, Source, unit_index, bounds, kept_in_place, Range, add-zero}
 use Rattle.bidi_base.specs.declared.brackets.Bracket.{Bracket}

@@ -1,4 +1,5 @@
--- N1 for the direction against the embedding one, in one walk: neutrals wait from a class of that direction to the next class with one.
+-- N1 for the direction against the embedding one, in one walk: neutrals wait from a class of that direction to the next
+-- class with one.
 use Rattle.bidi_base.proofs.Common.{◌≡◌, ℕ, zero, suc, ◌+◌, ◌-◌, ◌<◌, ◌≤◌, Bool, true, false, not, ◌&&◌, List, [], ◌∷◌, ◌++◌, length, map, replicate, Some, refl, ap, ◌∙◌}
 use Rattle.bidi_base.proofs.Common.{arith, append_assoc, append-nil, ◌⊎◌, filter, list_all, range_with_len, cases_Bool, cases_lt, map-append, as_direction, is_l_or_r}
 use Rattle.bidi_base.proofs.Common.{is_ni, is_weak_resolved, stands_for, nearest_direction, n1_n2, n2_rule, at_indexes, class_at, in_runs}

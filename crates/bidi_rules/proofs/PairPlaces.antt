@@ -1,4 +1,5 @@
--- N0 over the units of a sequence, pair by pair: what a search over units says of the characters between two brackets and before them, and what is written.
+-- N0 over the units of a sequence, pair by pair: what a search over units says of the characters between two brackets
+-- and before them, and what is written.
 use Rattle.bidi_base.proofs.Common.{◌≡◌, ℕ, zero, suc, ◌+◌, ◌-◌, ◌<◌, ◌≤◌, true, false, ltb, List, length, map, get_or, take, drop, reverse, Some, None, refl, sym, ap, ◌∙◌, arith, inl, inr}
 use Rattle.bidi_base.proofs.Common.{lt-ltb, le-ltb, length-take, length-drop, get_or-take, get_or-drop, list_any, Range, cases_lt, list_any_at, list_any_none, as_direction, is_kept_in_place}
 use Rattle.bidi_base.proofs.Common.{stands_for, AreNestedPairs, nearest_direction, class_at, IsPerChar, bounds, in_runs, kept_in_place, slice_range}

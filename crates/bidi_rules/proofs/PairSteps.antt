@@ -76,7 +76,8 @@ module _ (len_of : ℕ → ℕ) (h : HasUnits len_of) (chars : List ℕ) (origin
   -- ---- what is known ahead
 
   module _ (pairs : List (ℕ × ℕ)) (nested : AreNestedPairs (length ks) pairs) (d : BidiClass) where
-    -- within each pair from the one at k on, the first class that stands for the direction is the one at the unit `next`, or after it; pairs that open at a mark are left out
+    -- within each pair from the one at k on, the first class that stands for the direction is the one at the unit
+    -- `next`, or after it; pairs that open at a mark are left out
     pub record Foresees (cs : List BidiClass) (k next : ℕ) : Type 0 where
       pub ahead : (m : ℕ) → k ≤ m → m < length pairs → is_nsm (class_at sources (pair_at pairs m).0) ≡ false → (x : ℕ)
           → (pair_at pairs m).0 < x → x < (pair_at pairs m).1 → at x ≤ next → stands_for d (class_at cs x) ≡ eqb (at x) next

@@ -1,4 +1,5 @@
--- The brackets of a line, gathered unit by unit: those units at which no character begins have none, nor have those of another class than ON.
+-- The brackets of a line, gathered unit by unit: those units at which no character begins have none, nor have those of
+-- another class than ON.
 use Rattle.bidi_base.proofs.Common.{◌≡◌, ℕ, zero, suc, ◌+◌, ◌-◌, ◌<◌, ◌≤◌, false, List, [], ◌∷◌, ◌++◌, length, get_or, None, refl, ap, ◌∙◌, arith, append-nil, range_with_len, flat_map-append}
 use Rattle.bidi_base.proofs.Common.{same_class, between, class_at, Source, char_at, char_index, unit_index, IsLine, kept_in_place, flat_map}
 use Rattle.bidi_base.specs.declared.brackets.Bracket.{Bracket}

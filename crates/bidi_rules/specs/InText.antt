@@ -1,4 +1,4 @@
--- The words of the passes over a text.
+-- The definitions of the passes, over a text.
 use Rattle.std.specs.Prelude.{ℕ, List}
 use Rattle.std.specs.declared.ops.Range.{Range}
 use Rattle.bidi_base.specs.declared.brackets.Bracket.{Bracket}
@@ -15,7 +15,7 @@ use Rattle.bidi_rules.specs.declared.neutral.pairs.Row.{Row}
 module _ {e : Encoding} (text : Text e) where
   -- ---- W1 to W7
 
-  -- the code units of the character that begins at a code unit
+  -- the length of the character that begins at an index, or 1 if none begins there
   abbrev pub len_at : ℕ → ℕ
   len_at = weak.len_at e.len_of text.chars
 
@@ -31,11 +31,11 @@ module _ {e : Encoding} (text : Text e) where
 
   -- ---- N0
 
-  -- the brackets of some characters that count, each with its place
+  -- the brackets of some characters that count, each with the index of its first code unit
   abbrev pub placed_brackets : Source → List BidiClass → List ℕ → List Bracket
   placed_brackets source classes indexes = neutral.placed_brackets e.len_of text.chars source classes indexes
 
-  -- pairs of places, from pairs of indexes into a list of characters
+  -- pairs of unit indexes, from pairs of indexes in a list of characters
   abbrev pub at_unit_indexes : List ℕ → List (ℕ × ℕ) → List (ℕ × ℕ)
   at_unit_indexes ks indexes = pairs.at_unit_indexes e.len_of text.chars ks indexes
 

@@ -1,5 +1,4 @@
--- The neutrals of a sequence over the list of its characters: what is gathered from the units, and what is
--- written back to them.
+-- The neutrals of a sequence, over the list of its characters: the brackets that the pass reads, and what N0 leaves.
 use Rattle.std.specs.Prelude.{◌≡◌, ℕ, Bool, true, false, List, [], ◌∷◌, get_or, map, flat_map, filter}
 use Rattle.std.specs.List.{list_all}
 use Rattle.std.specs.Option.{option_map_or}
@@ -19,32 +18,32 @@ use Rattle.bidi_base.specs.FoundBrackets.{brackets_from}
 use Rattle.bidi_base.specs.PairSearch.{HasRead}
 use Rattle.bidi_explicit.specs.SequenceUnits.{is_seen}
 
--- the characters among those with these indexes that the pass takes as kept, where `units` has the class of each unit
+-- of these character indexes, those that the pass treats as kept; `classes` has one for each code unit
 abbrev pub kept_among : (ℕ → ℕ) → List ℕ → List BidiClass → List ℕ → List ℕ
 kept_among len_of chars classes indexes = filter (λ k. is_kept_in_place (class_at classes (unit_index len_of chars k))) indexes
 
--- the values of the characters with these indexes, where `units` has one a unit
+-- the values at these character indexes; `units` has one for each code unit
 abbrev pub values_of : {X : Type 0} → X → (ℕ → ℕ) → List ℕ → List X → List ℕ → List X
 values_of d len_of chars units indexes = at_indexes d units (map (unit_index len_of chars) indexes)
 
--- the bracket that the character with an index is, if it counts, by the unit at which it begins
+-- the bracket at a character index, if it counts, with the index of its first code unit
 abbrev pub placed_bracket : (ℕ → ℕ) → List ℕ → Source → List BidiClass → ℕ → List Bracket
 placed_bracket len_of chars source classes k =
     brackets_from (unit_index len_of chars k) (counted_bracket (class_at classes (unit_index len_of chars k))
     (source.bracket_of (get_or chars k 0))
     ∷ [])
 
--- those of the characters with these indexes
+-- the brackets at these character indexes
 abbrev pub placed_brackets : (ℕ → ℕ) → List ℕ → Source → List BidiClass → List ℕ → List Bracket
 placed_brackets len_of chars source classes indexes = flat_map (placed_bracket len_of chars source classes) indexes
 
--- the bracket that begins at a unit, if one does and it counts
+-- the bracket that begins at a code unit, if one does and it counts
 abbrev pub unit_bracket : (ℕ → ℕ) → List ℕ → Source → List BidiClass → ℕ → List Bracket
 unit_bracket len_of chars source classes u =
     option_map_or (λ e. brackets_from u (counted_bracket (class_at classes u) (source.bracket_of e.0) ∷ []))
     (char_at len_of chars u) []
 
--- those at the units from `low` up to `high`
+-- the brackets that begin at the code units from `low` up to `high`
 abbrev pub unit_brackets : (ℕ → ℕ) → List ℕ → Source → List BidiClass → ℕ → ℕ → List Bracket
 unit_brackets len_of chars source classes low high = flat_map (unit_bracket len_of chars source classes) (between low high)
 
@@ -63,7 +62,7 @@ turns_from _ EN = true
 turns_from _ AN = true
 turns_from _ _ = false
 
--- what the steps over these runs stand on
+-- what N0 requires of the runs, of sos and of the classes
 pub record IsReady (len_of : ℕ → ℕ) (chars : List ℕ) (runs : List (Range ℕ)) (sos : BidiClass) (old : List BidiClass) : Type 0 where
   pub ordered : are_ordered (map bounds runs) ≡ true
   pub are_lines : AreLines len_of chars (map bounds runs)
@@ -71,7 +70,8 @@ pub record IsReady (len_of : ℕ → ℕ) (chars : List ℕ) (runs : List (Range
   pub side : is_l_or_r sos ≡ true
   pub resolved : list_all is_weak_resolved (values_of L len_of chars old (kept_in_place len_of chars old (map bounds runs))) ≡ true
 
--- N0 is done for these pairs: the classes of the characters, and at the units
+-- N0 is done for these pairs: the characters have the classes of the rule, and code units outside the sequence or with
+-- BN are unchanged
 pub record IsPaired (len_of : ℕ → ℕ) (chars : List ℕ) (original_classes old mid : List BidiClass) (runs : List (Range ℕ))
     (e sos : BidiClass) (pairs : List (ℕ × ℕ)) : Type 0 where
   pub paired : let read = kept_in_place len_of chars old (map bounds runs) in

@@ -1,4 +1,5 @@
--- N0 over the units of a sequence: what is found around a bracket, what is asked of a pair, and what it writes.
+-- N0 over the code units of a sequence: what searches find around a bracket, the direction that a pair takes, and what
+-- is written.
 use Rattle.std.specs.Prelude.{◌≡◌, ◌⊎◌, ◌<◌, ◌≤◌, true, false, ℕ, ◌+◌, nat_lt, Bool, if◌then◌else◌, List, length, map, get_or, drop, take, Option, Some, None, IsTrue}
 use Rattle.bidi_base.specs.declared.char_data.BidiClass.{BidiClass}
 use Rattle.bidi_base.specs.declared.char_data.BidiClass.TheVariants.{L, R}
@@ -12,25 +13,25 @@ use Rattle.bidi_rules.specs.declared.neutral.pairs.Place.{Place}
 use Rattle.bidi_rules.specs.declared.neutral.pairs.PairPass.{PairPass}
 use Rattle.bidi_rules.specs.declared.neutral.pairs.Row.{Row}
 
--- the first unit of some ranges from `from` on and below `to` that stands for a direction, or else `to`
+-- the first code unit of some ranges from `from` on and below `to` that counts as this direction, or else `to`
 pub record IsFirstFor (direction : BidiClass) (runs : List (ℕ × ℕ)) (classes : List BidiClass) (from to u : ℕ) : Type 0 where
   pub within : u ≤ to
   pub before : (k : ℕ) → from ≤ k → k < u → in_runs runs k ≡ true → stands_for direction (class_at classes k) ≡ false
   pub at : u < to → (from ≤ u) × (in_runs runs u ≡ true) × (stands_for direction (class_at classes u) ≡ true)
 
--- no unit of the ranges from `from` on and below `to` has a direction
+-- no code unit of the ranges from `from` on and below `to` has a direction
 abbrev pub HasNoDirection : List (ℕ × ℕ) → List BidiClass → ℕ → ℕ → Type 0
 HasNoDirection runs classes from to = (k : ℕ) → from ≤ k → k < to → in_runs runs k ≡ true → as_direction (class_at classes k) ≡ None
 
--- the nearest direction at a unit of the ranges below `to`, or else the one given
+-- the nearest direction at a code unit of the ranges below `to`, or else `before`
 abbrev pub IsNearestBefore : BidiClass → List (ℕ × ℕ) → List BidiClass → ℕ → BidiClass → Type 0
 IsNearestBefore before runs classes to d =
     ((u : ℕ) × (u < to) × (in_runs runs u ≡ true) × (as_direction (class_at classes u) ≡ Some d)
     × HasNoDirection runs classes (u + 1) to)
     ⊎ ((d ≡ before) × HasNoDirection runs classes 0 to)
 
--- after `from` marks by their original classes stand in the ranges up to `end`, and BN: then a character that
--- is neither, or nothing
+-- from `from` up to `end`, the characters in the ranges are nonspacing marks by their stored classes, or BN; then comes
+-- a character that is neither, or `end` is the number of code units
 pub record IsMarksEnd (len_of : ℕ → ℕ) (chars : List ℕ) (runs : List (ℕ × ℕ)) (original_classes classes : List BidiClass)
     (from end : ℕ) : Type 0 where
   pub marks : (k : ℕ) → from ≤ unit_index len_of chars k → unit_index len_of chars k < end
@@ -40,21 +41,21 @@ pub record IsMarksEnd (len_of : ℕ → ℕ) (chars : List ℕ) (runs : List (�
       × (is_nsm (class_at original_classes end) ≡ false)
   pub within : end ≤ length classes
 
--- the unit at which the k-th of some characters begins; numbers past them go on rising
+-- the index at which the k-th of some characters begins; for each k past the last one, another and greater number
 abbrev pub unit_index_at : (ℕ → ℕ) → List ℕ → List ℕ → ℕ → ℕ
 unit_index_at len_of chars ks k = if nat_lt k (length ks) then unit_index len_of chars (get_or ks k 0) else text_len len_of chars + k
 
--- pairs of them, by these units
+-- pairs of these characters, by these indexes
 abbrev pub at_unit_indexes : (ℕ → ℕ) → List ℕ → List ℕ → List (ℕ × ℕ) → List (ℕ × ℕ)
 at_unit_indexes len_of chars ks pairs = map (λ p. (unit_index_at len_of chars ks p.0, unit_index_at len_of chars ks p.1)) pairs
 
--- the direction other than this one
+-- the opposite direction
 abbrev pub opposite_of : BidiClass → BidiClass
 opposite_of L = R
 opposite_of _ = L
 
--- whether a direction stands between the brackets of a pair: what was asked, and what is known of the next
--- place where it stands
+-- whether a direction is between the brackets of a pair, and the next code unit of this direction that the pass knows
+-- after the search
 pub record IsSearched (direction : BidiClass) (runs : List (ℕ × ℕ)) (classes : List BidiClass) (pair : Pair)
     (known next : ℕ) (answer : Bool) : Type 0 where
   pub looked : pair.is_marked ≡ true
@@ -64,7 +65,7 @@ pub record IsSearched (direction : BidiClass) (runs : List (ℕ × ℕ)) (classe
   pub kept : pair.is_marked ≡ false → pair.opening < known → next ≡ known
   pub sought : pair.is_marked ≡ false → known ≤ pair.opening → IsFirstFor direction runs classes pair.inside (length classes) next
 
--- what a pair takes, by what was asked of it
+-- the direction that a pair takes, by such searches (N0 b to d)
 pub record IsTaken (before : BidiClass) (runs : List (ℕ × ℕ)) (classes : List BidiClass) (pair : Pair)
     (walk new : PairPass) (taken : Option BidiClass) : Type 0 where
   pub embedding : Bool
@@ -77,37 +78,39 @@ pub record IsTaken (before : BidiClass) (runs : List (ℕ × ℕ)) (classes : Li
   pub nearest : embedding ≡ false → opposite ≡ true → IsNearestBefore before runs classes pair.opening context
   pub is : taken ≡ (if embedding then Some walk.embedding.direction else (if opposite then Some context else None))
 
--- the run of a unit: the first of some runs that ends after it
+-- the index of a run: it and the later runs have all code units of the runs from `unit` on, and it and the earlier runs
+-- have all those before `unit`
 pub record IsRunOf (runs : List (ℕ × ℕ)) (unit run : ℕ) : Type 0 where
   pub later : (k : ℕ) → unit ≤ k → in_runs (drop run runs) k ≡ in_runs runs k
   pub upto : (k : ℕ) → k < unit → in_runs (take (run + 1) runs) k ≡ in_runs runs k
   pub within : run ≤ length runs
 
--- where a bracket is: it ends where its character does
+-- where a bracket is: it ends where its character ends
 pub record IsPlace (len_of : ℕ → ℕ) (chars : List ℕ) (runs : List (ℕ × ℕ)) (bracket : Place) : Type 0 where
   pub ends : (k : ℕ) → k < length chars → bracket.unit ≡ unit_index len_of chars k → bracket.end ≡ unit_index len_of chars (k + 1)
   pub run : IsRunOf runs bracket.unit bracket.run
 
--- a bracket and the unit after it are in the ranges, and no mark begins there, nor BN
+-- a bracket and the code unit after it are in the ranges, and that code unit is neither BN nor a mark by its stored
+-- class
 pub record IsUnmarked (runs : List (ℕ × ℕ)) (original_classes classes : List BidiClass) (bracket : Place) : Type 0 where
   pub seen : (k : ℕ) → bracket.unit ≤ k → k ≤ bracket.end → in_runs runs k ≡ true
   pub kept : is_kept_in_place (class_at classes bracket.end) ≡ true
   pub plain : is_nsm (class_at original_classes bracket.end) ≡ false
   pub inside : bracket.end < length classes
 
--- a bracket and the marks after it have a direction, where the k-th character comes after the bracket, and
--- the marks end at `end`
+-- a bracket and the marks after it have the direction d: the k-th character comes after the bracket, and the marks end
+-- at `end`
 abbrev pub IsSetUpTo : (ℕ → ℕ) → List ℕ → List (ℕ × ℕ) → List BidiClass → BidiClass → ℕ → ℕ → ℕ → List BidiClass
     → List BidiClass → Type 0
 IsSetUpTo len_of chars runs original_classes d bracket k end old new =
     IsMarksEnd len_of chars runs original_classes old (unit_index len_of chars k) end
     × IsWrittenOver (is_seen runs old) d bracket end old new
 
--- and they end somewhere
+-- the same for some end of the marks
 abbrev pub IsSet : (ℕ → ℕ) → List ℕ → List (ℕ × ℕ) → List BidiClass → BidiClass → ℕ → ℕ → List BidiClass → List BidiClass → Type 0
 IsSet len_of chars runs original_classes d bracket k old new = (end : ℕ) × IsSetUpTo len_of chars runs original_classes d bracket k end old new
 
--- where a row was written last: all of it has its direction, and after its first unit only marks stand
+-- the row that was written last: all of it has its direction, and it has only marks after its first code unit
 pub record IsRow (len_of : ℕ → ℕ) (chars : List ℕ) (runs : List (ℕ × ℕ)) (original_classes classes : List BidiClass) (row : Row) : Type 0 where
   pub written : (u : ℕ) → row.from ≤ u → u < row.end → is_seen runs classes u ≡ true → class_at classes u ≡ row.direction
   pub marks : (k : ℕ) → row.from < unit_index len_of chars k → unit_index len_of chars k < row.end
@@ -128,7 +131,7 @@ pub record IsBracket (len_of : ℕ → ℕ) (chars : List ℕ) (runs : List (ℕ
   pub inside : bracket.unit < text_len len_of chars
   pub place : IsPlace len_of chars runs bracket
 
--- and this row was written last
+-- the same, and this row was written last
 pub record IsBracketAfter (len_of : ℕ → ℕ) (chars : List ℕ) (runs : List (ℕ × ℕ)) (original_classes classes : List BidiClass)
     (row : Row) (bracket : Place) : Type 0 where
   pub fits : IsBracket len_of chars runs original_classes classes bracket

@@ -53,7 +53,10 @@ impl NeutralResolver {
         }
     }
 
-    /// Resolves the neutrals of a sequence in place, see [`resolve_neutral`].
+    /// Resolves the neutrals of a sequence in place, as [`resolve_neutral`] does.
+    ///
+    /// Returns an error only if an allocation fails, and all classes are then unchanged. The resolver can be used
+    /// again after an error.
     pub fn resolve<D: BidiDataSource, T: TextSource>(
         &mut self,
         text: T,
@@ -86,7 +89,7 @@ impl NeutralResolver {
         Ok(())
     }
 
-    /// Reads the brackets of a sequence that count, by the indices at which they begin.
+    /// Reads the brackets of a sequence that count, with the indices at which they begin.
     fn gather<D: BidiDataSource, T: TextSource>(
         &mut self,
         text: T,
@@ -219,14 +222,15 @@ pub fn resolve_up_to_n1<D: BidiDataSource, T: TextSource>(
 /// Each code unit of `processing_classes` has the class of its character. In the sequence this is the class
 /// after W7, or BN if X9 removes the character. `levels` and `original_classes` also have one entry for
 /// each code unit, and `original_classes` has the stored classes. The sequence fits the text. The embedding
-/// direction comes from the level at the sequence's first code unit that is not BN. No other level is read.
+/// direction is that of the level at the sequence's first code unit that is not BN. No other level is read.
 ///
 /// BN stays BN, and code units outside the sequence do not change. Returns an error only if an allocation
 /// fails, and all classes are then unchanged. [`NeutralResolver`] does the same for many sequences with the
 /// same memory.
 ///
-/// The cost is linear in the sequence. If the data source says that brackets themselves are nonspacing
-/// marks, a series of marks is passed over a few times for each of the 63 pairs that can be open at once.
+/// The cost is linear in the sequence, but no clause says so. If the data source says that brackets themselves
+/// are nonspacing marks, a series of marks is passed over a few times for each of the 63 pairs that can be open
+/// at once.
 pub fn resolve_neutral<D: BidiDataSource, T: TextSource>(
     alloc: Global,
     text: T,

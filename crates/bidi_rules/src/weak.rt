@@ -26,7 +26,7 @@ use w1::resolve_marks;
 use w2_w4_w5_w7::{is_number, resolve_numbers};
 use w3_w6::resolve_w3_w6;
 
-/// The classes of a run's code units, as far as there are any.
+/// Returns the classes of a run's code units, as far as there are any.
 fn part_of<'c>(classes: &'c [BidiClass], run: &LevelRun) -> &'c [BidiClass]
     ensures { result.now ≡ part_of classes.now (bounds run.now) }
 {
@@ -41,7 +41,8 @@ fn part_of<'c>(classes: &'c [BidiClass], run: &LevelRun) -> &'c [BidiClass]
 ///
 /// Tests whether there are any nonspacing marks and numbers. Besides these tests, it passes over the code
 /// units at most twice for marks, twice for numbers, and once for what is left. Terminators and separators
-/// that wait for the next character are passed over once more.
+/// that wait for the next character are passed over once more. The clauses of [`resolve_weak_counted`] bound all
+/// iterations.
 pub fn resolve_weak<T: TextSource>(
     text: T,
     sequence: &IsolatingRunSequence,
@@ -137,7 +138,7 @@ fn resolve_marks_and_numbers<T: TextSource, S: Ledger>(
     }
 }
 
-/// Whether the runs have a nonspacing mark or a number. May also find one shortly after a long run.
+/// Returns whether the runs have a nonspacing mark or a number. May also find one shortly after a long run.
 fn has_marks_or_numbers(runs: &[LevelRun], classes: &[BidiClass]) -> bool
     ensures { result ≡ is_any_in_blocks is_mark_or_number runs.now classes.now }
 {
@@ -151,9 +152,9 @@ const WIDE: usize = 32;
 /// Fewer code units than this are tested and changed one by one.
 const MANY: usize = 8;
 
-/// The classes of a run's code units, as far as there are any. If the run has [`WIDE`] code units or more,
-/// classes after it are added up to the next multiple of [`WIDE`], so that none is tested by itself. After a
-/// shorter run, a number of another sequence is often near. To find it would only cost a walk.
+/// Returns the classes of a run's code units, as far as there are any. If the run has [`WIDE`] code units or
+/// more, classes after it are added up to the next multiple of [`WIDE`], so that none is tested by itself.
+/// After a shorter run, a number of another sequence is often near. It would only cause a pass without effect.
 fn blocks_of<'c>(classes: &'c [BidiClass], run: &LevelRun) -> &'c [BidiClass]
     ensures { result.now ≡ blocks_of classes.now (bounds run.now) }
 {
@@ -166,7 +167,8 @@ fn blocks_of<'c>(classes: &'c [BidiClass], run: &LevelRun) -> &'c [BidiClass]
     &classes[run.start..blocks_end]
 }
 
-/// Whether one of the classes is that of a nonspacing mark or a number. Few classes are tested one by one.
+/// Returns whether one of the classes is that of a nonspacing mark or a number. Few classes are tested one by
+/// one.
 #[tactic(auto, using(crate::proofs::FoldAny::fold_any))]
 fn is_mark_or_number_among(classes: &[BidiClass]) -> bool
     ensures { result ≡ is_any_of is_mark_or_number classes.now }
@@ -177,15 +179,16 @@ fn is_mark_or_number_among(classes: &[BidiClass]) -> bool
     is_mark_or_number_in(classes)
 }
 
-/// Whether one of the classes is that of a nonspacing mark or a number. Tests them up to the first such.
+/// Returns whether one of the classes is that of a nonspacing mark or a number. Tests them up to the first
+/// such class.
 fn is_mark_or_number_near(classes: &[BidiClass]) -> bool
     ensures { result ≡ list_any is_mark_or_number classes.now }
 {
     classes.iter().any(|class| is_mark_or_number(*class))
 }
 
-/// Whether one of the classes is that of a nonspacing mark or a number. Tests all of them, many at once.
-/// The compiler vectorizes the loop only in a function of its own.
+/// Returns whether one of the classes is that of a nonspacing mark or a number. Tests all of them, many at
+/// once. The compiler vectorizes the loop only in a function of its own.
 #[inline(never)]
 fn is_mark_or_number_in(classes: &[BidiClass]) -> bool
     ensures { result ≡ is_any_of is_mark_or_number classes.now }
@@ -195,7 +198,7 @@ fn is_mark_or_number_in(classes: &[BidiClass]) -> bool
         .fold(false, |found, class| found | is_mark_or_number(*class))
 }
 
-/// Whether a class is that of a nonspacing mark or a number.
+/// Returns whether a class is that of a nonspacing mark or a number.
 fn is_mark_or_number(class: BidiClass) -> bool
     ensures { result ≡ is_mark_or_number class }
 {

@@ -36,8 +36,8 @@ pub trait TextSource: Copy {
     type IndexLenIter: Iterator<Item = (usize, usize)>;
 
     /// Whether `next_at` is as fast as a step of `char_indices`, for example because the code units are in
-    /// one slice. If so, such a text is read by index where that is faster. The results are the same either
-    /// way.
+    /// one slice. If it is true, passes read the text by index whenever that is faster. The results are the same
+    /// either way.
     const READS_IN_PLACE: bool = false;
 
     /// The length of a character in code units, at least one.
@@ -177,14 +177,14 @@ fn char_of_code(code: u32) -> char
     }
 }
 
-// Whether all entries equal `one`.
+// Returns whether all entries equal `one`.
 fn all_equal_to<E: Copy + Eq>(entries: &[E], one: E) -> bool
     ensures { result ≡ list_all (λ x. E.eq x one) entries.now }
 {
     entries.iter().all(|entry| *entry == one)
 }
 
-// Whether all entries equal the first one.
+// Returns whether all entries equal the first one.
 fn all_equal<E: Copy + Eq>(entries: &[E]) -> bool
     ensures { result ≡ all_same E.eq entries.now }
 {
@@ -196,6 +196,8 @@ fn all_equal<E: Copy + Eq>(entries: &[E]) -> bool
 
 /// Returns whether `units` has one entry for each code unit of the text, and equal entries within each
 /// character.
+///
+/// Reads the text up to the first character without equal entries.
 pub fn is_per_char<T: TextSource, E: Copy + Eq>(text: T, units: &[E]) -> bool
     ensures { result ≡ is_per_char_of E.eq (T.text text) units.now }
 {

@@ -11,7 +11,7 @@ use bidi_base::search::ClassTest;
 use bidi_text::text::TextSource;
 use std::sync::ledger::Ledger;
 
-// The class that an override puts in place of another, which is no control's (X6). BN stays.
+// Returns the class that an override puts in place of another, which is no control's (X6). BN stays.
 fn put_over(put: BidiClass, class: BidiClass) -> BidiClass
     ensures { result ≡ put_over put class }
 {

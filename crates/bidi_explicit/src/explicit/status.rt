@@ -16,11 +16,14 @@ use bidi_base::level::{Error, LTR_LEVEL, Level};
 use std::marker::Model;
 use std::sync::ledger::Ledger;
 
-/// An entry of the directional status stack: the status of the paragraph, or inside an initiator that did not overflow.
+/// An entry of the directional status stack: the status of the paragraph, or inside an opener that did not overflow.
 #[derive(Clone, Copy)]
 pub struct StatusEntry {
+    /// The embedding level.
     pub level: Level,
+    /// The class that an override gives to characters, L or R, if there is an override.
     pub override_class: Option<BidiClass>,
+    /// Whether the opener is an isolate initiator.
     pub is_isolate: bool,
 }
 
@@ -37,13 +40,16 @@ impl Default for StatusEntry {
 /// What the pass writes for a control, and whether X9 keeps it.
 #[derive(Clone, Copy)]
 pub struct Answer {
+    /// Its explicit level.
     pub level: Level,
+    /// Its processing class: BN if X9 removes it.
     pub class: BidiClass,
+    /// Whether X9 keeps it.
     pub is_kept: bool,
 }
 
 impl StatusEntry {
-    // The answer for an isolate control, which takes the override (X5a to X6a).
+    // Returns what is written for an isolate control, which takes the override (X5a to X6a).
     fn answer_kept(self, class: BidiClass) -> Answer
         ensures level { result.level ≡ self.level }
         ensures class { result.class ≡ unwrap_or self.override_class class }
@@ -56,7 +62,7 @@ impl StatusEntry {
         }
     }
 
-    // The answer for a control that X9 removes.
+    // Returns what is written for a control that X9 removes.
     fn answer_removed(self) -> Answer
         ensures level { result.level ≡ self.level }
         ensures class { result.class ≡ BN }
@@ -91,7 +97,7 @@ impl Model for StatusStack {
     ghost invariant = { λ s. IsLast s.top s.entries.items };
 }
 
-// The class that an initiator gives to the characters inside it, if it is an override.
+// Returns the class that an opener gives to the characters inside it, if it is an override.
 fn override_class(class: BidiClass) -> Option<BidiClass>
     ensures { result ≡ override_of class }
 {
@@ -102,7 +108,7 @@ fn override_class(class: BidiClass) -> Option<BidiClass>
     }
 }
 
-// The level inside an initiator, or an error exactly if it would be above 125.
+// Returns the level inside an opener, or an error exactly if it would be above 125.
 fn next_level(class: BidiClass, level: Level) -> Result<Level, Error>
     ensures { OkIff result (next_level class level ≤ 125) (next_level class level) }
 {
@@ -127,7 +133,7 @@ fn pop_isolate<S: Ledger>(entries: &mut ArrayVec<StatusEntry, 126>, steps: &mut 
     }
 }
 
-// The entries of a stack that has only this one.
+// Returns the entries of a stack that has only this one.
 fn only(entry: StatusEntry) -> ArrayVec<StatusEntry, 126>
     ensures { result.items ≡ entry ∷ [] }
 {
@@ -136,7 +142,7 @@ fn only(entry: StatusEntry) -> ArrayVec<StatusEntry, 126>
     entries
 }
 
-// The last entry.
+// Returns the last entry.
 fn last(entries: &ArrayVec<StatusEntry, 126>) -> StatusEntry
     requires { 0 < length entries.now.items }
     ensures { IsLast result entries.now.items }
@@ -145,7 +151,7 @@ fn last(entries: &ArrayVec<StatusEntry, 126>) -> StatusEntry
 }
 
 impl StatusStack {
-    /// The stack of a paragraph, before its first character (X1).
+    /// Returns the stack of a paragraph, before its first character (X1).
     pub fn new(paragraph: Level) -> Self
         ensures { result ≡ start paragraph }
     {
@@ -163,8 +169,8 @@ impl StatusStack {
         }
     }
 
-    /// Reads a control: closes what it closes, answers by the status at it, and opens what it opens. The steps that
-    /// pop the stack are charged to the popped entries.
+    /// Reads a control: closes what it closes, returns what is written for it by the status then, and opens what it
+    /// opens. The steps that pop the stack are charged to the popped entries.
     ///
     /// One `match` on the class chooses all of that.
     #[inline(always)]
@@ -261,7 +267,7 @@ impl StatusStack {
         }
     }
 
-    // The level inside an initiator. `None` if it would be above 125, or if an open initiator has
+    // Returns the level inside an opener, or `None` if it would be above 125 or if an open opener has
     // overflowed.
     fn taken_level(&self, class: BidiClass) -> Option<Level>
         ensures { result ≡ (if fits_in class self.now then Some (next_level class self.now.top.status.level) else None) }
@@ -273,7 +279,7 @@ impl StatusStack {
         }
     }
 
-    // Pushes an initiator's entry, or counts its overflow.
+    // Pushes an opener's entry, or counts its overflow.
     fn enter(&mut self, class: BidiClass, is_isolate: bool)
         requires depth { (paragraph : ℕ) × IsWithinDepth paragraph self.old }
         requires counts { counted self.old + 1 < 2 ^ 64 }

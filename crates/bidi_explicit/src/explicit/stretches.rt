@@ -27,7 +27,7 @@ use std::sync::ledger::Ledger;
 // In a text with many controls, the next one is mostly among this many code units. They are tested one by one.
 const TESTED_SINGLY: usize = 4;
 
-/// Returns whether characters of this class change the status, or have another level than the status.
+/// Returns whether a class is a control: it changes the status, or it is B, which takes the paragraph level.
 pub fn is_control(class: BidiClass) -> bool
     ensures { result ≡ is_control class }
 {
@@ -37,7 +37,7 @@ pub fn is_control(class: BidiClass) -> bool
     )
 }
 
-/// Classes of controls. The test has no branch, so that many units are tested at once.
+/// Classes of controls. The test has no branch, so that many code units are tested at once.
 #[derive(Clone, Copy, Debug)]
 struct Control;
 
@@ -86,7 +86,7 @@ pub struct OpenRun {
 }
 
 impl OpenRun {
-    /// The run at the start of a paragraph.
+    /// Returns the run at the start of a paragraph.
     pub fn new() -> OpenRun
         ensures { result ≡ record { start = 0; last_level = None } }
     {
@@ -110,9 +110,10 @@ impl OpenRun {
     }
 }
 
-/// A paragraph whose explicit levels are to be found.
+/// A paragraph, as the explicit pass reads it.
 #[derive(Drop)]
 pub struct Paragraph<'p, T: TextSource> {
+    /// Its text.
     pub text: T,
     /// Its level, at most 125.
     pub level: Level,
@@ -130,6 +131,9 @@ impl<'p, T: TextSource> Paragraph<'p, T> {
     ghost use Rattle.bidi_explicit.specs.Paragraph.{as_seen, chars_to, counted_to, least_to, AreCharsCounted, IsFirstPassing, IsNextStart, IsPlain, IsStart};
 
     /// Creates a paragraph.
+    ///
+    /// `level` must be at most 125. `original_classes` must have the stored class of each code unit, equal within
+    /// each character.
     pub fn new(
         text: T,
         level: Level,
@@ -160,8 +164,8 @@ impl<'p, T: TextSource> Paragraph<'p, T> {
         end_within(self.text, start, self.original_classes.len())
     }
 
-    // The first character from `from` on and before `to` whose class passes a test, or else `to`. Counts
-    // one step for each character passed over.
+    // Returns the first character from `from` on and before `to` with a class that passes a test, or else `to`.
+    // Counts one step for each character passed over.
     fn next_character<C: ClassTest, S: Ledger>(
         &self,
         test: C,
@@ -185,7 +189,7 @@ impl<'p, T: TextSource> Paragraph<'p, T> {
         at
     }
 
-    // The end of the stretch without controls that begins at `from`.
+    // Returns the end of the stretch without controls that begins at `from`.
     fn stretch_end<S: Ledger>(&self, from: usize, steps: &mut Steps<S>) -> usize
         requires begins { IsStart self.now from }
         requires inside { from < length self.now.original_classes.now }
@@ -208,7 +212,8 @@ impl<'p, T: TextSource> Paragraph<'p, T> {
         }
     }
 
-    // The first character that X9 keeps, from `from` on and before `to`, or else `to`. No control is there.
+    // Returns the first character that X9 keeps, from `from` on and before `to`, or else `to`. No control may be
+    // there.
     fn first_kept<S: Ledger>(&self, from: usize, to: usize, steps: &mut Steps<S>) -> usize
         requires begins { IsStart self.now from }
         requires ends { IsStart self.now to }

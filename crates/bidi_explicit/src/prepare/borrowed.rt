@@ -32,21 +32,21 @@ impl<'s> BorrowedSequence<'s> {
         BorrowedSequence { runs, sos, eos }
     }
 
-    /// The level runs, in text order.
+    /// Returns the level runs, in text order.
     pub fn runs(self) -> &'s [LevelRun]
         ensures { result.now ≡ borrowed_runs self.entry }
     {
         self.runs
     }
 
-    /// The class before the first character.
+    /// Returns the class before the first character.
     pub fn sos(self) -> BidiClass
         ensures { result ≡ borrowed_sos self.entry }
     {
         self.sos
     }
 
-    /// The class after the last character.
+    /// Returns the class after the last character.
     pub fn eos(self) -> BidiClass
         ensures { result ≡ borrowed_eos self.entry }
     {

@@ -40,7 +40,8 @@ impl ClassTest for Kept {
     }
 }
 
-// The end of the last code unit of a run whose class X9 keeps, or the run's start if there is none.
+// Returns the index after the last code unit of a run with a class that X9 keeps, or the run's start if there
+// is none.
 pub(super) fn kept_end(classes: &[BidiClass], run: &LevelRun) -> usize
     requires ordered { run.now.start ≤ run.now.end }
     requires inside { run.now.end ≤ length classes.now }
@@ -53,15 +54,15 @@ pub(super) fn kept_end(classes: &[BidiClass], run: &LevelRun) -> usize
     end_of_last_passing(kept, TESTED_SINGLY, run.start, run.end)
 }
 
-// The class at an end of a sequence, between characters of these levels (X10).
+// Returns the class at an end of a sequence, between characters of these levels (X10).
 pub(super) fn side(inner: Level, outer: Level) -> BidiClass
     ensures { result ≡ direction_of (max inner outer) }
 {
     inner.max(outer).bidi_class()
 }
 
-// The level after a run that ends at `end` and whose last kept character has this class. This is the level
-// of the next run. After an isolate initiator, and at the end of the text, it is the paragraph level.
+// Returns the level after a run that ends at `end`. `class` is that of its last kept character. This is the
+// level of the next run. After an isolate initiator, and at the end of the text, it is the paragraph level.
 pub(super) fn level_after(
     para_level: Level,
     class: BidiClass,
@@ -125,7 +126,7 @@ pub(super) fn read_run<T: TextSource>(
     waiting.push_unwaited(unwaited)
 }
 
-// The classes that open or close an isolate. The test has no branch, so that many units are tested at
+// The classes that open or close an isolate. The test has no branch, so that many code units are tested at
 // once.
 #[derive(Clone, Copy, Debug)]
 struct IsolateControl;
@@ -146,7 +147,7 @@ impl ClassTest for IsolateControl {
 // What a search looks for is mostly among this many code units. They are tested one by one.
 const TESTED_SINGLY: usize = 4;
 
-// The first index in `from..to` with a class that opens or closes an isolate, or else `to`.
+// Returns the first index in `from..to` with a class that opens or closes an isolate, or else `to`.
 #[inline(always)]
 fn next_control(classes: &[BidiClass], from: usize, to: usize) -> usize
     requires ordered { from ≤ to }
@@ -164,13 +165,13 @@ fn next_control(classes: &[BidiClass], from: usize, to: usize) -> usize
 /// (BD13, X10).
 ///
 /// `original_classes` has the stored classes and `levels` the explicit levels, one entry for each code
-/// unit. Levels of characters that X9 removes are not read. `runs` are the level runs that `compute` of
-/// `bidi_explicit` finds. `has_isolate_controls` may be false only if no class is LRI, RLI or FSI. Each run
-/// is then a sequence of its own.
+/// unit, equal within each character. Levels of characters that X9 removes are not read. `runs` must be the
+/// level runs that [`compute`](crate::explicit::compute) finds. `has_isolate_controls` may be false only if no
+/// class is LRI, RLI or FSI. Each run is then a sequence of its own.
 ///
 /// `out` must be empty, and gets each run in exactly one sequence. If X9 removes the whole paragraph, its
-/// one run is a sequence without characters, with L or R at each end. If an allocation fails, returns an
-/// error, and `out` may hold any sequences.
+/// one run is a sequence without characters, with L or R at each end. Returns an error only if an allocation
+/// fails. `out` may then hold any sequences.
 pub fn isolating_run_sequences<T: TextSource>(
     alloc: Global,
     text: T,

@@ -57,7 +57,7 @@ impl RunLinks {
         }
     }
 
-    /// Removes all links, and makes room for as many runs.
+    /// Removes all links, and makes room for this number of runs.
     fn restart(&mut self, runs: usize) -> Result<(), AllocError>
         ensures next { OnOk result (self.new.next.items ≡ []) }
         ensures sides { OnOk result (self.new.sides.items ≡ []) }
@@ -119,11 +119,12 @@ impl RunLinks {
         Ok(())
     }
 
-    /// Links the level runs of a paragraph to its isolating run sequences (BD13, X10).
+    /// Links the level runs of a paragraph into its isolating run sequences (BD13, X10).
     ///
     /// The arguments, and the fields of `leveled`, are the arguments of
-    /// [`isolating_run_sequences`](super::isolating_run_sequences). If an allocation fails, returns an error, and the
-    /// links are those of no paragraph.
+    /// [`isolating_run_sequences`](super::isolating_run_sequences). The links of an earlier paragraph are replaced.
+    /// Returns an error only if an allocation fails. The links may then hold anything, and `gather` must not be called
+    /// before another call of `link` succeeds.
     pub fn link<T: TextSource>(
         &mut self,
         leveled: &LeveledText<'_, T>,
@@ -175,7 +176,7 @@ impl RunLinks {
         Ok(())
     }
 
-    /// The run that continues the sequence after a run.
+    /// Returns the run that continues the sequence after a run, if one does.
     fn next_run(&self, run: usize) -> Option<usize>
         requires { run < length self.now.next.items }
         ensures { result ≡ next_run self.now.next.items run }
@@ -186,7 +187,7 @@ impl RunLinks {
         }
     }
 
-    /// Returns the number of level runs that were linked.
+    /// Returns the number of level runs that were linked, if the last call of `link` succeeded.
     pub fn run_count(&self) -> usize
         ensures { result ≡ length self.now.next.items }
     {

@@ -61,21 +61,21 @@ impl IsolatingRunSequence {
         Ok(IsolatingRunSequence { runs, sos, eos })
     }
 
-    /// The level runs, in text order.
+    /// Returns the level runs, in text order.
     pub fn runs(&self) -> &[LevelRun]
         ensures { result.now ≡ runs_of self.now }
     {
         self.runs.as_slice()
     }
 
-    /// The class before the first character.
+    /// Returns the class before the first character.
     pub fn sos(&self) -> BidiClass
         ensures { result ≡ sos_of self.now }
     {
         self.sos
     }
 
-    /// The class after the last character.
+    /// Returns the class after the last character.
     pub fn eos(&self) -> BidiClass
         ensures { result ≡ eos_of self.now }
     {
@@ -95,7 +95,7 @@ impl IsolatingRunSequence {
     }
 
     /// Iterates over the code units from `pos` to the end of the run at the index `run`, then over those of
-    /// each later run, upwards. `pos` is in that run or at its end.
+    /// each later run, upwards. `pos` must be in that run or at its end.
     pub fn iter_forwards_from(&self, pos: usize, run: usize) -> ForwardsFrom<'_>
         requires run { run < length (runs_of self.now) }
         requires from { (get_or (map bounds (runs_of self.now)) run (0, 0)).0 ≤ pos }
@@ -111,7 +111,7 @@ impl IsolatingRunSequence {
     }
 
     /// Iterates over the code units below `pos` down to the start of the run at the index `run`. Then come
-    /// those of each earlier run, nearest run first, each downwards. `pos` is in that run or at its end.
+    /// those of each earlier run, nearest run first, each downwards. `pos` must be in that run or at its end.
     pub fn iter_backwards_from(&self, pos: usize, run: usize) -> BackwardsFrom<'_>
         requires run { run < length (runs_of self.now) }
         requires from { (get_or (map bounds (runs_of self.now)) run (0, 0)).0 ≤ pos }
@@ -193,7 +193,7 @@ impl<'s> Iterator for BackwardsFrom<'s> {
     }
 }
 
-// Whether each run is non-empty and ends at or before the start of the next.
+// Returns whether each run is non-empty and ends at or before the start of the next.
 fn are_in_order(runs: &[LevelRun]) -> bool
     ensures { result ≡ are_ordered (map bounds runs.now) }
 {
@@ -207,7 +207,7 @@ fn are_in_order(runs: &[LevelRun]) -> bool
     true
 }
 
-// Whether a class may be at an end of a sequence.
+// Returns whether a class may be at an end of a sequence: L or R.
 fn is_side(class: BidiClass) -> bool
     ensures { result ≡ is_l_or_r class }
 {

@@ -43,7 +43,7 @@ impl Explicit {
     }
 }
 
-/// The status inside open initiators: a level, and the class that an override gives to characters.
+/// The status inside open openers: a level, and the class that an override gives to characters.
 #[derive(Drop)]
 struct Status {
     level: Level,
@@ -58,10 +58,10 @@ impl Model for Status {
     ghost view = { λ s. record { level = s.level; override = s.override_class } };
 }
 
-/// The initiators that are open at a character. In clauses they are a list, the innermost first.
+/// The openers that are open at a character. In clauses they are a list, innermost first.
 #[derive(Drop)]
 struct Openers {
-    /// The outermost first.
+    /// Their classes, outermost first.
     classes: Vec<BidiClass>,
     /// How many of them are isolate initiators.
     isolates: usize,
@@ -79,8 +79,8 @@ impl Model for Openers {
     ghost invariant = { λ o. o.isolates ≡ count_by is_isolate_initiator (reverse o.classes.items) };
 }
 
-/// The level inside an initiator, if `level` is the one before it. Returns an error exactly if it would be
-/// above 125.
+/// Returns the level inside an opener, if `level` is the one around it. Returns an error exactly if it would
+/// be above 125.
 fn next_level(opener: BidiClass, level: Level) -> Result<Level, Error>
     ensures { OkIff result (next_level opener level ≤ 125) (next_level opener level) }
 {
@@ -91,7 +91,7 @@ fn next_level(opener: BidiClass, level: Level) -> Result<Level, Error>
     }
 }
 
-/// The class that an initiator gives to characters, if it is an override.
+/// Returns the class that an opener gives to characters, if it is an override.
 fn override_of(opener: BidiClass) -> Option<BidiClass>
     ensures { result ≡ override_of opener }
 {
@@ -102,8 +102,8 @@ fn override_of(opener: BidiClass) -> Option<BidiClass>
     }
 }
 
-/// The status inside open initiators, which are listed with the outermost first. Each sets its level, up to
-/// the first whose level would be above 125 (X1 to X5c).
+/// Returns the status inside open openers, which are listed outermost first. Each sets its level, up to the
+/// first one that would set a level above 125 (X1 to X5c).
 fn status_inside(status: Status, openers: &[BidiClass]) -> Status
     ensures { result ≡ status_inside status openers.now }
 {
@@ -179,7 +179,7 @@ impl Openers {
         Ok(())
     }
 
-    /// The status inside the open initiators.
+    /// Returns the status inside the open openers.
     fn status(&self, para_level: Level) -> Status
         ensures { result
             ≡ status_inside (record { level = para_level; override = None }) (reverse self.now) }
@@ -194,7 +194,7 @@ impl Openers {
     }
 }
 
-/// The level of a character: the paragraph level for a separator, otherwise `level` (X8).
+/// Returns the level of a character: the paragraph level for a paragraph separator, otherwise `level` (X8).
 fn level_of(class: BidiClass, para_level: Level, level: Level) -> Level
     ensures { result ≡ (if is_paragraph_separator class then para_level else level) }
 {
@@ -205,7 +205,8 @@ fn level_of(class: BidiClass, para_level: Level, level: Level) -> Level
     }
 }
 
-/// The class of a character under an override (X6). Separators and characters that X9 removes keep theirs.
+/// Returns the class of a character under an override (X6). Paragraph separators and characters that X9
+/// removes keep theirs.
 fn class_of(class: BidiClass, override_class: Option<BidiClass>) -> BidiClass
     ensures { result
         ≡ (if is_paragraph_separator class || is_removed class
@@ -221,9 +222,9 @@ fn class_of(class: BidiClass, override_class: Option<BidiClass>) -> BidiClass
 
 /// Returns the explicit levels of a paragraph, and its classes under overrides (X1 to X8).
 ///
-/// Takes the paragraph level (0 to 125) and the stored classes. A paragraph separator gets the paragraph
-/// level and closes nothing. Characters that X9 removes get the level that is current there. Returns an
-/// error only if an allocation fails.
+/// Takes the paragraph level, which must be at most 125, and the stored classes. A paragraph separator gets
+/// the paragraph level and closes nothing. Characters that X9 removes get the level that is current there.
+/// Returns an error only if an allocation fails.
 pub fn explicit_levels(
     alloc: Global,
     para_level: Level,

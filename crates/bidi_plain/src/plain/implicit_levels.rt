@@ -11,7 +11,8 @@ use std::alloc::{AllocError, Global};
 
 /// Returns the implicit levels of a sequence (I1, I2).
 ///
-/// Takes its explicit level, which must be at most 125, and its classes after N2: L, R, EN and AN.
+/// Takes its explicit level, which must be at most 125, and its classes after N2: L, R, EN and AN. Returns
+/// an error only if an allocation fails.
 pub fn implicit(
     alloc: Global,
     level: Level,

@@ -77,14 +77,14 @@ pub fn resolve_opposite(directions: Directions, runs: &[LevelRun], classes: &mut
     }
 }
 
-/// What the pass for N1 knows of the code units that it has read.
+/// The state of the pass for N1 after the code units that it has read.
 #[derive(Clone, Copy, Debug)]
 struct Join {
     /// The direction opposite to the embedding direction.
     opposite: BidiClass,
     /// Whether only neutrals came since this direction.
     waits: bool,
-    /// The code unit where these neutrals begin, if so.
+    /// The code unit at which these neutrals begin, if so.
     first: usize,
     /// The index of that code unit's run.
     first_run: usize,
@@ -117,8 +117,8 @@ impl Join {
         }
     }
 
-    /// Goes on to the next code unit of the opposite direction, and writes over the neutrals that wait for it.
-    /// Returns its index, or `end` if there is none.
+    /// Finds the next code unit of the opposite direction, and writes over the neutrals that wait for it. Returns
+    /// its index, or `end` if there is none.
     fn next_opposite(
         &mut self,
         runs: &[LevelRun],
@@ -251,7 +251,7 @@ fn apply_n2_in_run(embedding: BidiClass, run: &LevelRun, classes: &mut [BidiClas
     }
 }
 
-/// What N2 makes of a class that N1 left.
+/// Returns a class after N2.
 fn n2_class(embedding: BidiClass, class: BidiClass) -> BidiClass
     ensures { result ≡ n2_rule embedding class }
 {

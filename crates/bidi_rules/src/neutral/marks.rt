@@ -12,7 +12,7 @@ use bidi_explicit::prepare::LevelRun;
 use bidi_explicit::written::is_kept_in_place;
 use bidi_text::text::TextSource;
 
-/// Whether a character with these classes is neither BN nor a nonspacing mark by its original class.
+/// Returns whether a character with these classes is neither BN nor a nonspacing mark by its stored class.
 pub fn ends_marks(class: BidiClass, original: BidiClass) -> bool
     ensures { result ≡ (is_kept_in_place class && not (is_nsm original)) }
 {

@@ -39,7 +39,7 @@ pub fn run_near(runs: &[LevelRun], near: usize, unit: usize) -> usize
     run_of(runs, unit)
 }
 
-/// Returns the index of the first of some runs that ends after `unit`, or the number of runs.
+/// Returns the index of the run of a code unit: the first run that ends after it, or else the number of runs.
 fn run_of(runs: &[LevelRun], unit: usize) -> usize
     requires { IsTrue (are_ordered (map bounds runs.now)) }
     ensures { IsRunOf (map bounds runs.now) unit result }
@@ -57,7 +57,7 @@ fn run_of(runs: &[LevelRun], unit: usize) -> usize
     low
 }
 
-/// Returns the first code unit of some runs, from `from` on and before `to`, whose class stands for a
+/// Returns the first code unit of some runs, from `from` on and before `to`, with a class that counts as a
 /// direction. Returns `to` if there is none.
 pub fn first_for(
     direction: BidiClass,

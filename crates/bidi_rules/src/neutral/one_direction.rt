@@ -11,7 +11,7 @@ use bidi_base::search::ClassTest;
 use bidi_explicit::prepare::LevelRun;
 use bidi_explicit::run_search::none_passes;
 
-/// Returns whether sos and eos are the embedding direction, and no class in the runs is a number or the
+/// Returns true only if sos and eos are the embedding direction, and no class in the runs is a number or the
 /// other direction.
 pub fn stands_alone(directions: Directions, runs: &[LevelRun], classes: &[BidiClass]) -> bool
     requires { All (λ r. r.1 ≤ length classes.now) (map bounds runs.now) }

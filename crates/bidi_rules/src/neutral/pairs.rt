@@ -25,7 +25,9 @@ use bidi_text::text::TextSource;
 /// The runs of a sequence, and the stored class of each code unit of their text.
 #[derive(Clone, Copy, Debug)]
 pub struct StoredRuns<'a> {
+    /// The level runs of the sequence, in text order.
     pub runs: &'a [LevelRun],
+    /// The stored class of each code unit of the text.
     pub original_classes: &'a [BidiClass],
 }
 
@@ -35,9 +37,9 @@ pub struct StoredRuns<'a> {
 ///
 /// The context of a pair is searched backwards from its opening bracket, and only if the opposite direction
 /// is inside. The opening bracket then takes a direction, and no later search goes past it. Two positions
-/// that only move forwards tell which directions are inside. The exception is a pair whose opening bracket
-/// is a nonspacing mark by its original class: it may be among the marks that another pair changed, so the
-/// pair is searched by itself. Brackets among marks that already have their direction are not written
+/// that only move forwards tell which directions are inside. There is one exception: if the opening bracket of
+/// a pair is a nonspacing mark by its stored class, it may be among the marks that another pair changed. Such
+/// a pair is searched by itself. Brackets among marks that already have their direction are not written
 /// again. So a series of marks is not passed over for each bracket in it.
 pub fn resolve_pairs<T: TextSource>(
     text: T,
@@ -126,7 +128,7 @@ struct Pair {
     /// The index after the opening bracket.
     inside: usize,
     closing: usize,
-    /// Whether the opening bracket is a nonspacing mark by its original class.
+    /// Whether the opening bracket is a nonspacing mark by its stored class.
     is_marked: bool,
 }
 
@@ -134,14 +136,14 @@ struct Pair {
 #[derive(Clone, Copy, Debug)]
 struct Next {
     direction: BidiClass,
-    /// The first code unit whose class stands for the direction, not before the opening bracket asked for
-    /// last.
+    /// The first code unit with a class that counts as the direction, not before the opening bracket of the
+    /// last pair.
     unit: usize,
 }
 
 impl Next {
-    /// Whether the direction is between the brackets of a pair. Opening brackets come in order. A pair that
-    /// opens at a mark is searched by itself.
+    /// Returns whether the direction is between the brackets of a pair. Opening brackets come in order. A pair
+    /// that opens at a mark is searched by itself.
     fn is_inside(&mut self, runs: &[LevelRun], classes: &[BidiClass], pair: Pair) -> bool
         requires ordered { IsTrue (are_ordered (map bounds runs.now)) }
         requires closing { pair.closing ≤ length classes.now }
@@ -167,7 +169,7 @@ struct PairPass {
 }
 
 impl PairPass {
-    /// Before the first pair.
+    /// Returns the state before the first pair.
     fn new(embedding: BidiClass) -> PairPass
         ensures { result
             ≡ record {
@@ -230,7 +232,7 @@ struct Row {
 }
 
 impl Row {
-    /// No bracket written yet.
+    /// Returns the state before the first bracket is written.
     fn new(direction: BidiClass) -> Row
         ensures { result ≡ record { from = 0; end = 0; direction = direction } }
     {
@@ -241,8 +243,8 @@ impl Row {
         }
     }
 
-    /// Gives a direction to a bracket, and to the nonspacing marks directly after it by their original
-    /// classes. Does nothing if the last write did that already.
+    /// Gives a direction to a bracket, and to the characters directly after it that are nonspacing marks by
+    /// their stored classes. Does nothing if the last write did that already.
     #[inline(always)]
     fn set_direction<T: TextSource>(
         &mut self,
@@ -272,8 +274,9 @@ impl Row {
     }
 }
 
-/// Gives a direction to a bracket, and to the nonspacing marks directly after it by their original classes.
-/// Returns where the marks end. Most brackets have no marks, and are then written without a search.
+/// Gives a direction to a bracket, and to the characters directly after it that are nonspacing marks by their
+/// stored classes. Returns where the marks end. Most brackets have no marks, and are then written without a
+/// search.
 #[inline(always)]
 fn set_direction<T: TextSource>(
     text: T,
@@ -300,8 +303,8 @@ fn set_direction<T: TextSource>(
     set_with_marks(text, later, original_classes, classes, bracket, direction)
 }
 
-/// Whether the first of some runs has the whole bracket and the character after it, and that character is
-/// neither BN nor a nonspacing mark by its original class.
+/// Returns true only if the first of some runs has the whole bracket and the character after it, and that
+/// character is neither BN nor a nonspacing mark by its stored class.
 fn no_mark_follows(
     runs: &[LevelRun],
     original_classes: &[BidiClass],
@@ -331,8 +334,8 @@ fn write_bracket(classes: &mut [BidiClass], bracket: Place, direction: BidiClass
     }
 }
 
-/// Gives a direction to a bracket in some runs, and to the nonspacing marks directly after it by their
-/// original classes. Returns where the marks end.
+/// Gives a direction to a bracket in some runs, and to the characters directly after it that are nonspacing
+/// marks by their stored classes. Returns where the marks end.
 #[inline(never)]
 fn set_with_marks<T: TextSource>(
     text: T,

@@ -66,7 +66,7 @@ fn resolve_marks_in<S: Ledger>(
     resolve_each_mark(at, end, last, classes, steps)
 }
 
-/// Whether one of the classes is NSM. Tests all of them at once.
+/// Returns whether one of the classes is NSM. Tests all of them at once.
 fn is_mark_in(classes: &[BidiClass]) -> bool
     ensures { result ≡ is_any_of is_nsm classes.now }
 {
@@ -103,7 +103,7 @@ fn resolve_each_mark<S: Ledger>(
     last
 }
 
-/// The last class in the slice that is not BN.
+/// Returns the last class in the slice that is not BN.
 fn last_kept(classes: &[BidiClass]) -> Option<BidiClass>
     ensures { result ≡ find is_kept_in_place (reverse classes.now) }
 {
@@ -114,7 +114,7 @@ fn last_kept(classes: &[BidiClass]) -> Option<BidiClass>
         .find(|class| is_kept_in_place(*class))
 }
 
-/// The class that a nonspacing mark takes from the character before it.
+/// Returns the class that a nonspacing mark takes from the character before it.
 fn carried(class: BidiClass) -> BidiClass
     ensures { result ≡ carried class }
 {

@@ -28,14 +28,14 @@ use std::sync::ledger::Ledger;
 /// What a search looks for is mostly among this many code units. They are tested one by one.
 const TESTED_SINGLY: usize = 4;
 
-/// The level runs of a sequence, and the text that they are of.
+/// The level runs of a sequence, and their text.
 #[derive(Drop)]
 struct TextRuns<'r, T: TextSource> {
     text: T,
     runs: &'r [LevelRun],
 }
 
-/// What a pass over a sequence knows of the code units that it has read.
+/// The state of the pass after the code units that it has read.
 #[derive(Clone, Copy, Debug)]
 struct Walk {
     /// The nearest L, R or AL before, or else sos.
@@ -82,15 +82,15 @@ pub fn resolve_numbers<T: TextSource, S: Ledger>(
     walk.write_waiting(runs, classes, end, ON, steps);
 }
 
-/// Whether the runs have a number.
+/// Returns whether the runs have a number.
 fn has_numbers(runs: &[LevelRun], classes: &[BidiClass]) -> bool
     ensures { result ≡ is_any is_number runs.now classes.now }
 {
     runs.iter().any(|run| is_number_in(part_of(classes, run)))
 }
 
-/// Whether one of the classes is a number. Tests all of them, many at once. The compiler vectorizes the
-/// loop only in a function of its own.
+/// Returns whether one of the classes is a number. Tests all of them, many at once. The compiler vectorizes
+/// the loop only in a function of its own.
 #[inline(never)]
 fn is_number_in(classes: &[BidiClass]) -> bool
     ensures { result ≡ is_any_of is_number classes.now }
@@ -148,16 +148,16 @@ impl Walk {
         }
     }
 
-    /// Whether a code unit of this class can be passed over: it does not matter to numbers (see
-    /// `is_number_or_terminator`), and nothing that matters to them is before it.
+    /// Returns whether a code unit of this class can be passed over: it is no number or terminator, and nothing
+    /// that matters to them is directly before it.
     fn passes_over(&self, class: BidiClass) -> bool
         ensures { result ≡ (is_other self.now.before && not (is_number_or_terminator class)) }
     {
         matches!(self.before, Before::Other) && !is_number_or_terminator(class)
     }
 
-    /// Passes over the code unit at `at` and those after it whose class does not matter (see `is_number_or_terminator`),
-    /// before `end`. Returns where they end.
+    /// Passes over the code unit at `at` and those after it, up to the next number or terminator. Returns its index,
+    /// or `end` if there is none before `end`.
     fn pass_over<S: Ledger>(
         &mut self,
         classes: &[BidiClass],
@@ -187,8 +187,8 @@ impl Walk {
         next
     }
 
-    /// The end of the stretch that begins at `at`: code units of one class, before `end`. A separator that
-    /// can be between numbers is a stretch of one character.
+    /// Returns the end of the stretch that begins at `at`: code units of one class, before `end`. A separator
+    /// that can be between numbers is a stretch of one character.
     fn stretch_end<T: TextSource, S: Ledger>(
         &self,
         text: T,
@@ -305,7 +305,7 @@ fn fill(classes: &mut [BidiClass], start: usize, end: usize, class: BidiClass)
     classes[start..end].fill(class);
 }
 
-/// Whether a class depends on its neighbors, or its neighbors on it, even if nothing that matters is
+/// Returns whether a class depends on its neighbors, or its neighbors on it, even if nothing that matters is
 /// directly before it. These are numbers and ET.
 fn is_number_or_terminator(class: BidiClass) -> bool
     ensures { result ≡ is_number_or_terminator class }
@@ -341,7 +341,7 @@ impl ClassTest for Strong {
     }
 }
 
-/// The last strong class of the code units from `from` up to `to`.
+/// Returns the last strong class of the code units from `from` up to `to`, if there is one.
 fn last_strong<S: Ledger>(
     classes: &[BidiClass],
     from: usize,
@@ -366,7 +366,7 @@ fn last_strong<S: Ledger>(
     }
 }
 
-/// The end of the code units from `at` on that have the class of the first, at most `end`.
+/// Returns the end of a series of code units that begins at `at` and has the class there, at most `end`.
 fn alike_end<S: Ledger>(classes: &[BidiClass], at: usize, end: usize, steps: &mut Steps<S>) -> usize
     requires some { at < end }
     requires inside { end ≤ length classes.now }
@@ -385,7 +385,7 @@ fn alike_end<S: Ledger>(classes: &[BidiClass], at: usize, end: usize, steps: &mu
     end
 }
 
-/// The length of the character that begins at a code unit, or 1 if none begins there.
+/// Returns the length of the character that begins at a code unit, or 1 if none begins there.
 fn len_at<T: TextSource>(text: T, unit: usize) -> usize
     ensures { result ≡ len_at (T.text text) unit }
 {

@@ -75,15 +75,14 @@ fn change_at(classes: &mut [BidiClass], unit: usize)
     }
 }
 
-/// Whether W3 and W6 leave a class unchanged.
+/// Returns true only if W3 and W6 leave a class unchanged.
 fn stays(class: BidiClass) -> bool
     ensures { IsTrue result → left_over class ≡ class }
 {
     !matches!(class, ES | ET | CS | AL)
 }
 
-/// Returns what W3 and W6 make of a class. It has no branch, so that a loop changes many code units at
-/// once.
+/// Returns a class after W3 and W6. It has no branch, so that a loop changes many code units at once.
 pub fn left_over(class: BidiClass) -> BidiClass
     ensures { result ≡ left_over class }
 {

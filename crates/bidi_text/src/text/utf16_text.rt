@@ -44,7 +44,7 @@ impl<'t> Utf16Text<'t> {
     }
 }
 
-// Whether a code unit is a surrogate.
+// Returns whether a code unit is a surrogate.
 fn is_surrogate(unit: u16) -> bool
     ensures { IsTrue result ↔ ((0xD800 ≤ unit) × (unit < 0xE000)) }
 {
@@ -66,14 +66,14 @@ pub fn are_characters(units: &[u16]) -> bool
     least >= 0x800
 }
 
-// Whether two code units are a high surrogate and a low one.
+// Returns whether two code units are a high surrogate and a low one.
 fn is_pair(high: u16, low: u16) -> bool
     ensures { result ≡ is_pair_of high low }
 {
     (0xD800 <= high && high < 0xDC00) && (0xDC00 <= low && low < 0xE000)
 }
 
-// Whether an index is between the two code units of a pair.
+// Returns whether an index is between the two code units of a pair.
 fn splits_pair(units: &[u16], index: usize) -> bool
     requires { index < length units.now }
     ensures { result ≡ splits_pair_of units.now index }

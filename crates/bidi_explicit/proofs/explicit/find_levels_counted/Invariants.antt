@@ -1,4 +1,5 @@
--- What the characters so far have left. There were at most four steps for each character or code unit, except for those that an opener paid with an entry of the stack.
+-- What the characters so far have left. There were at most four steps for each character or code unit, except for those
+-- that an opener paid with an entry of the stack.
 use Rattle.bidi_base.proofs.Common.{◌+◌, ◌*◌, ◌-◌, ◌≤◌, map, bounds}
 use Rattle.bidi_base.specs.Texts.{char_index}
 use Rattle.bidi_explicit.specs.ExplicitStretches.{paragraph_of, IsReadTo}

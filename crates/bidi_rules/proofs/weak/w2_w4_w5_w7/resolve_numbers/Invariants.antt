@@ -1,4 +1,4 @@
--- The units before the run are read, with two turns at most for each, and two more for each that is resolved.
+-- The units before the run are read, with at most two iterations for each, and two more for each that is resolved.
 use Rattle.bidi_base.proofs.Common.{◌+◌, ◌*◌, ◌≤◌, length, map, bounds}
 use Rattle.bidi_rules.specs.WeakWalk.{len_at, resolved_to, IsUnderWay, WaitsBelow}
 use Rattle.bidi_explicit.specs.SequenceUnits.{count_below}

@@ -11,7 +11,7 @@ use Rattle.bidi_rules.proofs.weak.w3_w6.resolve_w3_w6.Goals as goal
 left_over-twice : (c : BidiClass) → left_over (left_over c) ≡ left_over c
 left_over-twice c = grind arith
 
--- the turns of the run that came
+-- the iterations of the run that came
 units_more : (runs : List (ℕ × ℕ)) (i start end : ℕ) → are_ordered runs ≡ true → i < length runs → (get_or runs i (0, 0)).0 ≡ start → (get_or runs i (0, 0)).1 ≡ end
     → (length (units_in_runs (take (i + 1) runs)) ≡ length (units_in_runs (take i runs)) + (end - start)) × (start < end)
 units_more runs i start end ordered fits starts ends = grind (arith, length-units_in_runs-more, run_some) steps 400000

@@ -1,4 +1,5 @@
--- The units of the run that came are read. Each stretch takes no more turns than two for each of its units, and one less at the run's end.
+-- The units of the run that came are read. Each stretch takes no more iterations than two for each of its units, and
+-- one less at the run's end.
 use Rattle.bidi_base.proofs.Common.{◌≡◌, ℕ, ◌+◌, ◌-◌, ◌*◌, ◌≤◌, length, map, get_or, class_at, bounds}
 use Rattle.bidi_rules.specs.WeakWalk.{len_at, resolved_to, ReadsTo, WaitsBelow}
 use Rattle.bidi_explicit.specs.SequenceUnits.{count_below}

@@ -13,7 +13,7 @@ write_over_runs_counted-requires-clause-ordered g c = grind (arith, forwards-in_
 pub returns-then-waits-clause-held : goal.returns-then-waits-clause-held
 returns-then-waits-clause-held g c = grind (arith, part_after)
 
--- the turns over the runs from the one where what waits begins
+-- the iterations over the runs from the one where what waits begins
 paid : (runs : List (ℕ × ℕ)) (w : Walk) (to old new : ℕ) → are_ordered runs ≡ true → WaitsBelow runs w to → waits w.before ≡ true
     → (w.first < to → w.first < (get_or (drop w.first_run runs) 0 (0, 0)).1 → new + 2 * count_below (drop w.first_run runs) w.first ≤ old + 2 * count_below (drop w.first_run runs) to)
     → new + 2 * count_below runs (resolved_to w to) ≤ old + 2 * count_below runs to
