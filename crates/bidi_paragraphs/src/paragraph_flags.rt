@@ -71,21 +71,21 @@ impl ParagraphFlags {
     }
 
     /// Returns whether some character is an isolate initiator.
-    pub(crate) fn has_isolates(self) -> bool
+    pub fn has_isolates(self) -> bool
         ensures { result ≡ any_of self.seen is_isolate_initiator }
     {
         self.seen.intersects(ClassSet::INITIATORS)
     }
 
     /// Returns whether no character opens an embedding or an isolate.
-    pub(crate) fn is_flat(self) -> bool
+    pub fn is_flat(self) -> bool
         ensures { result ≡ not (any_of self.seen is_opener) }
     {
         !self.seen.intersects(ClassSet::OPENERS)
     }
 
     /// Returns whether no class can give a character another level than `level`, if that is the paragraph level.
-    pub(crate) fn keeps_to(self, level: Level) -> bool
+    pub fn keeps_to(self, level: Level) -> bool
         ensures { result ≡ not (any_of self.seen (may_leave level)) }
     {
         let turning = if level.is_rtl() {
@@ -97,7 +97,7 @@ impl ParagraphFlags {
     }
 
     /// Returns whether X9 removes some character.
-    pub(crate) fn has_removed(self) -> bool
+    pub fn has_removed(self) -> bool
         ensures { result ≡ any_of self.seen is_removed }
     {
         self.seen.intersects(ClassSet::REMOVED)
