@@ -273,7 +273,7 @@ pub fn analyse<D: BidiDataSource, T: TextSource>(
         (levels_of (paragraphs_of_analysis a))) }
 {
     let rule = split.then_some(SplitRule::EachSeparator);
-    analyse_by(alloc, data_source, text, base, rule)
+    analyse_with_rule(alloc, data_source, text, base, rule)
 }
 
 /// Finds the paragraphs of a text, which end where `rule` says, and the class and the level of each character (P1 to
