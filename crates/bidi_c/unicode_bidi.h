@@ -1,5 +1,5 @@
 /* The Unicode Bidirectional Algorithm (UAX #9, revision 46) for callers in C and C++. With the package, link
- * libunicode_bidi. Without it, link libbidi_c.a, and after it the kit's liblibc_c.a, through which the library allocates.
+ * libunicode_bidi. Without it, link libbidi_c.a, and after it the kit's liblibc_c.a: the library allocates with it.
  *
  * A call accepts any numbers in its arguments and buffers. It first checks all that the library requires, and
  * returns one of the negative codes below if a check fails. Only pointers can't be checked. The caller must
@@ -174,8 +174,8 @@ int64_t unicode_bidi_brackets_utf16(const uint16_t *text, size_t text_len, uint3
 int64_t unicode_bidi_brackets_utf32(const uint32_t *text, size_t text_len, uint32_t *brackets, size_t brackets_len);
 
 /* Returns the base direction (P2, P3) of characters with these classes, one class for each character: UNICODE_BIDI_LTR,
- * _RTL or _MIXED. With full 0 it is the direction of the first paragraph, otherwise that of the first paragraph that has one. A
- * paragraph ends after each class B.
+ * _RTL or _MIXED. With full 0 it is the direction of the first paragraph, otherwise that of the first paragraph that
+ * has one. A paragraph ends after each class B.
  * Faults   BAD_CLASS, in any of the classes
  * Cost     the classes
  * Proved   the direction (base_direction, full_base_direction), with the numbers as the characters of a data source in
@@ -192,7 +192,7 @@ int64_t unicode_bidi_base_direction_of_classes(const uint8_t *classes, size_t cl
  *                           1. With 0 the call only counts them.
  * Faults   NOT_UTF8, NOT_SCALAR (by the encoding), BAD_BASE_LEVEL, BAD_SPLIT, NO_ROOM for classes and
  *          levels, NO_ROOM for paragraphs
- * Cost     the text. Memory: some bytes a unit. The call does not allocate if the text is in UTF-8 or
+ * Cost     the text. Memory: some bytes for each unit. The call does not allocate if the text is in UTF-8 or
  *          UTF-16, has up to 256 units, is one paragraph, and has no bracket and no character that opens an
  *          embedding or an isolate.
  * Proved   the classes, the levels and the paragraphs are those of the definitions (text_classes, text_levels,
@@ -268,7 +268,7 @@ int64_t unicode_bidi_base_direction_by_tables_utf32(
 
 /* -------- Lines --------
  *
- * Pass the classes and levels that an analysis wrote for the whole text, one a unit, and the paragraph that contains
+ * Pass the classes and levels that an analysis wrote for the units of the whole text, and the paragraph that contains
  * the line. L1 uses the level of that paragraph. The line is the units from start up to end, and may be empty. A call
  * reads only the line, and for CUT_CHARACTER the units next to its ends, so it costs only the line. The numbers need
  * not come from an analysis: any that pass the checks are allowed.
@@ -287,7 +287,7 @@ int64_t unicode_bidi_line_levels(const uint8_t *classes, size_t classes_len,
                                  uint8_t *out, size_t out_len);
 
 /* Writes the visual runs of the line from left to right (L2), and returns their number. A run is a maximal range of
- * units of one level after L1, so there is at most one a unit. With runs_len 0 the call only counts them.
+ * units of one level after L1, so there are at most end - start. With runs_len 0 the call only counts them.
  * Faults   further: NO_ROOM
  * Proved   the runs (visual_runs) with their levels. */
 int64_t unicode_bidi_line_runs(const uint8_t *classes, size_t classes_len,
@@ -295,7 +295,7 @@ int64_t unicode_bidi_line_runs(const uint8_t *classes, size_t classes_len,
                                const unicode_bidi_paragraph *paragraph, size_t start, size_t end,
                                unicode_bidi_run *runs, size_t runs_len);
 
-/* Writes the visual order of the line's characters. order[i] is the index of the character at visual position i,
+/* Writes the visual order of the line's characters (L2). order[i] is the index of the character at visual index i,
  * counted in characters from the line's first one. Returns the number of characters, at most end - start.
  * Faults   further: UNEQUAL_LENGTHS of the text, CUT_CHARACTER (utf8, utf16), NOT_UTF8, NOT_SCALAR (by the
  *          encoding), NO_ROOM
@@ -375,7 +375,7 @@ int64_t unicode_bidi_show_line_utf32(const uint32_t *text, size_t text_len,
                                      uint32_t *out, size_t out_len, size_t *characters);
 
 /* Writes the visual order of any items (L2), by their levels after L1. order[i] is the index of the item at visual
- * position i. Returns levels_len. Does not allocate.
+ * index i. Returns levels_len. Does not allocate.
  * Faults   BAD_LEVEL, NO_ROOM
  * Proved   the order (visual_order). */
 int64_t unicode_bidi_reorder_visual(const uint8_t *levels, size_t levels_len,

@@ -3,10 +3,10 @@ use crate::files::{
     STANDARD_INPUT, end_without_memory, read_standard_input, refuse, refuse_rest, write_out,
 };
 use bidi_arguments::operands::{Operands, STANDARD_INPUT_NAME};
-use bidi_inputs::input::{explain_input, explain_text};
-use bidi_inputs::status::Status;
 use bidi_explain::frame;
 use bidi_explain::view::{Form, StageView};
+use bidi_inputs::input::{explain_input, explain_text};
+use bidi_inputs::status::Status;
 use std::fs;
 use std::rt::Files;
 
@@ -17,8 +17,8 @@ fn explain_argument(
     text: &str,
 ) -> Result<Status, Status> {
     match explain_text(rt.alloc(), view, text) {
-        Ok(told) => {
-            write_out(rt, told.as_str())?;
+        Ok(reported) => {
+            write_out(rt, reported.as_str())?;
             Ok(Status::Clean)
         }
         Err(_) => Err(end_without_memory(rt)),
@@ -33,8 +33,8 @@ fn explain_bytes(
     bytes: &[u8],
 ) -> Result<Status, Status> {
     match explain_input(rt.alloc(), view, bytes) {
-        Ok(told) => {
-            write_out(rt, told.as_str())?;
+        Ok(reported) => {
+            write_out(rt, reported.as_str())?;
             Ok(Status::Clean)
         }
         Err(fault) => refuse_rest(rt, name, fault),
@@ -113,7 +113,7 @@ fn explain_as_page(
 }
 
 /// Writes what the rules make of texts, or of the files of these names: `-` is standard input. Without any, it
-/// reads standard input. A file that cannot be read or is not UTF-8 is told on standard error, and the next one
+/// reads standard input. A file that cannot be read or is not UTF-8 is reported on standard error, and the next one
 /// is read.
 pub fn explain_operands(
     rt: &(impl Files + Input + Print + Eprint + AllocGlobal),

@@ -3,8 +3,8 @@ use crate::help::help;
 use bidi_arguments::operands::STANDARD_INPUT_NAME;
 use bidi_arguments::refusal::Subcommand;
 use bidi_inputs::status::Status;
-use bidi_terminal::names::shown_name;
 use bidi_shown::stream::{Stream, StreamFault};
+use bidi_terminal::names::shown_name;
 use bidi_unicode::UNICODE_VERSION;
 use bidi_visual::view::View;
 use std::fs;
@@ -32,7 +32,7 @@ pub fn write_out(rt: &(impl Print + Eprint), text: &str) -> Result<(), Status> {
     after_write(rt, io::writer(rt).write_all(text.as_bytes()))
 }
 
-/// Tells that an input was not read, and goes on to the next; if an allocation fails, the run ends.
+/// Reports that an input was not read, and goes on to the next; if an allocation fails, the run ends.
 pub fn refuse(
     rt: &(impl Print + Eprint + AllocGlobal),
     name: &str,
@@ -58,7 +58,7 @@ fn out_of_memory(rt: &impl Eprint) -> Result<Status, Status> {
     Err(end_without_memory(rt))
 }
 
-/// Tells why an input is not read to its end.
+/// Reports why an input is not read to its end.
 pub fn refuse_rest(
     rt: &(impl Eprint + AllocGlobal),
     name: &str,
@@ -178,7 +178,7 @@ fn show_file(
 }
 
 /// Shows the files of these names, or standard input where there are none and for the name `-`. A file
-/// that cannot be read or is not UTF-8 is told on standard error, and the next one is read.
+/// that cannot be read or is not UTF-8 is reported on standard error, and the next one is read.
 pub fn show_files(
     rt: &(impl Files + Input + Print + Eprint + AllocGlobal),
     view: View,

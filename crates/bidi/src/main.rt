@@ -1,7 +1,6 @@
-//! The bidirectional algorithm at a command line. `bidi check` finds direction controls that have no
-//! match on their line: they can make a text, also a program, read otherwise than it is. `bidi show`
-//! gives the lines of a text as a terminal that does not know the algorithm has to be given them.
-//! `bidi explain` shows what each stage of the rules makes of the characters of a text.
+//! The program `bidi`. `bidi check` finds direction controls that have no match on their line: they can make a text, such as
+//! source code, display differently from how it reads. `bidi show` writes the lines of a text for a terminal without
+//! bidirectional support. `bidi explain` writes the result of each rule for the characters of a text.
 #![tactic(auto)]
 
 mod explain;
@@ -13,9 +12,9 @@ mod walk;
 
 use bidi_arguments::command::Command;
 use bidi_arguments::refusal::Refusal;
+use bidi_explain::view::StageView;
 use bidi_inputs::status::Status;
 use bidi_terminal::names::{shown_bytes, shown_name};
-use bidi_explain::view::StageView;
 use explain::explain_operands;
 use files::{end_without_memory, show_files, write_help, write_versions};
 use std::alloc::AllocError;
@@ -61,7 +60,7 @@ fn report_argument(rt: &(impl Eprint + AllocGlobal), argument: &[u8]) -> Result<
     Ok(())
 }
 
-// Tells why there are no arguments.
+// Reports why there are no arguments.
 fn refuse_arguments(rt: &(impl Env + Eprint + AllocGlobal), error: &io::Error) -> Status {
     if error.kind() != ErrorKind::InvalidData {
         let _ = eprintln!(rt; "bidi: the arguments could not be read: {error}");
@@ -73,7 +72,7 @@ fn refuse_arguments(rt: &(impl Env + Eprint + AllocGlobal), error: &io::Error) -
     Status::Refused
 }
 
-// Tells why the arguments are none of the program's forms.
+// Reports why the arguments are none of the program's forms.
 fn refuse(rt: &(impl Eprint + AllocGlobal), refusal: &Refusal<'_>) -> Result<(), AllocError> {
     let text = format!(in rt.alloc(); "{refusal}")?;
     let shown = shown_name(rt.alloc(), text.as_str())?;

@@ -5,11 +5,11 @@ use bidi_arguments::check_options::CheckOptions;
 use bidi_bytes::decode::{BINARY_PREFIX, is_binary, is_utf16};
 use bidi_bytes::pieces::read_piece;
 use bidi_inputs::input::check_input;
+use bidi_inputs::line_reports::push_lines_reported;
 use bidi_inputs::status::Status;
-use bidi_inputs::told::push_lines_told;
-use bidi_terminal::names::shown_name;
 use bidi_reports::report::Report;
 use bidi_scan::file_search::{FileSearch, FoundLine};
+use bidi_terminal::names::shown_name;
 use std::alloc::AllocError;
 use std::io::{ErrorKind, Read};
 
@@ -55,8 +55,8 @@ pub fn or_end<T: Drop>(rt: &impl Eprint, made: Result<T, AllocError>) -> Result<
     }
 }
 
-// Tells where an input stops being UTF-8, if it does.
-fn tell_invalid(
+// Reports where an input stops being UTF-8, if it does.
+fn report_invalid(
     rt: &(impl Eprint + AllocGlobal),
     run: &mut Run<'_, '_, '_>,
     name: &str,
@@ -90,7 +90,7 @@ fn check_bytes(
         bytes,
     );
     let checked = or_end(rt, checked)?;
-    tell_invalid(rt, run, name, checked.invalid)?;
+    report_invalid(rt, run, name, checked.invalid)?;
     write_out(rt, checked.report.as_str())?;
     run.note(checked.status());
     Ok(())
@@ -108,7 +108,7 @@ fn report_found(
     }
     let mut out = String::new(rt.alloc());
     let lines = found.as_slice();
-    let told = push_lines_told(
+    let reported = push_lines_reported(
         rt.alloc(),
         &mut *run.report,
         run.allowed,
@@ -116,10 +116,10 @@ fn report_found(
         name,
         lines,
     );
-    let is_told = or_end(rt, told)?;
+    let is_reported = or_end(rt, reported)?;
     found.truncate(0);
     write_out(rt, out.as_str())?;
-    if is_told {
+    if is_reported {
         run.note(Status::Found);
     }
     Ok(())
@@ -160,7 +160,7 @@ fn check_next(
     }
 }
 
-// Searches an input to its end or to a failed read. Then tells where it stops being UTF-8.
+// Searches an input to its end or to a failed read. Then reports where it stops being UTF-8.
 fn check_each(
     rt: &(impl Print + Eprint + AllocGlobal),
     run: &mut Run<'_, '_, '_>,
@@ -174,7 +174,7 @@ fn check_each(
             break;
         }
     }
-    tell_invalid(rt, run, name, pieces.search.invalid)
+    report_invalid(rt, run, name, pieces.search.invalid)
 }
 
 // Searches an input in UTF-8 of which these bytes are read, piece by piece. If reading fails, reports what was found
@@ -194,7 +194,7 @@ fn check_pieces(
 }
 
 /// Searches an input, and writes what it finds. If `text` is false, reads only the first bytes of a binary input, and
-/// reports nothing of it. UTF-16 is read as a whole, and other inputs piece by piece. A failed read is told and noted.
+/// reports nothing of it. UTF-16 is read as a whole, and other inputs piece by piece. A failed read is reported and noted.
 /// Returns an error only if the run must end: an allocation or a write to standard output failed.
 pub fn check_reader(
     rt: &(impl Print + Eprint + AllocGlobal),

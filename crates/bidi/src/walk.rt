@@ -7,9 +7,9 @@ use bidi_arguments::check_options::CheckOptions;
 use bidi_arguments::operands::STANDARD_INPUT_NAME;
 use bidi_inputs::entries::{listed_names, names_in_order, path_below};
 use bidi_inputs::status::Status;
-use bidi_terminal::names::{shown_bytes, shown_name};
 use bidi_reports::form::Form;
 use bidi_reports::report::Report;
+use bidi_terminal::names::{shown_bytes, shown_name};
 use std::alloc::AllocError;
 use std::fs;
 use std::io::{self, ErrorKind, Read};
@@ -219,7 +219,7 @@ fn check_all(
     }
 }
 
-// Searches all of that, and writes what stands before and after the findings.
+// Searches all of that, and writes what is before and after the findings.
 fn report_all(
     rt: &(impl Files + Input + Print + Eprint + AllocGlobal),
     run: &mut Run<'_, '_, '_>,

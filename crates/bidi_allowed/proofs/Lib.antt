@@ -1,1 +1,1 @@
-pub mod AllowedLemmas
+mod AllowedLemmas

@@ -5,7 +5,7 @@ use Rattle.std.specs.List.{starts_with, ends_with, list_all, list_any, slice_spl
 use Rattle.std.specs.Option.{option_to_list}
 use Rattle.std.specs.Str.{bytes_eq}
 use Rattle.std.specs.Str.Parse.{digits_value}
-use Rattle.bidi_base.specs.Places.{indexes}
+use Rattle.bidi_base.specs.Indexes.{indexes}
 use Rattle.bidi_allowed.specs.declared.allowed.ListFault.{ListFault}
 use Rattle.bidi_allowed.specs.declared.allowed.ListFault.TheVariants.{NotAnEntry, Memory}
 
@@ -107,7 +107,7 @@ unfoldable pub IsFirstWrong : List (List ℕ) → ℕ → Type 0
 IsFirstWrong lines number =
     (0 < number) × (number ≤ length lines) × (is_wrong (get_or lines (number - 1) []) ≡ true) × (list_any is_wrong (take (number - 1) lines) ≡ false)
 
--- the fault tells the first line that cannot be understood, or that an allocation failed
-abbrev pub TellsLines : List (List ℕ) → ListFault → Type 0
-TellsLines lines (NotAnEntry number) = IsFirstWrong lines number
-TellsLines lines Memory = ⊤
+-- the fault names the first line that cannot be understood, or that an allocation failed
+abbrev pub ReportsLines : List (List ℕ) → ListFault → Type 0
+ReportsLines lines (NotAnEntry number) = IsFirstWrong lines number
+ReportsLines lines Memory = ⊤

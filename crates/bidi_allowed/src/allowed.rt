@@ -7,7 +7,7 @@ ghost use Rattle.std.specs.Prelude.{◌≡◌, ◌≤◌, ◌++◌, ◌∷◌, [
 ghost use Rattle.std.specs.Char.{is_ascii_digit};
 ghost use Rattle.std.specs.List.{list_all, list_any};
 ghost use Rattle.std.specs.Str.Parse.{digits_value};
-ghost use Rattle.bidi_allowed.specs.Allowed.{lines_of, without_return, is_comment, plain_path, is_digits, number_colon, number_of, is_directory, whole_entry, line_entry, entry_of, allows_path, allows_line, entry_allows, entries_in, is_wrong, TellsLines};
+ghost use Rattle.bidi_allowed.specs.Allowed.{lines_of, without_return, is_comment, plain_path, is_digits, number_colon, number_of, is_directory, whole_entry, line_entry, entry_of, allows_path, allows_line, entry_allows, entries_in, is_wrong, ReportsLines};
 
 use std::alloc::{AllocError, Global};
 use std::marker::Model;
@@ -238,7 +238,7 @@ fn push_entries_in<'l>(entries: &mut Vec<Entry<'l>>, line: &'l [u8]) -> Result<b
 // Appends what the lines of a list allow, up to the first line that is not an entry.
 fn push_entries<'l>(entries: &mut Vec<Entry<'l>>, lines: &[&'l [u8]]) -> Result<(), ListFault>
     ensures entries { OnOk result (entries.new.items ≡ entries.old.items ++ flat_map entries_in (map (λ line. line.now) lines.now)) }
-    ensures fault { IfErr result (TellsLines (map (λ line. line.now) lines.now)) }
+    ensures fault { IfErr result (ReportsLines (map (λ line. line.now) lines.now)) }
 {
     for (index, line) in lines.iter().enumerate() {
         if !push_entries_in(entries, line)? {
@@ -278,7 +278,7 @@ impl<'l> AllowList<'l> {
     /// Returns what a text allows, or the number of its first line that is not an entry.
     pub fn parse(alloc: Global, text: &'l [u8]) -> Result<AllowList<'l>, ListFault>
         ensures entries { IfOk result (λ list. list ≡ entries_of text.now) }
-        ensures fault { IfErr result (TellsLines (lines_of text.now)) }
+        ensures fault { IfErr result (ReportsLines (lines_of text.now)) }
     {
         let lines = lines_of(alloc, text)?;
         let mut entries = Vec::new(alloc);

@@ -1,1 +1,1 @@
-pub mod OptionsLemmas
+mod OptionsLemmas

@@ -1,5 +1,5 @@
 -- What options before others ask for, where words are texts.
-use Rattle.bidi_base.proofs.Common.{◌≡◌, refl, sym, ap, ◌∙◌, ℕ, ◌-◌, ◌<◌, ◌≤◌, Bool, true, false, List, [], ◌∷◌, Some, None, Ok, Err, length, get_or, map, drop, string_bytes, arith, codes}
+use Rattle.bidi_base.proofs.Common.{◌≡◌, sym, ap, ◌∙◌, ℕ, ◌-◌, ◌≤◌, Bool, true, false, List, [], ◌∷◌, Some, None, Ok, length, get_or, map, drop, string_bytes, arith, codes}
 use Rattle.bidi_base.proofs.Common.{slice_range, take_all, length-drop}
 use Rattle.std.specs.Str.{bytes_eq}
 use Rattle.std.specs.declared.string.String.{String}
@@ -7,7 +7,7 @@ use Rattle.bidi_terminal.specs.Bases.{base_named}
 use Rattle.bidi_terminal.specs.Numbers.{number_of}
 use Rattle.bidi_terminal.specs.declared.base.Base.{Base}
 use Rattle.bidi_arguments.specs.Checks.{flag_named, setting_named, with_flag, with_setting}
-use Rattle.bidi_arguments.specs.Commands.{by_options, check_of, check_over, explain_of, file_words, show_of}
+use Rattle.bidi_arguments.specs.Commands.{by_options, check_of, explain_of, show_of}
 use Rattle.bidi_explain.specs.declared.view.Form.TheVariants.{Page}
 use Rattle.bidi_explain.specs.declared.view.StageView.{StageView}
 use Rattle.bidi_arguments.specs.declared.check_options.CheckOptions.{CheckOptions}
@@ -15,9 +15,6 @@ use Rattle.bidi_arguments.specs.declared.check_options.Flag.{Flag}
 use Rattle.bidi_arguments.specs.declared.check_options.Setting.{Setting}
 use Rattle.bidi_arguments.specs.declared.operands.Operands.{Operands}
 use Rattle.bidi_arguments.specs.declared.operands.Operands.TheVariants.{Files}
-use Rattle.bidi_arguments.specs.declared.refusal.Refusal.{Refusal}
-use Rattle.bidi_arguments.specs.declared.refusal.Refusal.TheVariants.{NoValue}
-use Rattle.bidi_arguments.specs.declared.refusal.Subcommand.TheVariants.{Checking}
 use Rattle.bidi_visual.specs.declared.view.View.{View}
 
 module _ {Z : Type 0} where
@@ -87,14 +84,6 @@ module _ {Z : Type 0} where
   words-first [] first some is = absurd (omega arith)
   words-first (w ∷ words) first some is = let e : first ≡ w = is in simp (rest-all 1 (w ∷ words), e)
 
-  map-none : (words : List (String Z)) → length words < 1 → map string_bytes words ≡ []
-  map-none [] none = refl
-  map-none (w ∷ words) none = absurd (omega arith)
-
-  pub words-one : (words : List (String Z)) (first : String Z) → 1 ≤ length words → first ≡ get_or words 0 first → length (slice_range words 1 (length words)) < 1
-      → map string_bytes words ≡ string_bytes first ∷ []
-  words-one words first some is none = words-first words first some is ∙ ap (λ rest. string_bytes first ∷ rest) (map-none (slice_range words 1 (length words)) none)
-
   pub words-two : (words : List (String Z)) (first second : String Z) → 1 ≤ length words → first ≡ get_or words 0 first
       → 1 ≤ length (slice_range words 1 (length words)) → second ≡ get_or (slice_range words 1 (length words)) 0 second
       → map string_bytes words
@@ -106,14 +95,6 @@ module _ (options : CheckOptions) where
   check_of-flag : (word : List ℕ) (words : List (List ℕ)) (flag : Flag) → flag_named word ≡ Some flag → check_of (with_flag flag options) words ≡ check_of options (word ∷ words)
   check_of-flag word [] flag named = simp named
   check_of-flag word (value ∷ words) flag named = simp named
-
-  check_of-files : (word : List ℕ) (words : List (List ℕ)) → flag_named word ≡ None → setting_named word ≡ None
-      → check_over options (file_words Checking (word ∷ words)) ≡ check_of options (word ∷ words)
-  check_of-files word [] not_flag not_setting = simp (not_flag, not_setting)
-  check_of-files word (value ∷ words) not_flag not_setting = simp (not_flag, not_setting)
-
-  check_of-no_value : (word : List ℕ) (setting : Setting) → flag_named word ≡ None → setting_named word ≡ Some setting → Err (NoValue Checking word) ≡ check_of options (word ∷ [])
-  check_of-no_value word setting not_flag named = simp (not_flag, named)
 
   check_of-setting : (word value : List ℕ) (words : List (List ℕ)) (setting : Setting) → flag_named word ≡ None → setting_named word ≡ Some setting
       → by_options (with_setting setting value options) (λ next. check_of next words) ≡ check_of options (word ∷ value ∷ words)
@@ -128,18 +109,7 @@ module _ (options : CheckOptions) where
         check_of-flag (string_bytes first) (map string_bytes rest) flag named ∙ sym (ap (check_of options) (words-first words first some is))
 
     module _ (not_flag : flag_named (string_bytes first) ≡ None) where
-      pub words_of-files : setting_named (string_bytes first) ≡ None → check_over options (file_words Checking (map string_bytes words)) ≡ check_of options (map string_bytes words)
-      words_of-files not_setting =
-          let e : map string_bytes words ≡ string_bytes first ∷ map string_bytes rest = words-first words first some is in
-          ap (λ l. check_over options (file_words Checking l)) e
-          ∙ check_of-files (string_bytes first) (map string_bytes rest) not_flag not_setting
-          ∙ sym (ap (check_of options) e)
-
       module _ (setting : Setting) (named : setting_named (string_bytes first) ≡ Some setting) where
-        pub words_of-no_value : length rest < 1 → Err (NoValue Checking (string_bytes first)) ≡ check_of options (map string_bytes words)
-        words_of-no_value none =
-            check_of-no_value (string_bytes first) setting not_flag named ∙ sym (ap (check_of options) (words-one words first some is none))
-
         module _ (second : String Z) (more : 1 ≤ length rest) (is' : second ≡ get_or rest 0 second) where
           words_of-setting : by_options (with_setting setting (string_bytes second) options) (λ next. check_of next (map string_bytes (slice_range rest 1 (length rest)))) ≡ check_of options (map string_bytes words)
           words_of-setting =
@@ -150,7 +120,3 @@ module _ (options : CheckOptions) where
               → check_of next (map string_bytes (slice_range rest 1 (length rest))) ≡ check_of options (map string_bytes words)
           words_of-value next taken =
               sym (ap (λ r. by_options r (λ o. check_of o (map string_bytes (slice_range rest 1 (length rest))))) taken) ∙ words_of-setting
-
-          pub words_of-refused : (refusal : Refusal) → with_setting setting (string_bytes second) options ≡ Err refusal → Err refusal ≡ check_of options (map string_bytes words)
-          words_of-refused refusal refused =
-              sym (ap (λ r. by_options r (λ o. check_of o (map string_bytes (slice_range rest 1 (length rest))))) refused) ∙ words_of-setting

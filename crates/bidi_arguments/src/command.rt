@@ -82,7 +82,7 @@ fn first_option<'w>(words: &'w [String]) -> Option<Word<'w>>
 impl<'w> FileWords<'w> {
     ghost use Rattle.bidi_arguments.specs.Commands.{file_words};
 
-    /// What stands after the options of a subcommand. Refused where there is an option among the
+    /// What is after the options of a subcommand. Refused where there is an option among the
     /// words, unless `--` is the first of them.
     fn parse(subcommand: Subcommand, words: &'w [String]) -> Result<FileWords<'w>, Refusal<'w>>
         ensures { result ≡ file_words subcommand (map string_bytes words.now) }

@@ -32,55 +32,55 @@ list_all-front p [] (suc n) fits = absurd (omega arith)
 list_all-front p (x ∷ xs) (suc n) fits = grind (arith, list_all-front p xs n)
 
 -- k is a mark after b where it lies within the marks that begin there
-is_mark_after-prefix_len : (source : List BidiClass) (b k : ℕ) → b < length source → k < length source
-    → is_mark_after source b k ≡ (ltb b k && ltb k (b + 1 + prefix_len is_nsm (drop (b + 1) source)))
+is_mark_after-prefix_len : (source_classes : List BidiClass) (b k : ℕ) → b < length source_classes → k < length source_classes
+    → is_mark_after source_classes b k ≡ (ltb b k && ltb k (b + 1 + prefix_len is_nsm (drop (b + 1) source_classes)))
 unfolding is_mark_after
-is_mark_after-prefix_len source b k inside fits = grind (arith, list_all-front, length-drop)
+is_mark_after-prefix_len source_classes b k inside fits = grind (arith, list_all-front, length-drop)
 
 -- the classes once one bracket and the marks after it have taken a direction
 abbrev pub with_bracket : List BidiClass → ℕ → List BidiClass → BidiClass → List BidiClass
-with_bracket source b classes d = map (λ k. cond (eqb k b || is_mark_after source b k) d (class_at classes k)) (indexes classes)
+with_bracket source_classes b classes d = map (λ k. cond (eqb k b || is_mark_after source_classes b k) d (class_at classes k)) (indexes classes)
 
-pub with_bracket-filled : (source classes ys : List BidiClass) (b m : ℕ) (d : BidiClass) → length source ≡ length classes → b < length classes
-    → m ≡ prefix_len is_nsm (take (length source - (b + 1)) (drop (b + 1) source))
+pub with_bracket-filled : (source_classes classes ys : List BidiClass) (b m : ℕ) (d : BidiClass) → length source_classes ≡ length classes → b < length classes
+    → m ≡ prefix_len is_nsm (take (length source_classes - (b + 1)) (drop (b + 1) source_classes))
     → ys ≡ replicate (length (take (b + 1 + m - b) (drop b classes))) d
-    → put_mid b (b + 1 + m - b) classes ys ≡ with_bracket source b classes d
-with_bracket-filled source classes ys b m d long inside counted filled =
-    let marks : m ≡ prefix_len is_nsm (drop (b + 1) source) = counted ∙ ap (prefix_len is_nsm) (take_rest source (b + 1)) in
+    → put_mid b (b + 1 + m - b) classes ys ≡ with_bracket source_classes b classes d
+with_bracket-filled source_classes classes ys b m d long inside counted filled =
+    let marks : m ≡ prefix_len is_nsm (drop (b + 1) source_classes) = counted ∙ ap (prefix_len is_nsm) (take_rest source_classes (b + 1)) in
     let room : b + (1 + m) ≤ length classes = grind (arith, prefix_len-le-length, length-drop) in
     let same : b + 1 + m - b ≡ 1 + m = omega arith in
     let part : length (take (b + 1 + m - b) (drop b classes)) ≡ 1 + m = omega (arith, length-take (b + 1 + m - b) (drop b classes), length-drop b classes) in
-    rw (filled, part, same) (fill_by_all (λ k. cond (eqb k b || is_mark_after source b k) d (class_at classes k)) _ (length classes) L (length-put_mid b (1 + m) classes d room)
-    (λ k fits. simp (is_mark_after-prefix_len source b k (omega arith) (omega arith), ← marks) (grind (arith, common_steps, put_mid-after))))
+    rw (filled, part, same) (fill_by_all (λ k. cond (eqb k b || is_mark_after source_classes b k) d (class_at classes k)) _ (length classes) L (length-put_mid b (1 + m) classes d room)
+    (λ k fits. simp (is_mark_after-prefix_len source_classes b k (omega arith) (omega arith), ← marks) (grind (arith, common_steps, put_mid-after))))
 
-pub length-with_bracket : (source classes : List BidiClass) (b : ℕ) (d : BidiClass) → length (with_bracket source b classes d) ≡ length classes
-length-with_bracket source classes b d = grind (arith, length-map-range_with_len)
+pub length-with_bracket : (source_classes classes : List BidiClass) (b : ℕ) (d : BidiClass) → length (with_bracket source_classes b classes d) ≡ length classes
+length-with_bracket source_classes classes b d = grind (arith, length-map-range_with_len)
 
 -- both brackets, one after the other
-pub with_bracket-both : (source classes : List BidiClass) (pair : ℕ × ℕ) (d : BidiClass) → with_bracket source pair.1 (with_bracket source pair.0 classes d) d ≡ with_pair source pair classes d
+pub with_bracket-both : (source_classes classes : List BidiClass) (pair : ℕ × ℕ) (d : BidiClass) → with_bracket source_classes pair.1 (with_bracket source_classes pair.0 classes d) d ≡ with_pair source_classes pair classes d
 unfolding with_pair goes_with_pair
-with_bracket-both source classes pair d =
-    fill_by_all (λ k. cond (goes_with_pair source pair k) d (class_at classes k)) _ (length classes) L (grind (
+with_bracket-both source_classes classes pair d =
+    fill_by_all (λ k. cond (goes_with_pair source_classes pair k) d (class_at classes k)) _ (length classes) L (grind (
       arith,
       length-with_bracket,
     ))
     (λ k fits. grind (arith, get_or-map-range_with_len, length-with_bracket))
 
 -- N0 for one pair, by what it takes
-pub n0_pair-Some : (e sos : BidiClass) (source classes : List BidiClass) (pair : ℕ × ℕ) (d : BidiClass) → pair_direction e sos classes pair ≡ Some d
-    → n0_pair e sos source classes pair ≡ with_bracket source pair.1 (with_bracket source pair.0 classes d) d
+pub n0_pair-Some : (e sos : BidiClass) (source_classes classes : List BidiClass) (pair : ℕ × ℕ) (d : BidiClass) → pair_direction e sos classes pair ≡ Some d
+    → n0_pair e sos source_classes classes pair ≡ with_bracket source_classes pair.1 (with_bracket source_classes pair.0 classes d) d
 unfolding n0_pair
-n0_pair-Some e sos source classes pair d is = rw (is, with_bracket-both source classes pair d) refl
+n0_pair-Some e sos source_classes classes pair d is = rw (is, with_bracket-both source_classes classes pair d) refl
 
-pub n0_pair-None : (e sos : BidiClass) (source classes : List BidiClass) (pair : ℕ × ℕ) → pair_direction e sos classes pair ≡ None → n0_pair e sos source classes pair ≡ classes
+pub n0_pair-None : (e sos : BidiClass) (source_classes classes : List BidiClass) (pair : ℕ × ℕ) → pair_direction e sos classes pair ≡ None → n0_pair e sos source_classes classes pair ≡ classes
 unfolding n0_pair
-n0_pair-None e sos source classes pair is = grind arith
+n0_pair-None e sos source_classes classes pair is = grind arith
 
-pub n0-none : (e sos : BidiClass) (source classes : List BidiClass) → n0 e sos source [] classes ≡ classes
+pub n0-none : (e sos : BidiClass) (source_classes classes : List BidiClass) → n0 e sos source_classes [] classes ≡ classes
 unfolding n0
-n0-none e sos source classes = refl
+n0-none e sos source_classes classes = refl
 
-pub n0-more : (e sos : BidiClass) (source classes : List BidiClass) (pairs : List (ℕ × ℕ)) (i : ℕ) (d : ℕ × ℕ) → i < length pairs
-    → n0 e sos source (take (i + 1) pairs) classes ≡ n0_pair e sos source (n0 e sos source (take i pairs) classes) (get_or pairs i d)
+pub n0-more : (e sos : BidiClass) (source_classes classes : List BidiClass) (pairs : List (ℕ × ℕ)) (i : ℕ) (d : ℕ × ℕ) → i < length pairs
+    → n0 e sos source_classes (take (i + 1) pairs) classes ≡ n0_pair e sos source_classes (n0 e sos source_classes (take i pairs) classes) (get_or pairs i d)
 unfolding n0
-n0-more e sos source classes pairs i d fits = fold_more (n0_pair e sos source) classes pairs i d fits
+n0-more e sos source_classes classes pairs i d fits = fold_more (n0_pair e sos source_classes) classes pairs i d fits

@@ -1,4 +1,5 @@
--- The search for bracket pairs over the brackets of a sequence alone: a stack of openings, each with the place of its pair in the list of pairs.
+-- The search for bracket pairs over the brackets of a sequence alone: a stack of openings, each with the place of its
+-- pair in the list of pairs.
 use Rattle.bidi_base.proofs.Common.{◌≡◌, ℕ, zero, suc, ◌+◌, ◌-◌, ◌<◌, ◌≤◌, Bool, true, false, not, cond, eqb, ltb, List, [], ◌∷◌, ◌++◌, map, length, get_or, take, drop, set, filter_map, find}
 use Rattle.bidi_base.proofs.Common.{Option, Some, None, option_map, refl, ap, ◌∙◌, ◌⊎◌, arith, inl, inr, add-one, append-nil, append_assoc, common_steps, range_with_len, cases_Bool, length-map}
 use Rattle.bidi_base.proofs.Common.{map_push, take-map, get_or-map, drop_more, drop_all, All-nil, filter-append, filter_map-append, find-append, slice_get-get_or, BidiMatchedOpeningBracket}
@@ -152,7 +153,7 @@ module _ (counted : List (Option BidiMatchedOpeningBracket)) where
         inside = omega arith;
       }
 
-  -- what stands at i once the openings without a closing are left out
+  -- what is at i once the openings without a closing are left out
   abbrev kept_at : List (ℕ × ℕ) → ℕ → Option (ℕ × ℕ)
   kept_at pairs i = cond (opens counted i) (cond (ltb (pair_at pairs i).0 (pair_at pairs i).1) (Some (pair_at pairs i)) None) None
 

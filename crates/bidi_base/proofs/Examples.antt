@@ -1,15 +1,15 @@
 -- Worked examples: what the definitions compute, one for each stage of the algorithm, each by computation alone.
 use Rattle.bidi_base.proofs.Common.{◌≡◌, ℕ, [], ◌∷◌, refl, L, R, EN, ET, ES, CS, AN, NSM, BN, WS, ON, LRE, RLE, RLO, PDF, LRI, FSI, PDI, Ltr, Mixed, BidiMatchedOpeningBracket, match_of}
 use Rattle.bidi_base.proofs.Common.{matching_pdi, is_inside, is_isolated, deciding_class, paragraph_level, isolated_classes, stored_classes, is_level_with, closing_pdf, shares_isolates}
-use Rattle.bidi_base.proofs.Common.{is_embedded, is_open_at, open_at, status_inside, status_at, explicit_level, explicit_class, explicit_levels, explicit_classes, kept_places, next_kept}
+use Rattle.bidi_base.proofs.Common.{is_embedded, is_open_at, open_at, status_inside, status_at, explicit_level, explicit_class, explicit_levels, explicit_classes, kept_indexes, next_kept}
 use Rattle.bidi_base.proofs.Common.{kept_before, resumed_at, successor, is_first, start_class, end_class, sequence_from, sequences, weak_classes, available, partner, with_closing, closed_pairs}
 use Rattle.bidi_base.proofs.Common.{bracket_limit, pairs_of, bracket_pairs, pair_direction, is_mark_after, goes_with_pair, with_pair, n0_pair, n0, neutral_classes, implicit_levels}
-use Rattle.bidi_base.proofs.Common.{resolved_levels, sequence_levels, filled_levels, levels_in, line_levels_after, line_levels, least_between, stands_left, visual_place, index_at_visual}
+use Rattle.bidi_base.proofs.Common.{resolved_levels, sequence_levels, filled_levels, levels_in, line_levels_after, line_levels, least_between, stands_left, visual_index, index_at_visual}
 use Rattle.bidi_base.proofs.Common.{visual_order, order_by_reversals, visual_runs, reordered_text, base_direction, direction_of_levels, Option, Some, None, true, false}
 
 -- opens every definition that an example computes
 opened : ℕ
-unfolding match_of matching_pdi is_inside is_isolated deciding_class paragraph_level isolated_classes stored_classes is_level_with closing_pdf shares_isolates is_embedded is_open_at open_at status_inside status_at explicit_level explicit_class explicit_levels explicit_classes kept_places next_kept kept_before resumed_at successor is_first start_class end_class sequence_from sequences weak_classes available partner with_closing closed_pairs bracket_limit pairs_of bracket_pairs pair_direction is_mark_after goes_with_pair with_pair n0_pair n0 neutral_classes resolved_levels sequence_levels filled_levels levels_in line_levels_after line_levels least_between stands_left visual_place index_at_visual visual_order order_by_reversals visual_runs reordered_text base_direction direction_of_levels
+unfolding match_of matching_pdi is_inside is_isolated deciding_class paragraph_level isolated_classes stored_classes is_level_with closing_pdf shares_isolates is_embedded is_open_at open_at status_inside status_at explicit_level explicit_class explicit_levels explicit_classes kept_indexes next_kept kept_before resumed_at successor is_first start_class end_class sequence_from sequences weak_classes available partner with_closing closed_pairs bracket_limit pairs_of bracket_pairs pair_direction is_mark_after goes_with_pair with_pair n0_pair n0 neutral_classes resolved_levels sequence_levels filled_levels levels_in line_levels_after line_levels least_between stands_left visual_index index_at_visual visual_order order_by_reversals visual_runs reordered_text base_direction direction_of_levels
 opened = 0
 
 abbrev opening : ℕ → Option BidiMatchedOpeningBracket
@@ -46,7 +46,7 @@ direction_past_isolates : base_direction ((LRI ∷ R ∷ PDI ∷ L ∷ []) ∷ [
 unfolding opened
 direction_past_isolates = refl
 
--- a sequence goes on behind an isolate, whose content is a sequence of its own (BD13, X10)
+-- a sequence goes on after an isolate, whose content is a sequence of its own (BD13, X10)
 sequences_round_an_isolate : sequences 0 (L ∷ R ∷ LRI ∷ L ∷ PDI ∷ ON ∷ R ∷ ON ∷ []) (0 ∷ 0 ∷ 0 ∷ 2 ∷ 0 ∷ 0 ∷ 0 ∷ 0 ∷ [])
     ≡ record { places = 0 ∷ 1 ∷ 2 ∷ 4 ∷ 5 ∷ 6 ∷ 7 ∷ []; sos = L; eos = L } ∷ record { places = 3 ∷ []; sos = L; eos = L } ∷ []
 unfolding opened
@@ -62,7 +62,7 @@ crossed_brackets : bracket_pairs (ON ∷ ON ∷ ON ∷ ON ∷ []) (opening 40 �
 unfolding opened
 crossed_brackets = refl
 
--- brackets round R after R become R, and a mark behind the closing one with them (N0)
+-- brackets round R after R become R, and a mark after the closing one with them (N0)
 brackets_and_a_mark : neutral_classes 0 L L (R ∷ ON ∷ R ∷ ON ∷ NSM ∷ []) (None ∷ opening 40 ∷ None ∷ closing 40 ∷ None ∷ []) (R ∷ ON ∷ R ∷ ON ∷ ON ∷ []) ≡ R ∷ R ∷ R ∷ R ∷ R ∷ []
 unfolding opened
 brackets_and_a_mark = refl
@@ -72,7 +72,8 @@ implicit_at_the_greatest : implicit_levels 125 (L ∷ R ∷ AN ∷ EN ∷ []) �
 unfolding opened
 implicit_at_the_greatest = refl
 
--- a mark behind a removed character belongs to the letter before both, and the removed one has the letter's level (X9, W1)
+-- a mark after a removed character belongs to the letter before both, and the removed one has the letter's level (X9,
+-- W1)
 mark_behind_a_removed_one : levels_in 0 (R ∷ BN ∷ NSM ∷ L ∷ []) (None ∷ None ∷ None ∷ None ∷ []) ≡ 1 ∷ 1 ∷ 1 ∷ 0 ∷ []
 unfolding opened
 mark_behind_a_removed_one = refl
@@ -91,7 +92,7 @@ numbers_by_reversals : order_by_reversals (0 ∷ 0 ∷ 0 ∷ 1 ∷ 1 ∷ 1 ∷ 2
 unfolding opened
 numbers_by_reversals = refl
 
--- Latin behind Hebrew: two runs, the Latin one first, of a line that starts at the unit 0
+-- Latin after Hebrew: two runs, the Latin one first, of a line that starts at the unit 0
 latin_behind_hebrew : visual_runs 0 (1 ∷ 1 ∷ 1 ∷ 1 ∷ 1 ∷ 1 ∷ 2 ∷ 2 ∷ 2 ∷ []) ≡ (6, 9) ∷ (0, 6) ∷ []
 unfolding opened
 latin_behind_hebrew = refl

@@ -1,6 +1,6 @@
 pub mod BracketRules
 pub mod BracketSearch
-pub mod BracketsLemmas
+mod BracketsLemmas
 pub mod ChainLemmas
 pub mod Common
 mod Examples
@@ -9,12 +9,13 @@ pub mod GivesLemmas
 pub mod LevelsLemmas
 pub mod Lists
 pub mod NestedPairs
-pub mod OpeningSearch
+mod OpeningSearch
 pub mod PairsLemmas
 pub mod PerUnit
-pub mod PlaceLemmas
+pub mod UnitIndexLemmas
 pub mod PlacesLemmas
-pub mod SearchLanes
-pub mod TableLemmas
+mod SearchLanes
+mod TableLemmas
 pub mod TextLemmas
+pub mod TextUnitIndexes
 pub mod UnitsLemmas

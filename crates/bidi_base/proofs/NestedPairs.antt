@@ -1,4 +1,4 @@
--- Bracket pairs never cross: each stands behind those that open before it, or within them.
+-- Bracket pairs never cross: each stands after those that open before it, or within them.
 use Rattle.bidi_base.proofs.Common.{◌≡◌, ℕ, zero, suc, ◌+◌, ◌<◌, true, false, ◌&&◌, eqb, ltb, List, [], ◌∷◌, ◌++◌, length, get_or, find, filter_map, Option, Some, subst, ◌⊎◌, arith, inl, inr}
 use Rattle.bidi_base.proofs.Common.{add-one, rules, All, range_with_len, AllByRecursion, cases_lt, get_or_append_left, get_or-append_seam, All-append, All-cons, All-nil, All-from_recursion}
 use Rattle.bidi_base.proofs.Common.{list_any_at, AllPairs-cons, BidiClass, BidiMatchedOpeningBracket, bracket_at, is_opening, is_closing, is_taken, is_available, partner, closed_pairs, pairs_of}

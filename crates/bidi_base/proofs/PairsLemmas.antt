@@ -1,4 +1,5 @@
--- Bracket pairs in one pass from the front: what is closed and what waits at each place, and what the pass has found at its end.
+-- Bracket pairs in one pass from the front: what is closed and what waits at each place, and what the pass has found at
+-- its end.
 use Rattle.bidi_base.proofs.Common.{◌≡◌, ℕ, zero, suc, ◌+◌, ◌-◌, ◌<◌, ◌≤◌, Bool, true, false, ◌&&◌, eqb, ltb, leb, List, [], ◌∷◌, ◌++◌, length, get_or, take, filter_map, find, Option, Some, None}
 use Rattle.bidi_base.proofs.Common.{refl, ap, subst, ◌∙◌, ◌⊎◌, arith, inl, inr, append-nil, append_assoc, add-one, lt-ltb, le-ltb, rules, common_steps, ⊤, range_with_len, AllByRecursion}
 use Rattle.bidi_base.proofs.Common.{All-from_recursion, find-append, list_any-append, fold_push, BidiClass, BidiMatchedOpeningBracket, between, indexes, find_last, max_open_brackets}
@@ -79,7 +80,7 @@ module _ (brackets : List (Option BidiMatchedOpeningBracket)) where
   pub closed_before-closed : (j : ℕ) → AllClosedBefore j (closed_before brackets j)
   closed_before-closed j = AreInOrder-closed j (closed_before brackets j) (closed_before-in_order j)
 
-  -- what is closed later is added behind
+  -- what is closed later is added after
   closed_before-split : (k n : ℕ) → (later : List (ℕ × ℕ)) × (closed_before brackets (k + n) ≡ closed_before brackets k ++ later) × AreClosedFrom k later
   closed_before-split k zero = let same : k + 0 ≡ k = omega arith in ([], simp (same, append-nil), tt)
   closed_before-split k (suc n) =

@@ -67,9 +67,9 @@ pub table_class-between : (ranges : List (ℕ × ℕ × BidiClass)) (c low high 
 table_class-between ranges c low high met before after = grind (arith, nat_tests, find-none (in_range c) ranges (0, 0, L))
 
 -- the classes of the first characters by the ranges from `i` on, once the part that range `i` holds was filled
-pub kept-filled : (kept : ℕ) (ranges : List (ℕ × ℕ × BidiClass)) (i later end : ℕ) (classes part : List BidiClass) → later ≡ i + 1
+pub cached-filled : (kept : ℕ) (ranges : List (ℕ × ℕ × BidiClass)) (i later end : ℕ) (classes part : List BidiClass) → later ≡ i + 1
     → i < length ranges → end ≡ min ((range_at ranges i).1 + 1) kept → (range_at ranges i).0 < end → length classes ≡ kept
     → part ≡ replicate (length (take (end - (range_at ranges i).0) (drop (range_at ranges i).0 classes))) (range_at ranges i).2
     → ((n : ℕ) → n < kept → get_or classes n L ≡ table_class (drop later ranges) n)
     → (n : ℕ) → n < kept → get_or (put_mid (range_at ranges i).0 (end - (range_at ranges i).0) classes part) n L ≡ table_class (drop i ranges) n
-kept-filled kept ranges i later end classes part next below at_end some long filled so_far n within = grind (arith, common_steps, length-take-le, put_mid-after)
+cached-filled kept ranges i later end classes part next below at_end some long filled so_far n within = grind (arith, common_steps, length-take-le, put_mid-after)

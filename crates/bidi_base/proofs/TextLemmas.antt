@@ -11,7 +11,7 @@ pub length-le-text_len : (len_of : ℕ → ℕ) → HasUnits len_of → (chars :
 length-le-text_len len_of h [] = omega arith
 length-le-text_len len_of h (c ∷ cs) = omega (arith, length-le-text_len len_of h cs, h c, sum_by-cons len_of c cs)
 
--- ---- boundaries and what stands there
+-- ---- boundaries and what is there
 
 -- a boundary is the text's length, or a character begins there
 pub is_boundary-char_at : (len_of : ℕ → ℕ) → HasUnits len_of → (chars : List ℕ) (u : ℕ) → is_boundary len_of chars u ≡ ((u == text_len len_of chars) || is_some (char_at len_of chars u))
@@ -36,7 +36,7 @@ char_at-end len_of h (c ∷ cs) u le = grind (arith, sum_by-cons, char_at-end le
 minus_plus : (a b : ℕ) → (a + b) - a ≡ b
 minus_plus a b = omega arith
 
--- what stands after the characters xs stands at their length
+-- what is after the characters xs stands at their length
 pub char_at-append : (len_of : ℕ → ℕ) → HasUnits len_of → (xs ys : List ℕ) → char_at len_of (xs ++ ys) (text_len len_of xs) ≡ char_at len_of ys 0
 char_at-append len_of h [] ys = refl
 char_at-append len_of h (x ∷ xs) ys = grind (arith, sum_by-cons, minus_plus, char_at-append len_of h xs ys, nat_tests)

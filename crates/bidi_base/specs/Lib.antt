@@ -1,12 +1,13 @@
-pub mod Analysed
+pub mod AnalysedText
 pub mod Brackets
+pub mod ClassParagraphs
 pub mod Classes
 pub mod Direction
 pub mod Display
 pub mod Embeddings
 pub mod Errors
 pub mod Explicit
-pub mod Flat
+pub mod WithoutOpeners
 pub mod FoundBrackets
 pub mod Implicit
 pub mod InPlace
@@ -22,8 +23,8 @@ pub mod Order
 pub mod PairSearch
 pub mod Paragraphs
 pub mod PerChar
-pub mod Places
-pub mod Reading
+pub mod Indexes
+pub mod OpenIsolates
 pub mod Search
 pub mod RunSequences
 pub mod SequencePass
@@ -33,6 +34,7 @@ pub mod StatusMachine
 pub mod Stored
 pub mod Table
 pub mod Text
+pub mod Texts
 pub mod Units
 pub mod Utf16
 pub mod Weak

@@ -1,7 +1,7 @@
 -- What a search finds.
 use Rattle.std.specs.Prelude.{◌≡◌, ℕ, ◌+◌, ◌<◌, ◌≤◌, Bool, true, false, List}
 use Rattle.bidi_base.specs.declared.char_data.BidiClass.{BidiClass}
-use Rattle.bidi_base.specs.Places.{class_at}
+use Rattle.bidi_base.specs.Indexes.{class_at}
 
 -- the first index from `from` on and below `to` that passes the test, or else `to`
 pub record IsFirst (test : ℕ → Bool) (from to i : ℕ) : Type 0 where

@@ -1,7 +1,7 @@
--- What a table over ranges and brackets means.
+-- The data source of tables of ranges and brackets.
 use Rattle.bidi_base.specs.declared.data_source.TableBidiData.{TableBidiData}
 use Rattle.bidi_base.specs.Source.{Source, table_source}
 
--- the source that a table is
+-- the data source that a `TableBidiData` is
 unfoldable pub source_of : TableBidiData → Source
 source_of table = table_source table.ranges.now table.brackets.now

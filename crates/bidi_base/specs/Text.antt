@@ -4,20 +4,20 @@ use Rattle.std.specs.Char.{is_ascii}
 use Rattle.std.specs.List.{list_all}
 use Rattle.std.specs.Iterator.{Count, IsFinite, AlwaysYields}
 
--- the units that the characters take
+-- the number of code units of the characters
 abbrev pub text_len : (ℕ → ℕ) → List ℕ → ℕ
 text_len len_of chars = sum_by len_of chars
 
--- the place of the k-th character: the units before it
-abbrev pub place : (ℕ → ℕ) → List ℕ → ℕ → ℕ
-place len_of chars k = sum_by len_of (take k chars)
+-- the index of the k-th character: the number of code units before it
+abbrev pub unit_index : (ℕ → ℕ) → List ℕ → ℕ → ℕ
+unit_index len_of chars k = sum_by len_of (take k chars)
 
 -- if a character begins at `start`, the next one begins at `next`, or the text ends there
 abbrev pub IsNextPlace : (ℕ → ℕ) → List ℕ → ℕ → ℕ → Type 0
 IsNextPlace len_of chars start next =
-    (k : ℕ) → k < length chars → start ≡ place len_of chars k → next ≡ place len_of chars (k + 1)
+    (k : ℕ) → k < length chars → start ≡ unit_index len_of chars k → next ≡ unit_index len_of chars (k + 1)
 
--- each character with its place, where the first stands at `from`
+-- each character with its index, if the first one begins at `from`
 abbrev pub char_indices_from : (ℕ → ℕ) → ℕ → List ℕ → List (ℕ × ℕ)
 char_indices_from len_of from [] = []
 char_indices_from len_of from (c ∷ cs) = (from, c) ∷ char_indices_from len_of (from + len_of c) cs
@@ -25,7 +25,7 @@ char_indices_from len_of from (c ∷ cs) = (from, c) ∷ char_indices_from len_o
 abbrev pub char_indices : (ℕ → ℕ) → List ℕ → List (ℕ × ℕ)
 char_indices len_of chars = char_indices_from len_of 0 chars
 
--- the place and the length of each character, where the first stands at `from`
+-- the index and the length of each character, if the first one begins at `from`
 abbrev pub indices_lengths_from : (ℕ → ℕ) → ℕ → List ℕ → List (ℕ × ℕ)
 indices_lengths_from len_of from [] = []
 indices_lengths_from len_of from (c ∷ cs) = (from, len_of c) ∷ indices_lengths_from len_of (from + len_of c) cs
@@ -33,7 +33,7 @@ indices_lengths_from len_of from (c ∷ cs) = (from, len_of c) ∷ indices_lengt
 abbrev pub indices_lengths : (ℕ → ℕ) → List ℕ → List (ℕ × ℕ)
 indices_lengths len_of chars = indices_lengths_from len_of 0 chars
 
--- the character that begins at unit u, with its length; `None` where none begins
+-- the character that begins at index u, with its length; `None` if none begins there
 abbrev pub char_at : (ℕ → ℕ) → List ℕ → ℕ → Option (ℕ × ℕ)
 char_at len_of [] u = None
 char_at len_of (c ∷ cs) u =
@@ -43,34 +43,34 @@ abbrev pub ascii_of : Option (ℕ × ℕ) → Option ℕ
 ascii_of None = None
 ascii_of (Some p) = if is_ascii p.0 && p.1 == 1 then Some p.0 else None
 
--- the ASCII character, one unit long, that begins at unit u; `None` where none begins or another one does
+-- the ASCII character that begins at index u, if it is one code unit long; `None` if no such character begins there
 abbrev pub ascii_at : (ℕ → ℕ) → List ℕ → ℕ → Option ℕ
 ascii_at len_of chars u = ascii_of (char_at len_of chars u)
 
--- u is a place, or the text's length
+-- a character begins at index u, or u is the text's length
 abbrev pub is_boundary : (ℕ → ℕ) → List ℕ → ℕ → Bool
 is_boundary len_of [] u = u == 0
 is_boundary len_of (c ∷ cs) u = u == 0 || (nat_le (len_of c) u && is_boundary len_of cs (u - len_of c))
 
--- a range of units that lies in the text and cuts no character
+-- a range of code units that is in the text and cuts no character
 pub record IsLine (len_of : ℕ → ℕ) (chars : List ℕ) (start end : ℕ) : Type 0 where
   pub ordered : start ≤ end
   pub begins : IsTrue (is_boundary len_of chars start)
   pub ends : IsTrue (is_boundary len_of chars end)
 
--- the index of the character at a boundary: the characters before it
+-- the character index at a boundary: the number of characters before it
 abbrev pub char_index : (ℕ → ℕ) → List ℕ → ℕ → ℕ
 char_index len_of chars u = count_by (λ e. nat_lt e.0 u) (char_indices len_of chars)
 
--- the characters of a range of units
+-- the characters of a range of code units
 abbrev pub subrange : (ℕ → ℕ) → List ℕ → ℕ → ℕ → List ℕ
 subrange len_of chars start end = slice_range chars (char_index len_of chars start) (char_index len_of chars end)
 
--- one value a unit, from one a character
+-- one value for each code unit, from one for each character
 abbrev pub per_unit : {X : Type 0} → (ℕ → ℕ) → List ℕ → List X → List X
 per_unit len_of chars values = flat_map (λ e. replicate (len_of e.0) e.1) (zip chars values)
 
--- one value a character, from one a unit: the one at the character's place
+-- one value for each character, from one for each code unit: that of the character's first code unit
 abbrev pub per_char : {X : Type 0} → X → (ℕ → ℕ) → List ℕ → List X → List X
 per_char d len_of chars units = map (λ e. get_or units e.0 d) (char_indices len_of chars)
 
@@ -79,13 +79,13 @@ abbrev pub all_same : {X : Type 0} → (X → X → Bool) → List X → Bool
 all_same eq [] = true
 all_same eq (x ∷ xs) = list_all (λ y. eq y x) (x ∷ xs)
 
--- one entry a unit, equal within each character by the test `eq`
+-- one entry for each code unit, equal within each character by the test `eq`
 abbrev pub is_per_char : {X : Type 0} → (X → X → Bool) → (ℕ → ℕ) → List ℕ → List X → Bool
 is_per_char eq len_of [] units = length units == 0
 is_per_char eq len_of (c ∷ cs) units =
     nat_le (len_of c) (length units) && (all_same eq (take (len_of c) units) && is_per_char eq len_of cs (drop (len_of c) units))
 
--- the same for every test: the units are the values of the characters
+-- one entry for each code unit, equal within each character: each character has one value
 abbrev pub IsPerChar : {X : Type 0} → (ℕ → ℕ) → List ℕ → List X → Type 0
 IsPerChar {X} len_of chars units = (values : List X) × (length values ≡ length chars) × (units ≡ per_unit len_of chars values)
 

@@ -7,7 +7,7 @@ ghost use Rattle.bidi_base.specs.declared.data_source.BidiMatchedOpeningBracket.
 ghost use Rattle.bidi_base.specs.declared.brackets.Bracket.{Bracket};
 ghost use Rattle.bidi_base.specs.Brackets.{max_open_brackets, pairs_of};
 ghost use Rattle.bidi_base.specs.PairSearch.{closed_slots, AreWithin, IsAt};
-ghost use Rattle.bidi_base.specs.Places.{find_last};
+ghost use Rattle.bidi_base.specs.Indexes.{find_last};
 ghost use Rattle.bidi_base.specs.FoundBrackets.{ArePairsOf};
 
 use arrayvec::ArrayVec;
@@ -47,7 +47,7 @@ impl Default for Waiting {
 
 /// Replaces the contents of `pairs` with the bracket pairs of a sequence (BD16).
 ///
-/// `brackets` must be the brackets of the sequence with class ON after W7, in order. A pair is the
+/// `brackets` must be the brackets of the sequence with class ON after W7, in order. A pair has the
 /// index of its opening bracket and that of its closing bracket. Pairs are in the order of their
 /// opening brackets.
 ///

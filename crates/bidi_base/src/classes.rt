@@ -1,7 +1,7 @@
 //! The groups of classes that the rules name, with one function for each group.
 
 ghost use Rattle.std.specs.Prelude.{◌≡◌};
-ghost use Rattle.bidi_base.specs.Classes.{is_strong, is_initiator, is_embedding, is_pdi, is_nsm, is_paragraph_separator, is_separator, is_removed, is_neutral, as_direction, stands_for};
+ghost use Rattle.bidi_base.specs.Classes.{is_strong, is_isolate_initiator, is_embedding_initiator, is_pdi, is_nsm, is_paragraph_separator, is_separator, is_removed, is_ni, as_direction, stands_for};
 ghost use Rattle.bidi_base.specs.Direction.{may_turn};
 ghost use Rattle.bidi_base.specs.Line.{is_blank};
 
@@ -15,8 +15,8 @@ pub fn is_strong(class: BidiClass) -> bool
 }
 
 /// Returns whether a class is an isolate initiator: LRI, RLI or FSI (BD8).
-pub fn is_initiator(class: BidiClass) -> bool
-    ensures { result ≡ is_initiator class }
+pub fn is_isolate_initiator(class: BidiClass) -> bool
+    ensures { result ≡ is_isolate_initiator class }
 {
     matches!(class, BidiClass::LRI | BidiClass::RLI | BidiClass::FSI)
 }
@@ -24,8 +24,8 @@ pub fn is_initiator(class: BidiClass) -> bool
 /// Returns whether a class is an embedding initiator: LRE, RLE, LRO or RLO (BD10).
 ///
 /// Such a character opens an embedding or an override, which a PDF closes.
-pub fn is_embedding(class: BidiClass) -> bool
-    ensures { result ≡ is_embedding class }
+pub fn is_embedding_initiator(class: BidiClass) -> bool
+    ensures { result ≡ is_embedding_initiator class }
 {
     matches!(
         class,
@@ -90,8 +90,8 @@ pub fn is_blank(class: BidiClass) -> bool
 /// Returns whether a class is NI: a neutral or an isolate formatting character (N1).
 ///
 /// The test has no branch, so a loop can test many code units at once.
-pub fn is_neutral(class: BidiClass) -> bool
-    ensures { result ≡ is_neutral class }
+pub fn is_ni(class: BidiClass) -> bool
+    ensures { result ≡ is_ni class }
 {
     (class == BidiClass::B)
         | (class == BidiClass::S)

@@ -160,7 +160,7 @@ impl Level {
     /// Returns the level's number, from 0 to 126.
     pub fn number(&self) -> u8
         ensures number { result ≡ self.now }
-        ensures in_range { self.now ≤ 126 }
+        ensures within { self.now ≤ 126 }
     {
         self.0
     }
@@ -194,21 +194,21 @@ impl Level {
     ///
     /// Returns an error exactly if the sum is above 126. The level is then unchanged.
     pub fn raise(&mut self, amount: u8) -> Result<(), Error>
-        ensures ok { IsOk result ↔ (self.old + amount ≤ 126) }
+        ensures succeeds { IsOk result ↔ (self.old + amount ≤ 126) }
         ensures raised { OnOk result (self.new ≡ self.old + amount) }
-        ensures kept { OnErr result (self.new ≡ self.old) }
+        ensures unchanged { OnErr result (self.new ≡ self.old) }
     {
         *self = self.raised(amount, MAX_IMPLICIT_DEPTH)?;
         Ok(())
     }
 
-    /// Adds `amount` to the level, up to the maximum explicit level.
+    /// Adds `amount` to the level, if the sum is an explicit level.
     ///
     /// Returns an error exactly if the sum is above 125. The level is then unchanged.
     pub fn raise_explicit(&mut self, amount: u8) -> Result<(), Error>
-        ensures ok { IsOk result ↔ (self.old + amount ≤ 125) }
+        ensures succeeds { IsOk result ↔ (self.old + amount ≤ 125) }
         ensures raised { OnOk result (self.new ≡ self.old + amount) }
-        ensures kept { OnErr result (self.new ≡ self.old) }
+        ensures unchanged { OnErr result (self.new ≡ self.old) }
     {
         *self = self.raised(amount, MAX_EXPLICIT_DEPTH)?;
         Ok(())
@@ -218,9 +218,9 @@ impl Level {
     ///
     /// Returns an error exactly if `amount` is above the level. The level is then unchanged.
     pub fn lower(&mut self, amount: u8) -> Result<(), Error>
-        ensures ok { IsOk result ↔ (amount ≤ self.old) }
+        ensures succeeds { IsOk result ↔ (amount ≤ self.old) }
         ensures lowered { OnOk result (self.new + amount ≡ self.old) }
-        ensures kept { OnErr result (self.new ≡ self.old) }
+        ensures unchanged { OnErr result (self.new ≡ self.old) }
     {
         match self.number().checked_sub(amount) {
             Some(number) => {
@@ -271,11 +271,11 @@ impl Level {
 
     /// Returns the levels with these numbers, in order.
     ///
-    /// Returns `OutOfRangeNumber` exactly if a number is above 126, and checks this before it
-    /// allocates. Returns `Memory` if an allocation fails.
+    /// Returns `OutOfRangeNumber` exactly if a number is above 126, even if an allocation would fail.
+    /// Otherwise returns `Memory` if an allocation fails.
     pub fn vec(alloc: Global, numbers: &[u8]) -> Result<Vec<Level>, VecError>
-        ensures ok { IfOk result (λ v. v.items ≡ numbers.now) }
-        ensures refused { IsErrOf result OutOfRangeNumber ↔ Any (λ n. 126 < n) numbers.now }
+        ensures levels { IfOk result (λ v. v.items ≡ numbers.now) }
+        ensures fault { IsErrOf result OutOfRangeNumber ↔ Any (λ n. 126 < n) numbers.now }
     {
         if numbers.iter().any(|n| *n > MAX_IMPLICIT_DEPTH) {
             return Err(VecError::OutOfRangeNumber);
@@ -307,7 +307,7 @@ impl From<Level> for u8 {
 
 /// Returns whether any level is odd.
 ///
-/// If none is, a line is displayed in the order in which it is stored.
+/// If no level of a line is odd after L1, the line is displayed in the order in which it is stored (L2).
 pub fn has_rtl(levels: &[Level]) -> bool
     ensures { result ≡ has_rtl_of levels.now }
 {

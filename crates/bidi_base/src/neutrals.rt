@@ -4,7 +4,7 @@ ghost use Rattle.std.specs.Prelude.{◌≡◌, ◌==◌, ◌||◌, ◌<◌, ◌�
 ghost use Rattle.std.specs.List.{list_any, prefix_len};
 ghost use Rattle.bidi_base.specs.Classes.{has_direction, is_nsm, same_class, stands_for};
 ghost use Rattle.bidi_base.specs.Neutral.{is_mark_after, nearest_direction};
-ghost use Rattle.bidi_base.specs.Places.{class_at, indexes};
+ghost use Rattle.bidi_base.specs.Indexes.{class_at, indexes};
 
 use crate::char_data::BidiClass;
 use crate::classes::{as_direction, stands_for};
@@ -23,7 +23,7 @@ pub fn contains_any_direction(classes: &[BidiClass]) -> bool
     classes.iter().any(|class| as_direction(*class).is_some())
 }
 
-/// Returns the last direction in these classes, or `before` if there is none.
+/// Returns the direction of the last class that counts as one, or `before` if there is none.
 ///
 /// This is the context before a bracket pair (N0 c).
 pub fn nearest_direction(before: BidiClass, classes: &[BidiClass]) -> BidiClass
@@ -39,7 +39,7 @@ pub fn nearest_direction(before: BidiClass, classes: &[BidiClass]) -> BidiClass
 
 /// Sets the direction of a bracket and of the nonspacing marks directly after it (N0).
 ///
-/// The original classes decide which characters are marks. Both lists must have the same length,
+/// `original_classes` decides which characters are marks. Both lists must have the same length,
 /// and `bracket` must be an index in them.
 pub fn set_direction(
     original_classes: &[BidiClass],
@@ -47,7 +47,7 @@ pub fn set_direction(
     bracket: usize,
     direction: BidiClass,
 )
-    requires lengths { length original_classes.now ≡ length classes.old }
+    requires same_len { length original_classes.now ≡ length classes.old }
     requires bracket { bracket < length classes.old }
     ensures { classes.new ≡ map (λ k. if k == bracket || is_mark_after original_classes.now bracket k
         then direction else class_at classes.old k) (indexes classes.old) }

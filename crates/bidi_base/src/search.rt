@@ -1,4 +1,6 @@
-//! Finds the first or the last item of a range that passes a test: one by one at first, and then sixteen items at a time.
+//! Finds the first or the last item of a range that passes a test.
+//!
+//! A search tests some items one by one at first, and then sixteen items at a time.
 
 ghost use Rattle.std.specs.Prelude.{◌≡◌, ℕ, ◌+◌, ◌-◌, ◌*◌, ◌<◌, ◌≤◌, false, Bool, length, max, min, slice_index, if◌then◌else◌, MatchOption};
 ghost use Rattle.bidi_base.specs.declared.char_data.BidiClass.{BidiClass};
@@ -98,7 +100,7 @@ fn marks<T: Tested>(tested: T, at: usize) -> [u8; 16]
     array::from_fn(|lane| u8::from(tested.passes(at + lane)))
 }
 
-// Returns the first index of the sixteen from `at` on whose item passes, if there is one.
+// Returns the first index of a passing item among the sixteen from `at` on, if there is one.
 fn first_of_sixteen<T: Tested>(tested: T, at: usize) -> Option<usize>
     requires within { at + 16 ≤ T.count tested }
     requires fits { at + 16 ≤ usize.MAX }
@@ -115,7 +117,7 @@ fn first_of_sixteen<T: Tested>(tested: T, at: usize) -> Option<usize>
     }
 }
 
-// Returns the first index in `from..to` whose item passes, or else `to`, and tests one item at a time.
+// Returns the first index of a passing item in `from..to`, or else `to`. Tests one item at a time.
 #[inline(always)]
 fn first_one_by_one<T: Tested, S: Ledger>(
     tested: T,
@@ -171,7 +173,7 @@ fn first_by_blocks<T: Tested, S: Ledger>(
     to
 }
 
-/// Returns the first index in `from..to` whose item passes, or else `to`, and counts loop iterations in `steps`.
+/// Returns the first index of a passing item in `from..to`, or else `to`, and counts loop iterations in `steps`.
 ///
 /// `from` must be at most `to`, and `to` at most the number of items. The first `singly` items are tested one by
 /// one: pass more than 0 if the next match is often near. The others are tested sixteen at a time, or one by one if

@@ -1,4 +1,4 @@
-//! A count that only contracts see: of loop iterations, or of reads and writes that fail.
+//! A count that only contracts see, such as the number of loop iterations.
 
 ghost use Rattle.std.specs.Prelude.{◌≡◌, ◌+◌};
 
@@ -6,7 +6,7 @@ use std::marker::{Brand, Model};
 use std::mem::size_of;
 use std::sync::ledger::{Blank, Book, Ledger, Share};
 
-/// A count so far: of loop iterations, or of whatever its owner counts.
+/// A count, such as the number of loop iterations so far.
 ///
 /// Contracts see it as a number. It takes no bytes at run time, and only [`Steps::tick`] changes it. The
 /// parameter names the ledger that keeps the count.

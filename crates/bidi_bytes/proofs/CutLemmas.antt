@@ -21,7 +21,7 @@ onto_first-append : (c : ℕ) (ls ms : List (List ℕ)) → 0 < length ls → on
 onto_first-append c [] ms some = absurd (omega arith)
 onto_first-append c (l ∷ ls) ms some = refl
 
--- a list is cut behind an element that ends a line
+-- a list is cut after an element that ends a line
 pub file_lines-append : (cs : List ℕ) (a : ℕ) (after : List ℕ) → ends_file_line a after ≡ true
     → file_lines_of (cs ++ a ∷ after) ≡ file_lines_of (cs ++ a ∷ []) ++ file_lines_of after
 file_lines-append [] a after ends = grind arith

@@ -1,4 +1,4 @@
--- Where bytes stop being UTF-8 that are cut behind an ASCII byte.
+-- Where bytes stop being UTF-8 that are cut after an ASCII byte.
 use Rattle.bidi_base.proofs.Common.{◌≡◌, ℕ, ◌+◌, ◌-◌, ◌<◌, ◌≤◌, false, ◌==◌, List, [], ◌∷◌, ◌++◌, Option, None, Some, length, get_or, take, drop, refl, sym, ap, subst, ◌∙◌, arith, length-append}
 use Rattle.bidi_base.proofs.Common.{IsUtf8, append_assoc, take_all, cases_lt, cond-true, cond-false, eq-eqb, nat_tests, get_or-append_seam, length-take-le, take-append-drop, option_map, ⊎_elim}
 use Rattle.bidi_base.proofs.Common.{zero-add, take-append-add, take-append_seam, drop-append_seam, take-append-le, IsUtf8-nil, IsUtf8-append, IsUtf8-take, IsUtf8-drop, IsCharBoundary-from_take}
@@ -68,7 +68,7 @@ fault-behind xs ys u = ⊎_elim
     (λ v. rw (fault-some (xs ++ ys) (length xs + utf8_valid_len ys) (IsValidUpTo-behind xs ys (utf8_valid_len ys) u v), fault-some ys (utf8_valid_len ys) v) refl)
     (utf8_valid_len-cases ys)
 
--- bytes that are cut behind an ASCII byte
+-- bytes that are cut after an ASCII byte
 pub utf8_fault-cut : (before : List ℕ) (a : ℕ) (after : List ℕ) → a < 128
     → utf8_fault ((before ++ a ∷ []) ++ after) ≡ fault_from (utf8_fault (before ++ a ∷ [])) (length (before ++ a ∷ [])) after
 utf8_fault-cut before a after low =

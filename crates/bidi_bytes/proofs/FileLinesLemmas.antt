@@ -1,9 +1,9 @@
 -- The lines of decoded bytes.
 use Rattle.bidi_base.proofs.Common.{◌≡◌, ℕ, zero, suc, ◌+◌, ◌<◌, ◌≤◌, true, false, ◌||◌, ◌&&◌, ◌==◌, not, List, [], ◌∷◌, ◌++◌, length, get_or, take, drop, refl, sym, ap, ◌∙◌, arith, append_assoc}
-use Rattle.bidi_base.proofs.Common.{cases_lt, inl, inr, nat_tests, take_more, drop_more, take_all, drop_all, take-append-drop, append-nil, add-zero, get_or-drop, get_or-take, get_or_default}
-use Rattle.bidi_base.proofs.Common.{length-drop, length-take, cases_Bool, cond-true, cond-false, eqb-true, and_parts, false_from_ne_true, Some, None, nil_from_length, length-append}
+use Rattle.bidi_base.proofs.Common.{cases_lt, inl, inr, nat_tests, take_more, drop_more, take-append-drop, append-nil, add-zero, get_or-drop, get_or-take, get_or_default}
+use Rattle.bidi_base.proofs.Common.{length-drop, length-take, cases_Bool, cond-true, cond-false, eqb-true, and_parts, false_from_ne_true, Some, nil_from_length, length-append}
 use Rattle.bidi_base.proofs.Common.{get_or_append_left, ⊎_elim, All-drop}
-use Rattle.memchr.specs.Find.{IsFirstByte, IsLastByte, is_byte2}
+use Rattle.memchr.specs.Find.{IsLastByte, is_byte2}
 use Rattle.bidi_bytes.specs.Decoded.{utf8_decoded, utf8_fault, fault_from}
 use Rattle.bidi_bytes.specs.FileLines.{is_break, is_before_line_feed, ends_file_line, break_end, file_lines_of}
 use Rattle.bidi_bytes.proofs.CutLemmas.{HasNoBreak, file_lines-append, file_lines-one, file_lines-whole}
@@ -41,7 +41,7 @@ before_line_feed-decoded (b ∷ bytes) =
 ends-decoded : (a : ℕ) (bytes : List ℕ) → ends_file_line a (utf8_decoded bytes) ≡ ends_file_line a bytes
 ends-decoded a bytes = ap (λ t. a == 0x0A || (a == 0x0D && not t)) (before_line_feed-decoded bytes)
 
--- bytes that are cut behind the end of a line
+-- bytes that are cut after the end of a line
 pub decoded-cut : (before : List ℕ) (a : ℕ) (after : List ℕ) → is_break a ≡ true → ends_file_line a after ≡ true
     → file_lines_of (utf8_decoded (before ++ a ∷ after)) ≡ file_lines_of (utf8_decoded (before ++ a ∷ [])) ++ file_lines_of (utf8_decoded after)
 decoded-cut before a after h ends =
@@ -160,7 +160,7 @@ module _ (bytes : List ℕ) (at : ℕ) (within : at < length bytes) (is : is_bre
     one-pair h =
         rw (front-pair ∙ append_assoc (take at bytes) (0x0D ∷ []) (0x0A ∷ [])) (decoded-one_pair (take at bytes) h)
 
-  -- the bytes are cut there, whatever follows, if there is a byte behind the index
+  -- the bytes are cut there, whatever follows, if there is a byte after the index
   pub cut-at : at + 1 < length bytes → (more : List ℕ)
       → file_lines_of (utf8_decoded (bytes ++ more)) ≡ file_lines_of (utf8_decoded (take (break_end bytes at) bytes)) ++ file_lines_of (utf8_decoded (drop (break_end bytes at) bytes ++ more))
   cut-at more_within more = elim (cases_Bool (a == 0x0D && next == 0x0A)) [
@@ -194,12 +194,6 @@ module _ (bytes : List ℕ) (at : ℕ) (within : at < length bytes) (is : is_bre
         let one = one-single single h in grind (arith, append-nil, e, one))
   ]
 
--- bytes without the end of a line are one
-pub first-whole : (bytes : List ℕ) → 0 < length bytes → HasNoBreak bytes
-    → file_lines_of (utf8_decoded bytes) ≡ utf8_decoded (take (length bytes) bytes) ∷ file_lines_of (utf8_decoded (drop (length bytes) bytes))
-first-whole bytes some h =
-    rw (take_all (length bytes) bytes (omega arith), drop_all (length bytes) bytes (omega arith), utf8_decoded-nil) (decoded-whole bytes h some)
-
 -- ---- what the searches found
 
 -- none of the first bytes ends a line
@@ -208,9 +202,6 @@ none-before bytes end none k d below =
     let fits : k < end = omega (arith, length-take end bytes) in
     let inside : k < length bytes = omega (arith, length-take end bytes) in
     ap is_break (get_or-take end bytes k d fits ∙ get_or_default bytes k d 0 inside) ∙ false_from_ne_true (is_byte2 0x0A 0x0D (get_or bytes k 0)) (none k (omega arith) fits)
-
-pub none-at_all : (bytes : List ℕ) → IsFirstByte (is_byte2 0x0A 0x0D) bytes None → HasNoBreak bytes
-none-at_all bytes none = rw (sym (take_all (length bytes) bytes (omega arith))) (none-before bytes (length bytes) none)
 
 pub no_lines : (bytes : List ℕ) → length bytes ≡ 0 → length (file_lines_of (utf8_decoded bytes)) ≡ 0
 no_lines bytes none = ap (λ t. length (file_lines_of (utf8_decoded t))) (nil_from_length bytes none) ∙ ap (λ t. length (file_lines_of t)) utf8_decoded-nil

@@ -1,6 +1,6 @@
 pub mod ControlBytesLemmas
 pub mod ControlChars
-pub mod CutLemmas
-pub mod FaultLemmas
+mod CutLemmas
+mod FaultLemmas
 pub mod FileLinesLemmas
 pub mod LossyLemmas

@@ -66,7 +66,7 @@ first_char-byte b bytes low = ap (λ p. or_replacement p.char) (decoded-low b by
 lossy_chars-low : (a : ℕ) (bytes : List ℕ) → a < 128 → lossy_chars (a ∷ bytes) ≡ a ∷ lossy_chars bytes
 lossy_chars-low a bytes low = rw (lossy_chars-step (a ∷ bytes) (omega arith), decoded-low a bytes low) refl
 
--- so bytes can be cut in front of one, and behind it
+-- so bytes can be cut in front of one, and after it
 pub utf8_decoded-at : (before : List ℕ) (a : ℕ) (after : List ℕ) → a < 128 → utf8_decoded (before ++ a ∷ after) ≡ utf8_decoded before ++ a ∷ utf8_decoded after
 utf8_decoded-at before a after low =
     simp utf8_decoded-pieces

@@ -35,7 +35,7 @@ utf16_decoded high_first bytes = utf16_lossy_chars (units_of high_first bytes)
 abbrev pub utf8_decoded : List ℕ → List ℕ
 utf8_decoded bytes = chars (utf8_lossy bytes)
 
--- the characters of a file: of UTF-16 behind a byte order mark, which is not one of them, and else of UTF-8
+-- the characters of a file: of UTF-16 after a byte order mark, which is not one of them, and else of UTF-8
 abbrev pub decoded : List ℕ → List ℕ
 decoded bytes =
     if has_low_first bytes then utf16_decoded false (drop 2 bytes)

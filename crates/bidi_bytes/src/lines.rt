@@ -1,5 +1,5 @@
 //! Where the lines of bytes end.
-ghost use Rattle.std.specs.Prelude.{◌≡◌, ◌+◌, ◌<◌, ◌≤◌, ◌∷◌, ◌++◌, true, false, List, ℕ, length, take, drop, slice_index};
+ghost use Rattle.std.specs.Prelude.{◌≡◌, ◌+◌, ◌<◌, ◌≤◌, ◌∷◌, ◌++◌, false, List, ℕ, length, take, drop, slice_index};
 ghost use Rattle.bidi_bytes.specs.Decoded.{utf8_decoded, utf8_fault, fault_from};
 ghost use Rattle.bidi_bytes.specs.FileLines.{is_break, break_end, file_lines_of};
 
@@ -20,7 +20,7 @@ fn break_end(bytes: &[u8], at: usize) -> usize
 /// Returns how many bytes the first line of some bytes has, with the LF, CR LF or CR that ends it. There are bytes.
 pub fn first_line_len(bytes: &[u8]) -> usize
     requires { 0 < length bytes.now }
-    ensures some { 0 < result }
+    ensures advances { 0 < result }
     ensures within { result ≤ length bytes.now }
     ensures first { file_lines_of (utf8_decoded bytes.now)
         ≡ utf8_decoded (take result bytes.now) ∷ file_lines_of (utf8_decoded (drop result bytes.now)) }
@@ -34,7 +34,7 @@ pub fn first_line_len(bytes: &[u8]) -> usize
 /// Returns how many lines bytes have.
 pub fn count_lines(bytes: &[u8]) -> usize
     ensures count { result ≡ length (file_lines_of (utf8_decoded bytes.now)) }
-    ensures few { result ≤ length bytes.now }
+    ensures within { result ≤ length bytes.now }
 {
     let mut count = 0;
     let mut rest = bytes;

@@ -1,5 +1,5 @@
 //! The bytes of a file, read in pieces.
-ghost use Rattle.std.specs.Prelude.{◌≡◌, ◌≤◌, ◌++◌, List, ℕ, take, drop, length, vec_len, max, nat_lt, IfOk, IfSome, OnOk};
+ghost use Rattle.std.specs.Prelude.{◌≡◌, ◌≤◌, ◌++◌, take, drop, length, vec_len, max, nat_lt, IfOk, IfSome, OnOk};
 ghost use Rattle.std.specs.Io.{StartsWith};
 
 use std::io::{self, Read};

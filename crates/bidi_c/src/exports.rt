@@ -1,7 +1,7 @@
 //! The exports over a line.
-use bidi_calls::line::{KeptLine, line_levels, line_runs, visual_order};
+use bidi_calls::line::{CallerLine, line_levels, line_runs, visual_order};
 use bidi_numbers::fault::answer;
-use bidi_numbers::rows::{Paragraph, Run};
+use bidi_numbers::structs::{Paragraph, Run};
 use std::alloc::Global;
 
 #[unsafe(no_mangle)]
@@ -14,7 +14,7 @@ pub extern "C" fn unicode_bidi_line_levels(
     end: usize,
     out: &mut [u8],
 ) -> i64 {
-    let line = &KeptLine {
+    let line = &CallerLine {
         classes,
         levels,
         paragraph,
@@ -34,7 +34,7 @@ pub extern "C" fn unicode_bidi_line_runs(
     end: usize,
     runs: &mut [Run],
 ) -> i64 {
-    let line = &KeptLine {
+    let line = &CallerLine {
         classes,
         levels,
         paragraph,

@@ -1,10 +1,10 @@
 //! The exports over texts of UTF-16.
 use bidi_calls::buffers::{AnalysisBuffers, LineBuffers, Settings};
 use bidi_calls::by_tables::{analyse_utf16, base_direction_utf16};
-use bidi_calls::line::KeptLine;
+use bidi_calls::line::CallerLine;
 use bidi_calls::utf16::{analyse, base_direction, line_map, reorder_line, show_line};
 use bidi_numbers::fault::answer;
-use bidi_numbers::rows::{BracketPair, ClassRange, Paragraph, Run};
+use bidi_numbers::structs::{BracketPair, ClassRange, Paragraph, Run};
 use bidi_unicode::UnicodeData;
 use std::alloc::Global;
 
@@ -75,7 +75,7 @@ pub extern "C" fn unicode_bidi_line_map_utf16(
     end: usize,
     order: &mut [usize],
 ) -> i64 {
-    let line = &KeptLine {
+    let line = &CallerLine {
         classes,
         levels,
         paragraph,
@@ -96,7 +96,7 @@ pub extern "C" fn unicode_bidi_reorder_line_utf16(
     end: usize,
     out: &mut [u16],
 ) -> i64 {
-    let line = &KeptLine {
+    let line = &CallerLine {
         classes,
         levels,
         paragraph,
@@ -121,7 +121,7 @@ pub extern "C" fn unicode_bidi_show_line_utf16(
     out: &mut [u16],
     characters: &mut usize,
 ) -> i64 {
-    let line = &KeptLine {
+    let line = &CallerLine {
         classes,
         levels,
         paragraph,

@@ -1,8 +1,8 @@
 //! The library for callers in other languages: a static library with the header `unicode_bidi.h`.
 //!
-//! Each export passes its arguments to a function that tests every condition that the library requires. It returns
-//! the result as a number. The caller owns every buffer. A slice is a pointer and a length. No call can test that
-//! these two are right.
+//! Each export passes its arguments to a function that tests every condition of the library, and returns the result as
+//! a number. The caller owns every buffer. In C, a slice is a pointer and a length, and no call can test these two. The
+//! header describes each call.
 #![tactic(auto)]
 
 mod exports;

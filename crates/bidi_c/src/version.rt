@@ -7,7 +7,8 @@ ghost use Rattle.unicode_bidi.specs.declared.version.TheConstants.{VERSION};
 use bidi_unicode::UNICODE_VERSION;
 use unicode_bidi::VERSION;
 
-/// Returns a version as a number: 10,000 times the major number, plus 100 times the minor number, plus the last one.
+/// Returns a version as a number: 10,000 times the major number, plus 100 times the minor number, plus the patch
+/// number.
 fn version_number(version: (u64, u64, u64)) -> i64
     requires major { version.0 < 10000 }
     requires minor { version.1 < 100 }

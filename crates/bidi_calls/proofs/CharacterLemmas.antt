@@ -4,7 +4,7 @@ use Rattle.bidi_base.proofs.Common.{take_more, map-append, length-map, length-re
 use borrow.Rule.Slice.PartMut.{put_mid}
 use Rattle.std.proofs.lemmas.Slice.{take-put_mid}
 use Rattle.bidi_base.proofs.PerUnit.{per_unit-push}
-use Rattle.bidi_base.proofs.PlaceLemmas.{CharTurn}
+use Rattle.bidi_base.proofs.UnitIndexLemmas.{CharTurn}
 use Rattle.bidi_numbers.specs.Numbers.{class_numbered, direction_number, direction_in}
 use Rattle.bidi_calls.specs.Characters.{numbers_of, numbered_source}
 use Rattle.unicode_bidi.specs.DirectionSearch.{direction_found}
@@ -20,7 +20,7 @@ module _ {N : Type 0} (number : ℕ → N) (len_of : ℕ → ℕ) where
   numbers-more chars n at c turn =
       rw (take_more chars n 0 turn.within, turn.is_char) (numbers-push (take n chars) c)
 
-  -- they are written behind those of the characters before it
+  -- they are written after those of the characters before it
   pub written_more : (chars : List ℕ) (n at c : ℕ) → CharTurn len_of chars n at c → (out part : List N) (k end : ℕ) → at ≤ length out → end ≡ at + len_of c
       → part ≡ replicate (len_of c) (number c) → take at out ≡ numbers_of number len_of (take n chars)
       → take end (put_mid at k out part) ≡ numbers_of number len_of (take (n + 1) chars)

@@ -5,12 +5,12 @@ use Rattle.std.specs.List.{count_by}
 use lib.Utf8.{encode, encodes, next}
 use Rattle.bidi_base.proofs.PerUnit.{per_char-per_unit}
 use Rattle.bidi_base.proofs.TextLemmas.{HasUnits, length-le-text_len}
-use Rattle.bidi_calls.specs.Everything.{begins_character}
+use Rattle.bidi_calls.specs.LineParts.{begins_character}
 
 count_by-append : (xs ys : List ℕ) → count_by begins_character (xs ++ ys) ≡ count_by begins_character xs + count_by begins_character ys
 count_by-append xs ys = sum_by-append (λ x. if begins_character x then 1 else 0) xs ys
 
--- a byte behind the first of a character begins none
+-- a byte after the first of a character begins none
 follows : (c : ℕ) → begins_character (next c) ≡ false
 follows c = grind (arith, nat_tests)
 

@@ -24,13 +24,13 @@ inside_rest len_of c cs k pos inside =
 
 module _ {X : Type 0} (d : X) (len_of : ℕ → ℕ) (h : HasUnits len_of) where
   -- each entry that begins no character equals the one before it
-  abbrev pub IsSteady : List ℕ → List X → Type 0
-  IsSteady chars us = (k : ℕ) → k < length us → is_boundary len_of chars k ≡ false → get_or us k d ≡ get_or us (k - 1) d
+  abbrev pub IsEqualInside : List ℕ → List X → Type 0
+  IsEqualInside chars us = (k : ℕ) → k < length us → is_boundary len_of chars k ≡ false → get_or us k d ≡ get_or us (k - 1) d
 
-  steady-per_unit : (chars : List ℕ) (values : List X) → length values ≡ length chars → IsSteady chars (per_unit len_of chars values)
-  steady-per_unit [] values long k within inside = absurd (omega arith)
-  steady-per_unit (c ∷ cs) [] long k within inside = absurd (omega arith)
-  steady-per_unit (c ∷ cs) (v ∷ vs) long k within inside =
+  equal_inside-per_unit : (chars : List ℕ) (values : List X) → length values ≡ length chars → IsEqualInside chars (per_unit len_of chars values)
+  equal_inside-per_unit [] values long k within inside = absurd (omega arith)
+  equal_inside-per_unit (c ∷ cs) [] long k within inside = absurd (omega arith)
+  equal_inside-per_unit (c ∷ cs) (v ∷ vs) long k within inside =
       let n : ℕ = len_of c in
       let front : List X = replicate n v in
       let rest : List X = per_unit len_of cs vs in
@@ -45,7 +45,7 @@ module _ {X : Type 0} (d : X) (len_of : ℕ → ℕ) (h : HasUnits len_of) where
             let ends : length (front ++ rest) ≡ n + length rest = length-append front rest ∙ ap (λ x. x + length rest) size in
             let before : k - 1 - n ≡ k - n - 1 = omega arith in
             get_or-append_right front rest n k d size past
-            ∙ steady-per_unit cs vs (omega arith) (k - n) (omega (arith, ends)) inside
+            ∙ equal_inside-per_unit cs vs (omega arith) (k - n) (omega (arith, ends)) inside
             ∙ ap (λ j. get_or rest j d) (sym before)
             ∙ sym (get_or-append_right front rest n (k - 1) d size (omega arith))
       ]
@@ -61,14 +61,14 @@ module _ {X : Type 0} (d : X) (len_of : ℕ → ℕ) (h : HasUnits len_of) where
       let back : suc j - 1 ≡ j = omega arith in
       steps (suc j) (omega arith) below ∙ ap (λ i. get_or us i d) back ∙ from_first us n steps j (omega arith)
 
-  values_of : (chars : List ℕ) (us : List X) → length us ≡ text_len len_of chars → IsSteady chars us → IsPerChar len_of chars us
-  values_of [] us long steady = ([], refl, nil_from_length us long)
-  values_of (c ∷ cs) us long steady =
+  values_of : (chars : List ℕ) (us : List X) → length us ≡ text_len len_of chars → IsEqualInside chars us → IsPerChar len_of chars us
+  values_of [] us long equal_inside = ([], refl, nil_from_length us long)
+  values_of (c ∷ cs) us long equal_inside =
       let n : ℕ = len_of c in
       let pos : 0 < n = h c in
       let v : X = get_or us 0 d in
       let whole : length us ≡ n + text_len len_of cs = long ∙ sum_by-cons len_of c cs in
-      let same = from_first us n (λ j some below. steady j (omega arith) (inside_first len_of c cs j some below)) in
+      let same = from_first us n (λ j some below. equal_inside j (omega arith) (inside_first len_of c cs j some below)) in
       let size : length (take n us) ≡ n = omega (arith, length-take n us) in
       let front : take n us ≡ replicate n v =
       ext_get_or d (take n us) (replicate n v) (size ∙ sym (length-replicate n v)) (λ j below.
@@ -78,7 +78,7 @@ module _ {X : Type 0} (d : X) (len_of : ℕ → ℕ) (h : HasUnits len_of) where
       let later : 0 < k = positive cs k inside in
       let before : n + k - 1 ≡ n + (k - 1) = omega arith in
       get_or-drop n us k d
-      ∙ steady (n + k) (omega (arith, length-drop n us)) (inside_rest len_of c cs k pos inside)
+      ∙ equal_inside (n + k) (omega (arith, length-drop n us)) (inside_rest len_of c cs k pos inside)
       ∙ ap (λ j. get_or us j d) before
       ∙ sym (get_or-drop n us (k - 1) d)) in
       (v ∷ rest.0, omega (arith, rest.1), grind (arith, take-append-drop n us, front, rest.2))
@@ -88,10 +88,10 @@ module _ {X : Type 0} (d : X) (len_of : ℕ → ℕ) (h : HasUnits len_of) where
       positive cs (suc j) inside = omega arith
 
   module _ (eq : X → X → Bool) (test : IsSameTest eq) (chars : List ℕ) (us : List X) where
-    pub steady_from_test : is_per_char eq len_of chars us ≡ true → IsSteady chars us
-    steady_from_test e =
+    pub equal_inside_from_test : is_per_char eq len_of chars us ≡ true → IsEqualInside chars us
+    equal_inside_from_test e =
         let w = IsPerChar-from_is_per_char eq test len_of h chars us e in
-        subst (λ vs. IsSteady chars vs) (sym w.2) (steady-per_unit chars w.0 w.1)
+        subst (λ vs. IsEqualInside chars vs) (sym w.2) (equal_inside-per_unit chars w.0 w.1)
 
-    pub test_from_steady : length us ≡ text_len len_of chars → IsSteady chars us → is_per_char eq len_of chars us ≡ true
-    test_from_steady long steady = is_per_char-from_IsPerChar eq test len_of chars us (values_of chars us long steady)
+    pub test_from_equal_inside : length us ≡ text_len len_of chars → IsEqualInside chars us → is_per_char eq len_of chars us ≡ true
+    test_from_equal_inside long equal_inside = is_per_char-from_IsPerChar eq test len_of chars us (values_of chars us long equal_inside)

@@ -1,6 +1,6 @@
 -- One unit more, with the class and the level of the unit before.
 use Rattle.bidi_base.proofs.Common.{◌≡◌, ℕ, ◌+◌, ◌≤◌, Bool, ◌&&◌, ◌↔◌, inl, inr, IsTrue, List, arith, cases_lt, and_parts, and_from, sym, subst}
-use Rattle.bidi_calls.specs.Even.{IsEvenAt, IsEvenBetween}
+use Rattle.bidi_calls.specs.PerChar.{IsEvenAt, IsEvenBetween}
 
 pub even_more : (on : ℕ → Bool) (cs ls : List ℕ) (a at : ℕ) (e b g : Bool) → a ≤ at → g ≡ on at → (IsTrue e ↔ IsEvenBetween on cs ls a at) → (IsTrue b ↔ IsEvenAt g cs ls at)
     → IsTrue (e && b) ↔ IsEvenBetween on cs ls a (at + 1)

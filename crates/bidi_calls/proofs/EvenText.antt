@@ -13,8 +13,8 @@ use Rattle.bidi_text.proofs.Utf16Lemmas.{has_units as utf16_has_units, text_len-
 use Rattle.bidi_numbers.specs.Numbers.{class_numbered, is_class}
 use Rattle.bidi_numbers.specs.Texts.{goes_on}
 use Rattle.bidi_base.specs.Search.{IsFirst}
-use Rattle.bidi_calls.specs.Even.{is_uneven_at, IsEvenBetween}
-use Rattle.bidi_calls.proofs.EvenChars.{steady_from_test, test_from_steady, boundary_zero}
+use Rattle.bidi_calls.specs.PerChar.{is_uneven_at, IsEvenBetween}
+use Rattle.bidi_calls.proofs.EvenChars.{equal_inside_from_test, test_from_equal_inside, boundary_zero}
 
 -- ---- numbers of classes tell classes apart
 
@@ -60,11 +60,11 @@ module _ (len_of : ℕ → ℕ) (h : HasUnits len_of) (cs ns ls : List ℕ) (on 
   tests_from_even : IsEvenBetween on ns ls 1 n → (is_per_char class_eq len_of cs (map class_numbered ns) ≡ true) × (is_per_char level_eq len_of cs ls ≡ true)
   tests_from_even even =
       let size : length (map class_numbered ns) ≡ n = length-map ns class_numbered ∙ classes in (
-        test_from_steady L len_of h class_eq class_test cs (map class_numbered ns) (size ∙ sym long) (λ k within inside.
+        test_from_equal_inside L len_of h class_eq class_test cs (map class_numbered ns) (size ∙ sym long) (λ k within inside.
             let fits : k < n = omega arith in
             let w = on_inside k fits inside in
             class_at_unit k fits ∙ ap class_numbered (even k w.0 fits w.1).0 ∙ sym (class_at_unit (k - 1) (omega arith))),
-        test_from_steady 0 len_of h level_eq level_test cs ls (levels ∙ sym long) (λ k within inside.
+        test_from_equal_inside 0 len_of h level_eq level_test cs ls (levels ∙ sym long) (λ k within inside.
             let fits : k < n = omega arith in
             let w = on_inside k fits inside in
             (even k w.0 fits w.1).1),
@@ -74,10 +74,10 @@ module _ (len_of : ℕ → ℕ) (h : HasUnits len_of) (cs ns ls : List ℕ) (on 
   even_from_tests p q k from to goes =
       let size : length (map class_numbered ns) ≡ n = length-map ns class_numbered ∙ classes in
       let inside = inside_on k to goes in
-      let same = steady_from_test L len_of h class_eq class_test cs (map class_numbered ns) p k (omega (arith, size)) inside in (
+      let same = equal_inside_from_test L len_of h class_eq class_test cs (map class_numbered ns) p k (omega (arith, size)) inside in (
         same_number (get_or ns k 0) (get_or ns (k - 1) 0) (class_below ns k (omega arith) below) (class_below ns (k - 1) (omega arith) below)
             (sym (class_at_unit k to) ∙ same ∙ class_at_unit (k - 1) (omega arith)),
-        steady_from_test 0 len_of h level_eq level_test cs ls q k (omega arith) inside,
+        equal_inside_from_test 0 len_of h level_eq level_test cs ls q k (omega arith) inside,
       )
 
   pub even_result : (r : Bool) → (IsTrue r ↔ IsEvenBetween on ns ls 1 n) → r ≡ (is_per_char class_eq len_of cs (map class_numbered ns) && is_per_char level_eq len_of cs ls)

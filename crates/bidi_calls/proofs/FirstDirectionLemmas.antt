@@ -1,4 +1,4 @@
--- What a search tells that stops where a text decides its base direction.
+-- What a search reports that stops where a text decides its base direction.
 use Rattle.bidi_base.proofs.Common.{◌≡◌, ◌⊎◌, ◌∙◌, ℕ, zero, suc, ◌+◌, ◌<◌, ◌≤◌, Bool, true, false, ◌||◌, ◌==◌, if◌then◌else◌, List, [], ◌∷◌, ◌++◌, length, take, drop, map, map-append, list_all}
 use Rattle.bidi_base.proofs.Common.{prefix_len, Result, Ok, Err, refl, sym, ap, arith, IsUtf8, chars, chars-nil, and_parts, nil_from_length, length-take, drop_all, drop-cons, get_or, Source}
 use Rattle.bidi_base.proofs.Common.{is_utf8, utf8_valid_len, IsUtf8-nil, is_utf8-from_IsUtf8, utf8_valid_len_le}
@@ -16,17 +16,17 @@ use Rattle.bidi_numbers.specs.Texts.{is_scalar}
 use Rattle.bidi_calls.specs.FirstDirection.{is_decided, direction_or, utf8_front, first_direction_utf8, first_direction_utf32}
 use Rattle.bidi_calls.proofs.Utf8Fronts.{is_utf8-drop, utf8_front-more, piece-front, no_front, no_front-is_utf8, utf8_front-none, utf8_front-valid}
 
--- what is told of a text by the search in the characters before its first fault
-abbrev pub told : DirectionSearch → Bool → Fault → Result ℕ Fault
-told (Found direction) whole fault = Ok (direction_number direction)
-told (Open depth) whole fault = if whole then Ok (direction_number Mixed) else Err fault
+-- what is reported of a text by the search in the characters before its first fault
+abbrev pub reported : DirectionSearch → Bool → Fault → Result ℕ Fault
+reported (Found direction) whole fault = Ok (direction_number direction)
+reported (Open depth) whole fault = if whole then Ok (direction_number Mixed) else Err fault
 
 mixed_number : (d : Direction) → (direction_number d == direction_number Mixed) ≡ is_mixed d
 mixed_number Ltr = refl
 mixed_number Rtl = refl
 mixed_number Mixed = refl
 
-picked : (found : DirectionSearch) (whole : Bool) (fault : Fault) → (if whole || is_over found then Ok (direction_number (direction_found found)) else Err fault) ≡ told found whole fault
+picked : (found : DirectionSearch) (whole : Bool) (fault : Fault) → (if whole || is_over found then Ok (direction_number (direction_found found)) else Err fault) ≡ reported found whole fault
 picked (Found direction) true fault = refl
 picked (Found direction) false fault = refl
 picked (Open depth) true fault = refl
@@ -43,23 +43,23 @@ take_while-valid [] all = refl
 take_while-valid (n ∷ ns) all = let both = and_parts _ _ all in take_while-more n ns both.0 ∙ ap (λ t. n ∷ t) (take_while-valid ns both.1)
 
 module _ (source : Source) (full : Bool) where
-  direction_or-told : (cs : List ℕ) (whole : Bool) (fault : Fault) → direction_or source full cs whole fault ≡ told (search_in full 0 (map source.class_of cs)) whole fault
+  direction_or-reported : (cs : List ℕ) (whole : Bool) (fault : Fault) → direction_or source full cs whole fault ≡ reported (search_in full 0 (map source.class_of cs)) whole fault
   unfolding direction_in
-  direction_or-told cs whole fault =
+  direction_or-reported cs whole fault =
       let found = search_in full 0 (map source.class_of cs) in
       rw (mixed_number (direction_of source full cs), ← is_over-is source full cs, ← search_in-is source full cs) (picked found whole fault)
 
   -- ---- UTF-8
 
-  -- what is told of the rest of a text, before which so many isolates are open
+  -- what is reported of the rest of a text, before which so many isolates are open
   abbrev pub utf8_from : ℕ → List ℕ → Result ℕ Fault
-  utf8_from depth bs = told (search_in full depth (map source.class_of (utf8_front bs))) (is_utf8 bs) NotUtf8
+  utf8_from depth bs = reported (search_in full depth (map source.class_of (utf8_front bs))) (is_utf8 bs) NotUtf8
 
   pub utf8_from-start : (bs : List ℕ) → first_direction_utf8 source full bs ≡ utf8_from 0 bs
-  utf8_from-start bs = direction_or-told (utf8_front bs) (is_utf8 bs) NotUtf8
+  utf8_from-start bs = direction_or-reported (utf8_front bs) (is_utf8 bs) NotUtf8
 
   later : (n depth : ℕ) (bs : List ℕ) → n ≤ length bs → IsUtf8 (take n bs) → (found : DirectionSearch) → found ≡ search_in full depth (map source.class_of (chars (take n bs)))
-      → utf8_from depth bs ≡ told (search_on (λ now. search_in full now (map source.class_of (utf8_front (drop n bs)))) found) (is_utf8 (drop n bs)) NotUtf8
+      → utf8_from depth bs ≡ reported (search_on (λ now. search_in full now (map source.class_of (utf8_front (drop n bs)))) found) (is_utf8 (drop n bs)) NotUtf8
   later n depth bs within front found is =
       rw (is, utf8_front-more bs n within front, map-append source.class_of (chars (take n bs)) (utf8_front (drop n bs)), search_in-append full depth (map source.class_of (chars (take n bs))) (map source.class_of (utf8_front (drop n bs))), is_utf8-drop bs n within front) refl
 
@@ -75,7 +75,7 @@ module _ (source : Source) (full : Bool) where
     piece_within = omega (arith, piece_length, (piece-front bs k).0)
 
     later-front : (found : DirectionSearch) → found ≡ search_in full depth (map source.class_of (chars front))
-        → utf8_from depth bs ≡ told (search_on (λ now. search_in full now (map source.class_of (utf8_front (drop cut bs)))) found) (is_utf8 (drop cut bs)) NotUtf8
+        → utf8_from depth bs ≡ reported (search_on (λ now. search_in full now (map source.class_of (utf8_front (drop cut bs)))) found) (is_utf8 (drop cut bs)) NotUtf8
     later-front found searched =
         let w = piece-front bs k in
         later cut depth bs w.0 w.3 found (searched ∙ ap (λ b. search_in full depth (map source.class_of (chars b))) (is ∙ w.2))
@@ -97,12 +97,12 @@ module _ (source : Source) (full : Bool) where
       let u : IsUtf8 bs = rw nothing IsUtf8-nil in
       rw (utf8_front-valid bs u, is_utf8-from_IsUtf8 bs u, nothing, chars-nil) refl
 
-  -- a text without a fault has its base direction told
+  -- a text without a fault has its base direction reported
   pub utf8-valid : (bs : List ℕ) → IsUtf8 bs → first_direction_utf8 source full bs ≡ Ok (direction_in source full (chars bs))
   utf8-valid bs u = rw (is_utf8-from_IsUtf8 bs u, utf8_front-valid bs u) refl
 
   decided_result : (found : DirectionSearch) → is_over found ≡ true → (n : ℕ) → n ≡ direction_number (direction_found found)
-      → (more : ℕ → DirectionSearch) (whole : Bool) (fault : Fault) → told (search_on more found) whole fault ≡ Ok n
+      → (more : ℕ → DirectionSearch) (whole : Bool) (fault : Fault) → reported (search_on more found) whole fault ≡ Ok n
   decided_result (Found direction) over n is more whole fault = ap Ok (sym is)
   decided_result (Open depth) over n is more whole fault = absurd (cc over)
 
@@ -125,10 +125,10 @@ module _ (source : Source) (full : Bool) where
   -- ---- lists of characters
 
   abbrev pub utf32_from : ℕ → List ℕ → Result ℕ Fault
-  utf32_from depth ns = told (search_in full depth (map source.class_of (take_while is_scalar ns))) (list_all is_scalar ns) NotScalar
+  utf32_from depth ns = reported (search_in full depth (map source.class_of (take_while is_scalar ns))) (list_all is_scalar ns) NotScalar
 
   pub utf32_from-start : (ns : List ℕ) → first_direction_utf32 source full ns ≡ utf32_from 0 ns
-  utf32_from-start ns = direction_or-told (take_while is_scalar ns) (list_all is_scalar ns) NotScalar
+  utf32_from-start ns = direction_or-reported (take_while is_scalar ns) (list_all is_scalar ns) NotScalar
 
   -- the number at an index, before which so many isolates are open
   module _ (depth i : ℕ) (ns : List ℕ) (within : i < length ns) where
@@ -139,7 +139,7 @@ module _ (source : Source) (full : Bool) where
     utf32-bad bad = rw (next, bad) refl
 
     utf32-turn : is_scalar (get_or ns i 0) ≡ true → (found : DirectionSearch) → found ≡ search_step full depth (source.class_of (get_or ns i 0))
-        → utf32_from depth (drop i ns) ≡ told (search_on (λ now. search_in full now (map source.class_of (take_while is_scalar (drop (i + 1) ns)))) found) (list_all is_scalar (drop (i + 1) ns)) NotScalar
+        → utf32_from depth (drop i ns) ≡ reported (search_on (λ now. search_in full now (map source.class_of (take_while is_scalar (drop (i + 1) ns)))) found) (list_all is_scalar (drop (i + 1) ns)) NotScalar
     utf32-turn good found is = rw (next, is, take_while-more (get_or ns i 0) (drop (i + 1) ns) good, good) refl
 
     pub utf32-found : is_scalar (get_or ns i 0) ≡ true → (direction : Direction)
@@ -169,5 +169,5 @@ module _ (source : Source) (full : Bool) where
       let found = search_in full 0 (map source.class_of (take n ns)) in
       let joined : search_in full 0 (map source.class_of (take_while is_scalar ns)) ≡ search_on (λ now. search_in full now (map source.class_of (take_while is_scalar (drop n ns)))) found =
       rw (take_while-front n ns front, map-append source.class_of (take n ns) (take_while is_scalar (drop n ns))) (search_in-append full 0 (map source.class_of (take n ns)) (map source.class_of (take_while is_scalar (drop n ns)))) in
-      utf32_from-start ns ∙ ap (λ s. told s (list_all is_scalar ns) NotScalar) joined
+      utf32_from-start ns ∙ ap (λ s. reported s (list_all is_scalar ns) NotScalar) joined
       ∙ decided_result found (over-decided (take n ns) over) (direction_in source full (take n ns)) (direction-found (take n ns)) _ _ _

@@ -1,15 +1,15 @@
-pub mod CharacterLemmas
-pub mod CountLemmas
-pub mod EvenChars
-pub mod EvenSteps
-pub mod EvenText
-pub mod FirstDirectionLemmas
-pub mod FoundText
-pub mod KeptLines
-pub mod KeptText
-pub mod OneUnit
-pub mod OrderOfRuns
-pub mod ShownLine
-pub mod ShownRuns
-pub mod Utf8Fronts
-pub mod WrittenChars
+mod CharacterLemmas
+mod CountLemmas
+mod EvenChars
+mod EvenSteps
+mod EvenText
+mod FirstDirectionLemmas
+mod FoundText
+mod CallerLines
+mod CallerText
+mod OneUnit
+mod OrderOfRuns
+mod PartsOfLine
+mod RunStructs
+mod Utf8Fronts
+mod WrittenChars

@@ -1,12 +1,12 @@
 -- The order of a line's characters, from the visual runs of its units.
 use Rattle.bidi_base.proofs.Common.{◌≡◌, ℕ, ◌+◌, ◌-◌, ◌<◌, ◌≤◌, Bool, List, length, length-reverse, get_or, subst, Range, run_of, map, flat_map, reverse, if◌then◌else◌, refl, sym, ap, ◌∙◌, arith}
 use Rattle.bidi_base.proofs.Common.{map-id, le_refl, length-take-le, slice_range, take, take_all, get_or-map, length-map, flat_map-map, zero-add, between, is_odd, true, is_boundary, char_index}
-use Rattle.bidi_base.proofs.Common.{place, subrange, per_char, per_unit, text_len, IsLine, IsPerChar, Run, run_level, visual_order, visual_runs, written_run, written_runs, IsLevelRun}
+use Rattle.bidi_base.proofs.Common.{unit_index, subrange, per_char, per_unit, text_len, IsLine, IsPerChar, Run, run_level, visual_order, visual_runs, written_run, written_runs, IsLevelRun}
 use Rattle.bidi_base.proofs.Common.{AreVisualRuns, All, sum_by_more}
 use Rattle.std.proofs.lemmas.List.Concat.{length-flat_map}
 use Rattle.std.proofs.lemmas.List.Folds.{length-flat_map-take}
 use Rattle.bidi_base.proofs.PerUnit.{length-per_char}
-use Rattle.bidi_base.proofs.PlaceLemmas.{place-zero, place-end, place-sum, is_boundary-place, char_index-le, char_index-place, place-char_index, IsLine-places, line_places}
+use Rattle.bidi_base.proofs.UnitIndexLemmas.{unit_index-zero, unit_index-end, unit_index-sum, is_boundary-unit_index, char_index-le, char_index-unit_index, unit_index-char_index, IsLine-unit_indexes, line_unit_indexes}
 use Rattle.bidi_base.proofs.TextLemmas.{HasUnits, length-le-text_len}
 use Rattle.bidi_base.proofs.UnitsLemmas.{per_unit-from_IsPerChar}
 use Rattle.bidi_lines.proofs.LineInText.{length-part}
@@ -16,7 +16,7 @@ use Rattle.bidi_lines.proofs.CharRuns.{units_of, place_from, run_level-units, vi
 use Rattle.bidi_lines.proofs.RunLengths.{length-visual_order}
 use Rattle.bidi_lines.proofs.RunText.{flat_map-same_on}
 use Rattle.bidi_lines.proofs.WrittenRuns.{ranges_at_boundaries}
-use Rattle.bidi_calls.proofs.ShownRuns.{runs_within}
+use Rattle.bidi_calls.proofs.RunStructs.{runs_within}
 
 -- the indexes of a run's characters from left to right
 abbrev pub run_indexes : (ℕ → ℕ) → List ℕ → List ℕ → Run → List ℕ
@@ -30,7 +30,7 @@ same_indexes x y a b c d e f g = simp (e, f, g) refl
 module _ (len_of : ℕ → ℕ) (some : HasUnits len_of) (chars : List ℕ) where
   -- the characters of a range
   length-subrange : (start end : ℕ) → IsLine len_of chars start end → length (subrange len_of chars start end) ≡ char_index len_of chars end - char_index len_of chars start
-  length-subrange start end line = length-part chars (char_index len_of chars start) (char_index len_of chars end) (line_places len_of some chars start end line).within
+  length-subrange start end line = length-part chars (char_index len_of chars start) (char_index len_of chars end) (line_unit_indexes len_of some chars start end line).within
 
   -- the same as counted
   pub count-is : (start end n : ℕ) → IsLine len_of chars start end → n ≡ length (subrange len_of chars start end) → n ≡ char_index len_of chars end - char_index len_of chars start
@@ -39,34 +39,34 @@ module _ (len_of : ℕ → ℕ) (some : HasUnits len_of) (chars : List ℕ) wher
   -- the characters before one end of a range, from those before the other
   pub index-after : (start end before n : ℕ) → IsLine len_of chars start end → before ≡ char_index len_of chars start
       → n ≡ length (subrange len_of chars start end) → before + n ≡ char_index len_of chars end
-  index-after start end before n line e f = omega (arith, e, count-is start end n line f, (line_places len_of some chars start end line).ordered)
+  index-after start end before n line e f = omega (arith, e, count-is start end n line f, (line_unit_indexes len_of some chars start end line).ordered)
 
   pub index-before : (start end behind n : ℕ) → IsLine len_of chars start end → behind ≡ char_index len_of chars end
       → n ≡ length (subrange len_of chars start end) → behind - n ≡ char_index len_of chars start
-  index-before start end behind n line e f = omega (arith, e, count-is start end n line f, (line_places len_of some chars start end line).ordered)
+  index-before start end behind n line e f = omega (arith, e, count-is start end n line f, (line_unit_indexes len_of some chars start end line).ordered)
 
   -- no more than units
   pub char_index-le-unit : (u : ℕ) → is_boundary len_of chars u ≡ true → char_index len_of chars u ≤ u
   char_index-le-unit u e =
       let k = char_index len_of chars u in
-      omega (arith, place-char_index len_of some chars u e, length-le-text_len len_of some (take k chars), length-take-le k chars (char_index-le len_of chars u))
+      omega (arith, unit_index-char_index len_of some chars u e, length-le-text_len len_of some (take k chars), length-take-le k chars (char_index-le len_of chars u))
 
   pub char_index-zero : char_index len_of chars 0 ≡ 0
-  char_index-zero = grind (arith, place-zero len_of chars, char_index-place len_of chars some 0)
+  char_index-zero = grind (arith, unit_index-zero len_of chars, char_index-unit_index len_of chars some 0)
 
   pub zero-boundary : is_boundary len_of chars 0 ≡ true
-  zero-boundary = grind (arith, place-zero len_of chars, is_boundary-place len_of chars 0)
+  zero-boundary = grind (arith, unit_index-zero len_of chars, is_boundary-unit_index len_of chars 0)
 
   -- where each unit is a character, the characters of a range are its units
-  place-plain : text_len len_of chars ≡ length chars → (k : ℕ) → k ≤ length chars → place len_of chars k ≡ k
-  place-plain plain k fits =
+  unit_index-plain : text_len len_of chars ≡ length chars → (k : ℕ) → k ≤ length chars → unit_index len_of chars k ≡ k
+  unit_index-plain plain k fits =
       let front = length-le-text_len len_of some (take k chars) in
       let back = length-le-text_len len_of some (slice_range chars k (length chars)) in
-      omega (arith, plain, front, back, length-take-le k chars fits, length-part chars k (length chars) (le_refl (length chars)), place-sum len_of chars k (length chars) fits fits, place-end len_of chars (length chars) (le_refl (length chars)))
+      omega (arith, plain, front, back, length-take-le k chars fits, length-part chars k (length chars) (le_refl (length chars)), unit_index-sum len_of chars k (length chars) fits fits, unit_index-end len_of chars (length chars) (le_refl (length chars)))
 
   pub length-subrange-plain : text_len len_of chars ≡ length chars → (start end : ℕ) → IsLine len_of chars start end → end - start ≡ length (subrange len_of chars start end)
   length-subrange-plain plain start end line =
-      let at = line_places len_of some chars start end line in
+      let at = line_unit_indexes len_of some chars start end line in
       omega (
         arith,
         length-subrange start end line,
@@ -74,8 +74,8 @@ module _ (len_of : ℕ → ℕ) (some : HasUnits len_of) (chars : List ℕ) wher
         at.ends,
         at.ordered,
         at.within,
-        place-plain plain (char_index len_of chars start) (omega (arith, at.ordered, at.within)),
-        place-plain plain (char_index len_of chars end) at.within,
+        unit_index-plain plain (char_index len_of chars start) (omega (arith, at.ordered, at.within)),
+        unit_index-plain plain (char_index len_of chars end) at.within,
       )
 
   module _ (levels : List ℕ) (even : IsPerChar len_of chars levels) where
@@ -101,7 +101,7 @@ module _ (len_of : ℕ → ℕ) (some : HasUnits len_of) (chars : List ℕ) wher
         let r : Run = get_or (visual_runs 0 own) k (0, 0) in
         let here : IsLevelRun 0 own r = (visual_runs-are 0 own).are_runs k (0, 0) inside in
         let there : get_or (visual_runs 0 levels) k d ≡ units_of P r = ap (λ runs. get_or runs k d) own-runs ∙ get_or-map (units_of P) (visual_runs 0 own) k (0, 0) d inside in
-        let line = IsLine-places len_of chars r.0 r.1 (omega (arith, here.not_empty)) in
+        let line = IsLine-unit_indexes len_of chars r.0 r.1 (omega (arith, here.not_empty)) in
         grind (arith, there, line, zero-add)
 
     -- each run is written as that of the characters
@@ -111,8 +111,8 @@ module _ (len_of : ℕ → ℕ) (some : HasUnits len_of) (chars : List ℕ) wher
         let here : IsLevelRun 0 own r = (visual_runs-are 0 own).are_runs k d fits in
         let level : run_level 0 levels (units_of (place_from 0 len_of chars) r) ≡ run_level 0 own r =
         ap (λ ls. run_level 0 ls (units_of (place_from 0 len_of chars) r)) own-units ∙ run_level-units 0 len_of some chars own own_long r here in
-        let begins : char_index len_of chars (place_from 0 len_of chars r.0) ≡ r.0 = simp zero-add (char_index-place len_of chars some r.0 (omega (arith, here.not_empty, here.ends_within, own_long))) in
-        let ends : char_index len_of chars (place_from 0 len_of chars r.1) ≡ r.1 = simp zero-add (char_index-place len_of chars some r.1 (omega (arith, here.ends_within, own_long))) in
+        let begins : char_index len_of chars (place_from 0 len_of chars r.0) ≡ r.0 = simp zero-add (char_index-unit_index len_of chars some r.0 (omega (arith, here.not_empty, here.ends_within, own_long))) in
+        let ends : char_index len_of chars (place_from 0 len_of chars r.1) ≡ r.1 = simp zero-add (char_index-unit_index len_of chars some r.1 (omega (arith, here.ends_within, own_long))) in
         same_indexes _ _ _ _ _ _ level begins ends
 
     -- all runs, one after the other

@@ -1,13 +1,12 @@
 -- The longest front of bytes that is UTF-8, read piece by piece.
 use Rattle.bidi_base.proofs.Common.{◌≡◌, ◌⊎◌, inl, inr, ◌∙◌, ℕ, zero, suc, ◌+◌, ◌-◌, ◌<◌, ◌≤◌, true, false, List, [], ◌∷◌, ◌++◌, length, take, drop, refl, sym, ap, subst, arith, cases_Bool}
 use Rattle.bidi_base.proofs.Common.{cases_lt, cond-true, cond-false, and_parts, length-append, length-take, length-drop, length-encode, take-take, take-append-drop, take_all, take-append_seam}
-use Rattle.bidi_base.proofs.Common.{encodes-chars, chars-nil, IsUtf8, chars, encode_utf8, encode_utf8_all, is_utf8, all_scalars, drop-take, IsUtf8-append, IsUtf8-drop}
+use Rattle.bidi_base.proofs.Common.{chars-nil, IsUtf8, chars, encode_utf8, encode_utf8_all, is_utf8, all_scalars, drop-take, IsUtf8-append, IsUtf8-drop}
 use Rattle.bidi_base.proofs.Common.{IsUtf8-encode, is_utf8-from_IsUtf8, IsCharBoundary-from_take, chars-append, len_utf8_bounds, utf8_valid_len_le, utf8_valid_len-IsUtf8}
 use Rattle.std.specs.Str.Lossy.{valid_len_up_to}
 use Rattle.std.proofs.Common.{true≢false, take-add}
 use Rattle.std.specs.Str.Lossy.{utf8_valid_len}
 use Rattle.std.proofs.lemmas.Str.{IsUtf8-from_is_utf8}
-use Rattle.std.proofs.lemmas.Str.{length-le-encodes}
 use Rattle.bidi_calls.specs.FirstDirection.{utf8_front}
 
 -- ---- the longest front
@@ -135,7 +134,3 @@ utf8_front-none bs none = ap (λ k. chars (take k bs)) none ∙ chars-nil
 
 pub utf8_front-valid : (bs : List ℕ) → IsUtf8 bs → utf8_front bs ≡ chars bs
 utf8_front-valid bs u = ap chars (take_all (utf8_valid_len bs) bs (omega (arith, utf8_valid_len-IsUtf8 bs u)))
-
--- there are at least as many bytes as characters
-pub length-chars : (bs : List ℕ) → IsUtf8 bs → length (chars bs) ≤ length bs
-length-chars bs u = omega (arith, length-le-encodes (chars bs), ap length (encodes-chars bs u))

@@ -5,7 +5,7 @@ use Rattle.bidi_base.proofs.Common.{AreVisualRuns, zero-add, map-append}
 use Rattle.bidi_base.proofs.Lists.{map-reverse}
 use Rattle.bidi_lines.proofs.LineInText.{length-part}
 use Rattle.bidi_lines.proofs.Pieces.{get_or-between, length-between}
-use Rattle.bidi_calls.specs.Shown.{chars_at}
+use Rattle.bidi_calls.specs.LineText.{chars_at}
 
 -- those at consecutive indexes
 chars_at-between : (chars : List ℕ) (a b : ℕ) → b ≤ length chars → chars_at chars (between a b) ≡ slice_range chars a b

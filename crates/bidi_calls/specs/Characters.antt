@@ -26,7 +26,7 @@ bracket_number_in source c = bracket_number (source.bracket_of c)
 abbrev pub if_scalar : ℕ → ℕ → Result ℕ Fault
 if_scalar c number = if is_scalar c then Ok number else Err NotScalar
 
--- the number of each character, on each of its units
+-- the number of each character, on each of its code units
 abbrev pub numbers_of : {N : Type 0} → (ℕ → N) → (ℕ → ℕ) → List ℕ → List N
 numbers_of number len_of chars = per_unit len_of chars (map number chars)
 

@@ -1,4 +1,4 @@
--- The base direction of a text of which no more is read than decides it.
+-- The base direction of a text that is read only up to the character that decides it.
 use Rattle.std.specs.Prelude.{ℕ, Bool, not, ◌&&◌, ◌||◌, ◌==◌, if◌then◌else◌, List, take, take_while, Result, Ok, Err}
 use Rattle.std.specs.List.{list_all, list_any}
 use Rattle.std.specs.Str.{chars, is_utf8}
@@ -18,8 +18,8 @@ is_decided source full chars =
     not (direction_in source full chars == direction_number Mixed)
     || (not full && list_any (λ c. is_paragraph_separator (source.class_of c)) chars)
 
--- the direction of a text that begins with these characters. They are the whole text, or a fault follows them,
--- which is told only if they do not decide.
+-- the direction of a text that begins with these characters: they are the whole text, or a fault follows them, which is
+-- returned only if they do not decide
 abbrev pub direction_or : Source → Bool → List ℕ → Bool → Fault → Result ℕ Fault
 direction_or source full chars whole fault =
     if whole || is_decided source full chars then Ok (direction_in source full chars) else Err fault

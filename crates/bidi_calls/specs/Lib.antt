@@ -1,7 +1,7 @@
 pub mod Characters
-pub mod Even
-pub mod Everything
+pub mod PerChar
+pub mod LineParts
 pub mod FirstDirection
-pub mod Kept
-pub mod Lines
-pub mod Shown
+pub mod Buffers
+pub mod CallerLine
+pub mod LineText

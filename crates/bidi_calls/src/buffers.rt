@@ -1,9 +1,9 @@
-//! What a caller passes for an answer of several parts: the settings of an analysis, and the buffers that a call fills.
-use bidi_numbers::rows::{Paragraph, Run};
+//! What a caller passes for a result of several parts: the settings of an analysis, and the buffers that a call fills.
+use bidi_numbers::structs::{Paragraph, Run};
 
 /// The settings of an analysis, as numbers.
 ///
-/// `base` is a level up to 125, or 255 for none. `split` is 0 for one paragraph, 1 for `EachSeparator`, or 2 for
+/// `base` is a base level up to 125, or 255 for none. `split` is 0 for one paragraph, 1 for `EachSeparator`, or 2 for
 /// `CrLfTogether`.
 #[derive(Clone, Copy, Debug)]
 pub struct Settings {
@@ -22,10 +22,10 @@ pub struct AnalysisBuffers<'b> {
     pub paragraphs: &'b mut [Paragraph],
 }
 
-/// The buffers for all about a line: its levels, visual runs, character order, text, and number of characters.
+/// The buffers for all parts of a line: its levels, visual runs, character order, text, and number of characters.
 ///
-/// `levels` and `text` need an entry for each code unit of the line, `runs` one for each run, and `order` one for
-/// each character. A part whose buffer is empty is left out.
+/// `levels` and `text` need an entry for each code unit of the line, `runs` one for each run, and `order` one for each
+/// character. A call leaves out a part if its buffer is empty.
 #[derive(Drop)]
 pub struct LineBuffers<'b, U> {
     pub levels: &'b mut [u8],

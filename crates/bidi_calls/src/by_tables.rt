@@ -1,5 +1,5 @@
 //! The calls over a whole text that read classes and brackets from the caller's tables.
-ghost use Rattle.std.specs.Prelude.{◌≡◌, length, OnOk, OnErr, IfOk, IsUtf8, Some};
+ghost use Rattle.std.specs.Prelude.{◌≡◌, length, IfOk, IsUtf8};
 ghost use Rattle.std.specs.Char.{len_utf8};
 ghost use Rattle.std.specs.List.{list_all};
 ghost use Rattle.std.specs.Option.{option_or};
@@ -7,7 +7,7 @@ ghost use Rattle.std.specs.Str.{chars};
 ghost use Rattle.bidi_base.specs.Text.{one_unit};
 ghost use Rattle.bidi_base.specs.Utf16.{utf16_text, utf16_len};
 ghost use Rattle.bidi_numbers.specs.Faults.{FaultsAs, fault_unless};
-ghost use Rattle.bidi_calls.specs.Kept.{TellsNotUtf8ByTables, analysis_by, analysis_fault, WritesAnalysis};
+ghost use Rattle.bidi_calls.specs.Buffers.{ReportsNotUtf8ByTables, analysis_by, analysis_fault, WritesAnalysis};
 ghost use Rattle.bidi_numbers.specs.Numbers.{direction_in};
 ghost use Rattle.bidi_numbers.specs.Tables.{tables_fault, rows_source};
 ghost use Rattle.bidi_numbers.specs.Texts.{is_scalar};
@@ -15,14 +15,15 @@ ghost use Rattle.bidi_numbers.specs.Texts.{is_scalar};
 use crate::buffers::{AnalysisBuffers, Settings};
 use crate::{utf8, utf16, utf32};
 use bidi_numbers::fault::Fault;
-use bidi_numbers::rows::{BracketPair, ClassRange};
+use bidi_numbers::structs::{BracketPair, ClassRange};
 use bidi_numbers::tables::Tables;
 use std::alloc::Global;
 
 /// Writes the class and the level of each byte of a text of UTF-8, and its paragraphs.
 ///
-/// Returns the number of paragraphs. Reads `ranges` and `brackets` in place of a data source, and returns a fault
-/// in them first. The rest is as in [`utf8::analyse`].
+/// Returns the number of paragraphs. Reads `ranges` and `brackets` in place of a data source, and copies them. Returns
+/// a fault in them first: `NotScalar` in a range or in a pair, `BadClass` or `BadRanges`. The rest is as in
+/// [`utf8::analyse`].
 pub fn analyse_utf8(
     alloc: Global,
     ranges: &[ClassRange],
@@ -31,7 +32,7 @@ pub fn analyse_utf8(
     settings: Settings,
     out: &mut AnalysisBuffers<'_>,
 ) -> Result<usize, Fault>
-    ensures not_utf8 { TellsNotUtf8ByTables result ranges.now brackets.now text.now }
+    ensures not_utf8 { ReportsNotUtf8ByTables result ranges.now brackets.now text.now }
     ensures fault { let found = analysis_by (rows_source ranges.now brackets.now) settings len_utf8 (chars text.now) in
         IsUtf8 text.now
         → FaultsAs result (option_or (tables_fault ranges.now brackets.now)
@@ -48,8 +49,8 @@ pub fn analyse_utf8(
 
 /// Returns the number of the base direction of a text of UTF-8: 0 for left to right, 1 for right to left, 2 for mixed.
 ///
-/// Without `full` it is that of the first paragraph, and with `full` that of the first paragraph that has one.
-/// Returns a fault in the tables first, and then `NotUtf8`.
+/// Without `full` it is that of the first paragraph, and with `full` that of the first paragraph that has one. Returns
+/// a fault in the tables first, as [`analyse_utf8`] does, and then `NotUtf8`.
 pub fn base_direction_utf8(
     alloc: Global,
     ranges: &[ClassRange],
@@ -57,7 +58,7 @@ pub fn base_direction_utf8(
     text: &[u8],
     full: bool,
 ) -> Result<usize, Fault>
-    ensures not_utf8 { TellsNotUtf8ByTables result ranges.now brackets.now text.now }
+    ensures not_utf8 { ReportsNotUtf8ByTables result ranges.now brackets.now text.now }
     ensures fault { IsUtf8 text.now → FaultsAs result (tables_fault ranges.now brackets.now) }
     ensures direction { IfOk result (λ n. n ≡ direction_in (rows_source ranges.now brackets.now) full (chars text.now)) }
 {
@@ -70,8 +71,9 @@ pub fn base_direction_utf8(
 
 /// Writes the class and the level of each code unit of a text of UTF-16, and its paragraphs.
 ///
-/// Returns the number of paragraphs. Reads `ranges` and `brackets` in place of a data source, and returns a fault
-/// in them first. The rest is as in [`utf16::analyse`].
+/// Returns the number of paragraphs. Reads `ranges` and `brackets` in place of a data source, and copies them. Returns
+/// a fault in them first: `NotScalar` in a range or in a pair, `BadClass` or `BadRanges`. The rest is as in
+/// [`utf16::analyse`].
 pub fn analyse_utf16(
     alloc: Global,
     ranges: &[ClassRange],
@@ -97,8 +99,8 @@ pub fn analyse_utf16(
 
 /// Returns the number of the base direction of a text of UTF-16: 0 for left to right, 1 for right to left, 2 for mixed.
 ///
-/// Without `full` it is that of the first paragraph, and with `full` that of the first paragraph that has one. The
-/// only faults are those of the tables.
+/// Without `full` it is that of the first paragraph, and with `full` that of the first paragraph that has one. The only
+/// faults are those of the tables, as in [`analyse_utf16`].
 pub fn base_direction_utf16(
     alloc: Global,
     ranges: &[ClassRange],
@@ -118,8 +120,9 @@ pub fn base_direction_utf16(
 
 /// Writes the class and the level of each character of a list, and its paragraphs.
 ///
-/// Returns the number of paragraphs. Reads `ranges` and `brackets` in place of a data source, and returns a fault
-/// in them first. The rest is as in [`utf32::analyse`].
+/// Returns the number of paragraphs. Reads `ranges` and `brackets` in place of a data source, and copies them. Returns
+/// a fault in them first: `NotScalar` in a range or in a pair, `BadClass` or `BadRanges`. The rest is as in
+/// [`utf32::analyse`].
 pub fn analyse_utf32(
     alloc: Global,
     ranges: &[ClassRange],
@@ -145,8 +148,8 @@ pub fn analyse_utf32(
 /// Returns the number of the base direction of a list of characters: 0 for left to right, 1 for right to left, 2 for
 /// mixed.
 ///
-/// Without `full` it is that of the first paragraph, and with `full` that of the first paragraph that has one.
-/// Returns a fault in the tables first, and then `NotScalar`.
+/// Without `full` it is that of the first paragraph, and with `full` that of the first paragraph that has one. Returns
+/// a fault in the tables first, as [`analyse_utf32`] does, and then `NotScalar`.
 pub fn base_direction_utf32(
     alloc: Global,
     ranges: &[ClassRange],

@@ -2,9 +2,9 @@
 ghost use Rattle.std.specs.Prelude.{◌≡◌, ◌+◌, ◌≤◌, if◌then◌else◌, IsTrue, length, map, reverse};
 ghost use Rattle.bidi_base.specs.Display.{run_of, visual_runs};
 ghost use Rattle.bidi_base.specs.Order.{visual_order};
-ghost use Rattle.bidi_base.specs.Places.{between};
-ghost use Rattle.bidi_base.specs.Text.{text_len, char_index, is_boundary, subrange, per_char, IsLine, IsPerChar};
-ghost use Rattle.bidi_calls.specs.Everything.{AreCharsIf};
+ghost use Rattle.bidi_base.specs.Indexes.{between};
+ghost use Rattle.bidi_base.specs.Texts.{char_index, is_boundary, per_char, subrange, IsLine, IsPerChar};
+ghost use Rattle.bidi_calls.specs.LineParts.{AreCharsIf};
 
 use crate::counted::CountedText;
 use std::ops::Range;
@@ -46,11 +46,12 @@ fn write_indexes(first: usize, is_rtl: bool, out: &mut [usize])
     }
 }
 
-// Returns how many characters a range of units has. If each unit of the text is a character, this does not count.
+// Returns how many characters a range of code units has. If each code unit of the text is a character, this does not
+// count.
 fn count_in<T: CountedText>(text: T, units: Range<usize>, are_chars: bool) -> usize
-    requires is_line { IsLine T.units (T.characters text) units.start units.end }
-    requires are_chars { AreCharsIf are_chars T.units (T.characters text) }
-    ensures { result ≡ length (subrange T.units (T.characters text) units.start units.end) }
+    requires is_line { IsLine (T.text text) units.start units.end }
+    requires are_chars { AreCharsIf are_chars T.encoding.len_of (T.text text).chars }
+    ensures { result ≡ length (subrange (T.text text) units.start units.end).chars }
 {
     if are_chars {
         return units.end - units.start;
@@ -58,7 +59,8 @@ fn count_in<T: CountedText>(text: T, units: Range<usize>, are_chars: bool) -> us
     text.subrange(units).count_characters()
 }
 
-// Returns how many characters come before the unit `at`, given that `before` characters come before the unit `near`.
+// Returns how many characters come before the code unit `at`, given that `before` characters come before the code unit
+// `near`.
 fn index_at<T: CountedText>(
     text: T,
     at: usize,
@@ -66,11 +68,11 @@ fn index_at<T: CountedText>(
     before: usize,
     are_chars: bool,
 ) -> usize
-    requires at { IsTrue (is_boundary T.units (T.characters text) at) }
-    requires near { IsTrue (is_boundary T.units (T.characters text) near) }
-    requires before { before ≡ char_index T.units (T.characters text) near }
-    requires are_chars { AreCharsIf are_chars T.units (T.characters text) }
-    ensures { result ≡ char_index T.units (T.characters text) at }
+    requires at { IsTrue (is_boundary (T.text text) at) }
+    requires near { IsTrue (is_boundary (T.text text) near) }
+    requires before { before ≡ char_index (T.text text) near }
+    requires are_chars { AreCharsIf are_chars T.encoding.len_of (T.text text).chars }
+    ensures { result ≡ char_index (T.text text) at }
 {
     if near <= at {
         before + count_in(text, near..at, are_chars)
@@ -89,13 +91,13 @@ fn first_index<T: CountedText>(
     indexes: &Range<usize>,
     are_chars: bool,
 ) -> usize
-    requires is_line { IsLine T.units (T.characters text) run.now.start run.now.end }
-    requires count { count ≡ length (subrange T.units (T.characters text) run.now.start run.now.end) }
-    requires left { IsTrue (is_boundary T.units (T.characters text) left.now.end) }
-    requires begins { indexes.now.start ≡ char_index T.units (T.characters text) left.now.start }
-    requires ends { indexes.now.end ≡ char_index T.units (T.characters text) left.now.end }
-    requires are_chars { AreCharsIf are_chars T.units (T.characters text) }
-    ensures { result ≡ char_index T.units (T.characters text) run.now.start }
+    requires is_line { IsLine (T.text text) run.now.start run.now.end }
+    requires count { count ≡ length (subrange (T.text text) run.now.start run.now.end).chars }
+    requires left { IsTrue (is_boundary (T.text text) left.now.end) }
+    requires begins { indexes.now.start ≡ char_index (T.text text) left.now.start }
+    requires ends { indexes.now.end ≡ char_index (T.text text) left.now.end }
+    requires are_chars { AreCharsIf are_chars T.encoding.len_of (T.text text).chars }
+    ensures { result ≡ char_index (T.text text) run.now.start }
 {
     if run.end == left.start {
         return indexes.start - count;
@@ -103,21 +105,22 @@ fn first_index<T: CountedText>(
     index_at(text, run.start, left.end, indexes.end, are_chars)
 }
 
-/// Writes the visual order of a line's characters, run by run.
+/// Writes the visual order of a line's characters (L2), run by run.
 ///
-/// `levels` has the level of each code unit of the line after L1, equal within each character. `runs` has its visual
-/// runs, counted from its first code unit. For each run the time is linear in the line, or less if it touches the run
-/// on its left. Does not allocate.
+/// `text` is the line's text. `levels` has the level of each code unit of the line after L1, equal within each
+/// character. `runs` has its visual runs, counted from its first code unit. `out` has one entry for each character. For
+/// each run, the time is at most linear in the line. It is linear in the run if the run touches the one on its left.
+/// Does not allocate.
 pub fn write_char_order<T: CountedText>(
     text: T,
     levels: &[Level],
     runs: &[Range<usize>],
     out: &mut [usize],
 )
-    requires even { IsPerChar T.units (T.characters text) levels.now }
+    requires even { IsPerChar (T.text text) levels.now }
     requires runs { map run_of runs.now ≡ visual_runs 0 levels.now }
-    requires room { length out.old ≡ length (T.characters text) }
-    ensures { out.new ≡ visual_order (per_char 0 T.units (T.characters text) levels.now) }
+    requires room { length out.old ≡ length (T.text text).chars }
+    ensures { out.new ≡ visual_order (per_char 0 (T.text text) levels.now) }
 {
     let are_chars = out.len() == levels.len();
     let mut left = 0..0;

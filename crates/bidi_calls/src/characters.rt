@@ -9,15 +9,15 @@ ghost use Rattle.std.specs.Option.{option_or};
 ghost use Rattle.std.specs.Result.{result_err};
 ghost use Rattle.std.specs.Str.{chars};
 ghost use Rattle.bidi_base.specs.Source.{Source};
-ghost use Rattle.bidi_base.specs.Text.{text_len};
+ghost use Rattle.bidi_base.specs.Texts.{text_len};
 ghost use Rattle.bidi_base.specs.Utf16.{utf16_text, utf16_len};
 ghost use Rattle.bidi_calls.specs.Characters.{bracket_number, class_number_in, bracket_number_in, if_scalar, numbers_of, numbered_source};
-ghost use Rattle.bidi_calls.specs.Kept.{WritesList};
+ghost use Rattle.bidi_calls.specs.Buffers.{WritesList};
 ghost use Rattle.bidi_numbers.specs.Faults.{fault_unless};
 ghost use Rattle.bidi_numbers.specs.Numbers.{is_class, direction_in};
 ghost use Rattle.bidi_numbers.specs.Texts.{is_scalar};
 
-use crate::checked::number_of_direction;
+use crate::analysis::number_of_direction;
 use bidi_base::data_source::BidiMatchedOpeningBracket;
 use bidi_numbers::fault::{Fault, check};
 use bidi_numbers::numbers::{check_classes, class_of as class_numbered, number_of};
@@ -29,7 +29,7 @@ use unicode_bidi::{BidiDataSource, Direction};
 /// The difference between the number of an opening bracket and that of its closing bracket.
 pub const OPENING: u32 = 0x8000_0000;
 
-/// Gives each character of a data source a number.
+/// A number for each character, by a data source.
 pub trait Numbering: Copy {
     /// The type of the numbers.
     type Number: Copy;
@@ -42,7 +42,7 @@ pub trait Numbering: Copy {
         ensures { result ≡ number (D.source data_source.now) c };
 }
 
-/// The numbers of the classes of characters.
+/// Numbers a character by its class.
 #[derive(Clone, Copy, Debug)]
 pub struct Classes;
 
@@ -94,7 +94,8 @@ pub fn class_number_of<D: BidiDataSource>(data_source: &D, character: u32) -> Re
     Ok(usize::from(Classes.number(data_source, char_of(character))))
 }
 
-/// Returns the number of a character's bracket, 0 if it is none, or `NotScalar` if `character` is not a scalar value.
+/// Returns the number of a character's bracket, which is 0 if it is no bracket, or `NotScalar` if `character` is not a
+/// scalar value.
 pub fn bracket_number_of<D: BidiDataSource>(data_source: &D, character: u32) -> Result<usize, Fault>
     ensures { result ≡ if_scalar character (bracket_number_in (D.source data_source.now) character) }
 {
@@ -132,8 +133,8 @@ fn write_each<D: BidiDataSource, T: TextSource, N: Numbering>(
     numbering: N,
     out: &mut [N::Number],
 )
-    requires { length out.old ≡ text_len T.units (T.characters text) }
-    ensures { out.new ≡ numbers_of (N.number (D.source data_source.now)) T.units (T.characters text) }
+    requires { length out.old ≡ text_len (T.text text) }
+    ensures { out.new ≡ numbers_of (N.number (D.source data_source.now)) T.encoding.len_of (T.text text).chars }
 {
     let mut at = 0;
     for c in text.chars() {
@@ -151,8 +152,8 @@ fn write_numbers<D: BidiDataSource, T: TextSource, N: Numbering>(
     out: &mut [N::Number],
 ) -> Result<usize, Fault>
     ensures fault { result_err result
-        ≡ fault_unless (nat_le (text_len T.units (T.characters text)) (length out.old)) Fault.NoRoom }
-    ensures writes { WritesList (numbers_of (N.number (D.source data_source.now)) T.units (T.characters text))
+        ≡ fault_unless (nat_le (text_len (T.text text)) (length out.old)) Fault.NoRoom }
+    ensures writes { WritesList (numbers_of (N.number (D.source data_source.now)) T.encoding.len_of (T.text text).chars)
         result out.old out.new }
 {
     let len = text.len();
@@ -163,8 +164,8 @@ fn write_numbers<D: BidiDataSource, T: TextSource, N: Numbering>(
 
 /// Writes the number of each byte's character in a text of UTF-8, and returns the number of bytes.
 ///
-/// Returns `NotUtf8` if the text is not UTF-8, or else `NoRoom` if `out` is shorter than the text. Writes nothing after a
-/// fault. Does not allocate.
+/// Returns `NotUtf8` if the text is not UTF-8, or else `NoRoom` if `out` is shorter than the text. Writes nothing after
+/// a fault. Does not allocate.
 pub fn numbers_utf8<D: BidiDataSource, N: Numbering>(
     data_source: &D,
     numbering: N,
@@ -237,8 +238,9 @@ pub fn numbers_utf32<D: BidiDataSource, N: Numbering>(
 /// Returns the number of the base direction of characters with these classes (P2, P3): 0 for left to right, 1 for right
 /// to left, 2 for mixed.
 ///
-/// Without `full` it is that of the first paragraph, and with `full` that of the first paragraph that has one. Returns
-/// `BadClass` if a number is not that of a class. Does not allocate.
+/// Without `full` it is that of the first paragraph, and with `full` that of the first paragraph that has one. A
+/// paragraph ends after each class B. Returns `BadClass` if a number is not that of a class, even after the one that
+/// decides. Does not allocate.
 pub fn base_direction_of_classes(classes: &[u8], full: bool) -> Result<usize, Fault>
     ensures { result
         ≡ (if list_all is_class classes.now then Ok (direction_in numbered_source full classes.now)

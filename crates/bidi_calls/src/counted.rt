@@ -2,9 +2,9 @@
 ghost use Rattle.std.specs.Prelude.{◌≡◌, ◌≤◌, length};
 ghost use Rattle.std.specs.List.{count_by};
 ghost use Rattle.std.specs.Str.{chars};
-ghost use Rattle.bidi_base.specs.Text.{text_len};
+ghost use Rattle.bidi_base.specs.Texts.{text_len};
 ghost use Rattle.bidi_base.specs.Utf16.{utf16_text};
-ghost use Rattle.bidi_calls.specs.Everything.{begins_character};
+ghost use Rattle.bidi_calls.specs.LineParts.{begins_character};
 ghost use Rattle.bidi_calls.specs.declared.counted.TheConstants.{FEW_BYTES};
 
 use bidi_lines::line_text::LineText;
@@ -12,9 +12,9 @@ use unicode_bidi::text::{StrText, TextSource, Utf16Text, are_characters};
 
 /// A text that can count its characters.
 pub trait CountedText: LineText {
-    /// Returns how many characters the text has.
+    /// Returns how many characters the text has. Takes time linear in the text, and does not allocate.
     fn count_characters(self) -> usize
-        ensures { result ≡ length (Self.characters self) };
+        ensures { result ≡ length (Self.text self).chars };
 }
 
 // Returns whether a byte of UTF-8 begins a character.
@@ -62,8 +62,8 @@ impl<'t> CountedText for StrText<'t> {
 
 // Returns how many characters a text of `units` code units has. Counts them one by one.
 fn count_one_by_one<T: TextSource>(text: T, units: usize) -> usize
-    requires { units ≡ text_len T.units (T.characters text) }
-    ensures { result ≡ length (T.characters text) }
+    requires { units ≡ text_len (T.text text) }
+    ensures { result ≡ length (T.text text).chars }
 {
     let mut count = 0;
     for (at, _) in text.indices_lengths() {
@@ -72,7 +72,7 @@ fn count_one_by_one<T: TextSource>(text: T, units: usize) -> usize
     count
 }
 
-// Returns how many characters a text has. Most texts have no surrogates, so each unit is a character.
+// Returns how many characters a text has. Most texts have no surrogates, so each code unit is a character.
 fn count_utf16(units: &[u16]) -> usize
     ensures { result ≡ length (utf16_text units.now) }
 {

@@ -7,7 +7,7 @@ ghost use Rattle.bidi_calls.specs.FirstDirection.{is_decided, first_direction_ut
 ghost use Rattle.bidi_numbers.specs.Numbers.{direction_in};
 ghost use Rattle.bidi_numbers.specs.Texts.{is_scalar};
 
-use crate::checked::number_of_direction;
+use crate::analysis::number_of_direction;
 use bidi_numbers::fault::Fault;
 use bidi_numbers::texts::{char_of, is_scalar};
 use unicode_bidi::direction_search::{DirectionSearch, search_class, search_direction};
@@ -27,10 +27,12 @@ fn text_front(bytes: &[u8]) -> &str
     }
 }
 
-/// Returns the number of the base direction of a text of UTF-8 (P2, P3).
+/// Returns the number of the base direction of a text of UTF-8 (P2, P3): 0 for left to right, 1 for right to left, 2
+/// for mixed.
 ///
-/// Stops at the character that decides, and without `full` also at the end of the first paragraph. Returns `NotUtf8`
-/// only if bytes that are not UTF-8 come before that. Tests up to 64 bytes at a time, and does not allocate.
+/// Without `full` it is that of the first paragraph, and with `full` that of the first paragraph that has one. Stops at
+/// the character that decides, and without `full` also at the end of the first paragraph. Returns `NotUtf8` only if
+/// bytes that are not UTF-8 come before that. Tests up to 64 bytes at a time, and does not allocate.
 pub fn first_direction_utf8<D: BidiDataSource>(
     data_source: &D,
     text: &[u8],
@@ -63,10 +65,12 @@ pub fn first_direction_utf8<D: BidiDataSource>(
     Ok(number_of_direction(Direction::Mixed))
 }
 
-/// Returns the number of the base direction of a list of characters (P2, P3).
+/// Returns the number of the base direction of a list of characters (P2, P3): 0 for left to right, 1 for right to left,
+/// 2 for mixed.
 ///
-/// Stops at the character that decides, and without `full` also at the end of the first paragraph. Returns `NotScalar`
-/// only if a number that is not a scalar value comes before that. Does not allocate.
+/// Without `full` it is that of the first paragraph, and with `full` that of the first paragraph that has one. Stops at
+/// the character that decides, and without `full` also at the end of the first paragraph. Returns `NotScalar` only if a
+/// number that is not a scalar value comes before that. Does not allocate.
 pub fn first_direction_utf32<D: BidiDataSource>(
     data_source: &D,
     text: &[u32],

@@ -1,16 +1,20 @@
 //! The library's calls over numbers and buffers. Each call tests every condition that the library requires.
+//!
+//! A call writes its result to the front of the caller's buffers, and leaves the rest unchanged. It returns the first
+//! fault in the order of its contract, and then leaves every buffer unchanged. A failed allocation is the fault
+//! `NoMemory`, which may come in place of another.
 #![tactic(auto)]
 
+pub mod analysis;
 pub mod buffers;
 pub mod by_tables;
 pub mod char_order;
 pub mod characters;
-pub mod checked;
 pub mod counted;
-pub mod even;
 pub mod first_direction;
 pub mod line;
-pub mod run_rows;
+pub mod per_char;
+pub mod run_structs;
 pub mod show;
 pub mod utf16;
 pub mod utf32;

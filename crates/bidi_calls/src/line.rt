@@ -1,39 +1,38 @@
-//! The calls over a line, given classes and levels that the caller has kept.
-ghost use Rattle.std.specs.Prelude.{◌≡◌, ◌+◌, ◌-◌, ◌<◌, ◌≤◌, ◌&&◌, IsTrue, true, length, map, slice_index, slice_range, nat_le, OnOk, OnErr, IfOk, All};
-ghost use Rattle.std.specs.List.{list_all};
+//! The calls over a line, given the classes and levels that the caller passes.
+ghost use Rattle.std.specs.Prelude.{◌≡◌, ◌+◌, ◌-◌, ◌<◌, ◌&&◌, true, length, map, nat_le, OnOk, OnErr, IfOk};
 ghost use Rattle.std.specs.Result.{result_err};
-ghost use Rattle.bidi_base.specs.Display.{run_of, visual_runs};
+ghost use Rattle.bidi_base.specs.Display.{visual_runs};
 ghost use Rattle.bidi_base.specs.Order.{visual_order as visual_order_of};
-ghost use Rattle.bidi_base.specs.Text.{text_len, place, per_char};
-ghost use Rattle.bidi_lines.specs.ShownLevels.{levels as levels_of};
-ghost use Rattle.bidi_numbers.specs.Faults.{FaultsAs, fault_unless, has_room_or_none};
-ghost use Rattle.bidi_calls.specs.Kept.{written, written_if_room, WritesList};
-ghost use Rattle.bidi_calls.specs.Lines.{lies_in, IsSound, IsAsLongAs, own_classes, own_levels, line_fault, levels_fault, runs_fault, order_fault, shown_levels};
-ghost use Rattle.bidi_numbers.specs.Numbers.{class_numbered, is_class, is_level};
-ghost use Rattle.bidi_calls.specs.Shown.{is_even, order_of_line, map_fault};
-ghost use Rattle.bidi_lines.specs.Written.{shown_units};
-ghost use Rattle.bidi_numbers.specs.Rows.{run_row};
+ghost use Rattle.bidi_base.specs.Texts.{text_len};
+ghost use Rattle.bidi_lines.specs.LineLevels.{levels as levels_of};
+ghost use Rattle.bidi_numbers.specs.Faults.{FaultsAs, fault_unless};
+ghost use Rattle.bidi_calls.specs.Buffers.{written, written_if_room, WritesList};
+ghost use Rattle.bidi_calls.specs.CallerLine.{lies_in, IsValid, IsAsLongAs, own_classes, own_levels, line_fault, levels_fault, runs_fault, order_fault, caller_line_levels};
+ghost use Rattle.bidi_calls.specs.LineText.{is_even, order_of_line, map_fault};
+ghost use Rattle.bidi_lines.specs.InText.{visual_units};
+ghost use Rattle.bidi_numbers.specs.Structs.{run_struct};
 
-use crate::checked::write_levels;
-use crate::run_rows::put_runs;
+use crate::analysis::write_levels;
+use crate::run_structs::put_runs;
 use bidi_lines::line_text::{LineText, StoredLine, write_line};
-use bidi_lines::shown_levels::ShownLevels;
+use bidi_lines::reused_levels::LineLevels;
 use bidi_lines::visual_order::write_visual_order;
 use bidi_lines::visual_runs::LineRuns;
 use bidi_numbers::class_numbers::ClassNumbers;
 use bidi_numbers::fault::{Fault, check, check_room_or_none};
 use bidi_numbers::numbers::{all_below, check_classes};
-use bidi_numbers::rows::{Paragraph, Run};
+use bidi_numbers::structs::{Paragraph, Run};
 use std::alloc::{AllocError, Global};
 use std::ops::Range;
 use unicode_bidi::{Level, TextSource};
 
 /// A line, as the caller passes it.
 ///
-/// `classes` and `levels` have the number of the stored class and the stored level of each code unit of a text.
-/// `paragraph` is a paragraph of the text, and the line is its code units from `start` up to `end`.
+/// `classes` and `levels` have the numbers of the stored class and the stored level of each code unit of a text.
+/// `paragraph` is a paragraph of the text. The line is the range of code units of the text from `start` up to `end`.
+/// Nothing is checked before [`CallerLine::check`].
 #[derive(Clone, Copy, Debug)]
-pub struct KeptLine<'t> {
+pub struct CallerLine<'t> {
     pub classes: &'t [u8],
     pub levels: &'t [u8],
     pub paragraph: &'t Paragraph,
@@ -48,11 +47,15 @@ fn lies_in(paragraph: &Paragraph, start: usize, end: usize, units: usize) -> boo
     paragraph.start <= start && start <= end && end <= paragraph.end && paragraph.end <= units
 }
 
-impl<'t> KeptLine<'t> {
-    /// Checks that the range is a line of its paragraph, and that its classes and levels are valid.
+impl<'t> CallerLine<'t> {
+    /// Checks that the line is inside its paragraph, and that its classes and levels are valid.
+    ///
+    /// Returns the first fault: `UnequalLengths` of the two lists, `BadLine`, `BadClass` and `BadLevel` in the line, or
+    /// `BadLevel` of the paragraph. It does not see the text, so the line may cut a character. Takes time linear in the
+    /// line.
     pub fn check(&self) -> Result<(), Fault>
         ensures fault { result_err result ≡ line_fault self.now }
-        ensures sound { OnOk result (IsSound self.now) }
+        ensures valid { OnOk result (IsValid self.now) }
     {
         let units = self.levels.len();
         check(self.classes.len() == units, Fault::UnequalLengths)?;
@@ -68,9 +71,9 @@ impl<'t> KeptLine<'t> {
         check(self.paragraph.level < 127, Fault::BadLevel)
     }
 
-    /// Returns the level of the paragraph.
+    /// Returns the level of the paragraph. The line must be valid.
     pub fn level(&self) -> Level
-        requires { IsSound self.now }
+        requires { IsValid self.now }
         ensures { result ≡ self.now.paragraph.now.level }
     {
         match Level::new(self.paragraph.level) {
@@ -79,51 +82,53 @@ impl<'t> KeptLine<'t> {
         }
     }
 
-    /// Returns the numbers of the line's stored classes.
+    /// Returns the numbers of the line's stored classes. The line must be valid.
     pub fn class_numbers(&self) -> &'t [u8]
-        requires { IsSound self.now }
+        requires { IsValid self.now }
         ensures { result.now ≡ own_classes self.now }
     {
         &self.classes[self.start..self.end]
     }
 
-    /// Returns the numbers of the line's stored levels.
+    /// Returns the numbers of the line's stored levels. The line must be valid.
     pub fn level_numbers(&self) -> &'t [u8]
-        requires { IsSound self.now }
+        requires { IsValid self.now }
         ensures { result.now ≡ own_levels self.now }
     {
         &self.levels[self.start..self.end]
     }
 
-    /// Returns the level of each code unit of the line after L1. A line of up to 256 code units needs no allocation.
-    pub fn shown(&self, alloc: Global) -> Result<ShownLevels, AllocError>
-        requires { IsSound self.now }
-        ensures levels { IfOk result (λ s. levels_of s ≡ shown_levels self.now) }
+    /// Returns the level of each code unit of the line after L1.
+    ///
+    /// The line must be valid. Takes time linear in the line. A line of up to 256 code units needs no allocation.
+    pub fn after_l1(&self, alloc: Global) -> Result<LineLevels, AllocError>
+        requires { IsValid self.now }
+        ensures levels { IfOk result (λ s. levels_of s ≡ caller_line_levels self.now) }
         ensures units { IfOk result (λ s. length (levels_of s) + self.now.start ≡ self.now.end) }
     {
         let classes = ClassNumbers::new(self.class_numbers());
-        let mut shown = ShownLevels::new(alloc);
-        shown.show(self.level(), classes, self.level_numbers())?;
-        Ok(shown)
+        let mut after_l1 = LineLevels::new(alloc);
+        after_l1.show(self.level(), classes, self.level_numbers())?;
+        Ok(after_l1)
     }
 }
 
 /// Writes the text of a line from left to right (L2).
 ///
-/// `text` is the line's text, with one class and one level for each of its characters. If an allocation fails, writes
-/// nothing.
+/// The line must be valid. `text` is the line's text, `out` is as long, and all code units of a character have one
+/// class and one level. Takes time linear in the line. If an allocation fails, writes nothing.
 pub fn write_text<T: LineText>(
     alloc: Global,
     text: T,
-    line: &KeptLine<'_>,
+    line: &CallerLine<'_>,
     out: &mut [T::Unit],
 ) -> Result<(), AllocError>
-    requires sound { IsSound line.now }
-    requires even { is_even T.units (T.characters text) line.now ≡ true }
-    requires units { IsAsLongAs T.units (T.characters text) line.now }
-    requires room { length out.old ≡ text_len T.units (T.characters text) }
-    ensures text { OnOk result (out.new ≡ shown_units T.units T.encode (T.characters text) (T.units_of text) 0 (shown_levels line.now)) }
-    ensures kept { OnErr result (out.new ≡ out.old) }
+    requires valid { IsValid line.now }
+    requires even { is_even T.encoding.len_of (T.text text).chars line.now ≡ true }
+    requires same_len { IsAsLongAs T.encoding.len_of (T.text text).chars line.now }
+    requires room { length out.old ≡ text_len (T.text text) }
+    ensures text { OnOk result (out.new ≡ visual_units (T.text text) T.encode (T.units_of text) 0 (caller_line_levels line.now)) }
+    ensures unchanged { OnErr result (out.new ≡ out.old) }
 {
     let units = 0..out.len();
     let classes = ClassNumbers::new(line.class_numbers());
@@ -136,86 +141,97 @@ pub fn write_text<T: LineText>(
     write_line(alloc, text, units, &stored, out)
 }
 
-/// Writes the level of each code unit of a line after L1, and returns their number. Writes nothing after a fault.
-pub fn line_levels(alloc: Global, line: &KeptLine<'_>, out: &mut [u8]) -> Result<usize, Fault>
+/// Writes the level of each code unit of a line after L1, and returns their number.
+///
+/// Returns a fault of [`CallerLine::check`], or else `NoRoom` if `out` is shorter than the line. Writes nothing after a
+/// fault. Takes time linear in the line. A line of up to 256 code units needs no allocation.
+pub fn line_levels(alloc: Global, line: &CallerLine<'_>, out: &mut [u8]) -> Result<usize, Fault>
     ensures fault { FaultsAs result (levels_fault line.now (length out.old)) }
-    ensures kept { OnErr result (out.new ≡ out.old) }
-    ensures levels { OnOk result (out.new ≡ written (shown_levels line.now) out.old) }
+    ensures unchanged { OnErr result (out.new ≡ out.old) }
+    ensures levels { OnOk result (out.new ≡ written (caller_line_levels line.now) out.old) }
     ensures count { IfOk result (λ count. count ≡ line.now.end - line.now.start) }
 {
     line.check()?;
     let count = line.end - line.start;
     check(count <= out.len(), Fault::NoRoom)?;
-    let shown = line.shown(alloc)?;
-    write_levels(&mut out[..count], shown.as_slice());
+    let after_l1 = line.after_l1(alloc)?;
+    write_levels(&mut out[..count], after_l1.as_slice());
     Ok(count)
 }
 
 /// Writes the visual runs of a line to `out`, and returns their number.
 ///
-/// If `out` is empty, only counts them. Writes nothing after a fault.
-pub fn line_runs(alloc: Global, line: &KeptLine<'_>, out: &mut [Run]) -> Result<usize, Fault>
+/// If `out` is empty, only counts them. Returns a fault of [`CallerLine::check`], or else `NoRoom` if `out` is too
+/// short and not empty. Writes nothing after a fault. Takes time linear in the line. A line of up to 256 code units
+/// with up to 16 runs needs no allocation.
+pub fn line_runs(alloc: Global, line: &CallerLine<'_>, out: &mut [Run]) -> Result<usize, Fault>
     ensures fault { FaultsAs result (runs_fault line.now (length out.old)) }
-    ensures kept { OnErr result (out.new ≡ out.old) }
+    ensures unchanged { OnErr result (out.new ≡ out.old) }
     ensures runs { OnOk result (out.new
         ≡ written_if_room
-        (map (run_row line.now.start (shown_levels line.now))
-        (visual_runs line.now.start (shown_levels line.now)))
+        (map (run_struct line.now.start (caller_line_levels line.now))
+        (visual_runs line.now.start (caller_line_levels line.now)))
         out.old) }
-    ensures count { IfOk result (λ count. count ≡ length (visual_runs line.now.start (shown_levels line.now))) }
+    ensures count { IfOk result (λ count. count ≡ length (visual_runs line.now.start (caller_line_levels line.now))) }
 {
     line.check()?;
-    let shown = line.shown(alloc)?;
+    let after_l1 = line.after_l1(alloc)?;
     let mut found = LineRuns::new(alloc);
-    found.find(shown.as_slice(), 0)?;
+    found.find(after_l1.as_slice(), 0)?;
     let runs = found.as_slice();
     check_room_or_none(runs.len(), out.len())?;
-    put_runs(out, shown.as_slice(), line.start, runs);
+    put_runs(out, after_l1.as_slice(), line.start, runs);
     Ok(runs.len())
 }
 
 /// Writes the visual order of a line's characters (L2), and returns their number.
 ///
-/// `text` is the line's text. Writes nothing after a fault.
+/// The line must be valid, and `text` is its text. Returns `NoRoom` if `out` has fewer entries than the line has
+/// characters. Writes nothing after a fault.
 pub fn map_characters<T: TextSource>(
     alloc: Global,
     text: T,
-    line: &KeptLine<'_>,
+    line: &CallerLine<'_>,
     out: &mut [usize],
 ) -> Result<usize, Fault>
-    requires sound { IsSound line.now }
-    requires units { IsAsLongAs T.units (T.characters text) line.now }
-    ensures fault { FaultsAs result (map_fault T.units (T.characters text) line.now (length out.old)) }
-    ensures writes { WritesList (order_of_line T.units (T.characters text) line.now) result out.old out.new }
+    requires valid { IsValid line.now }
+    requires same_len { IsAsLongAs T.encoding.len_of (T.text text).chars line.now }
+    ensures fault { FaultsAs result (map_fault T.encoding.len_of (T.text text).chars line.now (length out.old)) }
+    ensures writes { WritesList (order_of_line T.encoding.len_of (T.text text).chars line.now) result out.old out.new }
 {
-    let mut shown = line.shown(alloc)?;
-    shown.keep_first_units(text);
-    let levels = shown.as_slice();
+    let mut after_l1 = line.after_l1(alloc)?;
+    after_l1.keep_first_units(text);
+    let levels = after_l1.as_slice();
     let characters = levels.len();
     check(characters <= out.len(), Fault::NoRoom)?;
     write_visual_order(levels, &mut out[..characters]);
     Ok(characters)
 }
 
-/// Writes the visual order of a line's code units, each of which is a character (L2), and returns their number.
-pub fn order_units(alloc: Global, line: &KeptLine<'_>, out: &mut [usize]) -> Result<usize, Fault>
-    requires { IsSound line.now }
+/// Writes the visual order of a line's code units (L2), and returns their number. Each code unit is a character.
+///
+/// The line must be valid. Returns `NoRoom` if `out` is shorter than the line. Writes nothing after a fault.
+pub fn order_units(alloc: Global, line: &CallerLine<'_>, out: &mut [usize]) -> Result<usize, Fault>
+    requires { IsValid line.now }
     ensures fault { FaultsAs result (fault_unless (nat_le (line.now.end - line.now.start) (length out.old)) Fault.NoRoom) }
-    ensures kept { OnErr result (out.new ≡ out.old) }
-    ensures order { OnOk result (out.new ≡ written (visual_order_of (shown_levels line.now)) out.old) }
+    ensures unchanged { OnErr result (out.new ≡ out.old) }
+    ensures order { OnOk result (out.new ≡ written (visual_order_of (caller_line_levels line.now)) out.old) }
     ensures count { IfOk result (λ count. count ≡ line.now.end - line.now.start) }
 {
     let units = line.end - line.start;
     check(units <= out.len(), Fault::NoRoom)?;
-    let shown = line.shown(alloc)?;
-    write_visual_order(shown.as_slice(), &mut out[..units]);
+    let after_l1 = line.after_l1(alloc)?;
+    write_visual_order(after_l1.as_slice(), &mut out[..units]);
     Ok(units)
 }
 
-/// Writes the visual order of a list of levels (L2), and returns their number.
+/// Writes the visual order of items by their levels (L2), and returns their number.
+///
+/// Returns `BadLevel` if a level is above 126, or else `NoRoom` if `out` has fewer entries. Writes nothing after a
+/// fault. Does not allocate.
 pub fn visual_order(levels: &[u8], out: &mut [usize]) -> Result<usize, Fault>
     ensures fault { FaultsAs result (order_fault levels.now (length out.old)) }
-    ensures kept { OnErr result (out.new ≡ out.old) }
+    ensures unchanged { OnErr result (out.new ≡ out.old) }
     ensures order { OnOk result (out.new ≡ written (visual_order_of levels.now) out.old) }
     ensures count { IfOk result (λ count. count ≡ length levels.now) }
 {

@@ -1,27 +1,26 @@
-//! All about a line in one call: its levels, its visual runs, the order of its characters, and its text from left to
+//! All parts of a line in one call: its levels, its visual runs, the order of its characters, and its text from left to
 //! right.
-ghost use Rattle.std.specs.Prelude.{◌≡◌, ℕ, ◌+◌, ◌-◌, ◌<◌, ◌≤◌, ◌&&◌, if◌then◌else◌, IsTrue, true, length, map, flat_map, reverse, slice_index, get_or, sum_by, OnOk, OnErr, IfOk, All};
+ghost use Rattle.std.specs.Prelude.{◌≡◌, ℕ, ◌+◌, ◌-◌, ◌<◌, ◌≤◌, ◌&&◌, if◌then◌else◌, IsTrue, true, length, map, flat_map, reverse, sum_by, All};
 ghost use Rattle.bidi_base.specs.Display.{run_of, visual_runs, AreVisualRuns};
-ghost use Rattle.bidi_base.specs.Levels.{is_odd};
 ghost use Rattle.bidi_base.specs.Order.{visual_order as visual_order_of};
-ghost use Rattle.bidi_base.specs.Text.{text_len, per_char, one_unit, IsLine, IsPerChar};
-ghost use Rattle.bidi_calls.specs.Everything.{everything_of_chars, line_shown, room_fault, WritesLine, AreLines, AreWithin};
-ghost use Rattle.bidi_calls.specs.Kept.{written_if_room, HasRoomOrNone};
-ghost use Rattle.bidi_calls.specs.Lines.{IsSound, IsAsLongAs, shown_levels};
-ghost use Rattle.bidi_calls.specs.Shown.{is_even, chars_at};
+ghost use Rattle.bidi_base.specs.Text.{IsLine};
+ghost use Rattle.bidi_base.specs.Texts.{text_len, per_char, IsPerChar};
+ghost use Rattle.bidi_calls.specs.LineParts.{everything_of_chars, line_parts, room_fault, WritesLine, AreWithin};
+ghost use Rattle.bidi_calls.specs.Buffers.{written_if_room, HasRoomOrNone};
+ghost use Rattle.bidi_calls.specs.CallerLine.{IsValid, IsAsLongAs, caller_line_levels};
+ghost use Rattle.bidi_calls.specs.LineText.{is_even, chars_at};
 ghost use Rattle.bidi_numbers.specs.Faults.{FaultsAs, has_room_or_none};
-ghost use Rattle.bidi_numbers.specs.Rows.{run_row};
-ghost use Rattle.bidi_lines.specs.ShownLevels.{levels as levels_of};
-ghost use Rattle.bidi_lines.specs.Written.{run_units, shown_units};
+ghost use Rattle.bidi_lines.specs.LineLevels.{levels as levels_of};
+ghost use Rattle.bidi_lines.specs.InText.{run_units, visual_units};
 
+use crate::analysis::write_levels;
 use crate::buffers::LineBuffers;
 use crate::char_order::{COUNTED_RUNS, write_char_order};
-use crate::checked::write_levels;
 use crate::counted::CountedText;
-use crate::line::KeptLine;
-use crate::run_rows::put_runs;
+use crate::line::CallerLine;
+use crate::run_structs::put_runs;
 use bidi_lines::line_text::{LineText, write_runs};
-use bidi_lines::shown_levels::ShownLevels;
+use bidi_lines::reused_levels::LineLevels;
 use bidi_lines::visual_order::write_visual_order;
 use bidi_lines::visual_runs::LineRuns;
 use bidi_numbers::fault::{Fault, check};
@@ -43,10 +42,10 @@ fn put_levels(out: &mut [u8], levels: &[Level])
 fn put_text<T: LineText>(text: T, levels: &[Level], runs: &[Range<usize>], out: &mut [T::Unit])
     requires room { HasRoomOrNone levels.now out.old }
     requires visual { AreVisualRuns 0 levels.now (map run_of runs.now) }
-    requires boundaries { AreLines T.units (T.characters text) runs.now }
+    requires are_lines { All (λ r. IsLine T.encoding.len_of (T.text text).chars r.start r.end) runs.now }
     ensures { out.new
         ≡ written_if_room
-        (flat_map (run_units T.units T.encode (T.characters text) (T.units_of text) 0 levels.now) (map run_of runs.now))
+        (flat_map (run_units (T.text text) T.encode (T.units_of text) 0 levels.now) (map run_of runs.now))
         out.old }
 {
     if !out.is_empty() {
@@ -85,35 +84,35 @@ fn have_room<U>(units: usize, runs: usize, characters: usize, out: &LineBuffers<
         && has_room(units, out.text.len())
 }
 
-// Keeps one level for each of a line's `len` characters. If each character is one unit, there is nothing to do.
-fn keep_characters<T: TextSource>(text: T, len: usize, shown: &mut ShownLevels)
-    requires units { length (levels_of shown.old) ≡ text_len T.units (T.characters text) }
-    requires len { len ≡ length (T.characters text) }
-    ensures { levels_of shown.new ≡ per_char 0 T.units (T.characters text) (levels_of shown.old) }
+// Keeps one level for each of a line's `len` characters. If each character is one code unit, this does nothing.
+fn keep_characters<T: TextSource>(text: T, len: usize, after_l1: &mut LineLevels)
+    requires units_same_len { length (levels_of after_l1.old) ≡ text_len (T.text text) }
+    requires same_len { len ≡ length (T.text text).chars }
+    ensures { levels_of after_l1.new ≡ per_char 0 (T.text text) (levels_of after_l1.old) }
 {
-    if len < shown.as_slice().len() {
-        shown.keep_first_units(text);
+    if len < after_l1.as_slice().len() {
+        after_l1.keep_first_units(text);
     }
 }
 
-// Writes the visual order of a line's characters. `shown` has one level for each unit. If there are many runs, the
-// order is found from one level for each character, and `shown` keeps only those.
+// Writes the visual order of a line's characters. `after_l1` has one level for each code unit. If there are many runs,
+// the order is found from one level for each character, and `after_l1` keeps only those.
 fn write_order<T: CountedText>(
     text: T,
     runs: &[Range<usize>],
-    shown: &mut ShownLevels,
+    after_l1: &mut LineLevels,
     out: &mut [usize],
 )
-    requires even { IsPerChar T.units (T.characters text) (levels_of shown.old) }
-    requires runs { map run_of runs.now ≡ visual_runs 0 (levels_of shown.old) }
-    requires room { length out.old ≡ length (T.characters text) }
-    ensures { out.new ≡ visual_order_of (per_char 0 T.units (T.characters text) (levels_of shown.old)) }
+    requires even { IsPerChar (T.text text) (levels_of after_l1.old) }
+    requires runs { map run_of runs.now ≡ visual_runs 0 (levels_of after_l1.old) }
+    requires room { length out.old ≡ length (T.text text).chars }
+    ensures { out.new ≡ visual_order_of (per_char 0 (T.text text) (levels_of after_l1.old)) }
 {
     if runs.len() <= COUNTED_RUNS {
-        write_char_order(text, shown.as_slice(), runs, out);
+        write_char_order(text, after_l1.as_slice(), runs, out);
     } else {
-        keep_characters(text, out.len(), shown);
-        write_visual_order(shown.as_slice(), out);
+        keep_characters(text, out.len(), after_l1);
+        write_visual_order(after_l1.as_slice(), out);
     }
 }
 
@@ -123,60 +122,61 @@ fn put_order_of<T: CountedText>(
     text: T,
     len: usize,
     runs: &[Range<usize>],
-    shown: &mut ShownLevels,
+    after_l1: &mut LineLevels,
 )
-    requires even { IsPerChar T.units (T.characters text) (levels_of shown.old) }
-    requires runs { map run_of runs.now ≡ visual_runs 0 (levels_of shown.old) }
-    requires len { len ≡ length (T.characters text) }
+    requires even { IsPerChar (T.text text) (levels_of after_l1.old) }
+    requires runs { map run_of runs.now ≡ visual_runs 0 (levels_of after_l1.old) }
+    requires same_len { len ≡ length (T.text text).chars }
     requires room { IsTrue (has_room_or_none len (length out.old)) }
     ensures { out.new
-        ≡ written_if_room (visual_order_of (per_char 0 T.units (T.characters text) (levels_of shown.old))) out.old }
+        ≡ written_if_room (visual_order_of (per_char 0 (T.text text) (levels_of after_l1.old))) out.old }
 {
     if !out.is_empty() {
-        write_order(text, runs, shown, &mut out[..len]);
+        write_order(text, runs, after_l1, &mut out[..len]);
     }
 }
 
-/// Writes all about a line: its levels after L1, its visual runs, its character order, and its text (L2).
+/// Writes all parts of a line: its levels after L1, its visual runs, its character order, and its text (L2).
 ///
 /// Writes each part to its buffer, unless that buffer is empty. Also writes the number of the line's characters, and
-/// returns the number of runs. `text` is the line's text, with one class and one level for each of its characters. A
-/// line of up to 256 code units with up to 16 runs needs no allocation. Writes nothing after a fault.
+/// returns the number of runs. The line must be valid. `text` is the line's text, and all code units of a character
+/// have one class and one level. Returns `NoRoom` if a buffer is too short and not empty. A line of up to 256 code
+/// units with up to 16 runs needs no allocation. Writes nothing after a fault.
 pub fn show_text<T: CountedText>(
     alloc: Global,
     text: T,
-    line: &KeptLine<'_>,
+    line: &CallerLine<'_>,
     out: &mut LineBuffers<'_, T::Unit>,
 ) -> Result<usize, Fault>
-    requires sound { IsSound line.now }
-    requires even { is_even T.units (T.characters text) line.now ≡ true }
-    requires units { IsAsLongAs T.units (T.characters text) line.now }
-    requires one_a_unit { length (T.units_of text) ≡ text_len T.units (T.characters text) }
-    requires encoded { (c : ℕ) → length (T.encode c) ≡ T.units c }
-    ensures fault { let shown = line_shown T.units (T.characters text) line.now
-        (shown_units T.units T.encode (T.characters text) (T.units_of text) 0 (shown_levels line.now)) in
-        FaultsAs result (room_fault shown out.old) }
-    ensures writes { let shown = line_shown T.units (T.characters text) line.now
-        (shown_units T.units T.encode (T.characters text) (T.units_of text) 0 (shown_levels line.now)) in
-        WritesLine shown result out.old out.new }
+    requires valid { IsValid line.now }
+    requires even { is_even T.encoding.len_of (T.text text).chars line.now ≡ true }
+    requires units_same_len { IsAsLongAs T.encoding.len_of (T.text text).chars line.now }
+    requires same_len { length (T.units_of text) ≡ text_len (T.text text) }
+    requires encoded { (c : ℕ) → length (T.encode c) ≡ T.encoding.len_of c }
+    ensures fault { let parts = line_parts T.encoding.len_of (T.text text).chars line.now
+        (visual_units (T.text text) T.encode (T.units_of text) 0 (caller_line_levels line.now)) in
+        FaultsAs result (room_fault parts out.old) }
+    ensures writes { let parts = line_parts T.encoding.len_of (T.text text).chars line.now
+        (visual_units (T.text text) T.encode (T.units_of text) 0 (caller_line_levels line.now)) in
+        WritesLine parts result out.old out.new }
 {
-    let mut shown = line.shown(alloc)?;
+    let mut after_l1 = line.after_l1(alloc)?;
     let mut found = LineRuns::new(alloc);
-    found.find(shown.as_slice(), 0)?;
-    let units = shown.as_slice().len();
+    found.find(after_l1.as_slice(), 0)?;
+    let units = after_l1.as_slice().len();
     let count = found.as_slice().len();
     let len = text.count_characters();
     let fits = have_room(units, count, len, out);
     check(fits, Fault::NoRoom)?;
-    put_levels(out.levels, shown.as_slice());
-    put_runs(out.runs, shown.as_slice(), line.start, found.as_slice());
-    put_text(text, shown.as_slice(), found.as_slice(), out.text);
-    put_order_of(out.order, text, len, found.as_slice(), &mut shown);
+    put_levels(out.levels, after_l1.as_slice());
+    put_runs(out.runs, after_l1.as_slice(), line.start, found.as_slice());
+    put_text(text, after_l1.as_slice(), found.as_slice(), out.text);
+    put_order_of(out.order, text, len, found.as_slice(), &mut after_l1);
     *out.characters = len;
     Ok(count)
 }
 
-// Writes a run of a line, with its characters in reverse order at an odd level. Each unit is a character.
+// Writes a run of a line, with its characters in reverse order at an odd level. Each code unit is a character.
 fn write_run(chars: &[u32], is_rtl: bool, out: &mut [u32])
     requires { length out.old ≡ length chars.now }
     ensures { out.new ≡ (if is_rtl then reverse chars.now else chars.now) }
@@ -189,7 +189,7 @@ fn write_run(chars: &[u32], is_rtl: bool, out: &mut [u32])
 
 // Writes the runs of a line, one after another.
 fn write_each_run(chars: &[u32], levels: &[Level], runs: &[Range<usize>], out: &mut [u32])
-    requires one_a_unit { length chars.now ≡ length levels.now }
+    requires same_len { length chars.now ≡ length levels.now }
     requires room { length out.old ≡ length levels.now }
     requires visual { AreVisualRuns 0 levels.now (map run_of runs.now) }
     requires within { AreWithin (length levels.now) runs.now }
@@ -209,10 +209,10 @@ fn write_each_run(chars: &[u32], levels: &[Level], runs: &[Range<usize>], out: &
 
 /// Writes the characters of a line from left to right (L2). Each code unit is a character.
 ///
-/// `levels` has the level of each character after L1. `runs` has the visual runs, counted from the line's first
-/// character. Takes time linear in the line, and does not allocate.
+/// `levels` has the level of each character after L1, and `out` is as long. `runs` has the visual runs, counted from
+/// the line's first character. Takes time linear in the line, and does not allocate.
 pub fn write_chars(chars: &[u32], levels: &[Level], runs: &[Range<usize>], out: &mut [u32])
-    requires one_a_unit { length chars.now ≡ length levels.now }
+    requires same_len { length chars.now ≡ length levels.now }
     requires room { length out.old ≡ length levels.now }
     requires visual { AreVisualRuns 0 levels.now (map run_of runs.now) }
     ensures { out.new ≡ chars_at chars.now (visual_order_of levels.now) }
@@ -222,7 +222,7 @@ pub fn write_chars(chars: &[u32], levels: &[Level], runs: &[Range<usize>], out: 
 
 // Writes the characters of a line from left to right to the front of a buffer, unless the buffer is empty.
 fn put_chars(chars: &[u32], levels: &[Level], runs: &[Range<usize>], out: &mut [u32])
-    requires one_a_unit { length chars.now ≡ length levels.now }
+    requires same_len { length chars.now ≡ length levels.now }
     requires room { HasRoomOrNone levels.now out.old }
     requires visual { AreVisualRuns 0 levels.now (map run_of runs.now) }
     ensures { out.new ≡ written_if_room (chars_at chars.now (visual_order_of levels.now)) out.old }
@@ -232,34 +232,35 @@ fn put_chars(chars: &[u32], levels: &[Level], runs: &[Range<usize>], out: &mut [
     }
 }
 
-/// Writes all about a line of a list of characters: its levels after L1, its visual runs, its character order, and its
-/// text (L2).
+/// Writes all parts of a line of a list of characters: its levels after L1, its visual runs, its character order, and
+/// its text (L2).
 ///
 /// Writes each part to its buffer, unless that buffer is empty. Also writes the number of the line's characters, and
-/// returns the number of runs. `chars` has the line's characters. A line of up to 256 characters with up to 16 runs
-/// needs no allocation. Writes nothing after a fault.
+/// returns the number of runs. The line must be valid, and `chars` has its characters. Returns `NoRoom` if a buffer is
+/// too short and not empty. A line of up to 256 characters with up to 16 runs needs no allocation. Writes nothing after
+/// a fault.
 pub fn show_chars(
     alloc: Global,
     chars: &[u32],
-    line: &KeptLine<'_>,
+    line: &CallerLine<'_>,
     out: &mut LineBuffers<'_, u32>,
 ) -> Result<usize, Fault>
-    requires sound { IsSound line.now }
-    requires units { length chars.now + line.now.start ≡ line.now.end }
+    requires valid { IsValid line.now }
+    requires same_len { length chars.now + line.now.start ≡ line.now.end }
     ensures fault { FaultsAs result (room_fault (everything_of_chars chars.now line.now) out.old) }
     ensures writes { WritesLine (everything_of_chars chars.now line.now) result out.old out.new }
 {
-    let shown = line.shown(alloc)?;
+    let after_l1 = line.after_l1(alloc)?;
     let mut found = LineRuns::new(alloc);
-    found.find(shown.as_slice(), 0)?;
+    found.find(after_l1.as_slice(), 0)?;
     let units = chars.len();
     let count = found.as_slice().len();
     let fits = have_room(units, count, units, out);
     check(fits, Fault::NoRoom)?;
-    put_levels(out.levels, shown.as_slice());
-    put_runs(out.runs, shown.as_slice(), line.start, found.as_slice());
-    put_chars(chars, shown.as_slice(), found.as_slice(), out.text);
-    put_order(out.order, shown.as_slice());
+    put_levels(out.levels, after_l1.as_slice());
+    put_runs(out.runs, after_l1.as_slice(), line.start, found.as_slice());
+    put_chars(chars, after_l1.as_slice(), found.as_slice(), out.text);
+    put_order(out.order, after_l1.as_slice());
     *out.characters = units;
     Ok(count)
 }

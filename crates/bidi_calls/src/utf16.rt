@@ -1,21 +1,20 @@
 //! The calls over texts of UTF-16. An unpaired surrogate is the character U+FFFD.
-ghost use Rattle.std.specs.Prelude.{◌≡◌, ◌+◌, length, map, OnOk, OnErr, IfOk};
+ghost use Rattle.std.specs.Prelude.{◌≡◌, ◌+◌, length};
 ghost use Rattle.std.specs.Char.Escape.{encode_utf16};
 ghost use Rattle.bidi_base.specs.Text.{is_boundary};
 ghost use Rattle.bidi_base.specs.Utf16.{utf16_text, utf16_len};
 ghost use Rattle.bidi_numbers.specs.Faults.{FaultsAs};
-ghost use Rattle.bidi_calls.specs.Everything.{everything, everything_fault, WritesLine};
-ghost use Rattle.bidi_calls.specs.Kept.{analysis_by, analysis_fault, WritesAnalysis, WritesList};
-ghost use Rattle.bidi_calls.specs.Lines.{IsSound, line_fault};
+ghost use Rattle.bidi_calls.specs.LineParts.{everything, everything_fault, WritesLine};
+ghost use Rattle.bidi_calls.specs.Buffers.{analysis_by, analysis_fault, WritesAnalysis, WritesList};
+ghost use Rattle.bidi_calls.specs.CallerLine.{IsValid};
 ghost use Rattle.bidi_numbers.specs.Numbers.{direction_in};
-ghost use Rattle.bidi_calls.specs.Shown.{own_units, fault_of_line, reordered, text_fault, cuts_utf16, shown_fault, order_of_line, map_fault};
-ghost use Rattle.std.specs.Option.{option_or};
+ghost use Rattle.bidi_calls.specs.LineText.{own_units, fault_of_line, reordered, text_fault, cuts_utf16, reordered_fault, order_of_line, map_fault};
 ghost use Rattle.std.specs.Result.{result_err};
 
+use crate::analysis;
 use crate::buffers::{AnalysisBuffers, LineBuffers, Settings};
-use crate::checked;
-use crate::even::is_even_utf16;
-use crate::line::{KeptLine, map_characters, write_text};
+use crate::line::{CallerLine, map_characters, write_text};
+use crate::per_char::is_even_utf16;
 use crate::show::show_text;
 use bidi_numbers::fault::{Fault, check};
 use std::alloc::Global;
@@ -24,8 +23,8 @@ use unicode_bidi::text::{TextSource, Utf16Text};
 
 /// Writes the class and the level of each code unit of a text, and its paragraphs.
 ///
-/// Returns the number of paragraphs. If the buffer for paragraphs is empty, only counts them. Writes nothing after a
-/// fault.
+/// Returns the number of paragraphs. If the buffer for paragraphs is empty, only counts them. The faults are those of
+/// [`analysis::analyse`]. Writes nothing after a fault.
 pub fn analyse<D: BidiDataSource>(
     alloc: Global,
     data_source: &D,
@@ -38,27 +37,30 @@ pub fn analyse<D: BidiDataSource>(
     ensures writes { WritesAnalysis (analysis_by (D.source data_source.now) settings utf16_len (utf16_text text.now))
         result out.old out.new }
 {
-    checked::analyse(alloc, data_source, Utf16Text::new(text), settings, out)
+    analysis::analyse(alloc, data_source, Utf16Text::new(text), settings, out)
 }
 
 /// Returns the number of a text's base direction: 0 for left to right, 1 for right to left, 2 for mixed.
 ///
-/// Without `full` it is that of the first paragraph, and with `full` that of the first paragraph that has one.
+/// Without `full` it is that of the first paragraph, and with `full` that of the first paragraph that has one. Stops at
+/// the character that decides, and does not allocate.
 pub fn base_direction<D: BidiDataSource>(data_source: &D, text: &[u16], full: bool) -> usize
     ensures { result ≡ direction_in (D.source data_source.now) full (utf16_text text.now) }
 {
-    checked::base_direction(data_source, Utf16Text::new(text), full)
+    analysis::base_direction(data_source, Utf16Text::new(text), full)
 }
 
-// Returns whether the unit at an index does not continue a character.
+// Returns whether a character begins at an index, or the text ends there.
 fn is_boundary(text: &[u16], index: usize) -> bool
     ensures { result ≡ is_boundary utf16_len (utf16_text text.now) index }
 {
     Utf16Text::new(text).is_boundary(index)
 }
 
-// Checks that there is one entry for each code unit of the text, and that the line cuts no character.
-pub fn check_text(text: &[u16], line: &KeptLine<'_>) -> Result<(), Fault>
+/// Checks that there is one entry for each code unit of the text, and that the line cuts no character.
+///
+/// Returns `UnequalLengths`, or else `CutCharacter`.
+pub fn check_text(text: &[u16], line: &CallerLine<'_>) -> Result<(), Fault>
     ensures { result_err result ≡ text_fault text.now line.now (cuts_utf16 text.now line.now) }
 {
     check(text.len() == line.levels.len(), Fault::UnequalLengths)?;
@@ -72,12 +74,12 @@ pub fn check_text(text: &[u16], line: &KeptLine<'_>) -> Result<(), Fault>
 fn reorder(
     alloc: Global,
     text: &[u16],
-    line: &KeptLine<'_>,
+    line: &CallerLine<'_>,
     out: &mut [u16],
 ) -> Result<usize, Fault>
-    requires sound { IsSound line.now }
-    requires units { length text.now + line.now.start ≡ line.now.end }
-    ensures fault { FaultsAs result (shown_fault utf16_len encode_utf16 (utf16_text text.now) text.now line.now (length out.old)) }
+    requires valid { IsValid line.now }
+    requires same_len { length text.now + line.now.start ≡ line.now.end }
+    ensures fault { FaultsAs result (reordered_fault utf16_len encode_utf16 (utf16_text text.now) text.now line.now (length out.old)) }
     ensures writes { WritesList (reordered utf16_len encode_utf16 (utf16_text text.now) text.now line.now)
         result out.old out.new }
 {
@@ -89,17 +91,21 @@ fn reorder(
     Ok(count)
 }
 
-/// Writes the text of a line from left to right (L2), and returns its length. Writes nothing after a fault.
+/// Writes the text of a line from left to right (L2), and returns its length.
+///
+/// Returns a fault of [`CallerLine::check`] or of [`check_text`], or else `UnevenCharacter` or `NoRoom`, in this order.
+/// An unpaired surrogate is unchanged at an even level, and 0xFFFD at an odd one. Writes nothing after a fault. Takes
+/// time linear in the line.
 pub fn reorder_line(
     alloc: Global,
     text: &[u16],
-    line: &KeptLine<'_>,
+    line: &CallerLine<'_>,
     out: &mut [u16],
 ) -> Result<usize, Fault>
     ensures fault { let units = own_units text.now line.now in
-        let told = fault_of_line text.now line.now (cuts_utf16 text.now line.now)
-        (shown_fault utf16_len encode_utf16 (utf16_text units) units line.now (length out.old)) in
-        FaultsAs result told }
+        let fault = fault_of_line text.now line.now (cuts_utf16 text.now line.now)
+        (reordered_fault utf16_len encode_utf16 (utf16_text units) units line.now (length out.old)) in
+        FaultsAs result fault }
     ensures writes { let units = own_units text.now line.now in
         WritesList (reordered utf16_len encode_utf16 (utf16_text units) units line.now) result out.old out.new }
 {
@@ -108,17 +114,20 @@ pub fn reorder_line(
     reorder(alloc, &text[line.start..line.end], line, out)
 }
 
-/// Writes the visual order of a line's characters (L2), and returns their number. Writes nothing after a fault.
+/// Writes the visual order of a line's characters (L2), and returns their number.
+///
+/// Returns a fault of [`CallerLine::check`] or of [`check_text`], or else `NoRoom`. A character has the level of its
+/// first code unit. Writes nothing after a fault.
 pub fn line_map(
     alloc: Global,
     text: &[u16],
-    line: &KeptLine<'_>,
+    line: &CallerLine<'_>,
     out: &mut [usize],
 ) -> Result<usize, Fault>
     ensures fault { let units = own_units text.now line.now in
-        let told = fault_of_line text.now line.now (cuts_utf16 text.now line.now)
+        let fault = fault_of_line text.now line.now (cuts_utf16 text.now line.now)
         (map_fault utf16_len (utf16_text units) line.now (length out.old)) in
-        FaultsAs result told }
+        FaultsAs result fault }
     ensures writes { let units = own_units text.now line.now in
         WritesList (order_of_line utf16_len (utf16_text units) line.now) result out.old out.new }
 {
@@ -128,15 +137,15 @@ pub fn line_map(
     map_characters(alloc, own, line, out)
 }
 
-// Writes all about a line, given its text, and returns the number of its runs.
+// Writes all parts of a line, given its text, and returns the number of its runs.
 fn show(
     alloc: Global,
     text: &[u16],
-    line: &KeptLine<'_>,
+    line: &CallerLine<'_>,
     out: &mut LineBuffers<'_, u16>,
 ) -> Result<usize, Fault>
-    requires sound { IsSound line.now }
-    requires units { length text.now + line.now.start ≡ line.now.end }
+    requires valid { IsValid line.now }
+    requires same_len { length text.now + line.now.start ≡ line.now.end }
     ensures fault { FaultsAs result (everything_fault utf16_len encode_utf16 (utf16_text text.now) text.now
         line.now out.old) }
     ensures writes { WritesLine (everything utf16_len encode_utf16 (utf16_text text.now) text.now line.now)
@@ -148,20 +157,21 @@ fn show(
     show_text(alloc, own, line, out)
 }
 
-/// Writes all about a line: its levels after L1, its visual runs, its character order, and its text (L2).
+/// Writes all parts of a line: its levels after L1, its visual runs, its character order, and its text (L2).
 ///
 /// Writes each part to its buffer, unless that buffer is empty. Also writes the number of the line's characters, and
-/// returns the number of its runs. Writes nothing after a fault.
+/// returns the number of its runs. The faults are those of [`reorder_line`], with `NoRoom` if a buffer is too short and
+/// not empty. Writes nothing after a fault. Takes time linear in the line.
 pub fn show_line(
     alloc: Global,
     text: &[u16],
-    line: &KeptLine<'_>,
+    line: &CallerLine<'_>,
     out: &mut LineBuffers<'_, u16>,
 ) -> Result<usize, Fault>
     ensures fault { let units = own_units text.now line.now in
-        let told = fault_of_line text.now line.now (cuts_utf16 text.now line.now)
+        let fault = fault_of_line text.now line.now (cuts_utf16 text.now line.now)
         (everything_fault utf16_len encode_utf16 (utf16_text units) units line.now out.old) in
-        FaultsAs result told }
+        FaultsAs result fault }
     ensures writes { let units = own_units text.now line.now in
         WritesLine (everything utf16_len encode_utf16 (utf16_text units) units line.now) result out.old out.new }
 {

@@ -1,19 +1,19 @@
 //! The calls over lists of characters. Each code unit is the number of a character.
-ghost use Rattle.std.specs.Prelude.{◌≡◌, ◌+◌, ◌<◌, All, false, get_or, length, map, OnOk, OnErr, IfOk};
+ghost use Rattle.std.specs.Prelude.{◌≡◌, ◌+◌, false, length, OnOk, OnErr, IfOk};
 ghost use Rattle.std.specs.List.{list_all};
 ghost use Rattle.std.specs.Option.{option_or};
 ghost use Rattle.bidi_base.specs.Text.{one_unit};
 ghost use Rattle.bidi_numbers.specs.Faults.{FaultsAs, fault_unless};
-ghost use Rattle.bidi_calls.specs.Everything.{everything_of_chars, room_fault, WritesLine};
-ghost use Rattle.bidi_calls.specs.Kept.{written, analysis_by, analysis_fault, WritesAnalysis, WritesList};
-ghost use Rattle.bidi_calls.specs.Lines.{IsSound, line_fault};
+ghost use Rattle.bidi_calls.specs.LineParts.{everything_of_chars, room_fault, WritesLine};
+ghost use Rattle.bidi_calls.specs.Buffers.{written, analysis_by, analysis_fault, WritesAnalysis, WritesList};
+ghost use Rattle.bidi_calls.specs.CallerLine.{IsValid};
 ghost use Rattle.bidi_numbers.specs.Numbers.{direction_in};
-ghost use Rattle.bidi_calls.specs.Shown.{own_units, fault_of_line, reordered_chars, chars_fault, text_fault, order_of_line, map_fault};
+ghost use Rattle.bidi_calls.specs.LineText.{own_units, fault_of_line, reordered_chars, chars_fault, order_of_line, map_fault};
 ghost use Rattle.bidi_numbers.specs.Texts.{is_scalar};
 
+use crate::analysis;
 use crate::buffers::{AnalysisBuffers, LineBuffers, Settings};
-use crate::checked;
-use crate::line::{KeptLine, order_units};
+use crate::line::{CallerLine, order_units};
 use crate::show::{show_chars, write_chars};
 use bidi_lines::visual_runs::LineRuns;
 use bidi_numbers::fault::{Fault, check};
@@ -24,8 +24,9 @@ use unicode_bidi::text::CharsText;
 
 /// Writes the class and the level of each character of a list, and its paragraphs.
 ///
-/// Returns the number of paragraphs. If the buffer for paragraphs is empty, only counts them. Writes nothing after a
-/// fault.
+/// Returns the number of paragraphs. If the buffer for paragraphs is empty, only counts them. Returns `NotScalar` if a
+/// number is not a scalar value. The other faults are those of [`analysis::analyse`]. Allocates a list of the
+/// characters. Writes nothing after a fault.
 pub fn analyse<D: BidiDataSource>(
     alloc: Global,
     data_source: &D,
@@ -42,13 +43,14 @@ pub fn analyse<D: BidiDataSource>(
     check(all_scalar(text), Fault::NotScalar)?;
     let chars = chars_of(alloc, text)?;
     let text = CharsText::new(chars.as_slice());
-    checked::analyse(alloc, data_source, text, settings, out)
+    analysis::analyse(alloc, data_source, text, settings, out)
 }
 
 /// Returns the number of a text's base direction: 0 for left to right, 1 for right to left, 2 for mixed.
 ///
 /// Without `full` it is that of the first paragraph, and with `full` that of the first paragraph that has one. Returns
-/// `NotScalar` if a number is not a scalar value. Allocates a list of the characters.
+/// `NotScalar` if a number is not a scalar value, even if a character before it decides. Allocates a list of the
+/// characters.
 pub fn base_direction<D: BidiDataSource>(
     alloc: Global,
     data_source: &D,
@@ -60,47 +62,50 @@ pub fn base_direction<D: BidiDataSource>(
 {
     check(all_scalar(text), Fault::NotScalar)?;
     let chars = chars_of(alloc, text)?;
-    Ok(checked::base_direction(data_source, CharsText::new(chars.as_slice()), full))
+    Ok(analysis::base_direction(data_source, CharsText::new(chars.as_slice()), full))
 }
 
 // Writes the characters of a line from left to right, and returns their number.
 fn reorder(
     alloc: Global,
     chars: &[u32],
-    line: &KeptLine<'_>,
+    line: &CallerLine<'_>,
     out: &mut [u32],
 ) -> Result<usize, Fault>
-    requires sound { IsSound line.now }
-    requires units { length chars.now + line.now.start ≡ line.now.end }
+    requires valid { IsValid line.now }
+    requires same_len { length chars.now + line.now.start ≡ line.now.end }
     ensures fault { FaultsAs result (chars_fault chars.now (length out.old)) }
-    ensures kept { OnErr result (out.new ≡ out.old) }
+    ensures unchanged { OnErr result (out.new ≡ out.old) }
     ensures text { OnOk result (out.new ≡ written (reordered_chars chars.now line.now) out.old) }
     ensures count { IfOk result (λ count. count ≡ length chars.now) }
 {
     check(all_scalar(chars), Fault::NotScalar)?;
     check(chars.len() <= out.len(), Fault::NoRoom)?;
-    let shown = line.shown(alloc)?;
+    let after_l1 = line.after_l1(alloc)?;
     let mut runs = LineRuns::new(alloc);
-    runs.find(shown.as_slice(), 0)?;
+    runs.find(after_l1.as_slice(), 0)?;
     write_chars(
         chars,
-        shown.as_slice(),
+        after_l1.as_slice(),
         runs.as_slice(),
         &mut out[..chars.len()],
     );
     Ok(chars.len())
 }
 
-/// Writes the characters of a line from left to right (L2), and returns their number. Writes nothing after a fault.
+/// Writes the characters of a line from left to right (L2), and returns their number.
+///
+/// Returns a fault of [`CallerLine::check`], or else `UnequalLengths` of the text, `NotScalar` of the line or `NoRoom`,
+/// in this order. Writes nothing after a fault. Takes time linear in the line.
 pub fn reorder_line(
     alloc: Global,
     text: &[u32],
-    line: &KeptLine<'_>,
+    line: &CallerLine<'_>,
     out: &mut [u32],
 ) -> Result<usize, Fault>
     ensures fault { let chars = own_units text.now line.now in
         FaultsAs result (fault_of_line text.now line.now false (chars_fault chars (length out.old))) }
-    ensures kept { OnErr result (out.new ≡ out.old) }
+    ensures unchanged { OnErr result (out.new ≡ out.old) }
     ensures text { OnOk result (out.new ≡ written (reordered_chars (own_units text.now line.now) line.now) out.old) }
     ensures count { IfOk result (λ count. count ≡ length (own_units text.now line.now)) }
 {
@@ -109,11 +114,13 @@ pub fn reorder_line(
     reorder(alloc, &text[line.start..line.end], line, out)
 }
 
-/// Writes the visual order of a line's characters (L2), and returns their number. Writes nothing after a fault.
+/// Writes the visual order of a line's characters (L2), and returns their number.
+///
+/// The faults are those of [`reorder_line`]. Writes nothing after a fault.
 pub fn line_map(
     alloc: Global,
     text: &[u32],
-    line: &KeptLine<'_>,
+    line: &CallerLine<'_>,
     out: &mut [usize],
 ) -> Result<usize, Fault>
     ensures fault { let chars = own_units text.now line.now in
@@ -128,14 +135,15 @@ pub fn line_map(
     order_units(alloc, line, out)
 }
 
-/// Writes all about a line: its levels after L1, its visual runs, its character order, and its text (L2).
+/// Writes all parts of a line: its levels after L1, its visual runs, its character order, and its text (L2).
 ///
 /// Writes each part to its buffer, unless that buffer is empty. Also writes the number of the line's characters, and
-/// returns the number of its runs. Writes nothing after a fault.
+/// returns the number of its runs. The faults are those of [`reorder_line`], with `NoRoom` if a buffer is too short and
+/// not empty. Writes nothing after a fault. Takes time linear in the line.
 pub fn show_line(
     alloc: Global,
     text: &[u32],
-    line: &KeptLine<'_>,
+    line: &CallerLine<'_>,
     out: &mut LineBuffers<'_, u32>,
 ) -> Result<usize, Fault>
     ensures fault { let chars = own_units text.now line.now in

@@ -1,20 +1,19 @@
 //! The calls over texts of UTF-8. A code unit is a byte.
-ghost use Rattle.std.specs.Prelude.{◌≡◌, ◌+◌, ◌-◌, ◌≤◌, nat_eq, length, map, slice_range, IsUtf8, IsTrue, OnOk, OnErr, IfOk, encode_utf8, MatchResult};
+ghost use Rattle.std.specs.Prelude.{◌≡◌, ◌+◌, ◌-◌, length, IsUtf8, encode_utf8, MatchResult};
 ghost use Rattle.std.specs.Char.{len_utf8};
 ghost use Rattle.std.specs.Str.{chars};
 ghost use Rattle.bidi_numbers.specs.Faults.{FaultsAs};
-ghost use Rattle.bidi_calls.specs.Everything.{everything, everything_fault, WritesLine};
-ghost use Rattle.bidi_calls.specs.Kept.{analysis_by, analysis_fault, WritesAnalysis, WritesList};
-ghost use Rattle.bidi_calls.specs.Lines.{IsSound, line_fault};
+ghost use Rattle.bidi_calls.specs.LineParts.{everything, everything_fault, WritesLine};
+ghost use Rattle.bidi_calls.specs.Buffers.{analysis_by, analysis_fault, WritesAnalysis, WritesList};
+ghost use Rattle.bidi_calls.specs.CallerLine.{IsValid};
 ghost use Rattle.bidi_numbers.specs.Numbers.{direction_in};
-ghost use Rattle.bidi_calls.specs.Shown.{own_units, fault_of_line, TellsNotUtf8, reordered, text_fault, cuts_utf8, is_even, shown_fault, order_of_line, map_fault};
-ghost use Rattle.std.specs.Option.{option_or};
+ghost use Rattle.bidi_calls.specs.LineText.{own_units, fault_of_line, ReportsNotUtf8, reordered, text_fault, cuts_utf8, reordered_fault, order_of_line, map_fault};
 ghost use Rattle.std.specs.Result.{result_err};
 
+use crate::analysis;
 use crate::buffers::{AnalysisBuffers, LineBuffers, Settings};
-use crate::checked;
-use crate::even::is_even_utf8;
-use crate::line::{KeptLine, map_characters, write_text};
+use crate::line::{CallerLine, map_characters, write_text};
+use crate::per_char::is_even_utf8;
 use crate::show::show_text;
 use bidi_numbers::fault::{Fault, check};
 use bidi_numbers::texts::{goes_on, utf8};
@@ -24,8 +23,8 @@ use unicode_bidi::text::StrText;
 
 /// Writes the class and the level of each byte of a text, and its paragraphs.
 ///
-/// Returns the number of paragraphs. If the buffer for paragraphs is empty, only counts them. Writes nothing after a
-/// fault.
+/// Returns the number of paragraphs. If the buffer for paragraphs is empty, only counts them. Returns `NotUtf8` if the
+/// text is not UTF-8. The other faults are those of [`analysis::analyse`]. Writes nothing after a fault.
 pub fn analyse<D: BidiDataSource>(
     alloc: Global,
     data_source: &D,
@@ -40,13 +39,13 @@ pub fn analyse<D: BidiDataSource>(
         result out.old out.new }
 {
     let text = StrText::new(utf8(text)?);
-    checked::analyse(alloc, data_source, text, settings, out)
+    analysis::analyse(alloc, data_source, text, settings, out)
 }
 
 /// Returns the number of a text's base direction: 0 for left to right, 1 for right to left, 2 for mixed.
 ///
 /// Without `full` it is that of the first paragraph, and with `full` that of the first paragraph that has one. Returns
-/// `NotUtf8` if the text is not UTF-8.
+/// `NotUtf8` if the text is not UTF-8, even if a character before that decides. Does not allocate.
 pub fn base_direction<D: BidiDataSource>(
     data_source: &D,
     text: &[u8],
@@ -57,11 +56,13 @@ pub fn base_direction<D: BidiDataSource>(
         (λ fault. (fault ≡ Fault.NotUtf8) × ¬ (IsUtf8 text.now)) }
 {
     let text = StrText::new(utf8(text)?);
-    Ok(checked::base_direction(data_source, text, full))
+    Ok(analysis::base_direction(data_source, text, full))
 }
 
-// Checks that there is one entry for each byte of the text, and that the line cuts no character.
-pub fn check_text(text: &[u8], line: &KeptLine<'_>) -> Result<(), Fault>
+/// Checks that there is one entry for each byte of the text, and that the line cuts no character.
+///
+/// Returns `UnequalLengths`, or else `CutCharacter`.
+pub fn check_text(text: &[u8], line: &CallerLine<'_>) -> Result<(), Fault>
     ensures { result_err result ≡ text_fault text.now line.now (cuts_utf8 text.now line.now) }
 {
     check(text.len() == line.levels.len(), Fault::UnequalLengths)?;
@@ -72,10 +73,10 @@ pub fn check_text(text: &[u8], line: &KeptLine<'_>) -> Result<(), Fault>
 }
 
 // Writes the text of a line from left to right, and returns its length.
-fn reorder(alloc: Global, text: &str, line: &KeptLine<'_>, out: &mut [u8]) -> Result<usize, Fault>
-    requires sound { IsSound line.now }
-    requires units { length text.now + line.now.start ≡ line.now.end }
-    ensures fault { FaultsAs result (shown_fault len_utf8 encode_utf8 (chars text.now) text.now line.now (length out.old)) }
+fn reorder(alloc: Global, text: &str, line: &CallerLine<'_>, out: &mut [u8]) -> Result<usize, Fault>
+    requires valid { IsValid line.now }
+    requires same_len { length text.now + line.now.start ≡ line.now.end }
+    ensures fault { FaultsAs result (reordered_fault len_utf8 encode_utf8 (chars text.now) text.now line.now (length out.old)) }
     ensures writes { WritesList (reordered len_utf8 encode_utf8 (chars text.now) text.now line.now)
         result out.old out.new }
 {
@@ -87,18 +88,21 @@ fn reorder(alloc: Global, text: &str, line: &KeptLine<'_>, out: &mut [u8]) -> Re
     Ok(count)
 }
 
-/// Writes the text of a line from left to right (L2), and returns its length. Writes nothing after a fault.
+/// Writes the text of a line from left to right (L2), and returns its length.
+///
+/// Returns a fault of [`CallerLine::check`] or of [`check_text`], or else `NotUtf8` of the line, `UnevenCharacter` or
+/// `NoRoom`, in this order. Writes nothing after a fault. Takes time linear in the line.
 pub fn reorder_line(
     alloc: Global,
     text: &[u8],
-    line: &KeptLine<'_>,
+    line: &CallerLine<'_>,
     out: &mut [u8],
 ) -> Result<usize, Fault>
-    ensures not_utf8 { TellsNotUtf8 result text.now line.now }
+    ensures not_utf8 { ReportsNotUtf8 result text.now line.now }
     ensures fault { let units = own_units text.now line.now in
-        let told = fault_of_line text.now line.now (cuts_utf8 text.now line.now)
-        (shown_fault len_utf8 encode_utf8 (chars units) units line.now (length out.old)) in
-        IsUtf8 units → FaultsAs result told }
+        let fault = fault_of_line text.now line.now (cuts_utf8 text.now line.now)
+        (reordered_fault len_utf8 encode_utf8 (chars units) units line.now (length out.old)) in
+        IsUtf8 units → FaultsAs result fault }
     ensures writes { let units = own_units text.now line.now in
         WritesList (reordered len_utf8 encode_utf8 (chars units) units line.now) result out.old out.new }
 {
@@ -108,18 +112,21 @@ pub fn reorder_line(
     reorder(alloc, own, line, out)
 }
 
-/// Writes the visual order of a line's characters (L2), and returns their number. Writes nothing after a fault.
+/// Writes the visual order of a line's characters (L2), and returns their number.
+///
+/// Returns a fault of [`CallerLine::check`] or of [`check_text`], or else `NotUtf8` of the line or `NoRoom`, in this
+/// order. A character has the level of its first byte. Writes nothing after a fault.
 pub fn line_map(
     alloc: Global,
     text: &[u8],
-    line: &KeptLine<'_>,
+    line: &CallerLine<'_>,
     out: &mut [usize],
 ) -> Result<usize, Fault>
-    ensures not_utf8 { TellsNotUtf8 result text.now line.now }
+    ensures not_utf8 { ReportsNotUtf8 result text.now line.now }
     ensures fault { let units = own_units text.now line.now in
-        let told = fault_of_line text.now line.now (cuts_utf8 text.now line.now)
+        let fault = fault_of_line text.now line.now (cuts_utf8 text.now line.now)
         (map_fault len_utf8 (chars units) line.now (length out.old)) in
-        IsUtf8 units → FaultsAs result told }
+        IsUtf8 units → FaultsAs result fault }
     ensures writes { let units = own_units text.now line.now in
         WritesList (order_of_line len_utf8 (chars units) line.now) result out.old out.new }
 {
@@ -129,15 +136,15 @@ pub fn line_map(
     map_characters(alloc, own, line, out)
 }
 
-// Writes all about a line, given its text, and returns the number of its runs.
+// Writes all parts of a line, given its text, and returns the number of its runs.
 fn show(
     alloc: Global,
     text: &str,
-    line: &KeptLine<'_>,
+    line: &CallerLine<'_>,
     out: &mut LineBuffers<'_, u8>,
 ) -> Result<usize, Fault>
-    requires sound { IsSound line.now }
-    requires units { length text.now + line.now.start ≡ line.now.end }
+    requires valid { IsValid line.now }
+    requires same_len { length text.now + line.now.start ≡ line.now.end }
     ensures fault { FaultsAs result (everything_fault len_utf8 encode_utf8 (chars text.now) text.now
         line.now out.old) }
     ensures writes { WritesLine (everything len_utf8 encode_utf8 (chars text.now) text.now line.now)
@@ -149,21 +156,22 @@ fn show(
     show_text(alloc, own, line, out)
 }
 
-/// Writes all about a line: its levels after L1, its visual runs, its character order, and its text (L2).
+/// Writes all parts of a line: its levels after L1, its visual runs, its character order, and its text (L2).
 ///
 /// Writes each part to its buffer, unless that buffer is empty. Also writes the number of the line's characters, and
-/// returns the number of its runs. Writes nothing after a fault.
+/// returns the number of its runs. The faults are those of [`reorder_line`], with `NoRoom` if a buffer is too short and
+/// not empty. Writes nothing after a fault. Takes time linear in the line.
 pub fn show_line(
     alloc: Global,
     text: &[u8],
-    line: &KeptLine<'_>,
+    line: &CallerLine<'_>,
     out: &mut LineBuffers<'_, u8>,
 ) -> Result<usize, Fault>
-    ensures not_utf8 { TellsNotUtf8 result text.now line.now }
+    ensures not_utf8 { ReportsNotUtf8 result text.now line.now }
     ensures fault { let units = own_units text.now line.now in
-        let told = fault_of_line text.now line.now (cuts_utf8 text.now line.now)
+        let fault = fault_of_line text.now line.now (cuts_utf8 text.now line.now)
         (everything_fault len_utf8 encode_utf8 (chars units) units line.now out.old) in
-        IsUtf8 units → FaultsAs result told }
+        IsUtf8 units → FaultsAs result fault }
     ensures writes { let units = own_units text.now line.now in
         WritesLine (everything len_utf8 encode_utf8 (chars units) units line.now) result out.old out.new }
 {

@@ -1,2 +1,2 @@
-pub mod ClusterLemmas
-pub mod LineLemmas
+mod ClusterLemmas
+mod LineLemmas

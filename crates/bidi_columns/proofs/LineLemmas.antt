@@ -1,11 +1,8 @@
 -- The lines of clusters, one after another.
-use Rattle.bidi_base.proofs.Common.{◌≡◌, ℕ, ◌-◌, ◌<◌, ◌≤◌, zero, suc, List, [], ◌∷◌, ◌++◌, length, map, drop, max, refl, sym, Range}
-use Rattle.bidi_base.proofs.Common.{Run, run_of, arith, length-drop, cases_Bool, inl, inr, nat_le, nat_lt, ◌||◌}
-use Rattle.bidi_columns.specs.Bounds.{IsRangeOf}
-use Rattle.bidi_columns.specs.Breaks.{fitting, first_line, or_empty, line_of_fitting, line_range, lines_up_to, lines_of, up_to_space, leading_spaces, cut_line}
-use Rattle.bidi_columns.specs.declared.breaks.LineLength.{LineLength}
+use Rattle.bidi_base.proofs.Common.{◌≡◌, ℕ, ◌<◌, ◌≤◌, zero, suc, List, [], ◌∷◌, length, drop, max, refl}
+use Rattle.bidi_base.proofs.Common.{arith, length-drop, cases_Bool, inl, inr, nat_le, nat_lt, ◌||◌}
+use Rattle.bidi_columns.specs.Breaks.{fitting, first_line, line_of_fitting, line_range, lines_up_to, lines_of, up_to_space, leading_spaces, cut_line}
 use Rattle.bidi_columns.specs.declared.cluster.Cluster.{Cluster}
-use Rattle.bidi_columns.proofs.ClusterLemmas.{ArePlaced, IsRangeOf-line}
 
 cut_line-some : (n fit : ℕ) → 0 < fit → 0 < (cut_line n fit).taken
 cut_line-some zero fit some = some
@@ -46,19 +43,3 @@ lines_of-more limit (k ∷ ks) some =
     let rest : List Cluster = drop (first_line limit (k ∷ ks)).taken (k ∷ ks) in
     let short : length rest < length (k ∷ ks) = omega (arith, first_line-some limit (k ∷ ks), length-drop (first_line limit (k ∷ ks)).taken (k ∷ ks)) in
     rw (lines_up_to-enough limit (length ks) (length rest) rest (omega arith) (omega arith)) refl
-
--- a line cuts no character
-pub IsRangeOf-line_range : (text : List ℕ) (line : LineLength) (ks : List Cluster) → ArePlaced text 0 ks → 1 ≤ line.shown → line.shown ≤ length ks
-    → IsRangeOf text (record { start = (line_range line ks).0; end = (line_range line ks).1 })
-IsRangeOf-line_range text line [] placed some within = absurd (omega arith)
-IsRangeOf-line_range text line (k ∷ ks) placed some within = IsRangeOf-line text 0 (line.shown - 1) (k ∷ ks) k k placed (omega arith)
-
--- lines, and the one empty line that stands for none
-pub or_empty-none : (lines : List (Range ℕ)) (out : List (Range ℕ)) (all : List Run) → length lines ≡ 0 → map run_of lines ≡ all → out ≡ lines ++ record { start = 0; end = 0 } ∷ []
-    → map run_of out ≡ or_empty all
-or_empty-none [] out all none is e = simp (e, sym is)
-or_empty-none (line ∷ lines) out all none is e = absurd (omega arith)
-
-pub or_empty-some : (lines : List (Range ℕ)) (all : List Run) → 0 < length lines → map run_of lines ≡ all → map run_of lines ≡ or_empty all
-or_empty-some [] all some is = absurd (omega arith)
-or_empty-some (line ∷ lines) all some is = simp (sym is)

@@ -1,4 +1,4 @@
--- Where a text is cut into lines of at most so many columns: behind white space where it can, and never in a cluster.
+-- Where a text is cut into lines of at most so many columns: after white space where it can, and never in a cluster.
 use Rattle.std.specs.Prelude.{ℕ, zero, suc, ◌+◌, ◌-◌, nat_le, nat_lt, ◌||◌, if◌then◌else◌, List, [], ◌∷◌, length, drop, max, get_or, take_while, slice_get, option_map, unwrap_or, false}
 use Rattle.bidi_base.specs.Display.{Run}
 use Rattle.bidi_base.specs.Source.{Source}
@@ -29,7 +29,7 @@ leading_spaces ks = length (take_while (λ k. k.is_space) ks)
 abbrev pub whole_line : ℕ → List Cluster → LineLength
 whole_line fit ks = record { shown = fit; taken = fit + leading_spaces (drop fit ks) }
 
--- the line up to the last white space among those that fit, where one has another cluster behind it
+-- the line up to the last white space among those that fit, where one has another cluster after it
 abbrev pub cut_line : ℕ → ℕ → LineLength
 cut_line zero fit = record { shown = fit; taken = fit }
 cut_line (suc n) fit = record { shown = suc n; taken = suc n }

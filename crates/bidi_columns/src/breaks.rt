@@ -1,5 +1,5 @@
 //! Where a text is cut into lines of at most so many columns.
-ghost use Rattle.std.specs.Prelude.{◌≡◌, ◌≤◌, ◌<◌, length, map, All, IfOk};
+ghost use Rattle.std.specs.Prelude.{◌≡◌, ◌≤◌, length, map, All, IfOk};
 ghost use Rattle.bidi_base.specs.Display.{run_of};
 ghost use Rattle.bidi_columns.specs.Breaks.{column_after as column_after_of, fitting as fitting_of, up_to_space as up_to_space_of, leading_spaces as leading_spaces_of, line_of_fitting, first_line as first_line_of, line_range, lines_of_text};
 ghost use Rattle.bidi_columns.specs.Bounds.{IsRangeOf};
@@ -82,7 +82,7 @@ fn line_of(clusters: &[Cluster], fit: usize) -> LineLength
     requires some { 1 ≤ fit }
     requires within { fit ≤ length clusters.now }
     ensures line { result ≡ line_of_fitting fit clusters.now }
-    ensures some { 1 ≤ result.shown }
+    ensures advances { 1 ≤ result.shown }
     ensures ordered { result.shown ≤ result.taken }
     ensures within { result.taken ≤ length clusters.now }
 {
@@ -113,7 +113,7 @@ fn line_of(clusters: &[Cluster], fit: usize) -> LineLength
 pub fn first_line(clusters: &[Cluster], limit: u16) -> LineLength
     requires { 1 ≤ length clusters.now }
     ensures line { result ≡ first_line_of limit clusters.now }
-    ensures some { 1 ≤ result.shown }
+    ensures advances { 1 ≤ result.shown }
     ensures ordered { result.shown ≤ result.taken }
     ensures within { result.taken ≤ length clusters.now }
 {

@@ -15,7 +15,7 @@ use unicode_width::UnicodeWidthChar;
 pub struct Cluster {
     /// The offset of its first byte.
     pub start: usize,
-    /// The offset behind its last byte.
+    /// The offset after its last byte.
     pub end: usize,
     /// The columns that it takes if it is no tab; `u16::MAX` also stands for more.
     pub width: u16,
@@ -27,7 +27,7 @@ pub struct Cluster {
 
 /// Returns the number of columns that a character takes. A nonspacing mark and a control take none.
 pub fn columns(c: char) -> usize
-    ensures value { result ≡ columns_of c }
+    ensures result { result ≡ columns_of c }
     ensures bound { result ≤ 3 }
 {
     c.width().unwrap_or(0)

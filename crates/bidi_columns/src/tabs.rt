@@ -1,6 +1,5 @@
 //! Tabs as spaces.
-ghost use Rattle.std.specs.Prelude.{◌≡◌, ◌≤◌, ◌<◌, ◌++◌, ◌∷◌, [], ℕ, List, length, replicate, IfOk, OnOk};
-ghost use Rattle.bidi_columns.specs.Clusters.{columns as columns_of};
+ghost use Rattle.std.specs.Prelude.{◌≡◌, ◌<◌, ◌++◌, ◌∷◌, [], ℕ, List, length, replicate, IfOk, OnOk};
 ghost use Rattle.bidi_columns.specs.Tabs.{spread as spread_of, spread_values};
 
 use crate::cluster::columns;

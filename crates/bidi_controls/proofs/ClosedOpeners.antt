@@ -1,6 +1,6 @@
 -- The opener that a character closes, by the openers that are open before it: it is the one whose match that character is (BD9, BD11).
 use Rattle.bidi_base.proofs.Common.{◌≡◌, ℕ, suc, ◌+◌, ◌-◌, ◌<◌, Bool, true, false, cond, List, [], ◌∷◌, length, drop, find, Option, Some, None, refl, sym, ap, subst}
-use Rattle.bidi_base.proofs.Common.{◌∙◌, arith, filter, and_parts, and_from, false_from_ne_true, is_embedding, is_opener, is_pdf, class_at, is_initiator_at}
+use Rattle.bidi_base.proofs.Common.{◌∙◌, arith, filter, and_parts, and_from, false_from_ne_true, is_embedding_initiator, is_opener, is_pdf, class_at, is_isolate_initiator_at}
 use Rattle.bidi_base.proofs.Common.{is_pdi_at, matching_pdi, is_inside, is_level_with, is_embedding_level_with, is_pdf_level_with, closing_pdf}
 use Rattle.bidi_base.specs.declared.char_data.BidiClass.{BidiClass}
 use Rattle.bidi_base.proofs.PlacesLemmas.{IsLeast}
@@ -16,12 +16,12 @@ use Rattle.bidi_controls.specs.Matches.{closer_of}
 -- the innermost opener, if that is an embedding or an override
 abbrev pub top_embedding : List BidiClass → List ℕ → Option ℕ
 top_embedding classes [] = None
-top_embedding classes (q ∷ stack) = cond (is_initiator_at classes q) None (Some q)
+top_embedding classes (q ∷ stack) = cond (is_isolate_initiator_at classes q) None (Some q)
 
 -- the opener that p closes
 unfoldable pub closed_opener : List BidiClass → ℕ → List ℕ → Option ℕ
 closed_opener classes p stack =
-    cond (is_pdi_at classes p) (find (is_initiator_at classes) stack) (cond (is_pdf (class_at classes p)) (top_embedding classes stack) None)
+    cond (is_pdi_at classes p) (find (is_isolate_initiator_at classes) stack) (cond (is_pdf (class_at classes p)) (top_embedding classes stack) None)
 
 -- what is found first is the first that a filter keeps
 found_first : (test : ℕ → Bool) (xs : List ℕ) (x : ℕ) → find test xs ≡ Some x → filter test xs ≡ x ∷ drop 1 (filter test xs)
@@ -56,15 +56,15 @@ module _ (classes : List BidiClass) where
 
   -- ---- what p closes has p as its match
 
-  closed_isolate : (p q : ℕ) → p < length classes → is_pdi_at classes p ≡ true → find (is_initiator_at classes) (openers_read classes p) ≡ Some q → IsCloser p q
+  closed_isolate : (p q : ℕ) → p < length classes → is_pdi_at classes p ≡ true → find (is_isolate_initiator_at classes) (openers_read classes p) ≡ Some q → IsCloser p q
   unfolding matching_pdi
   closed_isolate p q fits pdi e =
-      let stack = filter (is_initiator_at classes) (openers_read classes p) in
-      let h = rw (found_first (is_initiator_at classes) (openers_read classes p) q e) at (initiators-IsReadStack classes p) in
-      grind (arith, h.are_open, IsReadStack-match (is_initiator_at classes) (is_pdi_at classes) (initiators_apart classes) (length classes) p q (drop 1 stack) h pdi fits)
+      let stack = filter (is_isolate_initiator_at classes) (openers_read classes p) in
+      let h = rw (found_first (is_isolate_initiator_at classes) (openers_read classes p) q e) at (initiators-IsReadStack classes p) in
+      grind (arith, h.are_open, IsReadStack-match (is_isolate_initiator_at classes) (is_pdi_at classes) (initiators_apart classes) (length classes) p q (drop 1 stack) h pdi fits)
 
   closed_embedding : (p q : ℕ) (below : List ℕ) → p < length classes → is_pdi_at classes p ≡ false → is_pdf (class_at classes p) ≡ true
-      → openers_read classes p ≡ q ∷ below → is_initiator_at classes q ≡ false → IsCloser p q
+      → openers_read classes p ≡ q ∷ below → is_isolate_initiator_at classes q ≡ false → IsCloser p q
   unfolding closed_by closing_pdf
   closed_embedding p q below fits pdi pdf top other =
       let pushed = subst (IsPushed classes p) top (openers_read-IsPushed classes p) in
@@ -87,17 +87,17 @@ module _ (classes : List BidiClass) where
 
   -- ---- and what has p as its match is what p closes
 
-  matched_isolate : (p q : ℕ) → is_initiator_at classes q ≡ true → matching_pdi classes q ≡ Some p → closed_opener classes p (openers_read classes p) ≡ Some q
+  matched_isolate : (p q : ℕ) → is_isolate_initiator_at classes q ≡ true → matching_pdi classes q ≡ Some p → closed_opener classes p (openers_read classes p) ≡ Some q
   unfolding closed_opener matching_pdi
   matched_isolate p q opens e =
-      let on_top = IsReadStack-matched (is_initiator_at classes) (is_pdi_at classes) (initiators_apart classes) (length classes) p q _ (initiators-IsReadStack classes p) opens e in
-      simp (match_of-closes (is_initiator_at classes) (is_pdi_at classes) (length classes) q p e, first_found (is_initiator_at classes) (openers_read classes p) q on_top.0 on_top.1)
+      let on_top = IsReadStack-matched (is_isolate_initiator_at classes) (is_pdi_at classes) (initiators_apart classes) (length classes) p q _ (initiators-IsReadStack classes p) opens e in
+      simp (match_of-closes (is_isolate_initiator_at classes) (is_pdi_at classes) (length classes) q p e, first_found (is_isolate_initiator_at classes) (openers_read classes p) q on_top.0 on_top.1)
 
   top_from : (p q : ℕ) (stack left rest : List ℕ) → is_pdf (class_at classes p) ≡ true → Leaves classes p stack left
       → filter (is_embedding_level_with classes q) stack ≡ q ∷ rest → filter (is_embedding_level_with classes q) left ≡ rest → top_embedding classes stack ≡ Some q
   top_from p q stack left rest pdf h0 e f = grind (arith, not_longer)
 
-  matched_embedding : (p q : ℕ) → is_embedding (class_at classes q) ≡ true → closing_pdf classes q ≡ Some p → closed_opener classes p (openers_read classes p) ≡ Some q
+  matched_embedding : (p q : ℕ) → is_embedding_initiator (class_at classes q) ≡ true → closing_pdf classes q ≡ Some p → closed_opener classes p (openers_read classes p) ≡ Some q
   unfolding closed_opener closing_pdf
   matched_embedding p q embedding e =
       let least : IsLeast _ (q + 1) (length classes) p = match_of-IsLeast (is_embedding_level_with classes q) (is_pdf_level_with classes q) (length classes) q p e in
@@ -114,7 +114,7 @@ module _ (classes : List BidiClass) where
   pub IsCloser-closed_opener : (p q : ℕ) → is_opener (class_at classes q) ≡ true → closer_of classes q ≡ Some p → closed_opener classes p (openers_read classes p) ≡ Some q
   IsCloser-closed_opener p q opener e = grind (arith, matched_isolate, matched_embedding)
 
-  -- a match stands behind what it closes, in the line
+  -- a match stands after what it closes, in the line
   pub closer_of-within : (q m : ℕ) → closer_of classes q ≡ Some m → (q < m) × (m < length classes)
   unfolding closing_pdf
   closer_of-within q m e =

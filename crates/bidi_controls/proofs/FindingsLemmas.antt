@@ -1,9 +1,9 @@
 -- The findings of a line, one character more.
-use Rattle.bidi_base.proofs.Common.{◌≡◌, ℕ, ◌+◌, ◌<◌, Bool, false, List, ◌++◌, Option, length, get_or, take, map, arith, append_assoc, common_steps, range_with_len, append-nil, flat_map}
+use Rattle.bidi_base.proofs.Common.{◌≡◌, ℕ, ◌+◌, ◌<◌, Bool, false, List, ◌++◌, Option, length, get_or, map, arith, append_assoc, range_with_len, append-nil, flat_map}
 use Rattle.bidi_base.proofs.Common.{holds_number, option_to_list, get_or-map, get_or_default, get_or-map-range_with_len, indexes, flat_map-append}
 use Rattle.bidi_controls.proofs.IndexLemmas.{next_index}
 use Rattle.bidi_base.specs.declared.char_data.BidiClass.{BidiClass}
-use Rattle.bidi_controls.specs.Findings.{finding_of, line_finding_of, findings_at, finding_line, report_of}
+use Rattle.bidi_controls.specs.Findings.{finding_of, line_finding_of, findings_at}
 use Rattle.bidi_controls.specs.Matches.{is_unmatched}
 use Rattle.bidi_controls.specs.declared.finding.Finding.{Finding}
 
@@ -18,8 +18,3 @@ pub more_findings : (class_of : ℕ → BidiClass) (any : Bool) (differing : Opt
     → new ≡ before ++ flat_map (findings_at any differing number from (map class_of line) line) (range_with_len 0 (p + 1))
 more_findings class_of any differing number from line p c class flags here before old new fits is class_is flags_are here_is old_is new_is =
     grind (arith, get_or-map-range_with_len, get_or_default, get_or-map, append_assoc, flat_map-range)
-
--- the report of findings, one finding more
-pub report_of-more : (name : List ℕ) (findings : List Finding) (i : ℕ) (d : Finding) → i < length findings
-    → report_of name (take i findings) ++ finding_line name (get_or findings i d) ≡ report_of name (take (i + 1) findings)
-report_of-more name findings i d within = grind (arith, common_steps)

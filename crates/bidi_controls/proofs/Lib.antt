@@ -1,8 +1,8 @@
-pub mod ClosedOpeners
-pub mod FindingsLemmas
+mod ClosedOpeners
+mod FindingsLemmas
 pub mod IndexLemmas
-pub mod LineLevels
-pub mod LinesLemmas
-pub mod OpenersLemmas
-pub mod QuietLines
-pub mod UnmatchedPass
+mod LineLevels
+mod LinesLemmas
+mod OpenersLemmas
+pub mod LinesWithoutControls
+mod UnmatchedPass

@@ -1,7 +1,7 @@
 -- The walk along a line: what is open, and which of the characters read so far are controls without a match.
 use Rattle.bidi_base.proofs.Common.{◌≡◌, ℕ, ◌+◌, ◌<◌, Bool, true, false, ◌||◌, ◌&&◌, cond, leb, List, [], ◌∷◌, ◌++◌, length, get_or, map, find, Option, Some, None, refl, sym, ap, ◌∙◌, arith}
 use Rattle.bidi_base.proofs.Common.{length-append, add-one, list_any, range_with_len, cases_lt, false_from_ne_true, length-set, get_or_append_left, get_or_push, fill_by_all, length-range_with_len}
-use Rattle.bidi_base.proofs.Common.{get_or-range_with_len, list_any_none, list_any_at, is_opener, class_at, between, is_initiator_at, is_some, get_or-set_same, get_or-set_other}
+use Rattle.bidi_base.proofs.Common.{get_or-range_with_len, list_any_none, list_any_at, is_opener, class_at, between, is_isolate_initiator_at, is_some, get_or-set_same, get_or-set_other}
 use Rattle.std.specs.Prelude.{is_none}
 use Rattle.bidi_base.specs.declared.char_data.BidiClass.{BidiClass}
 use Rattle.bidi_base.proofs.ChainLemmas.{holds_number-true}
@@ -15,14 +15,14 @@ use Rattle.bidi_controls.proofs.ClosedOpeners.{closed_opener, closed_opener-IsCl
 
 -- the opener at an index
 abbrev pub opener_at : List BidiClass → ℕ → Opener
-opener_at classes q = record { place = q; is_isolate = is_initiator_at classes q }
+opener_at classes q = record { place = q; is_isolate = is_isolate_initiator_at classes q }
 
 abbrev pub openers_at : List BidiClass → List ℕ → List Opener
 openers_at classes stack = map (opener_at classes) stack
 
-innermost_isolate-at : (classes : List BidiClass) (stack : List ℕ) → innermost_isolate (openers_at classes stack) ≡ find (is_initiator_at classes) stack
+innermost_isolate-at : (classes : List BidiClass) (stack : List ℕ) → innermost_isolate (openers_at classes stack) ≡ find (is_isolate_initiator_at classes) stack
 innermost_isolate-at classes [] = refl
-innermost_isolate-at classes (q ∷ stack) = ap (λ rest. cond (is_initiator_at classes q) (Some q) rest) (innermost_isolate-at classes stack)
+innermost_isolate-at classes (q ∷ stack) = ap (λ rest. cond (is_isolate_initiator_at classes q) (Some q) rest) (innermost_isolate-at classes stack)
 
 -- outside the innermost isolate, or the whole where there is none
 left_by_pdi : (classes : List BidiClass) (whole stack : List ℕ)

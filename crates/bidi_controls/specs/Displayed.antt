@@ -7,7 +7,7 @@ use Rattle.std.specs.List.{list_any}
 use Rattle.bidi_base.specs.Isolates.{paragraph_level, stored_classes}
 use Rattle.bidi_base.specs.Line.{line_levels}
 use Rattle.bidi_base.specs.Order.{visual_order}
-use Rattle.bidi_base.specs.Places.{at_places}
+use Rattle.bidi_base.specs.Indexes.{at_indexes}
 use Rattle.bidi_base.specs.Source.{Source}
 use Rattle.bidi_base.specs.Stored.{stored_levels}
 use Rattle.bidi_controls.specs.Matches.{is_control}
@@ -16,17 +16,17 @@ use Rattle.bidi_controls.specs.Matches.{is_control}
 
 -- the levels of a line's characters after L1, with this base level or with that of P2 and P3
 unfoldable pub displayed_levels : Source → Option ℕ → List ℕ → List ℕ
-displayed_levels source base chars =
+displayed_levels source base_level chars =
     let classes = map source.class_of chars in
-    line_levels (paragraph_level base classes) (stored_classes classes) (stored_levels source base chars)
+    line_levels (paragraph_level base_level classes) (stored_classes classes) (stored_levels source base_level chars)
 
 -- the indexes of a line's characters, from left to right (L2)
 unfoldable pub displayed_order : Source → Option ℕ → List ℕ → List ℕ
-displayed_order source base chars = visual_order (displayed_levels source base chars)
+displayed_order source base_level chars = visual_order (displayed_levels source base_level chars)
 
 -- a line's characters, from left to right
 abbrev pub displayed : Source → Option ℕ → List ℕ → List ℕ
-displayed source base chars = at_places 0 chars (displayed_order source base chars)
+displayed source base_level chars = at_indexes 0 chars (displayed_order source base_level chars)
 
 -- characters without the direction controls among them
 abbrev pub without_controls : Source → List ℕ → List ℕ
@@ -34,7 +34,7 @@ without_controls source chars = filter (λ c. not (is_control (source.class_of c
 
 -- a line from left to right, without its controls
 abbrev pub displayed_text : Source → Option ℕ → List ℕ → List ℕ
-displayed_text source base chars = without_controls source (displayed source base chars)
+displayed_text source base_level chars = without_controls source (displayed source base_level chars)
 
 -- ---- lines that are displayed differently from how they read
 
@@ -49,10 +49,10 @@ are_same left right = pointwise nat_eq left right
 -- with this base level, the visible ASCII of a line is displayed neither in the order in which it is read, nor in the
 -- order in which it is displayed if the controls are deleted from the line
 unfoldable pub is_reordered : Source → Option ℕ → List ℕ → Bool
-is_reordered source base chars =
-    let shown = visible_ascii (displayed source base chars) in
+is_reordered source base_level chars =
+    let shown = visible_ascii (displayed source base_level chars) in
     not (are_same shown (visible_ascii chars))
-    && not (are_same shown (visible_ascii (displayed source base (without_controls source chars))))
+    && not (are_same shown (visible_ascii (displayed source base_level (without_controls source chars))))
 
 -- some character is a direction control
 abbrev pub has_control : Source → List ℕ → Bool

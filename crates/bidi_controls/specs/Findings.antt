@@ -1,14 +1,14 @@
--- What `check` finds in a text, and how it is told.
+-- What `check` finds in a text, and how it is reported.
 use Rattle.std.specs.Prelude.{ℕ, ◌+◌, Bool, true, false, ◌&&◌, ◌||◌, if◌then◌else◌, List, [], ◌∷◌, ◌++◌, get_or, length, map, flat_map, position, codes, decimal, Option, None, option_map}
 use Rattle.std.specs.Option.{option_to_list}
 use Rattle.bidi_base.specs.declared.char_data.BidiClass.{BidiClass}
 use Rattle.bidi_base.specs.Classes.{is_opener}
-use Rattle.bidi_base.specs.Places.{indexes, class_at, holds_number}
+use Rattle.bidi_base.specs.Indexes.{indexes, class_at, holds_number}
 use Rattle.bidi_base.specs.Source.{Source}
 use Rattle.bidi_controls.specs.Controls.{control_of, control_name}
 use Rattle.bidi_controls.specs.Displayed.{is_displayed_differently}
 use Rattle.bidi_bytes.specs.FileLines.{file_lines_of}
-use Rattle.bidi_controls.specs.Lines.{lines_of, own_chars}
+use Rattle.bidi_base.specs.Paragraphs.{paragraphs_in, own_chars}
 use Rattle.bidi_controls.specs.Matches.{is_control, is_unmatched}
 use Rattle.bidi_controls.specs.declared.finding.Finding.{Finding}
 use Rattle.bidi_controls.specs.declared.finding.Trouble.{Trouble}
@@ -92,7 +92,7 @@ findings_in_paragraphs source wanted line from (chars ∷ paragraphs) =
 
 -- the findings in a line of a file
 unfoldable pub findings_in_line : Source → Wanted → ℕ → List ℕ → List Finding
-findings_in_line source wanted line chars = findings_in_paragraphs source wanted line 0 (lines_of source chars)
+findings_in_line source wanted line chars = findings_in_paragraphs source wanted line 0 (paragraphs_in source chars)
 
 -- the same for lines, of which the first has this number
 abbrev pub findings_from : Source → Wanted → ℕ → List (List ℕ) → List Finding
@@ -104,7 +104,7 @@ findings_from source wanted line (chars ∷ lines) =
 unfoldable pub findings_of : Source → Wanted → List ℕ → List Finding
 findings_of source wanted chars = findings_from source wanted 1 (file_lines_of chars)
 
--- ---- how a finding is told
+-- ---- how a finding is reported
 
 abbrev pub trouble_text : Trouble → List ℕ
 trouble_text NotClosed = codes "is not closed on its line"

@@ -4,4 +4,4 @@ pub mod Findings
 pub mod Lines
 pub mod Matches
 pub mod OpenOpeners
-pub mod Quiet
+pub mod NoControls

@@ -4,8 +4,8 @@ use Rattle.std.specs.Prelude.{ℕ, Bool, not, ◌&&◌, ◌||◌, if◌then◌el
 use Rattle.std.specs.List.{list_any}
 use Rattle.bidi_base.specs.declared.char_data.BidiClass.{BidiClass}
 use Rattle.bidi_base.specs.Classes.{is_opener, is_pdi, is_pdf}
-use Rattle.bidi_base.specs.Places.{between, class_at, holds_number}
-use Rattle.bidi_base.specs.Isolates.{is_initiator_at, matching_pdi}
+use Rattle.bidi_base.specs.Indexes.{between, class_at, holds_number}
+use Rattle.bidi_base.specs.Isolates.{is_isolate_initiator_at, matching_pdi}
 use Rattle.bidi_base.specs.Embeddings.{closing_pdf}
 
 -- what closes something
@@ -19,7 +19,7 @@ is_control class = is_opener class || is_closer class
 -- the character that closes the opener q, if there is one: an isolate's matching PDI (BD9), and of an embedding
 -- or an override the first later PDF at its own depth inside the same isolates (BD11)
 abbrev pub closer_of : List BidiClass → ℕ → Option ℕ
-closer_of classes q = if is_initiator_at classes q then matching_pdi classes q else closing_pdf classes q
+closer_of classes q = if is_isolate_initiator_at classes q then matching_pdi classes q else closing_pdf classes q
 
 -- p closes the opener q
 abbrev pub is_closed_by : List BidiClass → ℕ → ℕ → Bool

@@ -2,7 +2,7 @@
 use Rattle.std.specs.Prelude.{ℕ, Bool, false, is_some, if◌then◌else◌, List, [], ◌∷◌, slice_set, Option, Some, None}
 use Rattle.bidi_base.specs.declared.char_data.BidiClass.{BidiClass}
 use Rattle.bidi_base.specs.declared.char_data.BidiClass.TheVariants.{PDF, PDI}
-use Rattle.bidi_base.specs.Classes.{is_initiator, is_opener}
+use Rattle.bidi_base.specs.Classes.{is_isolate_initiator, is_opener}
 use Rattle.bidi_controls.specs.declared.openers.Opener.{Opener}
 
 -- the place of the innermost isolate initiator
@@ -10,7 +10,7 @@ abbrev pub innermost_isolate : List Opener → Option ℕ
 innermost_isolate [] = None
 innermost_isolate (opener ∷ openers) = if opener.is_isolate then Some opener.place else innermost_isolate openers
 
--- what stands outside it
+-- what is outside it
 abbrev pub outside_isolate : List Opener → List Opener
 outside_isolate [] = []
 outside_isolate (opener ∷ openers) = if opener.is_isolate then openers else outside_isolate openers
@@ -20,7 +20,7 @@ abbrev pub innermost_embedding : List Opener → Option ℕ
 innermost_embedding [] = None
 innermost_embedding (opener ∷ openers) = if opener.is_isolate then None else Some opener.place
 
--- what stands outside it
+-- what is outside it
 abbrev pub outside_embedding : List Opener → List Opener
 outside_embedding [] = []
 outside_embedding (opener ∷ openers) = if opener.is_isolate then opener ∷ openers else openers
@@ -40,9 +40,9 @@ left_open _ openers = openers
 -- what is open after it, where it stands at this place
 abbrev pub then_open : ℕ → BidiClass → List Opener → List Opener
 then_open place class openers =
-    if is_opener class then record { place = place; is_isolate = is_initiator class } ∷ openers else openers
+    if is_opener class then record { place = place; is_isolate = is_isolate_initiator class } ∷ openers else openers
 
--- of the characters read so far, which are controls without a match: with one more, which closes what stands at a place
+-- of the characters read so far, which are controls without a match: with one more, which closes what is at a place
 abbrev pub with_closed : Option ℕ → List Bool → List Bool
 with_closed None unmatched = unmatched
 with_closed (Some place) unmatched = slice_set unmatched place false

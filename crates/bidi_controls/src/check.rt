@@ -1,13 +1,13 @@
 //! What `check` finds in a text.
 ghost use Rattle.std.specs.Prelude.{◌≡◌, ◌+◌, ◌<◌, ◌^◌, ◌++◌, length, map, flat_map, position, IfOk, OnOk};
 ghost use Rattle.std.specs.Option.{option_to_list};
-ghost use Rattle.bidi_base.specs.Places.{holds_number, indexes};
+ghost use Rattle.bidi_base.specs.Indexes.{holds_number, indexes};
 ghost use Rattle.bidi_controls.specs.Findings.{finding_of, line_finding_of, findings_at, findings_of, controls_wanted, differing_place as differing_place_of};
 ghost use Rattle.bidi_controls.specs.Matches.{is_control, is_unmatched};
 
 use crate::displayed::DisplayComparison;
 use crate::finding::{Finding, LineChar, Trouble, Wanted};
-use crate::lines::{first_file_line, first_line_len, has_quiet_ascii, own_chars};
+use crate::lines::{first_file_line, first_paragraph_len, has_no_control_in_ascii, own_chars};
 use crate::openers::Openers;
 use crate::unmatched::{find_unmatched, is_control};
 use bidi_base::data_source::BidiDataSource;
@@ -193,7 +193,7 @@ impl LineSearch {
     {
         let mut rest = line.chars;
         while !rest.is_empty() {
-            let (chars, after) = rest.split_at(first_line_len(data_source, rest));
+            let (chars, after) = rest.split_at(first_paragraph_len(data_source, rest));
             let paragraph = LineParagraph {
                 line: line.number,
                 place: line.chars.len() - rest.len(),
@@ -228,14 +228,14 @@ pub fn findings_wanted<D: BidiDataSource>(
 {
     let mut findings = Vec::new(alloc);
     let mut search = LineSearch::new(alloc);
-    let ascii_is_quiet = chars.len() >= LONG && has_quiet_ascii(data_source);
+    let ascii_has_no_control = chars.len() >= LONG && has_no_control_in_ascii(data_source);
     let mut lines_before = 0;
     let mut rest = chars;
     while !rest.is_empty() {
-        let first = first_file_line(data_source, ascii_is_quiet, rest);
+        let first = first_file_line(data_source, ascii_has_no_control, rest);
         let (line, after) = rest.split_at(first.len);
         // In a line without controls and marks nothing is found.
-        if !first.is_quiet {
+        if !first.has_no_controls {
             let number = lines_before + 1;
             let line = FileLine {
                 number,

@@ -1,7 +1,7 @@
 //! Lines that are displayed differently from how they read.
 ghost use Rattle.std.specs.Prelude.{◌≡◌, ◌<◌, All, length, OnOk, IfOk};
 ghost use Rattle.bidi_base.specs.Order.{visual_order, IsVisualOrder};
-ghost use Rattle.bidi_base.specs.Places.{at_places, first_or};
+ghost use Rattle.bidi_base.specs.Indexes.{at_indexes, first_or};
 ghost use Rattle.bidi_controls.specs.Displayed.{displayed_levels, displayed_order, displayed, displayed_text, visible_ascii, are_same};
 ghost use Rattle.bidi_controls.specs.Displayed.{without_controls as without_controls_of, has_control as has_control_of};
 ghost use Rattle.bidi_controls.specs.Displayed.{is_reordered as is_reordered_by, is_displayed_differently as is_displayed_differently_by};
@@ -20,8 +20,8 @@ use std::alloc::{AllocError, Global};
 use unicode_bidi::ParagraphInfo;
 use unicode_bidi::engine::Analyser;
 
-// Returns the level of the first paragraph.
-fn first_level(paragraphs: &[ParagraphInfo]) -> Level
+/// Returns the level of the first paragraph, or 0 if there is none.
+pub fn first_level(paragraphs: &[ParagraphInfo]) -> Level
     ensures { result ≡ first_or 0 (levels_of paragraphs.now) }
 {
     match paragraphs {
@@ -139,7 +139,7 @@ fn write_visible_ascii(chars: &[char], out: &mut Vec<char>) -> Result<(), AllocE
 // Replaces a list by the characters of a line at some indexes.
 fn write_in_order(line: &[char], order: &[usize], out: &mut Vec<char>) -> Result<(), AllocError>
     requires { All (λ index. index < length line.now) order.now }
-    ensures { OnOk result (out.new.items ≡ at_places 0 line.now order.now) }
+    ensures { OnOk result (out.new.items ≡ at_indexes 0 line.now order.now) }
 {
     out.clear();
     for index in order {

@@ -1,7 +1,7 @@
 //! What `check` finds.
 use crate::control::Control;
 use bidi_base::char_data::BidiClass;
-use bidi_base::classes::{is_embedding, is_initiator};
+use bidi_base::classes::{is_embedding_initiator, is_isolate_initiator};
 
 /// Which findings are wanted.
 #[derive(Clone, Copy, Debug)]
@@ -58,7 +58,7 @@ impl Trouble {
     {
         if !unmatched {
             Trouble::Present
-        } else if is_initiator(class) || is_embedding(class) {
+        } else if is_isolate_initiator(class) || is_embedding_initiator(class) {
             Trouble::NotClosed
         } else {
             Trouble::ClosesNothing

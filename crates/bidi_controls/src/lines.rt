@@ -1,11 +1,10 @@
 //! Where the lines of a file and the paragraphs of a text end.
 ghost use Rattle.std.specs.Prelude.{◌≡◌, ◌<◌, ◌≤◌, ◌∷◌, All, is_some, true, length, take, drop};
 ghost use Rattle.bidi_controls.specs.Controls.{control_of};
-ghost use Rattle.bidi_base.specs.Paragraphs.{begins_with_line_feed, cr_lf_together};
+ghost use Rattle.bidi_base.specs.Paragraphs.{begins_with_line_feed, cr_lf_together, paragraphs_in, own_chars as own_chars_of};
 ghost use Rattle.bidi_bytes.specs.FileLines.{ends_file_line, file_lines_of};
-ghost use Rattle.bidi_controls.specs.Lines.{is_printable_ascii, lines_of};
-ghost use Rattle.bidi_controls.specs.Quiet.{AreQuiet, HasQuietAscii};
-ghost use Rattle.bidi_controls.specs.Lines.{own_chars as own_chars_of};
+ghost use Rattle.bidi_controls.specs.Lines.{is_printable_ascii};
+ghost use Rattle.bidi_controls.specs.NoControls.{HaveNoControls, HasNoControlInAscii};
 
 use crate::control::Control;
 use bidi_base::classes::is_paragraph_separator;
@@ -21,7 +20,7 @@ fn begins_with_line_feed<D: BidiDataSource>(data_source: &D, chars: &[char]) -> 
     }
 }
 
-/// Returns whether a paragraph ends after a character, with these behind it.
+/// Returns whether a paragraph ends after a character, with these after it.
 fn ends_paragraph<D: BidiDataSource>(data_source: &D, c: char, after: &[char]) -> bool
     ensures { result ≡ cr_lf_together (D.source data_source.now) c after.now }
 {
@@ -31,12 +30,12 @@ fn ends_paragraph<D: BidiDataSource>(data_source: &D, c: char, after: &[char]) -
 
 /// Returns how many characters the first paragraph of a text has, with the separator that ends it, CR LF as one. The
 /// text is not empty.
-pub fn first_line_len<D: BidiDataSource>(data_source: &D, chars: &[char]) -> usize
+pub fn first_paragraph_len<D: BidiDataSource>(data_source: &D, chars: &[char]) -> usize
     requires { 0 < length chars.now }
-    ensures some { 0 < result }
+    ensures advances { 0 < result }
     ensures within { result ≤ length chars.now }
-    ensures first { lines_of (D.source data_source.now) chars.now
-        ≡ take result chars.now ∷ lines_of (D.source data_source.now) (drop result chars.now) }
+    ensures first { paragraphs_in (D.source data_source.now) chars.now
+        ≡ take result chars.now ∷ paragraphs_in (D.source data_source.now) (drop result chars.now) }
 {
     let mut at = 0;
     while at < chars.len() {
@@ -61,7 +60,7 @@ pub fn own_chars<'t, D: BidiDataSource>(data_source: &D, line: &'t [char]) -> &'
     line
 }
 
-/// Returns whether a line of a file ends after a character, with these behind it.
+/// Returns whether a line of a file ends after a character, with these after it.
 fn ends_file_line(c: char, after: &[char]) -> bool
     ensures { result ≡ ends_file_line c after.now }
 {
@@ -85,8 +84,8 @@ fn is_printable_ascii(c: char) -> bool
 /// Returns true only if no printable ASCII character is a control.
 ///
 /// Data sources may give such a character any class, but hardly one does.
-pub(crate) fn has_quiet_ascii<D: BidiDataSource>(data_source: &D) -> bool
-    ensures { result ≡ true → HasQuietAscii (D.source data_source.now) }
+pub(crate) fn has_no_control_in_ascii<D: BidiDataSource>(data_source: &D) -> bool
+    ensures { result ≡ true → HasNoControlInAscii (D.source data_source.now) }
 {
     for code in b' '..0x7F {
         if is_sign(data_source, char::from(code)) {
@@ -117,29 +116,29 @@ pub(crate) struct FirstLine {
     /// How many characters it has, with those that end it.
     pub len: usize,
     /// True only where no control and no mark stands in it.
-    pub is_quiet: bool,
+    pub has_no_controls: bool,
 }
 
-/// Returns the first line of a file that is not empty. With `ascii_is_quiet`, printable ASCII is passed over in blocks.
+/// Returns the first line of a file that is not empty. With `ascii_has_no_control`, printable ASCII is passed over in blocks.
 #[inline(never)]
 pub(crate) fn first_file_line<D: BidiDataSource>(
     data_source: &D,
-    ascii_is_quiet: bool,
+    ascii_has_no_control: bool,
     chars: &[char],
 ) -> FirstLine
     requires some { 0 < length chars.now }
-    requires quiet_ascii { ascii_is_quiet ≡ true → HasQuietAscii (D.source data_source.now) }
-    ensures some { 0 < result.len }
+    requires no_control_in_ascii { ascii_has_no_control ≡ true → HasNoControlInAscii (D.source data_source.now) }
+    ensures advances { 0 < result.len }
     ensures within { result.len ≤ length chars.now }
     ensures first { file_lines_of chars.now ≡ take result.len chars.now ∷ file_lines_of (drop result.len chars.now) }
-    ensures quiet { result.is_quiet ≡ true → AreQuiet (D.source data_source.now) (take result.len chars.now) }
+    ensures without_controls { result.has_no_controls ≡ true → HaveNoControls (D.source data_source.now) (take result.len chars.now) }
 {
     let mut at = 0;
-    let mut is_quiet = true;
+    let mut has_no_controls = true;
     // Characters before this index are read one by one: the block that has them is not all printable ASCII.
     let mut tested = 0;
     while at < chars.len() {
-        if ascii_is_quiet && at >= tested && chars.len() - at >= BLOCK {
+        if ascii_has_no_control && at >= tested && chars.len() - at >= BLOCK {
             tested = at + BLOCK;
             if are_printable_ascii(&chars[at..tested]) {
                 at = tested;
@@ -149,11 +148,17 @@ pub(crate) fn first_file_line<D: BidiDataSource>(
         let c = chars[at];
         at += 1;
         if is_sign(data_source, c) {
-            is_quiet = false;
+            has_no_controls = false;
         }
         if ends_file_line(c, &chars[at..]) {
-            return FirstLine { len: at, is_quiet };
+            return FirstLine {
+                len: at,
+                has_no_controls,
+            };
         }
     }
-    FirstLine { len: at, is_quiet }
+    FirstLine {
+        len: at,
+        has_no_controls,
+    }
 }

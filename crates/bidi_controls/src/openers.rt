@@ -2,7 +2,7 @@
 ghost use Rattle.std.specs.Prelude.{◌≡◌, reverse, OnOk, is_some, if◌then◌else◌};
 
 use bidi_base::char_data::BidiClass;
-use bidi_base::classes::{is_embedding, is_initiator};
+use bidi_base::classes::{is_embedding_initiator, is_isolate_initiator};
 use std::alloc::{AllocError, Global};
 use std::marker::Model;
 
@@ -56,7 +56,7 @@ impl Openers {
         self.isolates = 0;
     }
 
-    /// Takes away the innermost isolate and all that was opened inside it, and tells its place.
+    /// Takes away the innermost isolate and all that was opened inside it, and returns its place.
     fn take_isolate(entries: &mut Vec<Opener>) -> Option<usize>
         ensures place { result ≡ innermost_isolate (reverse entries.old.items) }
         ensures left { reverse entries.new.items ≡ outside_isolate (reverse entries.old.items) }
@@ -95,7 +95,7 @@ impl Openers {
         Some(innermost.place)
     }
 
-    /// Closes what a character of this class closes, and tells the place of what it closed.
+    /// Closes what a character of this class closes, and returns the place of what it closed.
     pub fn close(&mut self, class: BidiClass) -> Option<usize>
         ensures place { result ≡ closed_place class self.old }
         ensures left { self.new ≡ left_open class self.old }
@@ -111,8 +111,8 @@ impl Openers {
     pub fn open(&mut self, place: usize, class: BidiClass) -> Result<(), AllocError>
         ensures { OnOk result (self.new ≡ then_open place class self.old) }
     {
-        let is_isolate = is_initiator(class);
-        if is_isolate || is_embedding(class) {
+        let is_isolate = is_isolate_initiator(class);
+        if is_isolate || is_embedding_initiator(class) {
             self.entries.push(Opener { place, is_isolate })?;
             self.isolates += usize::from(is_isolate);
         }

@@ -1,5 +1,5 @@
-//! How findings are told.
-ghost use Rattle.std.specs.Prelude.{◌≡◌, ◌++◌, decimal, IfOk, OnOk, string_bytes};
+//! How findings are reported.
+ghost use Rattle.std.specs.Prelude.{◌≡◌, ◌++◌, IfOk, OnOk, string_bytes};
 ghost use Rattle.bidi_controls.specs.Findings.{finding_line, place_text, report_of};
 
 use crate::finding::Finding;

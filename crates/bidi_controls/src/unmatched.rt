@@ -1,13 +1,13 @@
 //! The controls of a line that have no match on it.
 ghost use Rattle.std.specs.Prelude.{◌≡◌, ◌<◌, ◌++◌, ◌&&◌, [], ◌∷◌, map, vec_len, is_none, OnOk};
 ghost use Rattle.std.specs.Option.{ForSome};
-ghost use Rattle.bidi_base.specs.Places.{indexes};
+ghost use Rattle.bidi_base.specs.Indexes.{indexes};
 ghost use Rattle.bidi_controls.specs.Matches.{is_control, is_unmatched as is_unmatched_in};
 ghost use Rattle.bidi_controls.specs.OpenOpeners.{with_closed};
 
 use crate::openers::Openers;
 use bidi_base::char_data::BidiClass;
-use bidi_base::classes::{is_embedding, is_initiator, is_pdi};
+use bidi_base::classes::{is_embedding_initiator, is_isolate_initiator, is_pdi};
 use bidi_base::data_source::BidiDataSource;
 use std::alloc::AllocError;
 
@@ -15,10 +15,13 @@ use std::alloc::AllocError;
 pub(crate) fn is_control(class: BidiClass) -> bool
     ensures { result ≡ is_control class }
 {
-    is_initiator(class) || is_embedding(class) || is_pdi(class) || matches!(class, BidiClass::PDF)
+    is_isolate_initiator(class)
+        || is_embedding_initiator(class)
+        || is_pdi(class)
+        || matches!(class, BidiClass::PDF)
 }
 
-/// Notes a character of this class, which has closed what stands at a place, or nothing.
+/// Notes a character of this class, which has closed what is at a place, or nothing.
 fn note_character(
     unmatched: &mut Vec<bool>,
     closed: Option<usize>,
@@ -39,7 +42,7 @@ fn note_character(
 }
 
 /// For each character of a line whether it is a control without its match on that line, in the
-/// vector handed in. What the vector and the openers held before goes; their memory is kept.
+/// vector passed. What the vector and the openers held before goes; their memory is kept.
 pub fn find_unmatched<D: BidiDataSource>(
     data_source: &D,
     line: &[char],

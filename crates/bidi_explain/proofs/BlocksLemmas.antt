@@ -24,7 +24,7 @@ pub one_more : {A : Type 0} (f : A → List ℕ) (items : List A) (i : ℕ) (d :
     → before ≡ out ++ flat_map f (take i items) → after ≡ before ++ f (get_or items i d) → after ≡ out ++ flat_map f (take (i + 1) items)
 one_more f items i d out before after within so_far more = grind (arith, common_steps, flat_map_more)
 
--- a part behind a beginning
+-- a part after a beginning
 take-further : {A : Type 0} (n m : ℕ) (items : List A) → take n items ++ take m (drop n items) ≡ take (n + m) items
 take-further n m items = simp (take-take n (n + m) items (omega arith), drop-take) at (take-append-drop n (take (n + m) items))
 

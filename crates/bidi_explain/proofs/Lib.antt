@@ -1,6 +1,6 @@
-pub mod AloneLemmas
-pub mod BlocksLemmas
-pub mod PagesLemmas
-pub mod PlacesLemmas
-pub mod SequencesLemmas
-pub mod StagesLemmas
+mod AloneLemmas
+mod BlocksLemmas
+mod PagesLemmas
+mod PlacesLemmas
+mod SequencesLemmas
+mod StagesLemmas

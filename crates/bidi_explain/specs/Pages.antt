@@ -3,7 +3,7 @@ use Rattle.std.specs.Prelude.{ℕ, Bool, not, ◌-◌, ◌&&◌, ◌||◌, ◌==
 use Rattle.std.specs.List.{range_with_len}
 use Rattle.bidi_base.specs.declared.char_data.BidiClass.{BidiClass}
 use Rattle.bidi_base.specs.Levels.{is_odd}
-use Rattle.bidi_base.specs.Places.{class_at}
+use Rattle.bidi_base.specs.Indexes.{class_at}
 use Rattle.bidi_base.specs.Sequences.{RunSequence, level_at}
 use Rattle.bidi_explain.specs.Cells.{glyph}
 use Rattle.bidi_explain.specs.Blocks.{blocks_of, part_of}
@@ -12,7 +12,7 @@ use Rattle.bidi_explain.specs.Tables.{level_text, sequence_text}
 use Rattle.bidi_explain.specs.declared.blocks.Block.{Block}
 use Rattle.bidi_explain.specs.declared.stages.Stages.{Stages}
 
--- what stands for a character between tags: what could begin or end one is written as its reference
+-- what is for a character between tags: what could begin or end one is written as its reference
 abbrev pub escaped : BidiClass → ℕ → List ℕ
 escaped class c =
     if c == 0x26 then codes "&amp;"
@@ -54,7 +54,7 @@ link logical visual =
     ++ (decimal logical
     ++ (codes "\" x1=\"" ++ (decimal logical ++ (codes "\" y1=\"0\" x2=\"" ++ (decimal visual ++ codes "\" y2=\"1\"/>")))))
 
--- the same, only if the visual place is in the block
+-- the same, only if the visual index is in the block
 abbrev pub is_in_block : Block → ℕ → Bool
 is_in_block block place = nat_le block.from place && nat_lt (place - block.from) block.columns
 

@@ -8,7 +8,7 @@ use Rattle.bidi_explain.specs.Rows.{rows_from}
 use Rattle.bidi_explain.specs.declared.blocks.Block.{Block}
 use Rattle.bidi_explain.specs.declared.stages.Stages.{Stages}
 
--- a cell stands behind a tab
+-- a cell stands after a tab
 abbrev pub cell_text : List ℕ → List ℕ
 cell_text cell = codes "\t" ++ cell
 

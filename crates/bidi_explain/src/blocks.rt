@@ -1,6 +1,6 @@
 //! Wide tables, in blocks of columns.
 ghost use Rattle.std.specs.Prelude.{◌≡◌, ℕ, ◌<◌, List, length, flat_map, IfOk};
-ghost use Rattle.bidi_explain.specs.Blocks.{columns_in, block_count, block_at, blocks_of, part_of};
+ghost use Rattle.bidi_explain.specs.Blocks.{columns_in, block_count, blocks_of, part_of};
 
 use std::alloc::{AllocError, Global};
 
@@ -32,7 +32,7 @@ impl Block {
 /// How many columns a block of a table may have, for a terminal of this width.
 pub fn columns_in(width: Option<u16>, len: usize) -> usize
     ensures columns { result ≡ columns_in width len }
-    ensures some { 0 < result }
+    ensures advances { 0 < result }
 {
     match width {
         Some(width) => usize::from(width.saturating_sub(LABEL_WIDTH) / CELL_WIDTH).max(1),

@@ -42,7 +42,7 @@ pub fn class_name(class: BidiClass) -> &'static str
 }
 
 /// Returns the name of a class, or a dash for none.
-pub fn option_name(class: Option<BidiClass>) -> &'static str
+fn option_name(class: Option<BidiClass>) -> &'static str
     ensures { result.now ≡ option_name class }
 {
     match class {

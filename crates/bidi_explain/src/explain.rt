@@ -1,13 +1,13 @@
 //! The stages of the paragraphs of a text.
 ghost use Rattle.std.specs.Prelude.{◌≡◌, ◌<◌, ◌++◌, length, vec_len, All, IfOk, OnOk, string_bytes};
-ghost use Rattle.bidi_explain.specs.Explained.{stages_text, IsTold, AreTold};
+ghost use Rattle.bidi_explain.specs.Explained.{stages_text, IsReported, AreReported};
 
 use crate::page::push_section;
+use crate::stages::{Stages, find_stages};
 use crate::table::push_table;
 use crate::view::{Form, StageView};
 use bidi_base::data_source::BidiDataSource;
-use bidi_controls::lines::{first_line_len, own_chars};
-use crate::stages::{Stages, find_stages};
+use bidi_controls::lines::{first_paragraph_len, own_chars};
 use std::alloc::{AllocError, Global};
 
 /// Appends the stages of a paragraph in this form, a table for a terminal of this width.
@@ -19,8 +19,8 @@ fn push_stages(
     chars: &[char],
     stages: &Stages,
 ) -> Result<(), AllocError>
-    requires classes { vec_len stages.now.classes ≡ length chars.now }
-    requires levels { vec_len stages.now.line_levels ≡ length chars.now }
+    requires classes_same_len { vec_len stages.now.classes ≡ length chars.now }
+    requires levels_same_len { vec_len stages.now.line_levels ≡ length chars.now }
     requires order { All (λ p. p < length chars.now) stages.now.order.items }
     requires places { vec_len stages.now.places ≡ length chars.now }
     ensures { OnOk result (string_bytes out.new ≡ string_bytes out.old ++ stages_text form width chars.now stages.now) }
@@ -39,7 +39,7 @@ fn push_paragraph<D: BidiDataSource>(
     view: StageView,
     paragraph: &[char],
 ) -> Result<(), AllocError>
-    ensures { OnOk result (IsTold (D.source data_source.now) view paragraph.now (string_bytes out.old) (string_bytes out.new)) }
+    ensures { OnOk result (IsReported (D.source data_source.now) view paragraph.now (string_bytes out.old) (string_bytes out.new)) }
 {
     let own = own_chars(data_source, paragraph);
     let stages = find_stages(alloc, data_source, view.base.level(), own)?;
@@ -48,7 +48,7 @@ fn push_paragraph<D: BidiDataSource>(
 }
 
 /// Of each line of a text, which is a paragraph by itself: its level, what each stage of the rules makes
-/// of its characters, and its isolating run sequences, as a table whose cells stand behind tabs, or as
+/// of its characters, and its isolating run sequences, as a table whose cells stand after tabs, or as
 /// a section of a page of HTML. A table is split into blocks of columns that fit the width of the view.
 pub fn explain<D: BidiDataSource>(
     alloc: Global,
@@ -56,12 +56,12 @@ pub fn explain<D: BidiDataSource>(
     view: StageView,
     chars: &[char],
 ) -> Result<String, AllocError>
-    ensures { IfOk result (λ out. AreTold (D.source data_source.now) view chars.now (string_bytes out)) }
+    ensures { IfOk result (λ out. AreReported (D.source data_source.now) view chars.now (string_bytes out)) }
 {
     let mut out = String::new(alloc);
     let mut rest = chars;
     while !rest.is_empty() {
-        let (line, after) = rest.split_at(first_line_len(data_source, rest));
+        let (line, after) = rest.split_at(first_paragraph_len(data_source, rest));
         push_paragraph(alloc, &mut out, data_source, view, line)?;
         rest = after;
     }

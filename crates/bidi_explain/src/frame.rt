@@ -1,6 +1,6 @@
-//! What stands around the sections of a page of HTML.
+//! What is around the sections of a page of HTML.
 
-/// What stands before the sections: the styles, the script that marks a character, and the legend.
+/// What is before the sections: the styles, the script that marks a character, and the legend.
 pub const HEAD: &str = r#"<!DOCTYPE html>
 <html lang="en" dir="ltr">
 <head>
@@ -69,5 +69,5 @@ thick edge on the side where its direction begins.</dd>
 </details>
 "#;
 
-/// What stands behind them.
+/// What is after them.
 pub const FOOT: &str = "</body>\n</html>\n";

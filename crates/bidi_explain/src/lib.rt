@@ -1,12 +1,14 @@
-//! What each stage of the rules makes of the characters of a text, as tables and as a page of HTML.
+//! The output of `bidi explain`: the result of each rule for the characters of a text, as tables or as a page of HTML.
+//!
+//! [`stages`] finds the results, [`cells`] writes each as a cell, and [`explain`] writes the tables or the page.
 #![tactic(auto)]
 
 mod blocks;
-pub mod cells;
+mod cells;
 pub mod explain;
 pub mod frame;
 mod page;
 mod rows;
-pub mod stages;
+mod stages;
 mod table;
 pub mod view;

@@ -4,20 +4,20 @@ ghost use Rattle.std.specs.List.{list_all, range_with_len};
 ghost use Rattle.bidi_explain.specs.Pages.{escaped, is_text_byte, level_attribute, box_start, box_text, box_at, boxes_row, shown_row, link, is_in_block, link_in, link_from, links_start, links_row, cell_element, row_element, summary_text, upper_part, lower_part, block_element, section_text};
 
 use crate::blocks::{Block, blocks};
+use crate::cells::push_glyph;
 use crate::rows::{Row, stage_rows};
+use crate::stages::Stages;
 use crate::table::{push_level, push_sequences};
 use bidi_base::char_data::BidiClass;
 use bidi_base::level::Level;
-use crate::cells::push_glyph;
 use bidi_plain::plain::PlainSequence;
-use crate::stages::Stages;
 use bidi_terminal::push_number;
 use std::alloc::{AllocError, Global};
 
 /// How many columns a block of a page may have.
 const PAGE_COLUMNS: usize = 30;
 
-/// Appends what stands for a character, between tags: what could begin or end one as its reference.
+/// Appends what is for a character, between tags: what could begin or end one as its reference.
 fn push_escaped(out: &mut String, class: BidiClass, c: char) -> Result<(), AllocError>
     ensures text { OnOk result (string_bytes out.new ≡ string_bytes out.old ++ escaped class c) }
     ensures harmless { list_all is_text_byte (escaped class c) ≡ true }
@@ -81,8 +81,8 @@ fn push_box_at(
     at: usize,
 ) -> Result<(), AllocError>
     requires within { at < length chars.now }
-    requires classes { vec_len stages.now.classes ≡ length chars.now }
-    requires levels { vec_len stages.now.line_levels ≡ length chars.now }
+    requires classes_same_len { vec_len stages.now.classes ≡ length chars.now }
+    requires levels_same_len { vec_len stages.now.line_levels ≡ length chars.now }
     ensures { OnOk result (string_bytes out.new ≡ string_bytes out.old ++ box_at tag.now chars.now stages.now at) }
 {
     let (level, class) = (stages.line_levels[at], stages.classes[at]);
@@ -98,8 +98,8 @@ fn push_boxes(
     stages: &Stages,
     indexes: &[usize],
 ) -> Result<(), AllocError>
-    requires classes { vec_len stages.now.classes ≡ length chars.now }
-    requires levels { vec_len stages.now.line_levels ≡ length chars.now }
+    requires classes_same_len { vec_len stages.now.classes ≡ length chars.now }
+    requires levels_same_len { vec_len stages.now.line_levels ≡ length chars.now }
     requires within { All (λ p. p < length chars.now) indexes.now }
     ensures { OnOk result (string_bytes out.new
         ≡ string_bytes out.old ++ flat_map (box_at tag.now chars.now stages.now) indexes.now) }
@@ -117,8 +117,8 @@ fn push_boxes_row(
     stages: &Stages,
     indexes: &[usize],
 ) -> Result<(), AllocError>
-    requires classes { vec_len stages.now.classes ≡ length chars.now }
-    requires levels { vec_len stages.now.line_levels ≡ length chars.now }
+    requires classes_same_len { vec_len stages.now.classes ≡ length chars.now }
+    requires levels_same_len { vec_len stages.now.line_levels ≡ length chars.now }
     requires within { All (λ p. p < length chars.now) indexes.now }
     ensures { OnOk result (string_bytes out.new ≡ string_bytes out.old ++ boxes_row chars.now stages.now indexes.now) }
 {
@@ -135,8 +135,8 @@ fn push_shown_row(
     stages: &Stages,
     indexes: &[usize],
 ) -> Result<(), AllocError>
-    requires classes { vec_len stages.now.classes ≡ length chars.now }
-    requires levels { vec_len stages.now.line_levels ≡ length chars.now }
+    requires classes_same_len { vec_len stages.now.classes ≡ length chars.now }
+    requires levels_same_len { vec_len stages.now.line_levels ≡ length chars.now }
     requires within { All (λ p. p < length chars.now) indexes.now }
     ensures { OnOk result (string_bytes out.new ≡ string_bytes out.old ++ shown_row chars.now stages.now indexes.now) }
 {
@@ -301,8 +301,8 @@ fn push_upper(
     indexes: &[usize],
     block: Block,
 ) -> Result<(), AllocError>
-    requires classes { vec_len stages.now.classes ≡ length chars.now }
-    requires levels { vec_len stages.now.line_levels ≡ length chars.now }
+    requires classes_same_len { vec_len stages.now.classes ≡ length chars.now }
+    requires levels_same_len { vec_len stages.now.line_levels ≡ length chars.now }
     requires within { All (λ p. p < length chars.now) indexes.now }
     ensures { OnOk result (string_bytes out.new
         ≡ string_bytes out.old ++ upper_part chars.now stages.now rows.now indexes.now block) }
@@ -322,8 +322,8 @@ fn push_lower(
     indexes: &[usize],
     block: Block,
 ) -> Result<(), AllocError>
-    requires classes { vec_len stages.now.classes ≡ length chars.now }
-    requires levels { vec_len stages.now.line_levels ≡ length chars.now }
+    requires classes_same_len { vec_len stages.now.classes ≡ length chars.now }
+    requires levels_same_len { vec_len stages.now.line_levels ≡ length chars.now }
     requires order { All (λ p. p < length chars.now) stages.now.order.items }
     requires places { vec_len stages.now.places ≡ length chars.now }
     requires within { All (λ p. p < length chars.now) indexes.now }
@@ -346,8 +346,8 @@ fn push_block(
     indexes: &[usize],
     block: Block,
 ) -> Result<(), AllocError>
-    requires classes { vec_len stages.now.classes ≡ length chars.now }
-    requires levels { vec_len stages.now.line_levels ≡ length chars.now }
+    requires classes_same_len { vec_len stages.now.classes ≡ length chars.now }
+    requires levels_same_len { vec_len stages.now.line_levels ≡ length chars.now }
     requires order { All (λ p. p < length chars.now) stages.now.order.items }
     requires places { vec_len stages.now.places ≡ length chars.now }
     requires within { All (λ p. p < length chars.now) indexes.now }
@@ -368,8 +368,8 @@ fn push_blocks(
     indexes: &[usize],
     blocks: &[Block],
 ) -> Result<(), AllocError>
-    requires classes { vec_len stages.now.classes ≡ length chars.now }
-    requires levels { vec_len stages.now.line_levels ≡ length chars.now }
+    requires classes_same_len { vec_len stages.now.classes ≡ length chars.now }
+    requires levels_same_len { vec_len stages.now.line_levels ≡ length chars.now }
     requires order { All (λ p. p < length chars.now) stages.now.order.items }
     requires places { vec_len stages.now.places ≡ length chars.now }
     requires within { All (λ p. p < length chars.now) indexes.now }
@@ -403,8 +403,8 @@ pub(crate) fn push_section(
     chars: &[char],
     stages: &Stages,
 ) -> Result<(), AllocError>
-    requires classes { vec_len stages.now.classes ≡ length chars.now }
-    requires levels { vec_len stages.now.line_levels ≡ length chars.now }
+    requires classes_same_len { vec_len stages.now.classes ≡ length chars.now }
+    requires levels_same_len { vec_len stages.now.line_levels ≡ length chars.now }
     requires order { All (λ p. p < length chars.now) stages.now.order.items }
     requires places { vec_len stages.now.places ≡ length chars.now }
     ensures { OnOk result (string_bytes out.new ≡ string_bytes out.old ++ section_text chars.now stages.now) }

@@ -1,21 +1,21 @@
 //! The results of the rules for a paragraph, stage by stage.
 ghost use Rattle.std.specs.Prelude.{◌≡◌, ◌<◌, ◌≤◌, None, map, length, vec_len, zip, All, IfOk, IfSome};
 ghost use Rattle.bidi_base.specs.Isolates.{stored_classes};
-ghost use Rattle.bidi_base.specs.Places.{at_places, first_or};
+ghost use Rattle.bidi_base.specs.Indexes.{at_indexes, first_or};
 ghost use Rattle.bidi_base.specs.declared.char_data.BidiClass.TheVariants.{L};
 ghost use Rattle.bidi_base.specs.Sequences.{level_at};
 ghost use Rattle.bidi_explain.specs.Stages.{weak_in, neutral_in, written, row_of, CanResolveIn, HasOneEach, StagesFrom, AreStages};
-ghost use Rattle.unicode_bidi.specs.ParagraphInfo.{levels_of};
 
 use bidi_base::char_data::BidiClass;
 use bidi_base::data_source::{BidiDataSource, BidiMatchedOpeningBracket};
-use bidi_base::level::{LTR_LEVEL, Level};
+use bidi_base::level::Level;
+use bidi_controls::displayed::first_level;
 use bidi_lines::line_levels::levels_of_line;
 use bidi_lines::visual_order::{inverse, reorder_visual};
 use bidi_plain::plain::{self, Explicit, PlainSequence};
 use bidi_text::text::CharsText;
 use std::alloc::{AllocError, Global};
-use unicode_bidi::{ParagraphInfo, engine};
+use unicode_bidi::engine;
 
 /// The result of each stage of the rules for a paragraph.
 ///
@@ -38,9 +38,9 @@ pub struct Stages {
     pub levels: Vec<Level>,
     /// The levels after L1, if the paragraph is one line.
     pub line_levels: Vec<Level>,
-    /// The visual order: for each visual place, the index of the character there (L2).
+    /// The visual order: for each visual index, the index of the character there (L2).
     pub order: Vec<usize>,
-    /// The visual place of each character.
+    /// The visual index of each character.
     pub places: Vec<usize>,
 }
 
@@ -51,7 +51,7 @@ fn classes_at(
     places: &[usize],
 ) -> Result<Vec<BidiClass>, AllocError>
     requires { All (λ p. p < length classes.now) places.now }
-    ensures { IfOk result (λ v. v.items ≡ at_places L classes.now places.now) }
+    ensures { IfOk result (λ v. v.items ≡ at_indexes L classes.now places.now) }
 {
     let mut found = Vec::with_capacity(alloc, places.len())?;
     for place in places {
@@ -67,7 +67,7 @@ fn brackets_at(
     places: &[usize],
 ) -> Result<Vec<Option<BidiMatchedOpeningBracket>>, AllocError>
     requires { All (λ p. p < length brackets.now) places.now }
-    ensures { IfOk result (λ v. v.items ≡ at_places None brackets.now places.now) }
+    ensures { IfOk result (λ v. v.items ≡ at_indexes None brackets.now places.now) }
 {
     let mut found = Vec::with_capacity(alloc, places.len())?;
     for place in places {
@@ -93,7 +93,7 @@ fn weak_of(
 ) -> Result<Vec<BidiClass>, AllocError>
     requires { CanResolveIn paragraph sequence.now }
     ensures classes { IfOk result (λ v. v.items ≡ weak_in paragraph.entry.classes.now sequence.now) }
-    ensures long { IfOk result (λ v. HasOneEach sequence.now v.items) }
+    ensures same_len { IfOk result (λ v. HasOneEach sequence.now v.items) }
 {
     let classes = classes_at(alloc, paragraph.classes, sequence.places())?;
     let weak = plain::weak(alloc, sequence.sos(), classes.as_slice())?;
@@ -121,7 +121,7 @@ fn neutral_of(
     ensures classes { IfOk result (λ v. v.items
         ≡ neutral_in paragraph.entry.source.now paragraph.entry.brackets.now paragraph.entry.levels.now
         paragraph.entry.classes.now sequence.now) }
-    ensures long { IfOk result (λ v. HasOneEach sequence.now v.items) }
+    ensures same_len { IfOk result (λ v. HasOneEach sequence.now v.items) }
 {
     let places = sequence.places();
     let source = classes_at(alloc, paragraph.source, places)?;
@@ -143,7 +143,7 @@ fn neutral_of(
 /// Writes the classes of a sequence's characters to their places.
 fn write_row(row: &mut Vec<Option<BidiClass>>, places: &[usize], values: &[BidiClass])
     requires within { All (λ p. p < vec_len row.old) places.now }
-    requires long { length values.now ≡ length places.now }
+    requires same_len { length values.now ≡ length places.now }
     ensures { row.new.items ≡ written row.old.items (zip places.now values.now) }
 {
     for (at, place) in places.iter().enumerate() {
@@ -187,16 +187,6 @@ fn resolve(
     })
 }
 
-/// Returns the level of the first paragraph.
-fn first_level(paragraphs: &[ParagraphInfo]) -> Level
-    ensures { result ≡ first_or 0 (levels_of paragraphs.now) }
-{
-    match paragraphs {
-        [first, ..] => first.level(),
-        [] => LTR_LEVEL,
-    }
-}
-
 /// Returns the classes of characters.
 fn classes_of<D: BidiDataSource>(
     alloc: Global,
@@ -237,7 +227,7 @@ fn stages_of<D: BidiDataSource>(
 ) -> Result<Stages, AllocError>
     requires low { level ≤ 125 }
     requires stored { stored.now ≡ stored_classes (map (D.source data_source.now).class_of chars.now) }
-    requires levels { length levels.now ≡ length chars.now }
+    requires same_len { length levels.now ≡ length chars.now }
     ensures { IfOk result (StagesFrom (D.source data_source.now) chars.now level levels.now) }
 {
     let classes = classes_of(alloc, data_source, chars)?;
@@ -274,13 +264,13 @@ fn stages_of<D: BidiDataSource>(
 pub fn find_stages<D: BidiDataSource>(
     alloc: Global,
     data_source: &D,
-    base: Option<Level>,
+    base_level: Option<Level>,
     chars: &[char],
 ) -> Result<Stages, AllocError>
-    requires { IfSome base (λ level. level ≤ 125) }
-    ensures { IfOk result (AreStages (D.source data_source.now) base chars.now) }
+    requires { IfSome base_level (λ level. level ≤ 125) }
+    ensures { IfOk result (AreStages (D.source data_source.now) base_level chars.now) }
 {
-    let analysis = engine::analyse(alloc, data_source, CharsText::new(chars), base, false)?;
+    let analysis = engine::analyse(alloc, data_source, CharsText::new(chars), base_level, false)?;
     let level = first_level(analysis.paragraphs());
     stages_of(
         alloc,

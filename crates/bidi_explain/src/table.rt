@@ -3,15 +3,15 @@ ghost use Rattle.std.specs.Prelude.{◌≡◌, ◌++◌, flat_map, map, length, 
 ghost use Rattle.bidi_explain.specs.Tables.{cell_text, row_text, gap_text, block_text, ends_text, sequence_line, sequence_text, level_text, blocks_text, table_text};
 
 use crate::blocks::{Block, blocks, columns_in};
-use crate::rows::{Row, rows};
-use bidi_base::char_data::BidiClass;
 use crate::cells::class_name;
-use bidi_plain::plain::PlainSequence;
+use crate::rows::{Row, rows};
 use crate::stages::Stages;
+use bidi_base::char_data::BidiClass;
+use bidi_plain::plain::PlainSequence;
 use bidi_terminal::push_number;
 use std::alloc::{AllocError, Global};
 
-/// Appends cells, each behind a tab.
+/// Appends cells, each after a tab.
 fn push_cells(out: &mut String, cells: &[String]) -> Result<(), AllocError>
     ensures { OnOk result (string_bytes out.new ≡ string_bytes out.old ++ flat_map cell_text (map string_bytes cells.now)) }
 {
@@ -22,7 +22,7 @@ fn push_cells(out: &mut String, cells: &[String]) -> Result<(), AllocError>
     Ok(())
 }
 
-/// Appends a label, and the cells of a block. They stand behind tabs.
+/// Appends a label, and the cells of a block. They stand after tabs.
 fn push_labelled(
     out: &mut String,
     label: &str,
@@ -46,7 +46,7 @@ fn push_row(out: &mut String, row: &Row, block: Block) -> Result<(), AllocError>
     Ok(())
 }
 
-/// Appends indexes, each behind a space.
+/// Appends indexes, each after a space.
 fn push_places(out: &mut String, places: &[usize]) -> Result<(), AllocError>
     ensures { OnOk result (string_bytes out.new ≡ string_bytes out.old ++ flat_map (λ p. codes " " ++ decimal p) places.now) }
 {

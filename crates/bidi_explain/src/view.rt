@@ -1,4 +1,4 @@
-//! How stages are told.
+//! How stages are reported.
 use bidi_terminal::Base;
 
 /// In which form the stages of a text are written.
@@ -10,7 +10,7 @@ pub enum Form {
     Page,
 }
 
-/// How the stages of the lines of a text are told.
+/// How the stages of the lines of a text are reported.
 #[derive(Clone, Copy, Debug, PartialEq)]
 pub struct StageView {
     /// The base level of each line.

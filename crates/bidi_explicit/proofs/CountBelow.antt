@@ -1,10 +1,9 @@
 -- How many units of some ranges lie below a unit.
 use Rattle.bidi_base.proofs.Common.{◌≡◌, ℕ, ◌+◌, ◌-◌, ◌<◌, ◌≤◌, min, List, [], ◌∷◌, length, true, get_or, take, drop, refl, sym, arith}
-use Rattle.bidi_base.proofs.Common.{common_steps, length-range_with_len, sum_by-cons, sum_by-append, between, are_ordered_from, take_more}
+use Rattle.bidi_base.proofs.Common.{length-range_with_len, sum_by-cons, sum_by-append, between, are_ordered_from, take_more}
 use Rattle.std.proofs.lemmas.List.Sums.{sum_by-take-drop}
-use Rattle.bidi_explicit.specs.Written.{count_below}
+use Rattle.bidi_explicit.specs.SequenceUnits.{count_below}
 use Rattle.bidi_explicit.proofs.WalkLemmas.{are_ordered-front}
-use Rattle.bidi_explicit.proofs.InRuns.{run_some, start_after}
 
 pub length-between : (low high : ℕ) → length (between low high) ≡ high - low
 length-between low high = length-range_with_len low (high - low)
@@ -33,7 +32,3 @@ pub count_below-more : (index : ℕ) (runs : List (ℕ × ℕ)) (u : ℕ) → in
 unfolding count_below
 count_below-more index runs u fits =
     grind (arith, take_more runs index (0, 0) fits, sum_by-append (λ (r : ℕ × ℕ). min r.1 u - min r.0 u), sum_by-cons (λ (r : ℕ × ℕ). min r.1 u - min r.0 u))
-
--- the ranges end one behind another
-pub ends_ascend : (low index : ℕ) (runs : List (ℕ × ℕ)) → are_ordered_from low runs ≡ true → index < length runs → (get_or runs 0 (0, 0)).1 ≤ (get_or runs index (0, 0)).1
-ends_ascend low index runs h fits = grind (arith, common_steps, are_ordered-front, run_some, start_after)

@@ -26,7 +26,7 @@ pub in_runs-below : (low : ℕ) (runs : List (ℕ × ℕ)) (k : ℕ) → are_ord
 in_runs-below low [] k h below = refl
 in_runs-below low (r ∷ runs) k h below = grind (arith, are_ordered-front low r runs h, in_run-below r k, in_runs-below r.1 runs k)
 
--- the ranges in order begin one behind another
+-- the ranges in order begin one after another
 pub start_after : (end index : ℕ) (runs : List (ℕ × ℕ)) → are_ordered_from end runs ≡ true → index < length runs → end ≤ (get_or runs index (0, 0)).0
 start_after end index [] h fits = absurd (omega arith)
 start_after end zero (r ∷ runs) h fits = (are_ordered-front end r runs h).from
@@ -53,7 +53,7 @@ in_runs-more index runs k fits = list_any_more (λ (r : ℕ × ℕ). in_run r k)
 pub in_runs-at : (index : ℕ) (runs : List (ℕ × ℕ)) (k : ℕ) → index < length runs → (get_or runs index (0, 0)).0 ≤ k → k < (get_or runs index (0, 0)).1 → in_runs runs k ≡ true
 in_runs-at index runs k fits from below = grind (arith, list_any_at) steps 400000
 
--- the ranges in order, one behind another
+-- the ranges in order, one after another
 pub run_some : (low index : ℕ) (runs : List (ℕ × ℕ)) → are_ordered_from low runs ≡ true → index < length runs → (get_or runs index (0, 0)).0 < (get_or runs index (0, 0)).1
 run_some low index [] h fits = absurd (omega arith)
 run_some low zero (r ∷ runs) h fits = (are_ordered-front low r runs h).not_empty

@@ -1,10 +1,11 @@
 -- The level runs that cover a paragraph, one by one: as ranges of characters, and of units.
 use Rattle.bidi_base.proofs.Common.{◌≡◌, ℕ, zero, suc, ◌+◌, ◌-◌, ◌<◌, ◌≤◌, true, false, List, [], ◌∷◌, ◌++◌, length, map, get_or, refl, sym, ap, arith, ◌⊎◌}
 use Rattle.bidi_base.proofs.Common.{length-append, rules, filter, range_with_len, cases_Bool, map-append, get_or-map, length-map, indexes}
-use Rattle.bidi_base.proofs.Common.{is_kept_at, begins_run, run_starts, place, text_len, ranges_between, level_run_ranges, chars_in_runs, kept_in_runs}
+use Rattle.bidi_base.proofs.Common.{is_kept_at, begins_run, run_starts, ranges_between, chars_in_runs}
+use Rattle.bidi_base.proofs.TextUnitIndexes.{unit_index-end, char_index-unit_index}
+use Rattle.bidi_base.specs.Units as in_units
+use Rattle.bidi_base.specs.Texts.{Encoding, Text, unit_index, text_len, level_run_ranges, kept_in_runs}
 use Rattle.bidi_base.specs.declared.char_data.BidiClass.{BidiClass}
-use Rattle.bidi_base.proofs.TextLemmas.{HasUnits}
-use Rattle.bidi_base.proofs.PlaceLemmas.{place-end, char_index-place}
 use Rattle.bidi_laws.proofs.SuccessorLemmas.{kept_before-is_None}
 use Rattle.bidi_laws.proofs.RunsLemmas.{IsLevelRun}
 
@@ -61,30 +62,30 @@ IsLevelRun-at [] levels k within = absurd (omega arith)
 IsLevelRun-at (c ∷ classes) levels k within = level_run_at (c ∷ classes) levels 0 _ k (AreLevelRuns-begins (c ∷ classes) levels (omega arith)) within
 
 -- the kept characters of one range of units
-pub kept_in_run : (len_of : ℕ → ℕ) → HasUnits len_of → (chars : List ℕ) (classes : List BidiClass) (a b : ℕ) → a ≤ length chars → b ≤ length chars
-    → kept_in_runs len_of chars classes ((place len_of chars a, place len_of chars b) ∷ []) ≡ filter (is_kept_at classes) (range_with_len a (b - a))
-unfolding kept_in_runs chars_in_runs
-kept_in_run len_of h chars classes a b first second = search (rules, char_index-place)
+pub kept_in_run : {encoding : Encoding} (text : Text encoding) (classes : List BidiClass) (a b : ℕ) → a ≤ length text.chars → b ≤ length text.chars
+    → kept_in_runs text classes ((unit_index text a, unit_index text b) ∷ []) ≡ filter (is_kept_at classes) (range_with_len a (b - a))
+unfolding in_units.kept_in_runs in_units.chars_in_runs
+kept_in_run text classes a b first second = search (rules, char_index-unit_index)
 
 -- the k-th level run as a range of units
-pub level_run_ranges-at : (len_of : ℕ → ℕ) (chars : List ℕ) (classes : List BidiClass) (levels : List ℕ) (k : ℕ) (d : ℕ × ℕ) → length classes ≡ length chars → k < length (run_starts classes levels)
-    → get_or (level_run_ranges len_of chars classes levels) k d
-    ≡ (place len_of chars (get_or (run_starts classes levels ++ length classes ∷ []) k 0), place len_of chars (get_or (run_starts classes levels ++ length classes ∷ []) (suc k) 0))
-unfolding level_run_ranges
-level_run_ranges-at len_of chars classes levels k d long within =
+pub level_run_ranges-at : {encoding : Encoding} (text : Text encoding) (classes : List BidiClass) (levels : List ℕ) (k : ℕ) (d : ℕ × ℕ) → length classes ≡ length text.chars → k < length (run_starts classes levels)
+    → get_or (level_run_ranges text classes levels) k d
+    ≡ (unit_index text (get_or (run_starts classes levels ++ length classes ∷ []) k 0), unit_index text (get_or (run_starts classes levels ++ length classes ∷ []) (suc k) 0))
+unfolding in_units.level_run_ranges
+level_run_ranges-at text classes levels k d long within =
     let starts : List ℕ = run_starts classes levels in
     let n : ℕ = length classes in
-    let last : text_len len_of chars ≡ place len_of chars n = sym (place-end len_of chars n (omega arith)) in
+    let last : text_len text ≡ unit_index text n = sym (unit_index-end text n (omega arith)) in
     let both : length (starts ++ n ∷ []) ≡ length starts + 1 = length-append starts (n ∷ []) in
     grind (
       arith,
-      ranges_between-at (map (place len_of chars) starts) (text_len len_of chars) k d,
+      ranges_between-at (map (unit_index text) starts) (text_len text) k d,
       length-map,
-      map-append (place len_of chars) starts (n ∷ []),
-      get_or-map (place len_of chars) (starts ++ n ∷ []),
+      map-append (unit_index text) starts (n ∷ []),
+      get_or-map (unit_index text) (starts ++ n ∷ []),
     )
 
-pub length-level_run_ranges : (len_of : ℕ → ℕ) (chars : List ℕ) (classes : List BidiClass) (levels : List ℕ)
-    → length (level_run_ranges len_of chars classes levels) ≡ length (run_starts classes levels)
-unfolding level_run_ranges
-length-level_run_ranges len_of chars classes levels = grind (arith, length-ranges_between, length-map)
+pub length-level_run_ranges : {encoding : Encoding} (text : Text encoding) (classes : List BidiClass) (levels : List ℕ)
+    → length (level_run_ranges text classes levels) ≡ length (run_starts classes levels)
+unfolding in_units.level_run_ranges
+length-level_run_ranges text classes levels = grind (arith, length-ranges_between, length-map)

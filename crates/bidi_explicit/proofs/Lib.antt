@@ -1,28 +1,28 @@
 pub mod CharEnds
 pub mod CountBelow
-pub mod CountLemmas
-pub mod ExplicitStretches
+mod CountLemmas
+mod ExplicitStretches
 pub mod ExplicitUnits
 pub mod InRuns
-pub mod JoinedSequences
-pub mod KeptRangeLemmas
-pub mod LevelRunLemmas
-pub mod LinkChains
-pub mod LinkPass
+mod JoinedSequences
+mod KeptRangeLemmas
+mod LevelRunLemmas
+mod LinkChains
+mod LinkPass
 pub mod LinkedSequences
 pub mod Marks
-pub mod OpenIsolates
+mod OpenIsolates
 pub mod PassOverText
-pub mod RunCutting
-pub mod RunGather
-pub mod RunJoining
-pub mod RunLoop
-pub mod RunMembers
+mod RunCutting
+mod RunGather
+mod RunJoining
+mod RunLoop
+mod RunMembers
 pub mod RunOf
-pub mod RunReading
-pub mod RunRemoved
-pub mod RunUnits
+mod RunReading
+mod RunRemoved
+mod RunUnits
 pub mod SeenUnits
-pub mod StackLemmas
+mod StackLemmas
 pub mod WalkLemmas
 pub mod WrittenOver

@@ -2,26 +2,28 @@
 use Rattle.bidi_base.proofs.Common.{◌≡◌, ℕ, zero, suc, ◌+◌, ◌<◌, ◌≤◌, Bool, true, false, not, cond, List, [], ◌∷◌, ◌++◌, length, map, get_or, Option, Some, None, is_some, unwrap_or, refl, sym, ap}
 use Rattle.bidi_base.proofs.Common.{subst, ◌∙◌, arith, add-one, append-nil, inl, inr, filter, filter-append, range_with_len, cases_Bool, both_ways, lt-ltb, le-leb, list_any, flat_map-map, All}
 use Rattle.bidi_base.proofs.Common.{All-nil, All-cons, map-append, IsPermutation, length-map, indexes, is_l_or_r, last_or, holds_number, chain, is_kept_at, kept_before, next_kept, have_one_level}
-use Rattle.bidi_base.proofs.Common.{successor, is_first, start_class, end_class, sequence_from, sequences, has_places, place, IsLine, AreLines, are_ordered_from, are_ordered, level_run_ranges}
-use Rattle.bidi_base.proofs.Common.{chars_in_runs, kept_in_runs, flat_map, IsPermutation-map, is_run_sequence}
+use Rattle.bidi_base.proofs.Common.{successor, is_first, start_class, end_class, sequence_from, sequences, has_places, are_ordered_from, are_ordered}
+use Rattle.bidi_base.proofs.Common.{chars_in_runs, flat_map, IsPermutation-map, is_run_sequence}
+use Rattle.bidi_base.proofs.TextUnitIndexes.{unit_index-lt, unit_index-mono, IsLine-unit_indexes}
+use Rattle.bidi_base.specs.Units as in_units
+use Rattle.bidi_base.specs.Texts.{Encoding, Text, unit_index, IsLine, AreLines, level_run_ranges, kept_in_runs}
 use Rattle.bidi_base.specs.declared.char_data.BidiClass.{BidiClass}
 use Rattle.bidi_base.specs.declared.char_data.BidiClass.TheVariants.{L}
 use Rattle.bidi_base.proofs.ChainLemmas.{IsLinked, IsPermutation-chains, IsMaximal-chain, Follows, Follows-chain, Follows-join}
 use Rattle.bidi_base.proofs.ChainLemmas.{holds_number-from, holds_number-true, filter_range-agree, none_in_range, fails_in_range}
 use Rattle.bidi_base.proofs.Lists.{cases_Option}
-use Rattle.bidi_base.proofs.PlaceLemmas.{place-lt, place-mono, IsLine-places}
-use Rattle.bidi_base.proofs.TextLemmas.{HasUnits}
 use Rattle.bidi_laws.proofs.PassLemmas.{AreSuccessors}
 use Rattle.bidi_laws.proofs.RunsLemmas.{AreRunSteps-successors}
 use Rattle.bidi_laws.proofs.SequencesLemmas.{IsLinked-successor, is_first-none, is_first-from_none, is_first-successor}
 use Rattle.bidi_laws.proofs.SuccessorLemmas.{successor-IsLaterKept, successor-cases, successor-injective, have_one_level-from, kept_before-next}
-use Rattle.bidi_explicit.specs.Joining.{JoinedRuns, characters_of}
-use Rattle.bidi_explicit.specs.Links.{next_run, sides_at, run_chain, begins, sequence_at, linked_sequences, sequences_of, AreLinked}
+use Rattle.bidi_explicit.specs.InText.{characters_of, sequences_of}
+use Rattle.bidi_explicit.specs.Joining.{JoinedRuns}
+use Rattle.bidi_explicit.specs.Links.{next_run, sides_at, run_chain, begins, sequence_at, linked_sequences, AreLinked}
 use Rattle.bidi_explicit.specs.declared.prepare.links.RunLinks.{RunLinks}
 use Rattle.bidi_explicit.specs.declared.prepare.links.RunSides.{RunSides}
 use Rattle.bidi_explicit.proofs.LevelRunLemmas.{kept_in_run, level_run_ranges-at, length-level_run_ranges}
 use Rattle.bidi_explicit.proofs.LinkPass.{AreLinks, AreSides}
-use Rattle.bidi_explicit.proofs.RunMembers.{count, cut, members, head, back, level_run, IsWhole, below_cut, same_run, begun_in, ended_in, kept_places-members}
+use Rattle.bidi_explicit.proofs.RunMembers.{count, cut, members, head, back, level_run, IsWhole, below_cut, same_run, begun_in, ended_in, kept_indexes-members}
 
 last_or-append : (d x : ℕ) (xs ys : List ℕ) → last_or d (xs ++ x ∷ ys) ≡ last_or x ys
 last_or-append d x [] ys = refl
@@ -39,7 +41,7 @@ map-range-suc : {X : Type 0} (f : ℕ → X) (low n : ℕ) → map f (range_with
 map-range-suc f low zero = refl
 map-range-suc {X = X} f low (suc n) = simp (add-one low) (ap {B = List X} (λ ys. f (suc low) ∷ ys) (rw (← add-one low) (map-range-suc f (low + 1) n)))
 
--- a list is what stands at its indexes
+-- a list is what is at its indexes
 map-indexes : {X : Type 0} (xs : List X) (d : X) → map (λ k. get_or xs k d) (indexes xs) ≡ xs
 map-indexes [] d = refl
 map-indexes {X = X} (x ∷ xs) d = ap {B = List X} (λ ys. x ∷ ys) (map-range-suc (λ k. get_or (x ∷ xs) k d) 0 (length xs) ∙ map-indexes xs d)
@@ -210,11 +212,10 @@ module _ (classes : List BidiClass) (levels : List ℕ) (links : RunLinks) (whol
 
   -- ---- the sequences, of runs as ranges of units
 
-  module _ (paragraph : ℕ) (sides : AreSides classes levels paragraph (count classes levels) links.sides.items) (len_of : ℕ → ℕ)
-      (h : HasUnits len_of) (chars : List ℕ) (long : length classes ≡ length chars)
-      (runs : List (ℕ × ℕ)) (runs_are : runs ≡ level_run_ranges len_of chars classes levels) where
+  module _ (para_level : ℕ) (sides : AreSides classes levels para_level (count classes levels) links.sides.items) {encoding : Encoding} (text : Text encoding) (long : length classes ≡ length text.chars)
+      (runs : List (ℕ × ℕ)) (runs_are : runs ≡ level_run_ranges text classes levels) where
     all_runs : length runs ≡ n
-    all_runs = ap length runs_are ∙ length-level_run_ranges len_of chars classes levels
+    all_runs = ap length runs_are ∙ length-level_run_ranges text classes levels
 
     abbrev run_at : ℕ → ℕ × ℕ
     run_at k = get_or runs k (0, 0)
@@ -222,87 +223,83 @@ module _ (classes : List BidiClass) (levels : List ℕ) (links : RunLinks) (whol
     abbrev start_of : ℕ → ℕ
     start_of k = cut classes levels k
 
-    run_is : (k : ℕ) → k < n → get_or runs k (0, 0) ≡ (place len_of chars (cut classes levels k), place len_of chars (cut classes levels (k + 1)))
-    run_is k within = rw (runs_are, add-one k) (level_run_ranges-at len_of chars classes levels k (0, 0) long within)
+    run_is : (k : ℕ) → k < n → get_or runs k (0, 0) ≡ (unit_index text (cut classes levels k), unit_index text (cut classes levels (k + 1)))
+    run_is k within = rw (runs_are, add-one k) (level_run_ranges-at text classes levels k (0, 0) long within)
 
-    kept_in_runs-first : (r : ℕ × ℕ) (rs : List (ℕ × ℕ)) → kept_in_runs len_of chars classes (r ∷ rs) ≡ kept_in_runs len_of chars classes (r ∷ []) ++ kept_in_runs len_of chars classes rs
-    unfolding kept_in_runs chars_in_runs
+    kept_in_runs-first : (r : ℕ × ℕ) (rs : List (ℕ × ℕ)) → kept_in_runs text classes (r ∷ rs) ≡ kept_in_runs text classes (r ∷ []) ++ kept_in_runs text classes rs
+    unfolding in_units.kept_in_runs in_units.chars_in_runs
     kept_in_runs-first r rs = simp (filter-append, append-nil)
 
-    kept_at : (k : ℕ) → k < n → kept_in_runs len_of chars classes (get_or runs k (0, 0) ∷ []) ≡ members classes levels k
+    kept_at : (k : ℕ) → k < n → kept_in_runs text classes (get_or runs k (0, 0) ∷ []) ≡ members classes levels k
     kept_at k within =
         let run = level_run classes levels k within in
-        ap (λ r. kept_in_runs len_of chars classes (r ∷ [])) (run_is k within)
-        ∙ kept_in_run len_of h chars classes (start_of k) (start_of (k + 1)) (omega (arith, run.not_empty, run.within, long)) (omega (arith, run.within, long))
-
-    kept_in_none : kept_in_runs len_of chars classes [] ≡ []
-    unfolding kept_in_runs chars_in_runs
-    kept_in_none = refl
+        ap (λ r. kept_in_runs text classes (r ∷ [])) (run_is k within)
+        ∙ kept_in_run text classes (start_of k) (start_of (k + 1)) (omega (arith, run.not_empty, run.within, long)) (omega (arith, run.within, long))
 
     -- the characters of the runs of a chain
-    kept_along : (r : ℕ) (rs : List ℕ) → r < n → FollowRuns (r ∷ rs) → kept_in_runs len_of chars classes (map (λ k. get_or runs k (0, 0)) (r ∷ rs)) ≡ flat_map (members classes levels) (r ∷ rs)
+    kept_along : (r : ℕ) (rs : List ℕ) → r < n → FollowRuns (r ∷ rs) → kept_in_runs text classes (map (λ k. get_or runs k (0, 0)) (r ∷ rs)) ≡ flat_map (members classes levels) (r ∷ rs)
     kept_along r [] within steps = kept_at r within ∙ sym (append-nil (members classes levels r))
     kept_along r (q ∷ rs) within steps =
         kept_in_runs-first (run_at r) (map (λ k. get_or runs k (0, 0)) (q ∷ rs))
-        ∙ ap {B = List ℕ} (λ xs. xs ++ kept_in_runs len_of chars classes (map (λ k. get_or runs k (0, 0)) (q ∷ rs))) (kept_at r within)
+        ∙ ap {B = List ℕ} (λ xs. xs ++ kept_in_runs text classes (map (λ k. get_or runs k (0, 0)) (q ∷ rs))) (kept_at r within)
         ∙ ap {B = List ℕ} (λ ys. members classes levels r ++ ys) (kept_along q rs (are.to r q steps.0).within steps.1)
 
     begins_is : (r : ℕ) → r < n → begins links r ≡ is_first classes levels (head classes levels r)
     begins_is r within = ap (λ (s : RunSides). is_some s.sos) (sides.is r within) ∙ either (is_first classes levels (first_of r))
       where
-        either : (b : Bool) → is_some (cond b (Some (start_class paragraph classes levels (first_of r))) None) ≡ b
+        either : (b : Bool) → is_some (cond b (Some (start_class para_level classes levels (first_of r))) None) ≡ b
         either true = refl
         either false = refl
 
-    sos_is : (r : ℕ) → r < n → is_first classes levels (head classes levels r) ≡ true → (sequence_at links runs r).sos ≡ start_class paragraph classes levels (head classes levels r)
+    sos_is : (r : ℕ) → r < n → is_first classes levels (head classes levels r) ≡ true → (sequence_at links runs r).sos ≡ start_class para_level classes levels (head classes levels r)
     sos_is r within first = ap (λ (s : RunSides). unwrap_or s.sos L) (sides.is r within) ∙ simp first
 
-    eos_is : (r : ℕ) → r < n → (s : IsSequence r) → (sequence_at links runs r).eos ≡ end_class paragraph classes levels (back classes levels (last_or r s.rs))
+    eos_is : (r : ℕ) → r < n → (s : IsSequence r) → (sequence_at links runs r).eos ≡ end_class para_level classes levels (back classes levels (last_or r s.rs))
     eos_is r within s =
         ap (λ ks. (sides_at links.sides.items (last_or r ks)).eos) s.runs
         ∙ ap (λ (x : RunSides). x.eos) (sides.is (last_or r s.rs) (last_below r s.rs within s.follows))
 
     sequence_is : (r : ℕ) → r < n → is_first classes levels (head classes levels r) ≡ true
-        → characters_of len_of chars classes (sequence_at links runs r) ≡ sequence_from paragraph classes levels (head classes levels r)
+        → characters_of text classes (sequence_at links runs r) ≡ sequence_from para_level classes levels (head classes levels r)
     unfolding sequence_from
     sequence_is r within first = λ i. record { places = places_are i; sos = sos_is r within first i; eos = eos_are i }
       where
         s : IsSequence r
         s = sequence_of r within
 
-        places_are : kept_in_runs len_of chars classes (map (λ k. get_or runs k (0, 0)) (run_chain links r)) ≡ chain (successor classes levels) (length classes) (Some (head classes levels r))
+        places_are : kept_in_runs text classes (map (λ k. get_or runs k (0, 0)) (run_chain links r)) ≡ chain (successor classes levels) (length classes) (Some (head classes levels r))
         places_are =
-            ap (λ ks. kept_in_runs len_of chars classes (map (λ k. get_or runs k (0, 0)) ks)) s.runs ∙ kept_along r s.rs within s.follows ∙ s.members_are ∙ sym s.places
+            ap (λ ks. kept_in_runs text classes (map (λ k. get_or runs k (0, 0)) ks)) s.runs ∙ kept_along r s.rs within s.follows ∙ s.members_are ∙ sym s.places
 
-        eos_are : (sequence_at links runs r).eos ≡ end_class paragraph classes levels (last_or (head classes levels r) (chain (successor classes levels) (length classes) (Some (head classes levels r))))
+        eos_are : (sequence_at links runs r).eos ≡ end_class para_level classes levels (last_or (head classes levels r) (chain (successor classes levels) (length classes) (Some (head classes levels r))))
         eos_are =
-            eos_is r within s ∙ ap (end_class paragraph classes levels) (sym (ap (last_or (first_of r)) s.places ∙ s.final))
+            eos_is r within s ∙ ap (end_class para_level classes levels) (sym (ap (last_or (first_of r)) s.places ∙ s.final))
 
-    has_members : (r : ℕ) → r < n → has_places (sequence_from paragraph classes levels (head classes levels r)) ≡ true
+    has_members : (r : ℕ) → r < n → has_places (sequence_from para_level classes levels (head classes levels r)) ≡ true
     unfolding sequence_from
     has_members r within = let s = sequence_of r within in lt-ltb 0 _ (omega (arith, ap length s.places))
 
     sequences_from : (low m : ℕ) → low + m ≤ n
-        → filter has_places (map (characters_of len_of chars classes) (map (sequence_at links runs) (filter (begins links) (range_with_len low m))))
-        ≡ map (sequence_from paragraph classes levels) (map (head classes levels) (filter (λ k. is_first classes levels (head classes levels k)) (range_with_len low m)))
+        → filter has_places (map (characters_of text classes) (map (sequence_at links runs) (filter (begins links) (range_with_len low m))))
+        ≡ map (sequence_from para_level classes levels) (map (head classes levels) (filter (λ k. is_first classes levels (head classes levels k)) (range_with_len low m)))
     sequences_from low zero fits = refl
     sequences_from low (suc m) fits = elim (cases_Bool (is_first classes levels (first_of low))) [
       | inl first ↦
           let here : begins links low ≡ true = begins_is low (omega arith) ∙ first in
           let is = sequence_is low (omega arith) first in
-          let full : has_places (characters_of len_of chars classes (sequence_at links runs low)) ≡ true = ap has_places is ∙ has_members low (omega arith) in
+          let full : has_places (characters_of text classes (sequence_at links runs low)) ≡ true = ap has_places is ∙ has_members low (omega arith) in
           simp (here, first, full, is, sequences_from (low + 1) m (omega arith))
       | inr later ↦
           let here : begins links low ≡ false = begins_is low (omega arith) ∙ later in
           simp (here, later, sequences_from (low + 1) m (omega arith))
     ]
 
-    pub linked-sequences : sequences_of len_of chars classes (linked_sequences links runs) ≡ sequences paragraph classes levels
+    pub linked-sequences : sequences_of text classes (linked_sequences links runs) ≡ sequences para_level classes levels
     unfolding linked_sequences sequences
     linked-sequences =
-        ap (λ k. filter has_places (map (characters_of len_of chars classes) (map (sequence_at links runs) (filter (begins links) (range_with_len 0 k))))) all_runs
+        ap (λ k. filter has_places (map (characters_of text classes) (map (sequence_at links runs) (filter (begins links) (range_with_len 0 k))))) all_runs
         ∙ sequences_from 0 n (omega arith)
-        ∙ ap (map (sequence_from paragraph classes levels)) (sym (ap (filter (is_first classes levels)) (kept_places-members classes levels) ∙ firsts_from 0 n (omega arith)))
+        ∙ ap (map (sequence_from para_level classes levels)) (sym (ap (filter (is_first classes levels)) (kept_indexes-members classes levels) ∙ firsts_from 0 n (omega arith)))
 
     -- each run is in one of them
     pub linked-runs : IsPermutation runs (flat_map (λ (s : JoinedRuns). s.runs) (linked_sequences links runs))
@@ -323,46 +320,46 @@ module _ (classes : List BidiClass) (levels : List ℕ) (links : RunLinks) (whol
 
     -- ---- each sequence is one of runs in order that lie in the text
 
-    line_at : (k : ℕ) → k < n → IsLine len_of chars (get_or runs k (0, 0)).0 (get_or runs k (0, 0)).1
+    line_at : (k : ℕ) → k < n → IsLine text (get_or runs k (0, 0)).0 (get_or runs k (0, 0)).1
     line_at k within =
-        rw (run_is k within) (IsLine-places len_of chars (start_of k) (start_of (k + 1)) (let run = level_run classes levels k within in omega (arith, run.not_empty)))
+        rw (run_is k within) (IsLine-unit_indexes text (start_of k) (start_of (k + 1)) (let run = level_run classes levels k within in omega (arith, run.not_empty)))
 
-    lines_along : (r : ℕ) (rs : List ℕ) → r < n → FollowRuns (r ∷ rs) → AreLines len_of chars (map (λ k. get_or runs k (0, 0)) (r ∷ rs))
-    lines_along r [] within steps = All-cons (λ (q : ℕ × ℕ). IsLine len_of chars q.0 q.1) (run_at r) [] (line_at r within) (All-nil (λ (q : ℕ × ℕ). IsLine len_of chars q.0 q.1))
+    lines_along : (r : ℕ) (rs : List ℕ) → r < n → FollowRuns (r ∷ rs) → AreLines text (map (λ k. get_or runs k (0, 0)) (r ∷ rs))
+    lines_along r [] within steps = All-cons (λ (q : ℕ × ℕ). IsLine text q.0 q.1) (run_at r) [] (line_at r within) (All-nil (λ (q : ℕ × ℕ). IsLine text q.0 q.1))
     lines_along r (q ∷ rs) within steps =
-        All-cons (λ (q : ℕ × ℕ). IsLine len_of chars q.0 q.1) (run_at r) (map (λ k. get_or runs k (0, 0)) (q ∷ rs)) (line_at r within) (lines_along q rs (are.to r q steps.0).within steps.1)
+        All-cons (λ (q : ℕ × ℕ). IsLine text q.0 q.1) (run_at r) (map (λ k. get_or runs k (0, 0)) (q ∷ rs)) (line_at r within) (lines_along q rs (are.to r q steps.0).within steps.1)
 
-    lines_of : (r : ℕ) → r < n → AreLines len_of chars (sequence_at links runs r).runs
+    lines_of : (r : ℕ) → r < n → AreLines text (sequence_at links runs r).runs
     lines_of r within = let s = sequence_of r within in rw s.runs (lines_along r s.rs within s.follows)
 
-    lines_from : (low m : ℕ) → low + m ≤ n → All (λ (s : JoinedRuns). AreLines len_of chars s.runs) (map (sequence_at links runs) (filter (begins links) (range_with_len low m)))
-    lines_from low zero fits = All-nil (λ (s : JoinedRuns). AreLines len_of chars s.runs)
+    lines_from : (low m : ℕ) → low + m ≤ n → All (λ (s : JoinedRuns). AreLines text s.runs) (map (sequence_at links runs) (filter (begins links) (range_with_len low m)))
+    lines_from low zero fits = All-nil (λ (s : JoinedRuns). AreLines text s.runs)
     lines_from low (suc m) fits = elim (cases_Bool (begins links low)) [
       | inl here ↦
-          rw here (All-cons (λ (s : JoinedRuns). AreLines len_of chars s.runs) (sequence_at links runs low) (map (sequence_at links runs) (filter (begins links) (range_with_len (low + 1) m))) (lines_of low (omega arith)) (lines_from (low + 1) m (omega arith)))
+          rw here (All-cons (λ (s : JoinedRuns). AreLines text s.runs) (sequence_at links runs low) (map (sequence_at links runs) (filter (begins links) (range_with_len (low + 1) m))) (lines_of low (omega arith)) (lines_from (low + 1) m (omega arith)))
       | inr other ↦ rw other (lines_from (low + 1) m (omega arith))
     ]
 
-    pub linked-lines : All (λ (s : JoinedRuns). AreLines len_of chars s.runs) (linked_sequences links runs)
+    pub linked-lines : All (λ (s : JoinedRuns). AreLines text s.runs) (linked_sequences links runs)
     unfolding linked_sequences
     linked-lines = rw all_runs (lines_from 0 n (omega arith))
 
-    run_some : (k : ℕ) → k < n → place len_of chars (cut classes levels k) < place len_of chars (cut classes levels (k + 1))
-    run_some k within = let run = level_run classes levels k within in place-lt len_of chars h (start_of k) (start_of (k + 1)) run.not_empty (omega (arith, run.within, long))
+    run_some : (k : ℕ) → k < n → unit_index text (cut classes levels k) < unit_index text (cut classes levels (k + 1))
+    run_some k within = let run = level_run classes levels k within in unit_index-lt text (start_of k) (start_of (k + 1)) run.not_empty (omega (arith, run.within, long))
 
-    ordered_along : (low r : ℕ) (rs : List ℕ) → r < n → low ≤ place len_of chars (cut classes levels r) → FollowRuns (r ∷ rs) → are_ordered_from low (map (λ k. get_or runs k (0, 0)) (r ∷ rs)) ≡ true
+    ordered_along : (low r : ℕ) (rs : List ℕ) → r < n → low ≤ unit_index text (cut classes levels r) → FollowRuns (r ∷ rs) → are_ordered_from low (map (λ k. get_or runs k (0, 0)) (r ∷ rs)) ≡ true
     ordered_along low r [] within from steps =
-        simp (run_is r within, le-leb low (place len_of chars (start_of r)) from, lt-ltb (place len_of chars (start_of r)) (place len_of chars (start_of (r + 1))) (run_some r within))
+        simp (run_is r within, le-leb low (unit_index text (start_of r)) from, lt-ltb (unit_index text (start_of r)) (unit_index text (start_of (r + 1))) (run_some r within))
     ordered_along low r (q ∷ rs) within from steps =
         let l = are.to r q steps.0 in
-        let later = ordered_along (place len_of chars (start_of (r + 1))) q rs l.within (place-mono len_of chars (start_of (r + 1)) (start_of q) (below_cut classes levels r q l.order (omega (arith, l.within)))) steps.1 in
-        rw (run_is r within, le-leb low (place len_of chars (start_of r)) from, lt-ltb (place len_of chars (start_of r)) (place len_of chars (start_of (r + 1))) (run_some r within)) later
+        let later = ordered_along (unit_index text (start_of (r + 1))) q rs l.within (unit_index-mono text (start_of (r + 1)) (start_of q) (below_cut classes levels r q l.order (omega (arith, l.within)))) steps.1 in
+        rw (run_is r within, le-leb low (unit_index text (start_of r)) from, lt-ltb (unit_index text (start_of r)) (unit_index text (start_of (r + 1))) (run_some r within)) later
 
-    sos_side : (p : ℕ) → is_l_or_r (start_class paragraph classes levels p) ≡ true
+    sos_side : (p : ℕ) → is_l_or_r (start_class para_level classes levels p) ≡ true
     unfolding start_class
     sos_side p = grind arith
 
-    eos_side : (p : ℕ) → is_l_or_r (end_class paragraph classes levels p) ≡ true
+    eos_side : (p : ℕ) → is_l_or_r (end_class para_level classes levels p) ≡ true
     unfolding end_class
     eos_side p = grind arith
 

@@ -1,7 +1,8 @@
--- One level run after another is linked: what a link says, what waits for the match of an open initiator, and what one more run does.
+-- One level run after another is linked: what a link says, what waits for the match of an open initiator, and what one
+-- more run does.
 use Rattle.bidi_base.proofs.Common.{◌≡◌, ◌≢◌, ℕ, zero, suc, ◌+◌, ◌-◌, ◌<◌, ◌≤◌, true, false, cond, eqb, max, List, [], ◌∷◌, ◌++◌, length, get_or, set, take, reverse, Option, Some, None, refl, sym}
 use Rattle.bidi_base.proofs.Common.{ap, subst, ◌∙◌, arith, ◌⊎◌, inl, inr, range_with_len, cases_Bool, cases_eq, cases_lt, get_or_push, get_or_append_left, length-append, length-set}
-use Rattle.bidi_base.proofs.Common.{reverse-append, eq-eqb, ne_eqb, IfSome, direction_of, class_at, first_or, last_or, is_initiator_at, is_pdi_at, matching_pdi, is_kept_at, kept_before, next_kept}
+use Rattle.bidi_base.proofs.Common.{reverse-append, eq-eqb, ne_eqb, IfSome, direction_of, class_at, first_or, last_or, is_isolate_initiator_at, is_pdi_at, matching_pdi, is_kept_at, kept_before, next_kept}
 use Rattle.bidi_base.proofs.Common.{level_at, level_or, have_one_level, successor, is_first, start_class, end_class, read_class, waiting_for, get_or-set_same, get_or-set_other}
 use Rattle.std.specs.List.{fold}
 use Rattle.bidi_base.specs.declared.char_data.BidiClass.{BidiClass}
@@ -166,62 +167,62 @@ module _ (classes : List BidiClass) (levels : List ℕ) where
   -- what is open once m characters were read, as the code keeps it: the innermost last
   pub record IsOpen (m n : ℕ) (waits : List (Option ℕ)) : Type 0 where
     pub stack : List ℕ
-    pub isolates : IsReadStack (is_initiator_at classes) (is_pdi_at classes) m stack
+    pub isolates : IsReadStack (is_isolate_initiator_at classes) (is_pdi_at classes) m stack
     pub waiting : AreWaiting n stack (reverse waits)
 
   pub IsOpen-start : IsOpen 0 0 []
-  IsOpen-start = record { stack = []; isolates = IsReadStack-start (is_initiator_at classes) (is_pdi_at classes); waiting = tt }
+  IsOpen-start = record { stack = []; isolates = IsReadStack-start (is_isolate_initiator_at classes) (is_pdi_at classes); waiting = tt }
 
   pub IsOpen-more : (m n : ℕ) (waits : List (Option ℕ)) → IsOpen m n waits → IsOpen m (n + 1) waits
   IsOpen-more m n waits h = record { stack = h.stack; isolates = h.isolates; waiting = AreWaiting-more n h.stack (reverse waits) h.waiting }
 
   -- one character is read
   pub IsOpen-read : (m n : ℕ) (waits : List (Option ℕ)) (w : Option ℕ) → IsOpen m n waits
-      → (is_initiator_at classes m ≡ true → IsWaiting n m w) → IsOpen (m + 1) n (read_class (class_at classes m) w waits)
-  IsOpen-read m n waits w h wait = elim (cases_Bool (is_initiator_at classes m)) [
+      → (is_isolate_initiator_at classes m ≡ true → IsWaiting n m w) → IsOpen (m + 1) n (read_class (class_at classes m) w waits)
+  IsOpen-read m n waits w h wait = elim (cases_Bool (is_isolate_initiator_at classes m)) [
     | inl opens ↦
         rw opens
-        (finish (waits ++ w ∷ []) (m ∷ h.stack) (w ∷ reverse waits) (IsReadStack-more (is_initiator_at classes) (is_pdi_at classes) m true false h.stack opens (initiators_apart classes m opens) (λ e. refl) h.isolates)
+        (finish (waits ++ w ∷ []) (m ∷ h.stack) (w ∷ reverse waits) (IsReadStack-more (is_isolate_initiator_at classes) (is_pdi_at classes) m true false h.stack opens (initiators_apart classes m opens) (λ e. refl) h.isolates)
         (wait opens, h.waiting) (sym (reverse-append waits (w ∷ []))))
     | inr other ↦ elim (cases_Bool (is_pdi_at classes m)) [
       | inl closes ↦ rw (other, closes) (popped other closes h.stack (reverse waits) refl h.isolates h.waiting)
-      | inr quiet ↦
-          rw (other, quiet)
-          (finish waits h.stack (reverse waits) (IsReadStack-stay (is_initiator_at classes) (is_pdi_at classes) m h.stack h.isolates other (inl quiet)) h.waiting refl)
+      | inr inert ↦
+          rw (other, inert)
+          (finish waits h.stack (reverse waits) (IsReadStack-stay (is_isolate_initiator_at classes) (is_pdi_at classes) m h.stack h.isolates other (inl inert)) h.waiting refl)
     ]
   ]
     where
       finish : (now : List (Option ℕ)) (st : List ℕ) (r : List (Option ℕ))
-          → IsReadStack (is_initiator_at classes) (is_pdi_at classes) (m + 1) st → AreWaiting n st r → r ≡ reverse now → IsOpen (m + 1) n now
+          → IsReadStack (is_isolate_initiator_at classes) (is_pdi_at classes) (m + 1) st → AreWaiting n st r → r ≡ reverse now → IsOpen (m + 1) n now
       finish now st r isolates waiting e = record { stack = st; isolates = isolates; waiting = subst (λ (x : List (Option ℕ)). AreWaiting n st x) e waiting }
 
-      popped : is_initiator_at classes m ≡ false → is_pdi_at classes m ≡ true → (st : List ℕ) (r : List (Option ℕ)) → reverse waits ≡ r
-          → IsReadStack (is_initiator_at classes) (is_pdi_at classes) m st → AreWaiting n st r
+      popped : is_isolate_initiator_at classes m ≡ false → is_pdi_at classes m ≡ true → (st : List ℕ) (r : List (Option ℕ)) → reverse waits ≡ r
+          → IsReadStack (is_isolate_initiator_at classes) (is_pdi_at classes) m st → AreWaiting n st r
           → IsOpen (m + 1) n (take (length waits - 1) waits)
       popped other closes [] [] e isolates waiting =
           let none : waits ≡ [] = reverse_none waits e in
-          finish (take (length waits - 1) waits) [] [] (IsReadStack-stay (is_initiator_at classes) (is_pdi_at classes) m [] isolates other (inr refl)) tt (sym (ap (λ (x : List (Option ℕ)). reverse (take (length x - 1) x)) none))
+          finish (take (length waits - 1) waits) [] [] (IsReadStack-stay (is_isolate_initiator_at classes) (is_pdi_at classes) m [] isolates other (inr refl)) tt (sym (ap (λ (x : List (Option ℕ)). reverse (take (length x - 1) x)) none))
       popped other closes [] (v ∷ vs) e isolates waiting = absurd waiting
       popped other closes (i ∷ st) [] e isolates waiting = absurd waiting
       popped other closes (i ∷ st) (v ∷ vs) e isolates waiting =
-          finish (take (length waits - 1) waits) st vs (IsReadStack-more (is_initiator_at classes) (is_pdi_at classes) m false true (i ∷ st) (pdis_apart classes m closes) closes (λ f. absurd (cc f)) isolates) waiting.1 (sym (reverse_front waits v vs e))
+          finish (take (length waits - 1) waits) st vs (IsReadStack-more (is_isolate_initiator_at classes) (is_pdi_at classes) m false true (i ∷ st) (pdis_apart classes m closes) closes (λ f. absurd (cc f)) isolates) waiting.1 (sym (reverse_front waits v vs e))
 
   -- characters that X9 removes change nothing
   IsOpen-skip : (k m n : ℕ) (waits : List (Option ℕ)) → IsOpen m n waits → ((j : ℕ) → m ≤ j → j < m + k → is_kept_at classes j ≡ false) → IsOpen (m + k) n waits
   IsOpen-skip zero m n waits h none = subst (λ (x : ℕ). IsOpen x n waits) (omega arith) h
   IsOpen-skip (suc k) m n waits h none =
       let gone = none m (omega arith) (omega arith) in
-      let quiet : is_initiator_at classes m ≡ false = grind (arith, is_kept-initiator (class_at classes m)) in
+      let inert : is_isolate_initiator_at classes m ≡ false = grind (arith, is_kept-initiator (class_at classes m)) in
       let calm : is_pdi_at classes m ≡ false = grind (arith, is_kept-pdi (class_at classes m)) in
       let next : IsOpen (m + 1) n waits = record {
         stack = h.stack;
-        isolates = IsReadStack-stay (is_initiator_at classes) (is_pdi_at classes) m h.stack h.isolates quiet (inl calm);
+        isolates = IsReadStack-stay (is_isolate_initiator_at classes) (is_pdi_at classes) m h.stack h.isolates inert (inl calm);
         waiting = h.waiting;
       } in
       subst (λ (x : ℕ). IsOpen x n waits) (omega arith) (IsOpen-skip k (m + 1) n waits next (λ j low high. none j (omega arith) (omega arith)))
 
   -- the characters of a range are read
-  IsOpen-range : (k m n : ℕ) (w : ℕ → Option ℕ) (waits : List (Option ℕ)) → IsOpen m n waits → ((j : ℕ) → m ≤ j → j < m + k → is_initiator_at classes j ≡ true → IsWaiting n j (w j))
+  IsOpen-range : (k m n : ℕ) (w : ℕ → Option ℕ) (waits : List (Option ℕ)) → IsOpen m n waits → ((j : ℕ) → m ≤ j → j < m + k → is_isolate_initiator_at classes j ≡ true → IsWaiting n j (w j))
       → IsOpen (m + k) n (fold (λ ws j. read_class (class_at classes j) (w j) ws) waits (range_with_len m k))
   IsOpen-range zero m n w waits h wait = subst (λ (x : ℕ). IsOpen x n waits) (omega arith) h
   IsOpen-range (suc k) m n w waits h wait =
@@ -243,10 +244,10 @@ module _ (classes : List BidiClass) (levels : List ℕ) where
     | inr other ↦ inl (simp other, is_first-no_pdi classes levels f other start)
   ]
     where
-      by_top : is_pdi_at classes f ≡ true → (st : List ℕ) (r : List (Option ℕ)) → reverse waits ≡ r → IsReadStack (is_initiator_at classes) (is_pdi_at classes) f st → AreWaiting n st r
+      by_top : is_pdi_at classes f ≡ true → (st : List ℕ) (r : List (Option ℕ)) → reverse waits ≡ r → IsReadStack (is_isolate_initiator_at classes) (is_pdi_at classes) f st → AreWaiting n st r
           → Begins f (waiting_for (class_at classes f) waits) ⊎ Continues n f (waiting_for (class_at classes f) waits)
       by_top closes [] [] e isolates waiting =
-          inl (simp (closes, reverse_none waits e), is_first-run classes levels f start (λ i opens matches ends. IsReadStack-no_match (is_initiator_at classes) (is_pdi_at classes) (initiators_apart classes) (length classes) f i isolates opens matches))
+          inl (simp (closes, reverse_none waits e), is_first-run classes levels f start (λ i opens matches ends. IsReadStack-no_match (is_isolate_initiator_at classes) (is_pdi_at classes) (initiators_apart classes) (length classes) f i isolates opens matches))
       by_top closes [] (v ∷ vs) e isolates waiting = absurd waiting
       by_top closes (i ∷ st) [] e isolates waiting = absurd waiting
       by_top closes (i ∷ st) (None ∷ vs) e isolates waiting =
@@ -255,7 +256,7 @@ module _ (classes : List BidiClass) (levels : List ℕ) where
             is_first-run classes levels f start (λ j opens matches ends.
                 grind (
                   arith,
-                  IsReadStack-matched (is_initiator_at classes) (is_pdi_at classes) (initiators_apart classes) (length classes) f j (i ∷ st) isolates opens matches,
+                  IsReadStack-matched (is_isolate_initiator_at classes) (is_pdi_at classes) (initiators_apart classes) (length classes) f j (i ∷ st) isolates opens matches,
                   ends,
                   waiting.0,
                 )),
@@ -264,7 +265,7 @@ module _ (classes : List BidiClass) (levels : List ℕ) where
           let run = wholes w waiting.0.0 in
           let is : i ≡ back classes levels w = waiting.0.1 in
           let ends : have_one_level levels (next_kept classes i) i ≡ false = rw (is, run.final) run.run.ends in
-          let matches = IsReadStack-match (is_initiator_at classes) (is_pdi_at classes) (initiators_apart classes) (length classes) f i st isolates closes within in
+          let matches = IsReadStack-match (is_isolate_initiator_at classes) (is_pdi_at classes) (initiators_apart classes) (length classes) f i st isolates closes within in
           inr (
             w,
             simp (closes, last_or-reverse None waits (Some w) vs e),
@@ -275,25 +276,25 @@ module _ (classes : List BidiClass) (levels : List ℕ) where
   -- ---- the classes at the ends of runs
 
   abbrev pub side_for : ℕ → ℕ → RunSides
-  side_for paragraph r =
+  side_for para_level r =
       record {
-        sos = cond (is_first classes levels (head classes levels r)) (Some (start_class paragraph classes levels (head classes levels r))) None;
-        eos = end_class paragraph classes levels (back classes levels r);
+        sos = cond (is_first classes levels (head classes levels r)) (Some (start_class para_level classes levels (head classes levels r))) None;
+        eos = end_class para_level classes levels (back classes levels r);
       }
 
-  pub record AreSides (paragraph n : ℕ) (sides : List RunSides) : Type 0 where
+  pub record AreSides (para_level n : ℕ) (sides : List RunSides) : Type 0 where
     pub long : length sides ≡ n
-    pub is : (r : ℕ) → r < n → sides_at sides r ≡ side_for paragraph r
+    pub is : (r : ℕ) → r < n → sides_at sides r ≡ side_for para_level r
 
-  AreSides-more : (paragraph n : ℕ) (sides : List RunSides) (new : RunSides) → AreSides paragraph n sides → new ≡ side_for paragraph n → AreSides paragraph (n + 1) (sides ++ new ∷ [])
-  AreSides-more paragraph n sides new h is = record {
+  AreSides-more : (para_level n : ℕ) (sides : List RunSides) (new : RunSides) → AreSides para_level n sides → new ≡ side_for para_level n → AreSides para_level (n + 1) (sides ++ new ∷ [])
+  AreSides-more para_level n sides new h is = record {
     long = grind (arith, length-append, h.long);
     is = λ r below. elim (cases_lt r n) [
       | inl less ↦ get_or_append_left sides (new ∷ []) none r (omega (arith, h.long)) ∙ h.is r less
       | inr not_less ↦
           let same : r ≡ length sides = omega (arith, h.long) in
           let here : r ≡ n = omega arith in
-          get_or_push sides new none r (sym same) ∙ is ∙ ap (side_for paragraph) (sym here)
+          get_or_push sides new none r (sym same) ∙ is ∙ ap (side_for para_level) (sym here)
     ];
   }
     where
@@ -302,27 +303,27 @@ module _ (classes : List BidiClass) (levels : List ℕ) where
 
   -- ---- n runs are linked
 
-  pub record IsLinkedTo (paragraph n : ℕ) (next : List ℕ) (sides : List RunSides) (waits : List (Option ℕ)) (before : ℕ) : Type 0 where
+  pub record IsLinkedTo (para_level n : ℕ) (next : List ℕ) (sides : List RunSides) (waits : List (Option ℕ)) (before : ℕ) : Type 0 where
     pub wholes : (k : ℕ) → k < n → IsWhole classes levels k
     pub links : AreLinks n next
-    pub sides_are : AreSides paragraph n sides
+    pub sides_are : AreSides para_level n sides
     pub is_open : IsOpen (cut classes levels n) n waits
-    pub level_before : before ≡ level_or paragraph levels (kept_before classes (cut classes levels n))
-    pub fresh : cut classes levels n ≡ 0 → (n ≡ 0) × (waits ≡ [])
+    pub level_before : before ≡ level_or para_level levels (kept_before classes (cut classes levels n))
+    pub at_start : cut classes levels n ≡ 0 → (n ≡ 0) × (waits ≡ [])
 
-  pub IsLinkedTo-start : (paragraph : ℕ) → IsLinkedTo paragraph 0 [] [] [] paragraph
-  IsLinkedTo-start paragraph = record {
+  pub IsLinkedTo-start : (para_level : ℕ) → IsLinkedTo para_level 0 [] [] [] para_level
+  IsLinkedTo-start para_level = record {
     wholes = λ k below. absurd (omega arith);
     links = AreLinks-start;
     sides_are = record { long = refl; is = λ r below. absurd (omega arith) };
     is_open = rw (cut-zero classes levels) IsOpen-start;
-    level_before = rw (cut-zero classes levels) (sym (ap (level_or paragraph levels) (kept_before-is_None classes 0 (λ k below. absurd (omega arith)))));
-    fresh = λ e. (refl, refl);
+    level_before = rw (cut-zero classes levels) (sym (ap (level_or para_level levels) (kept_before-is_None classes 0 (λ k below. absurd (omega arith)))));
+    at_start = λ e. (refl, refl);
   }
 
   -- one more run with a kept character comes: the first of them is f, the last l
-  module _ (paragraph n : ℕ) (next : List ℕ) (sides : List RunSides) (waits : List (Option ℕ)) (before : ℕ) (g : Option ℕ) (f l : ℕ)
-      (within : n < count classes levels) (linked : IsLinkedTo paragraph n next sides waits before)
+  module _ (para_level n : ℕ) (next : List ℕ) (sides : List RunSides) (waits : List (Option ℕ)) (before : ℕ) (g : Option ℕ) (f l : ℕ)
+      (within : n < count classes levels) (linked : IsLinkedTo para_level n next sides waits before)
       (first : IsFirst classes (cut classes levels n) (cut classes levels (n + 1)) f) (last : IsLast classes (cut classes levels n) (cut classes levels (n + 1)) l) (g_is : g ≡ waiting_for (class_at classes (cut classes levels n)) waits) where
     abbrev a : ℕ
     a = cut classes levels n
@@ -333,14 +334,14 @@ module _ (classes : List BidiClass) (levels : List ℕ) where
     range : IsLevelRun classes levels (cut classes levels n) (cut classes levels (n + 1))
     range = level_run classes levels n within
 
-    xs_are : members classes levels n ≡ f ∷ rest_of classes levels paragraph f (cut classes levels (n + 1))
-    xs_are = front_is classes levels paragraph a b f range first
+    xs_are : members classes levels n ≡ f ∷ rest_of classes levels para_level f (cut classes levels (n + 1))
+    xs_are = front_is classes levels para_level a b f range first
 
     first_is : head classes levels n ≡ f
     first_is = ap (first_or 0) xs_are
 
     last_member : back classes levels n ≡ l
-    last_member = ap (last_or 0) xs_are ∙ last_is classes levels paragraph a b f l range first last
+    last_member = ap (last_or 0) xs_are ∙ last_is classes levels para_level a b f l range first last
 
     whole : IsWhole classes levels n
     whole = whole_run classes levels n within (omega (arith, ap length xs_are))
@@ -355,7 +356,7 @@ module _ (classes : List BidiClass) (levels : List ℕ) where
     open_at = subst (λ (x : ℕ). IsOpen x n waits) (omega (arith, first.from)) (IsOpen-skip (f - a) a n waits linked.is_open (λ j low high. first.none j low (omega (arith, first.from))))
 
     waits_for : g ≡ waiting_for (class_at classes f) waits
-    waits_for = grind (arith, first_at classes levels paragraph a b f range first, linked.fresh)
+    waits_for = grind (arith, first_at classes levels para_level a b f range first, linked.at_start)
 
     choice : Begins f g ⊎ Continues n f g
     choice =
@@ -382,7 +383,7 @@ module _ (classes : List BidiClass) (levels : List ℕ) where
         rw read (subst (λ (x : ℕ). IsOpen x (n + 1) (read_range classes (l + 1) n a b waits)) whole_range
         (IsOpen-range (b - a) a (n + 1) (λ m. cond (eqb (m + 1) (l + 1)) (Some n) None) waits (IsOpen-more a n waits linked.is_open) waits_by))
       where
-        waits_by : (j : ℕ) → a ≤ j → j < a + (b - a) → is_initiator_at classes j ≡ true → IsWaiting (n + 1) j (cond (eqb (j + 1) (l + 1)) (Some n) None)
+        waits_by : (j : ℕ) → a ≤ j → j < a + (b - a) → is_isolate_initiator_at classes j ≡ true → IsWaiting (n + 1) j (cond (eqb (j + 1) (l + 1)) (Some n) None)
         waits_by j low high opens = elim (cases_eq j l) [
           | inl same ↦ rw (eq-eqb (j + 1) (l + 1) (omega arith)) (omega arith, same ∙ sym last_member)
           | inr other ↦
@@ -392,16 +393,16 @@ module _ (classes : List BidiClass) (levels : List ℕ) where
         ]
 
     module _ (level after : ℕ) (sos eos : BidiClass) (level_is : level ≡ level_at levels l)
-        (after_is : after ≡ level_beyond classes levels paragraph l (cut classes levels (n + 1))) (sos_is : sos ≡ direction_of (max level before))
+        (after_is : after ≡ level_beyond classes levels para_level l (cut classes levels (n + 1))) (sos_is : sos ≡ direction_of (max level before))
         (eos_is : eos ≡ direction_of (max level after)) where
-      sos_start : sos ≡ start_class paragraph classes levels f
+      sos_start : sos ≡ start_class para_level classes levels f
       unfolding start_class
-      sos_start = simp (sos_is, level_is, one_level classes levels paragraph a b f l range first last, linked.level_before, kept_before-first classes levels paragraph a b f range first)
+      sos_start = simp (sos_is, level_is, one_level classes levels para_level a b f l range first last, linked.level_before, kept_before-first classes levels para_level a b f range first)
 
-      eos_end : eos ≡ end_class paragraph classes levels l
-      eos_end = simp (eos_is, level_is, after_is, end_is classes levels paragraph a b l range last)
+      eos_end : eos ≡ end_class para_level classes levels l
+      eos_end = simp (eos_is, level_is, after_is, end_is classes levels para_level a b l range last)
 
-      side_is : sides_of g sos eos ≡ side_for paragraph n
+      side_is : sides_of g sos eos ≡ side_for para_level n
       side_is = elim choice [
         | inl e ↦ rw (e.0, first_is, last_member, e.1, sos_start, eos_end) refl
         | inr e ↦
@@ -412,12 +413,12 @@ module _ (classes : List BidiClass) (levels : List ℕ) where
 
       pub IsLinkedTo-more : (now : List (Option ℕ))
           → now ≡ read_range classes (l + 1) n (cut classes levels n) (cut classes levels (n + 1)) waits
-          → IsLinkedTo paragraph (n + 1) (with_link g next) (with_sides g sos eos sides) now level
+          → IsLinkedTo para_level (n + 1) (with_link g next) (with_sides g sos eos sides) now level
       IsLinkedTo-more now read = record {
         wholes = wholes_more;
         links = links_more;
-        sides_are = AreSides-more paragraph n sides (sides_of g sos eos) linked.sides_are side_is;
+        sides_are = AreSides-more para_level n sides (sides_of g sos eos) linked.sides_are side_is;
         is_open = read_more now read;
-        level_before = level_is ∙ sym (ap (level_or paragraph levels) (kept_before-next_run classes levels paragraph a b l last));
-        fresh = λ e. absurd (omega (arith, e, range.not_empty));
+        level_before = level_is ∙ sym (ap (level_or para_level levels) (kept_before-next_run classes levels para_level a b l last));
+        at_start = λ e. absurd (omega (arith, e, range.not_empty));
       }

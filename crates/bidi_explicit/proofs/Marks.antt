@@ -1,11 +1,11 @@
 -- The marked units of a slice, and the classes at them.
 use Rattle.bidi_base.proofs.Common.{◌≡◌, ℕ, zero, suc, ◌+◌, ◌-◌, ◌<◌, ◌≤◌, Bool, true, false, List, [], ◌∷◌, ◌++◌, length, get_or, replicate, refl, ap}
-use Rattle.bidi_base.proofs.Common.{◌∙◌, arith, map, sym, filter, range_with_len, cases_Bool, at_places, between, filter-append, map-id}
+use Rattle.bidi_base.proofs.Common.{◌∙◌, arith, map, sym, filter, range_with_len, cases_Bool, at_indexes, between, filter-append, map-id}
 use Rattle.bidi_base.specs.declared.char_data.BidiClass.{BidiClass}
 use Rattle.bidi_base.specs.declared.char_data.BidiClass.TheVariants.{L}
 use Rattle.std.proofs.lemmas.Simd.{splat_is_map}
 use Rattle.bidi_base.proofs.ChainLemmas.{filter_range-none, range_with_len-append}
-use Rattle.bidi_laws.proofs.StoredLemmas.{length-at_places}
+use Rattle.bidi_laws.proofs.StoredLemmas.{length-at_indexes}
 
 -- a range in two parts
 pub between-append : (low mid high : ℕ) → low ≤ mid → mid ≤ high → between low high ≡ between low mid ++ between mid high
@@ -45,24 +45,24 @@ module _ (mark : ℕ → Bool) where
 
   changed : (f : BidiClass → BidiClass) (xs ys : List BidiClass) (low n : ℕ)
       → ((k : ℕ) → low ≤ k → k < low + n → mark k ≡ true → get_or xs k L ≡ f (get_or ys k L))
-      → at_places L xs (counted low n) ≡ map f (at_places L ys (counted low n))
+      → at_indexes L xs (counted low n) ≡ map f (at_indexes L ys (counted low n))
   changed f xs ys low zero h = refl
   changed f xs ys low (suc n) h = grind (arith, cases_Bool (mark low), h low, changed f xs ys (low + 1) n (λ k from below is. h k (omega arith) (omega arith) is))
 
   -- classes that are changed one by one
   pub at_marked-changed : (f : BidiClass → BidiClass) (xs ys : List BidiClass) (low high : ℕ)
       → ((k : ℕ) → low ≤ k → k < high → mark k ≡ true → get_or xs k L ≡ f (get_or ys k L))
-      → at_places L xs (marked low high) ≡ map f (at_places L ys (marked low high))
+      → at_indexes L xs (marked low high) ≡ map f (at_indexes L ys (marked low high))
   at_marked-changed f xs ys low high h = changed f xs ys low (high - low) (λ k a b. h k a (omega arith))
 
   -- two slices that agree at the marked units
   pub at_marked-same : (xs ys : List BidiClass) (low high : ℕ)
       → ((k : ℕ) → low ≤ k → k < high → mark k ≡ true → get_or xs k L ≡ get_or ys k L)
-      → at_places L xs (marked low high) ≡ at_places L ys (marked low high)
-  at_marked-same xs ys low high h = at_marked-changed (λ c. c) xs ys low high h ∙ map-id (at_places L ys (marked low high))
+      → at_indexes L xs (marked low high) ≡ at_indexes L ys (marked low high)
+  at_marked-same xs ys low high h = at_marked-changed (λ c. c) xs ys low high h ∙ map-id (at_indexes L ys (marked low high))
 
   -- one class stands at each marked unit
   pub at_marked-all : (xs : List BidiClass) (v : BidiClass) (low high : ℕ)
       → ((k : ℕ) → low ≤ k → k < high → mark k ≡ true → get_or xs k L ≡ v)
-      → at_places L xs (marked low high) ≡ replicate (length (marked low high)) v
-  at_marked-all xs v low high h = at_marked-changed (λ c. v) xs xs low high h ∙ sym (splat_is_map (at_places L xs (marked low high)) (length (marked low high)) v (length-at_places L xs (marked low high)))
+      → at_indexes L xs (marked low high) ≡ replicate (length (marked low high)) v
+  at_marked-all xs v low high h = at_marked-changed (λ c. v) xs xs low high h ∙ sym (splat_is_map (at_indexes L xs (marked low high)) (length (marked low high)) v (length-at_indexes L xs (marked low high)))

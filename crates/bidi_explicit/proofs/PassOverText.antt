@@ -1,16 +1,16 @@
 -- The units of the characters of a text: lines take all of one or none, and what is equal within each.
 use Rattle.bidi_base.proofs.Common.{◌≡◌, ℕ, zero, suc, ◌+◌, ◌-◌, ◌<◌, ◌≤◌, ◌||◌, true, false, List, [], ◌∷◌, length, get_or, take, None, refl, ap, ◌∙◌, arith, inl, inr, cases_lt, both_ways, or_cases}
-use Rattle.bidi_base.proofs.Common.{sum_by-cons, ext_get_or, All-head, All-tail, class_at, text_len, place, char_at, IsLine, char_index, per_unit, per_char, IsPerChar, in_runs, AreLines}
+use Rattle.bidi_base.proofs.Common.{sum_by-cons, ext_get_or, All-head, All-tail, class_at, text_len, unit_index, char_at, IsLine, char_index, per_unit, per_char, IsPerChar, in_runs, AreLines}
 use Rattle.bidi_base.specs.declared.char_data.BidiClass.{BidiClass}
 use Rattle.bidi_base.specs.declared.char_data.BidiClass.TheVariants.{L}
 use Rattle.bidi_base.proofs.TextLemmas.{HasUnits, is_boundary-le}
-use Rattle.bidi_base.proofs.PlaceLemmas.{place-more, place-mono, line_places, unit_of}
+use Rattle.bidi_base.proofs.UnitIndexLemmas.{unit_index-more, unit_index-mono, line_unit_indexes, unit_of}
 use Rattle.bidi_base.proofs.PerUnit.{length-per_unit, length-per_char, get_or-per_unit, get_or-per_char}
 use Rattle.bidi_explicit.proofs.InRuns.{in_run, in_run-true}
 
 -- classes that are equal within each character
 pub IsPerChar-alike : (len_of : ℕ → ℕ) (chars : List ℕ) (new : List BidiClass) → length new ≡ text_len len_of chars
-    → ((k : ℕ) → k < length chars → (u : ℕ) → place len_of chars k ≤ u → u < place len_of chars (k + 1) → class_at new u ≡ class_at new (place len_of chars k)) → IsPerChar len_of chars new
+    → ((k : ℕ) → k < length chars → (u : ℕ) → unit_index len_of chars k ≤ u → u < unit_index len_of chars (k + 1) → class_at new u ≡ class_at new (unit_index len_of chars k)) → IsPerChar len_of chars new
 IsPerChar-alike len_of chars new long even =
     let values = per_char L len_of chars new in
     let many : length values ≡ length chars = length-per_char L len_of chars new in
@@ -21,7 +21,7 @@ IsPerChar-alike len_of chars new long even =
           let w = unit_of len_of chars u (omega arith) in
           grind (
             arith,
-            place-more len_of chars w.index 0,
+            unit_index-more len_of chars w.index 0,
             even w.index,
             get_or-per_unit len_of chars values w.index w.offset 0 L many w.within w.below,
             get_or-per_char L len_of chars new w.index L w.within,
@@ -29,7 +29,7 @@ IsPerChar-alike len_of chars new long even =
     )
 
 -- no character begins within another one
-pub char_at-inside : (len_of : ℕ → ℕ) → HasUnits len_of → (chars : List ℕ) (k j : ℕ) → k < length chars → 0 < j → j < len_of (get_or chars k 0) → char_at len_of chars (place len_of chars k + j) ≡ None
+pub char_at-inside : (len_of : ℕ → ℕ) → HasUnits len_of → (chars : List ℕ) (k j : ℕ) → k < length chars → 0 < j → j < len_of (get_or chars k 0) → char_at len_of chars (unit_index len_of chars k + j) ≡ None
 char_at-inside len_of h [] k j fits some below = absurd (omega arith)
 char_at-inside len_of h (c ∷ chars) zero j fits some below = grind arith
 char_at-inside len_of h (c ∷ chars) (suc k) j fits some below =
@@ -39,22 +39,22 @@ module _ (len_of : ℕ → ℕ) (h : HasUnits len_of) (chars : List ℕ) where
   -- ---- the units of a character
 
   -- a line takes all of them or none
-  in_run-alike : (r : ℕ × ℕ) → IsLine len_of chars r.0 r.1 → (k u : ℕ) → place len_of chars k ≤ u → u < place len_of chars (k + 1) → in_run r u ≡ in_run r (place len_of chars k)
+  in_run-alike : (r : ℕ × ℕ) → IsLine len_of chars r.0 r.1 → (k u : ℕ) → unit_index len_of chars k ≤ u → u < unit_index len_of chars (k + 1) → in_run r u ≡ in_run r (unit_index len_of chars k)
   in_run-alike r line k u from below =
-      let w = line_places len_of h chars r.0 r.1 line in
+      let w = line_unit_indexes len_of h chars r.0 r.1 line in
       elim (cases_lt k (char_index len_of chars r.0)) [
-        | inl before ↦ grind (arith, place-mono)
+        | inl before ↦ grind (arith, unit_index-mono)
         | inr after ↦ grind (
           arith,
-          place-mono,
+          unit_index-mono,
         )
       ]
 
-  pub in_runs-alike : (runs : List (ℕ × ℕ)) → AreLines len_of chars runs → (k u : ℕ) → place len_of chars k ≤ u → u < place len_of chars (k + 1) → in_runs runs u ≡ in_runs runs (place len_of chars k)
+  pub in_runs-alike : (runs : List (ℕ × ℕ)) → AreLines len_of chars runs → (k u : ℕ) → unit_index len_of chars k ≤ u → u < unit_index len_of chars (k + 1) → in_runs runs u ≡ in_runs runs (unit_index len_of chars k)
   in_runs-alike [] lines k u from below = refl
   in_runs-alike (r ∷ runs) lines k u from below =
       ap (λ b. b || in_runs runs u) (in_run-alike r (All-head (λ (q : ℕ × ℕ). IsLine len_of chars q.0 q.1) r runs lines) k u from below)
-      ∙ ap (λ b. in_run r (place len_of chars k) || b) (in_runs-alike runs (All-tail (λ (q : ℕ × ℕ). IsLine len_of chars q.0 q.1) r runs lines) k u from below)
+      ∙ ap (λ b. in_run r (unit_index len_of chars k) || b) (in_runs-alike runs (All-tail (λ (q : ℕ × ℕ). IsLine len_of chars q.0 q.1) r runs lines) k u from below)
 
   pub in_runs-within : (runs : List (ℕ × ℕ)) → AreLines len_of chars runs → (u : ℕ) → in_runs runs u ≡ true → u < text_len len_of chars
   in_runs-within [] lines u e = absurd (both_ways false refl e)
@@ -71,10 +71,10 @@ module _ (len_of : ℕ → ℕ) (h : HasUnits len_of) (chars : List ℕ) where
 
   -- entries that are equal within each character
   module _ (old : List BidiClass) (per : IsPerChar len_of chars old) where
-    pub alike_class : (k u : ℕ) → k < length chars → place len_of chars k ≤ u → u < place len_of chars (k + 1) → class_at old u ≡ class_at old (place len_of chars k)
+    pub alike_class : (k u : ℕ) → k < length chars → unit_index len_of chars k ≤ u → u < unit_index len_of chars (k + 1) → class_at old u ≡ class_at old (unit_index len_of chars k)
     alike_class k u fits from below =
-        let more = place-more len_of chars k 0 fits in
-        let at : u ≡ place len_of chars k + (u - place len_of chars k) = omega arith in
-        let first : place len_of chars k ≡ place len_of chars k + 0 = omega arith in
+        let more = unit_index-more len_of chars k 0 fits in
+        let at : u ≡ unit_index len_of chars k + (u - unit_index len_of chars k) = omega arith in
+        let first : unit_index len_of chars k ≡ unit_index len_of chars k + 0 = omega arith in
         let value = λ (i : ℕ) (short : i < len_of (get_or chars k 0)). get_or-per_unit len_of chars per.0 k i 0 L per.1 fits short in
-        cc (at, first, value (u - place len_of chars k) (omega arith), value 0 (omega (arith, h (get_or chars k 0))), per.2)
+        cc (at, first, value (u - unit_index len_of chars k) (omega arith), value 0 (omega (arith, h (get_or chars k 0))), per.2)

@@ -1,10 +1,10 @@
 -- Level runs as a pass over the characters cuts them: what has ended, and where the run that is open began.
 use Rattle.bidi_base.proofs.Common.{◌≡◌, ℕ, ◌+◌, ◌<◌, true, false, cond, List, [], ◌∷◌, ◌++◌, length, Option, Some, None, refl, ◌∙◌, arith, append-nil, common_steps, filter, range_with_len}
-use Rattle.bidi_base.proofs.Common.{reverse-append, map-append, filter-append, indexes, is_kept_at, kept_before, level_at, begins_run, run_starts, place, text_len, ranges_between}
+use Rattle.bidi_base.proofs.Common.{reverse-append, map-append, filter-append, indexes, is_kept_at, kept_before, level_at, begins_run, run_starts, unit_index, text_len, ranges_between}
 use Rattle.bidi_base.proofs.Common.{level_run_ranges, option_map}
 use Rattle.bidi_base.specs.declared.char_data.BidiClass.{BidiClass}
 use Rattle.bidi_base.proofs.PlacesLemmas.{range_with_len-more}
-use Rattle.bidi_explicit.specs.ExplicitPass.{IsCutTo, differs, runs_before, run_start}
+use Rattle.bidi_explicit.specs.RunCutting.{IsCutTo, differs, runs_before, run_start}
 
 -- one more cut
 pub ranges_between-push : (x : ℕ) (xs : List ℕ) (y end : ℕ) → ranges_between (x ∷ xs ++ y ∷ []) end ≡ ranges_between (x ∷ xs) y ++ (y, end) ∷ []
@@ -55,7 +55,7 @@ module _ (len_of : ℕ → ℕ) (chars : List ℕ) (stored : List BidiClass) (le
 
   pub IsCutTo-kept : (k : ℕ) (runs : List (ℕ × ℕ)) (from : ℕ) (last : Option ℕ) (level : ℕ) → is_kept_at stored k ≡ true
       → level ≡ level_at levels k → IsCutTo len_of chars stored levels k runs from last
-      → IsCutTo len_of chars stored levels (k + 1) (runs_before last level from (place len_of chars k) runs) (run_start last level from (place len_of chars k)) (Some level)
+      → IsCutTo len_of chars stored levels (k + 1) (runs_before last level from (unit_index len_of chars k) runs) (run_start last level from (unit_index len_of chars k)) (Some level)
   IsCutTo-kept k runs from last level kept level_is h =
       grind (arith, kept_before-more, begin_by_level, starts_same, ranges_between-push, map-append, starts_more) steps 400000
 
@@ -75,4 +75,4 @@ module _ (len_of : ℕ → ℕ) (chars : List ℕ) (stored : List BidiClass) (le
   unfolding level_run_ranges
   IsCutTo-none k runs from last all none h =
       let zero_is : k ≡ 0 = all ∙ none in
-      simp (none_of runs (from, 0) (place len_of chars 0, 0) (h.cut 0 ∙ simp zero_is), run_starts-none stored levels none)
+      simp (none_of runs (from, 0) (unit_index len_of chars 0, 0) (h.cut 0 ∙ simp zero_is), run_starts-none stored levels none)

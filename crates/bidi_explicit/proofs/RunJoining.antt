@@ -1,6 +1,6 @@
 -- The first and the last kept character of a level run, their level, and what is next to the run.
 use Rattle.bidi_base.proofs.Common.{◌≡◌, ℕ, ◌+◌, ◌-◌, ◌<◌, ◌≤◌, true, eqb, max, List, [], ◌∷◌, length, Option, Some, None, refl, arith, ◌⊎◌, inl, inr, filter, range_with_len, cases_eq, both_ways}
-use Rattle.bidi_base.proofs.Common.{and_parts, is_initiator, direction_of, class_at, last_or, between, is_kept_at, kept_before, level_at, end_class, begins_run, find, if◌then◌else◌, is_some}
+use Rattle.bidi_base.proofs.Common.{and_parts, is_isolate_initiator, direction_of, class_at, last_or, between, is_kept_at, kept_before, level_at, end_class, begins_run, find, if◌then◌else◌, is_some}
 use Rattle.bidi_base.specs.declared.char_data.BidiClass.{BidiClass}
 use Rattle.bidi_base.proofs.PlacesLemmas.{find-between, find-between-None}
 use Rattle.bidi_laws.proofs.SuccessorLemmas.{next_kept-is, next_kept-is_None, kept_before-is, kept_before-is_None}
@@ -22,7 +22,7 @@ first_of classes a b l last = by_result (find (is_kept_at classes) (between a b)
     by_result None e = absurd (both_ways (is_kept_at classes l) (find-between-None (is_kept_at classes) a b e l last.from last.below) last.kept)
     by_result (Some f) e = grind (arith, find-between)
 
-module _ (classes : List BidiClass) (levels : List ℕ) (paragraph : ℕ) where
+module _ (classes : List BidiClass) (levels : List ℕ) (para_level : ℕ) where
   -- where a run begins a character is kept, but for the front of the paragraph
   pub begins_kept : (a : ℕ) → begins_run classes levels a ≡ true → is_kept_at classes a ≡ true
   unfolding begins_run
@@ -73,9 +73,9 @@ module _ (classes : List BidiClass) (levels : List ℕ) (paragraph : ℕ) where
 
   -- the level beyond the last character of a run, as the pass finds it
   abbrev pub level_beyond : ℕ → ℕ → ℕ
-  level_beyond l b = if is_initiator (class_at classes l) then paragraph else (if eqb b (length classes) then paragraph else level_at levels b)
+  level_beyond l b = if is_isolate_initiator (class_at classes l) then para_level else (if eqb b (length classes) then para_level else level_at levels b)
 
-  pub end_is : (a b l : ℕ) → IsLevelRun classes levels a b → IsLast classes a b l → end_class paragraph classes levels l ≡ direction_of (max (level_at levels l) (level_beyond l b))
+  pub end_is : (a b l : ℕ) → IsLevelRun classes levels a b → IsLast classes a b l → end_class para_level classes levels l ≡ direction_of (max (level_at levels l) (level_beyond l b))
   unfolding end_class
   end_is a b l range last = elim (cases_eq b (length classes)) [
     | inl all ↦ grind (arith, next_kept-is_None)

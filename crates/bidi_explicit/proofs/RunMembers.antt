@@ -1,6 +1,6 @@
 -- The level runs of a paragraph, one after another, each by the characters that X9 keeps in it.
 use Rattle.bidi_base.proofs.Common.{◌≡◌, ℕ, zero, suc, ◌+◌, ◌-◌, ◌<◌, ◌≤◌, Bool, true, false, List, [], ◌∷◌, ◌++◌, length, get_or, refl, sym, ap, ◌∙◌, arith, add-one, append-nil, inl, inr, filter}
-use Rattle.bidi_base.proofs.Common.{range_with_len, cases_Bool, cases_eq, cases_lt, both_ways, get_or_push, flat_map-append, first_or, last_or, is_kept_at, kept_places, kept_before, next_kept}
+use Rattle.bidi_base.proofs.Common.{range_with_len, cases_Bool, cases_eq, cases_lt, both_ways, get_or_push, flat_map-append, first_or, last_or, is_kept_at, kept_indexes, kept_before, next_kept}
 use Rattle.bidi_base.proofs.Common.{have_one_level, begins_run, run_starts, flat_map}
 use Rattle.bidi_base.specs.declared.char_data.BidiClass.{BidiClass}
 use Rattle.bidi_base.proofs.Lists.{cases_Option}
@@ -135,9 +135,9 @@ module _ (classes : List BidiClass) (levels : List ℕ) where
       ∙ ap {B = List ℕ} (λ xs. xs ++ members k) (members_to k (omega arith))
       ∙ sym (ap (flat_map members) more ∙ flat_map-append members (range_with_len 0 k) (k ∷ []) ∙ ap {B = List ℕ} (λ ys. flat_map members (range_with_len 0 k) ++ ys) (append-nil (members k)))
 
-  pub kept_places-members : kept_places classes ≡ flat_map members (range_with_len 0 count)
-  unfolding kept_places
-  kept_places-members = rw (← cut-count) (members_to count (omega arith))
+  pub kept_indexes-members : kept_indexes classes ≡ flat_map members (range_with_len 0 count)
+  unfolding kept_indexes
+  kept_indexes-members = rw (← cut-count) (members_to count (omega arith))
 
   -- the run of a character
   pub run_of : (k q : ℕ) → k ≤ count → q < cut k → is_kept_at classes q ≡ true → (j : ℕ) × (j < k) × IsWhole j × Member q (members j) × (cut j ≤ q) × (q < cut (j + 1))

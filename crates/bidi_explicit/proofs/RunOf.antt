@@ -23,7 +23,7 @@ in_runs-later zero runs k h = refl
 in_runs-later (suc index) [] k h = refl
 in_runs-later (suc index) (r ∷ runs) k h = in_runs-later index runs k (λ i below. h (suc i) (omega arith)) ∙ sym (ap (λ b. b || in_runs runs k) (in_run-above r k (h 0 (omega arith))))
 
--- up to the run that ends behind a unit
+-- up to the run that ends after a unit
 pub in_runs-upto : (index : ℕ) (runs : List (ℕ × ℕ)) (k : ℕ) → are_ordered runs ≡ true → index ≤ length runs
     → (index < length runs → k < (get_or runs index (0, 0)).1) → in_runs (take (index + 1) runs) k ≡ in_runs runs k
 in_runs-upto index runs k ordered fits ends = grind (arith, start_or-at, in_runs-take, next_start, take_all)

@@ -1,7 +1,7 @@
 -- What the operations of the machine do to a stack of entries.
 use Rattle.bidi_base.proofs.Common.{◌≡◌, ℕ, ◌+◌, ◌-◌, ◌<◌, ◌≤◌, true, false, cond, List, [], ◌∷◌, ◌++◌, length, map, reverse, Option, Some, None, refl, sym, ap, ◌∙◌, arith, common_steps, cond-true}
-use Rattle.bidi_base.proofs.Common.{cond-false, reverse-append, length-reverse, length-map, is_initiator, is_opener, is_pdi, is_pdf, State, entry_of, taken, refused}
-use Rattle.bidi_base.proofs.Common.{entered, fits_in, drop_isolate, close_isolate, close_embedding, closed, opened, asked_level, override_of, IsWithinDepth}
+use Rattle.bidi_base.proofs.Common.{cond-false, reverse-append, length-reverse, length-map, is_isolate_initiator, is_opener, is_pdi, is_pdf, State, entry_of, taken, refused}
+use Rattle.bidi_base.proofs.Common.{entered, fits_in, drop_isolate, close_isolate, close_embedding, closed, opened, next_level, override_of, IsWithinDepth}
 use Rattle.std.specs.Prelude.{IsSome}
 use Rattle.std.specs.Option.{option_to_list}
 use Rattle.bidi_base.specs.declared.char_data.BidiClass.{BidiClass}
@@ -69,13 +69,13 @@ pub ruleset isolate_closings = (close_isolate-inside, close_isolate-unmatched, c
 
 -- an opener
 pub entered_pushed : (c : BidiClass) (s : State) (x y : StatusEntry) (old new : List StatusEntry) (i e v w : ℕ) → state_by x (below_last old) i e v ≡ s → IsLast x old → new ≡ old ++ y ∷ []
-    → fits_in c s ≡ true → seen y ≡ entry_of c s → w ≡ v + cond (is_initiator c) 1 0
+    → fits_in c s ≡ true → seen y ≡ entry_of c s → w ≡ v + cond (is_isolate_initiator c) 1 0
     → state_by y (below_last new) i e w ≡ entered c s
 unfolding entered
 entered_pushed c s x y old new i e v w is last pushed fits same more = rw (ap below_last pushed ∙ below_last-push old y ∙ last) (simp (← is) (grind (arith, common_steps)))
 
 -- the entry that it pushes
-pub entry-is : (c : BidiClass) (s : State) (entry : StatusEntry) → entry.level ≡ asked_level c s.top.status.level → entry.override_class ≡ override_of c → entry.is_isolate ≡ is_initiator c
+pub entry-is : (c : BidiClass) (s : State) (entry : StatusEntry) → entry.level ≡ next_level c s.top.status.level → entry.override_class ≡ override_of c → entry.is_isolate ≡ is_isolate_initiator c
     → seen entry ≡ entry_of c s
 entry-is c s entry level override isolate = grind arith
 
@@ -83,15 +83,15 @@ entered_refused : (c : BidiClass) (s : State) → fits_in c s ≡ false → ente
 unfolding entered
 entered_refused c s e = cond-false (fits_in c s) (taken c s) (refused c s) e
 
-pub entered_overflow_isolate : (c : BidiClass) (s : State) (x : StatusEntry) (xs : List StatusEntry) (i e v : ℕ) → state_by x xs i e v ≡ s → fits_in c s ≡ false → is_initiator c ≡ true
+pub entered_overflow_isolate : (c : BidiClass) (s : State) (x : StatusEntry) (xs : List StatusEntry) (i e v : ℕ) → state_by x xs i e v ≡ s → fits_in c s ≡ false → is_isolate_initiator c ≡ true
     → state_by x xs (i + 1) e v ≡ entered c s
 entered_overflow_isolate c s x xs i e v is fails initiator = grind (arith, entered_refused)
 
-pub entered_overflow_embedding : (c : BidiClass) (s : State) (x : StatusEntry) (xs : List StatusEntry) (i e v : ℕ) → state_by x xs i e v ≡ s → fits_in c s ≡ false → is_initiator c ≡ false
+pub entered_overflow_embedding : (c : BidiClass) (s : State) (x : StatusEntry) (xs : List StatusEntry) (i e v : ℕ) → state_by x xs i e v ≡ s → fits_in c s ≡ false → is_isolate_initiator c ≡ false
     → i ≡ 0 → state_by x xs i (e + 1) v ≡ entered c s
 entered_overflow_embedding c s x xs i e v is fails other none = grind (arith, entered_refused)
 
-pub entered_inside : (c : BidiClass) (s : State) (x : StatusEntry) (xs : List StatusEntry) (i e v : ℕ) → state_by x xs i e v ≡ s → fits_in c s ≡ false → is_initiator c ≡ false → 0 < i
+pub entered_inside : (c : BidiClass) (s : State) (x : StatusEntry) (xs : List StatusEntry) (i e v : ℕ) → state_by x xs i e v ≡ s → fits_in c s ≡ false → is_isolate_initiator c ≡ false → 0 < i
     → s ≡ entered c s
 entered_inside c s x xs i e v is fails other some = grind (arith, entered_refused)
 
@@ -128,7 +128,7 @@ unfolding opened
 opened-other c s e = cond-false (is_opener c) _ _ e
 
 -- it finds room
-pub fits_in-room : (paragraph : ℕ) (c : BidiClass) (s : State) (x : StatusEntry) (entries : List StatusEntry) (i e v : ℕ) → state_by x (below_last entries) i e v ≡ s → IsLast x entries
-    → IsWithinDepth paragraph s → fits_in c s ≡ true → length entries < 126
-fits_in-room paragraph c s x entries i e v is last depth fits =
-    grind (arith, length-map, length-below_last x entries last, IsTaken-room paragraph c s depth)
+pub fits_in-room : (para_level : ℕ) (c : BidiClass) (s : State) (x : StatusEntry) (entries : List StatusEntry) (i e v : ℕ) → state_by x (below_last entries) i e v ≡ s → IsLast x entries
+    → IsWithinDepth para_level s → fits_in c s ≡ true → length entries < 126
+fits_in-room para_level c s x entries i e v is last depth fits =
+    grind (arith, length-map, length-below_last x entries last, IsTaken-room para_level c s depth)

@@ -7,7 +7,7 @@ use Rattle.bidi_base.specs.declared.char_data.BidiClass.{BidiClass}
 use Rattle.bidi_base.specs.Units.{units_from, units_below}
 use Rattle.bidi_base.proofs.PlacesLemmas.{range_with_len-more}
 
--- what stands where a list of runs has none
+-- what is where a list of runs has none
 abbrev pub no_range : Range ℕ
 no_range = record { start = 0; end = 0 }
 

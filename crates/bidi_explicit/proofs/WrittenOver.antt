@@ -6,8 +6,8 @@ use Rattle.bidi_base.proofs.Common.{get_or-drop}
 use Rattle.std.proofs.lemmas.Bool.{and_cases}
 use Rattle.bidi_base.specs.declared.char_data.BidiClass.{BidiClass}
 use Rattle.bidi_base.specs.declared.char_data.BidiClass.TheVariants.{L}
-use Rattle.bidi_explicit.specs.ExplicitPass.{filled}
-use Rattle.bidi_explicit.specs.Written.{is_seen, IsWrittenOver}
+use Rattle.bidi_explicit.specs.RunCutting.{filled}
+use Rattle.bidi_explicit.specs.SequenceUnits.{is_seen, IsWrittenOver}
 use Rattle.bidi_explicit.proofs.InRuns.{in_run, in_run-true, in_run-inside, in_runs-more, in_runs-take}
 
 -- below a range, in it, or past it

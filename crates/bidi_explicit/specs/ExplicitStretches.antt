@@ -1,86 +1,84 @@
--- The explicit pass by stretches between controls: what it has written of the units below one.
+-- The explicit pass by stretches between controls: what it has written once it has read a part of the paragraph.
 use Rattle.std.specs.Prelude.{◌≡◌, ℕ, ◌<◌, ◌≤◌, if◌then◌else◌, List, length, get_or, Option, Some, None}
 use Rattle.bidi_base.specs.declared.char_data.BidiClass.{BidiClass}
 use Rattle.bidi_base.specs.declared.char_data.BidiClass.TheVariants.{L}
 use Rattle.bidi_base.specs.Classes.{is_kept_in_place}
 use Rattle.bidi_base.specs.Explicit.{explicit_levels, processing_classes}
-use Rattle.bidi_base.specs.Places.{class_at}
+use Rattle.bidi_base.specs.Indexes.{class_at}
 use Rattle.bidi_base.specs.StatusMachine.{State, state_at}
-use Rattle.bidi_base.specs.Text.{place, text_len, per_char, per_unit, IsPerChar}
-use Rattle.bidi_explicit.specs.ExplicitPass.{runs_before, run_start, IsCutTo}
+use Rattle.bidi_base.specs.Texts.{Encoding, Text, unit_index, text_len, per_char, per_unit, IsPerChar}
+use Rattle.bidi_explicit.specs.RunCutting.{runs_before, run_start, IsCutTo}
 use Rattle.bidi_explicit.specs.declared.explicit.stretches.OpenRun.{OpenRun}
 use Rattle.bidi_explicit.specs.declared.explicit.stretches.Progress.{Progress}
 
--- from a code unit on the classes are still the stored ones
+-- the classes from a code unit on are still the stored ones
 abbrev pub IsUnread : List BidiClass → List BidiClass → ℕ → Type 0
-IsUnread original classes from = (u : ℕ) → from ≤ u → class_at classes u ≡ class_at original u
+IsUnread original_classes classes from = (u : ℕ) → from ≤ u → class_at classes u ≡ class_at original_classes u
 
--- what an override that puts a class makes of another, where there is no control (X6)
+-- the class that a class becomes inside an override, if it is no control's (X6): BN stays
 abbrev pub put_over : BidiClass → BidiClass → BidiClass
 put_over put c = if is_kept_in_place c then put else c
 
--- the same of an override that there may be
+-- the same, if there may be no override
 abbrev pub overridden : Option BidiClass → BidiClass → BidiClass
 overridden None c = c
 overridden (Some put) c = put_over put c
 
--- an override was put on the units from `from` up to `to`, and nothing on others
+-- the code units from `from` up to `to` have the class of the override, if there is one, and all others are unchanged
 pub record IsOverridden (override : Option BidiClass) (from to : ℕ) (old new : List BidiClass) : Type 0 where
   pub inside : (u : ℕ) → from ≤ u → u < to → class_at new u ≡ overridden override (class_at old u)
   pub below : (u : ℕ) → u < from → class_at new u ≡ class_at old u
   pub above : (u : ℕ) → to ≤ u → class_at new u ≡ class_at old u
   pub long : length new ≡ length old
 
--- a paragraph, with the stored class of each unit
-pub record Paragraph : Type 0 where
-  pub len_of : ℕ → ℕ
-  pub chars : List ℕ
+-- a paragraph, with the stored class of each code unit
+pub record Paragraph (encoding : Encoding) : Type 0 where
+  pub text : Text encoding
   pub level : ℕ
   pub original : List BidiClass
 
-abbrev pub paragraph_of : (ℕ → ℕ) → List ℕ → ℕ → List BidiClass → Paragraph
-paragraph_of len_of chars level original = record { len_of = len_of; chars = chars; level = level; original = original }
+abbrev pub paragraph_of : {encoding : Encoding} → Text encoding → ℕ → List BidiClass → Paragraph encoding
+paragraph_of text level original_classes = record { text = text; level = level; original = original_classes }
 
 -- the stored class of each character
-abbrev pub stored : Paragraph → List BidiClass
-stored p = per_char L p.len_of p.chars p.original
+abbrev pub stored : {encoding : Encoding} → Paragraph encoding → List BidiClass
+stored p = per_char L p.text p.original
 
--- its explicit levels and processing classes, one a character
-abbrev pub levels_of : Paragraph → List ℕ
+-- the explicit level and the processing class of each character
+abbrev pub levels_of : {encoding : Encoding} → Paragraph encoding → List ℕ
 levels_of p = explicit_levels p.level (stored p)
 
-abbrev pub classes_of : Paragraph → List BidiClass
+abbrev pub classes_of : {encoding : Encoding} → Paragraph encoding → List BidiClass
 classes_of p = processing_classes p.level (stored p)
 
--- the units below u are read, and u is a boundary
-pub record IsReadTo (p : Paragraph) (u : ℕ) (stack : State) (levels : List ℕ) (classes : List BidiClass)
+-- the pass has read the code units before u, and u is a boundary
+pub record IsReadTo {encoding : Encoding} (p : Paragraph encoding) (u : ℕ) (stack : State) (levels : List ℕ) (classes : List BidiClass)
     (runs : List (ℕ × ℕ)) (run : OpenRun) : Type 0 where
-  pub has_units : (c : ℕ) → 1 ≤ p.len_of c
-  pub per_char : IsPerChar p.len_of p.chars p.original
+  pub per_char : IsPerChar p.text p.original
   pub index : ℕ
-  pub begins : u ≡ place p.len_of p.chars index
-  pub within : index ≤ length p.chars
+  pub begins : u ≡ unit_index p.text index
+  pub within : index ≤ length p.text.chars
   pub machine : stack ≡ state_at p.level (stored p) index
-  pub levels_long : length levels ≡ text_len p.len_of p.chars
-  pub classes_long : length classes ≡ text_len p.len_of p.chars
-  pub levels_written : (v : ℕ) → v < u → get_or levels v 0 ≡ get_or (per_unit p.len_of p.chars (levels_of p)) v 0
-  pub classes_written : (v : ℕ) → v < u → class_at classes v ≡ class_at (per_unit p.len_of p.chars (classes_of p)) v
+  pub levels_long : length levels ≡ text_len p.text
+  pub classes_long : length classes ≡ text_len p.text
+  pub levels_written : (v : ℕ) → v < u → get_or levels v 0 ≡ get_or (per_unit p.text (levels_of p)) v 0
+  pub classes_written : (v : ℕ) → v < u → class_at classes v ≡ class_at (per_unit p.text (classes_of p)) v
   pub unread : IsUnread p.original classes u
-  pub cut : IsCutTo p.len_of p.chars (stored p) (levels_of p) index runs run.start run.last_level
+  pub cut : IsCutTo encoding.len_of p.text.chars (stored p) (levels_of p) index runs run.start run.last_level
 
--- the level runs that have ended once the first kept unit of what was read, if there is one, met the run that
--- is open, and that one then
-abbrev pub runs_met : Option ℕ → ℕ → OpenRun → List (ℕ × ℕ) → List (ℕ × ℕ)
-runs_met None level run runs = runs
-runs_met (Some unit) level run runs = runs_before run.last_level level run.start unit runs
+-- the level runs that have ended after a stretch or a control of this level, by its first code unit that X9 keeps, if
+-- there is one; and the run that is then open
+abbrev pub runs_after : Option ℕ → ℕ → OpenRun → List (ℕ × ℕ) → List (ℕ × ℕ)
+runs_after None level run runs = runs
+runs_after (Some unit) level run runs = runs_before run.last_level level run.start unit runs
 
-abbrev pub run_met : Option ℕ → ℕ → OpenRun → OpenRun
-run_met None level run = run
-run_met (Some unit) level run = record { start = run_start run.last_level level run.start unit; last_level = Some level }
+abbrev pub open_run_after : Option ℕ → ℕ → OpenRun → OpenRun
+open_run_after None level run = run
+open_run_after (Some unit) level run = record { start = run_start run.last_level level run.start unit; last_level = Some level }
 
--- from a unit on a stretch or a control is read, whatever runs came before
-abbrev pub ReadsOn : Paragraph → ℕ → State → List ℕ → List BidiClass → Progress → State → List ℕ → List BidiClass → Type 0
+-- the pass has read a stretch or a control from `from` on, whatever runs came before it
+abbrev pub ReadsOn : {encoding : Encoding} → Paragraph encoding → ℕ → State → List ℕ → List BidiClass → Progress → State → List ℕ → List BidiClass → Type 0
 ReadsOn p from stack levels classes read stack_now levels_now classes_now =
     (runs : List (ℕ × ℕ)) (run : OpenRun) → IsReadTo p from stack levels classes runs run
-    → IsReadTo p read.end stack_now levels_now classes_now (runs_met read.first_kept read.level run runs)
-    (run_met read.first_kept read.level run)
+    → IsReadTo p read.end stack_now levels_now classes_now (runs_after read.first_kept read.level run runs)
+    (open_run_after read.first_kept read.level run)

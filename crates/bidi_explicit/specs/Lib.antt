@@ -1,12 +1,14 @@
 pub mod Control
-pub mod ExplicitPass
+pub mod RunCutting
 pub mod ExplicitStretches
 pub mod Gathered
+pub mod InText
 pub mod Joining
+pub mod LeveledText
 pub mod Links
 pub mod Paragraph
 pub mod RunSequence
 pub mod Status
-pub mod Stride
+pub mod StepUnit
 pub mod Waiting
-pub mod Written
+pub mod SequenceUnits

@@ -1,13 +1,13 @@
--- What contracts see of an isolating run sequence in code, and of the walks over its units.
+-- What contracts see of an isolating run sequence in code, and of the iterators over its code units.
 use Rattle.std.specs.Prelude.{ℕ, List, ◌++◌, filter, map, reverse}
 use Rattle.std.specs.declared.ops.Range.{Range}
 use Rattle.bidi_base.specs.declared.char_data.BidiClass.{BidiClass}
-use Rattle.bidi_base.specs.Places.{between}
+use Rattle.bidi_base.specs.Indexes.{between}
 use Rattle.bidi_base.specs.Sequences.{RunSequence, has_places}
 use Rattle.bidi_base.specs.Units.{bounds, units_in_runs}
 use Rattle.bidi_explicit.specs.Joining.{JoinedRuns, characters_of}
 use Rattle.bidi_explicit.specs.declared.prepare.sequence.IsolatingRunSequence.{IsolatingRunSequence}
-use Rattle.bidi_explicit.specs.declared.prepare.lent.LentSequence.{LentSequence}
+use Rattle.bidi_explicit.specs.declared.prepare.borrowed.BorrowedSequence.{BorrowedSequence}
 use Rattle.bidi_explicit.specs.declared.prepare.sequence.ForwardsFrom.{ForwardsFrom}
 use Rattle.bidi_explicit.specs.declared.prepare.sequence.BackwardsFrom.{BackwardsFrom}
 
@@ -15,7 +15,7 @@ use Rattle.bidi_explicit.specs.declared.prepare.sequence.BackwardsFrom.{Backward
 abbrev pub runs : IsolatingRunSequence → List (Range ℕ)
 runs s = s.runs.items
 
--- the same as pairs of their ends
+-- its level runs, as pairs of their ends
 abbrev pub run_bounds : IsolatingRunSequence → List (ℕ × ℕ)
 run_bounds s = map bounds s.runs.items
 
@@ -26,18 +26,18 @@ sos s = s.sos
 abbrev pub eos : IsolatingRunSequence → BidiClass
 eos s = s.eos
 
--- the same of a sequence whose runs are lent
-abbrev pub lent_runs : LentSequence → List (Range ℕ)
-lent_runs s = s.runs.now
+-- the same for a sequence that borrows its runs
+abbrev pub borrowed_runs : BorrowedSequence → List (Range ℕ)
+borrowed_runs s = s.runs.now
 
-abbrev pub lent_sos : LentSequence → BidiClass
-lent_sos s = s.sos
+abbrev pub borrowed_sos : BorrowedSequence → BidiClass
+borrowed_sos s = s.sos
 
-abbrev pub lent_eos : LentSequence → BidiClass
-lent_eos s = s.eos
+abbrev pub borrowed_eos : BorrowedSequence → BidiClass
+borrowed_eos s = s.eos
 
-abbrev pub lent_joined : LentSequence → JoinedRuns
-lent_joined s = record { runs = map bounds s.runs.now; sos = s.sos; eos = s.eos }
+abbrev pub borrowed_joined : BorrowedSequence → JoinedRuns
+borrowed_joined s = record { runs = map bounds s.runs.now; sos = s.sos; eos = s.eos }
 
 -- a sequence's runs, with the classes at both ends
 abbrev pub joined : IsolatingRunSequence → JoinedRuns
@@ -47,11 +47,11 @@ joined s = record { runs = run_bounds s; sos = s.sos; eos = s.eos }
 abbrev pub sequence_in : (ℕ → ℕ) → List ℕ → List BidiClass → IsolatingRunSequence → RunSequence
 sequence_in len_of chars classes s = characters_of len_of chars classes (joined s)
 
--- those of some sequences, but for what holds no such character
+-- the same for some sequences, without those that have no such character
 abbrev pub sequences_in : (ℕ → ℕ) → List ℕ → List BidiClass → List IsolatingRunSequence → List RunSequence
 sequences_in len_of chars classes out = filter has_places (map (sequence_in len_of chars classes) out)
 
--- the units that a walk still has to give
+-- the code units that an iterator has not returned yet
 abbrev pub forwards_left : ForwardsFrom → List ℕ
 forwards_left w = between w.at w.end ++ units_in_runs (map bounds w.later.now)
 

@@ -1,4 +1,4 @@
--- The status stack in code as the state of the machine.
+-- The status stack in code, as the state of `StatusMachine`.
 use Rattle.std.specs.Prelude.{◌≡◌, ℕ, ◌+◌, List, ◌∷◌, drop, length, map, reverse}
 use Rattle.bidi_base.specs.StatusMachine.{Entry, State}
 use Rattle.bidi_explicit.specs.declared.explicit.status.StatusEntry.{StatusEntry}
@@ -11,7 +11,7 @@ seen e = record { status = record { level = e.level; override = e.override_class
 abbrev pub below_last : List StatusEntry → List StatusEntry
 below_last entries = drop 1 (reverse entries)
 
--- the entry is the last one of a stack. The code keeps the entries outermost first
+-- the entry is the last one of a stack: the code keeps the entries outermost first
 abbrev pub IsLast : StatusEntry → List StatusEntry → Type 0
 IsLast top entries = reverse entries ≡ top ∷ below_last entries
 

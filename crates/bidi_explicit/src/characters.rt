@@ -1,16 +1,16 @@
 //! Steps from one character of a text to the next, by index.
 
 ghost use Rattle.std.specs.Prelude.{◌≡◌, ◌<◌, ◌≤◌, IsTrue};
-ghost use Rattle.bidi_base.specs.Text.{is_boundary, text_len, IsNextPlace};
+ghost use Rattle.bidi_base.specs.Texts.{is_boundary, text_len, IsNextPlace};
 
 use bidi_text::text::TextSource;
 
 /// Returns the index after the character that begins at `start`. A character must begin there.
 pub fn end_of<T: TextSource>(text: T, start: usize) -> usize
-    requires begins { IsTrue (is_boundary T.units (T.characters text) start) }
-    requires inside { start < text_len T.units (T.characters text) }
-    requires fits { text_len T.units (T.characters text) ≤ usize.MAX }
-    ensures { IsNextPlace T.units (T.characters text) start result }
+    requires begins { IsTrue (is_boundary (T.text text) start) }
+    requires inside { start < text_len (T.text text) }
+    requires fits { text_len (T.text text) ≤ usize.MAX }
+    ensures { IsNextPlace (T.text text) start result }
 {
     end_within(text, start, text.len())
 }
@@ -20,10 +20,10 @@ pub fn end_of<T: TextSource>(text: T, start: usize) -> usize
 /// A character must begin at `start`. Reads the text with `len_at`, and does not read it at all if `start`
 /// is the last code unit.
 pub fn end_within<T: TextSource>(text: T, start: usize, len: usize) -> usize
-    requires begins { IsTrue (is_boundary T.units (T.characters text) start) }
+    requires begins { IsTrue (is_boundary (T.text text) start) }
     requires inside { start < len }
-    requires long { len ≡ text_len T.units (T.characters text) }
-    ensures { IsNextPlace T.units (T.characters text) start result }
+    requires same_len { len ≡ text_len (T.text text) }
+    ensures { IsNextPlace (T.text text) start result }
 {
     if start + 1 == len {
         return len;

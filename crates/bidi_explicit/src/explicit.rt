@@ -1,11 +1,11 @@
 //! Explicit levels and directions (X1 to X8), and level runs (BD7), in place over the code units of one
 //! paragraph.
 
-ghost use Rattle.std.specs.Prelude.{◌≡◌, ℕ, ◌+◌, ◌*◌, ◌-◌, ◌≤◌, length, map, OnOk, IfOk};
-ghost use Rattle.bidi_base.specs.InPlace.{AreExplicitLevels, CanFindExplicitLevels};
+ghost use Rattle.std.specs.Prelude.{◌≡◌, ◌+◌, ◌*◌, ◌-◌, ◌≤◌, length, map, OnOk, IfOk};
+ghost use Rattle.bidi_base.specs.Texts.{AreExplicitLevels, CanFindExplicitLevels};
 ghost use Rattle.bidi_base.specs.Units.{bounds};
 ghost use Rattle.bidi_explicit.specs.Paragraph.{AreLevelsOf, CanFindLevels, least_count, whole_count};
-ghost use Rattle.bidi_explicit.specs.ExplicitPass.{filled, runs_before, run_start as run_start_after};
+ghost use Rattle.bidi_explicit.specs.RunCutting.{filled, runs_before, run_start as run_start_after};
 
 mod overrides;
 mod status;
@@ -25,8 +25,8 @@ use stretches::{OpenRun, is_control};
 
 /// How the pass goes through a stretch without controls, and what it counts there.
 #[derive(Clone, Copy, Debug)]
-pub enum Stride {
-    /// From character to character. The text says where each ends.
+pub enum StepUnit {
+    /// From character to character. The pass asks the text for the end of each.
     Character,
     /// From code unit to code unit. The pass reads the text only at controls, and looks for the next control
     /// sixteen code units at a time.
@@ -140,13 +140,14 @@ fn cut_run(
 /// Finds the explicit levels of a paragraph, its classes under overrides, and its level runs (X1 to X8,
 /// BD7).
 ///
-/// `para_level` is at most 125. The three slices have one entry for each code unit. `original_classes` has
-/// the stored classes, which are equal within each character. `levels` may hold anything, and gets the
-/// explicit level of each code unit's character. `processing_classes` must be a copy of `original_classes`,
-/// and gets the classes under overrides, with BN for characters that X9 removes.
+/// `para_level` must be at most 125. The three slices must have one entry for each code unit.
+/// `original_classes` has the stored classes, which must be equal within each character. `levels` may hold
+/// anything, and gets the explicit level of each code unit's character. `processing_classes` must be a copy
+/// of `original_classes`, and gets the classes under overrides, with BN for characters that X9 removes.
 ///
-/// `runs` must be empty. A new run begins exactly at a character that X9 keeps and whose level differs from
-/// that of the kept character before it. The runs cover the text.
+/// `runs` must be empty. The first run begins at the start of the text. Each other one begins at a character
+/// that X9 keeps, exactly if its level differs from that of the kept character before it. The runs cover the
+/// text.
 ///
 /// Returns an error only if `runs`, which has its own allocator, cannot grow. The slices and the runs may
 /// then hold anything. Nothing else allocates. The allocator that is passed is not used.
@@ -159,9 +160,9 @@ pub fn compute<T: TextSource>(
     processing_classes: &mut [BidiClass],
     runs: &mut LevelRunVec,
 ) -> Result<(), AllocError>
-    requires { CanFindExplicitLevels T.units (T.characters text) para_level original_classes.now levels.old
+    requires { CanFindExplicitLevels (T.text text) para_level original_classes.now levels.old
         processing_classes.old (map bounds runs.old.items) }
-    ensures { OnOk result (AreExplicitLevels T.units (T.characters text) para_level original_classes.now levels.new
+    ensures { OnOk result (AreExplicitLevels (T.text text) para_level original_classes.now levels.new
         processing_classes.new (map bounds runs.new.items)) }
 {
     compute_with_new_count::<T, Brand>(
@@ -187,12 +188,12 @@ fn compute_with_new_count<T: TextSource, S: Ledger>(
     runs: &mut LevelRunVec,
     blank: Blank,
 ) -> Result<(), AllocError>
-    requires paragraph { CanFindExplicitLevels T.units (T.characters text) para_level original_classes.now levels.old
+    requires paragraph { CanFindExplicitLevels (T.text text) para_level original_classes.now levels.old
         processing_classes.old (map bounds runs.old.items) }
     requires name { blank.name ≡ S.name }
     requires parts { blank.parts ≡ S.parts }
     requires one { blank.parts ≡ 1 }
-    ensures { OnOk result (AreExplicitLevels T.units (T.characters text) para_level original_classes.now levels.new
+    ensures { OnOk result (AreExplicitLevels (T.text text) para_level original_classes.now levels.new
         processing_classes.new (map bounds runs.new.items)) }
 {
     let mut steps = Steps::<S>::new(blank);
@@ -211,8 +212,8 @@ fn compute_with_new_count<T: TextSource, S: Ledger>(
 /// Like [`compute`], and counts each loop iteration in `steps`, including those of the functions it calls.
 ///
 /// There is at least one iteration for each character of the paragraph, and at most four. The iterations
-/// that pop the status stack at a PDI are charged to the initiators that filled it. Calls of the text and
-/// of the library count as no iterations. After an error nothing is promised about the count.
+/// that pop the status stack at a PDI are charged to the openers that filled it. Calls of the text and of
+/// the library count as no iterations. After an error nothing is promised about the count.
 pub fn compute_counted<T: TextSource, S: Ledger>(
     _alloc: Global,
     text: T,
@@ -223,14 +224,14 @@ pub fn compute_counted<T: TextSource, S: Ledger>(
     runs: &mut LevelRunVec,
     steps: &mut Steps<S>,
 ) -> Result<(), AllocError>
-    requires { CanFindExplicitLevels T.units (T.characters text) para_level original_classes.now levels.old
+    requires { CanFindExplicitLevels (T.text text) para_level original_classes.now levels.old
         processing_classes.old (map bounds runs.old.items) }
-    ensures found { OnOk result (AreExplicitLevels T.units (T.characters text) para_level original_classes.now levels.new
+    ensures found { OnOk result (AreExplicitLevels (T.text text) para_level original_classes.now levels.new
         processing_classes.new (map bounds runs.new.items)) }
-    ensures at_least { OnOk result (steps.old + length (T.characters text) ≤ steps.new) }
-    ensures at_most { OnOk result (steps.new ≤ steps.old + 4 * length (T.characters text)) }
+    ensures steps_at_least { OnOk result (steps.old + length (T.text text).chars ≤ steps.new) }
+    ensures steps_at_most { OnOk result (steps.new ≤ steps.old + 4 * length (T.text text).chars) }
 {
-    let paragraph = Paragraph::new(text, para_level, Stride::Character, original_classes);
+    let paragraph = Paragraph::new(text, para_level, StepUnit::Character, original_classes);
     find_levels_counted(&paragraph, levels, processing_classes, runs, steps)
 }
 
@@ -239,12 +240,12 @@ pub fn compute_counted<T: TextSource, S: Ledger>(
 ///
 /// `levels` must be as long as the paragraph's stored classes, and gets the levels. `classes` must be a copy of the
 /// stored classes, and gets the classes under overrides. `runs` must be empty, and gets the level runs. If an
-/// allocation fails, returns an error, and all three may hold anything.
+/// allocation fails, returns an error, and all three may then hold anything.
 ///
-/// With [`Stride::Character`] there is at least one iteration for each character, and at most four. With
-/// [`Stride::CodeUnit`] there are at most four for each code unit. No lower bound holds there, because a search tests
+/// With [`StepUnit::Character`] there is at least one iteration for each character, and at most four. With
+/// [`StepUnit::CodeUnit`] there are at most four for each code unit. No lower bound holds there, because a search tests
 /// sixteen code units in one iteration. The iterations that pop the status stack at a PDI are charged to the
-/// initiators that filled it. Calls of the text and of the library count as no iterations. After an error nothing is
+/// openers that filled it. Calls of the text and of the library count as no iterations. After an error nothing is
 /// promised about the count.
 pub fn find_levels_counted<T: TextSource, S: Ledger>(
     paragraph: &Paragraph<'_, T>,
@@ -255,8 +256,8 @@ pub fn find_levels_counted<T: TextSource, S: Ledger>(
 ) -> Result<(), AllocError>
     requires { CanFindLevels paragraph.now levels.old classes.old runs.old.items }
     ensures found { OnOk result (AreLevelsOf paragraph.now levels.new classes.new runs.new.items) }
-    ensures at_least { OnOk result (steps.old + least_count paragraph.now ≤ steps.new) }
-    ensures at_most { OnOk result (steps.new ≤ steps.old + 4 * whole_count paragraph.now) }
+    ensures steps_at_least { OnOk result (steps.old + least_count paragraph.now ≤ steps.new) }
+    ensures steps_at_most { OnOk result (steps.new ≤ steps.old + 4 * whole_count paragraph.now) }
 {
     let original_classes = paragraph.original_classes;
     let units = original_classes.len();
@@ -272,7 +273,7 @@ pub fn find_levels_counted<T: TextSource, S: Ledger>(
             write_level(levels, at, stretch.end, stretch.level);
             stretch
         };
-        run.meet(runs, &progress)?;
+        run.extend(runs, &progress)?;
         at = progress.end;
     }
     if units > 0 {

@@ -3,9 +3,9 @@
 ghost use Rattle.std.specs.Prelude.{◌≡◌};
 ghost use Rattle.bidi_base.specs.Classes.{is_removed, is_kept};
 
+mod borrowed;
 mod gathered;
 mod joining;
-mod lent;
 mod links;
 mod sequence;
 mod waiting;
@@ -13,9 +13,9 @@ mod waiting;
 use bidi_base::char_data::BidiClass;
 use bidi_base::classes::is_removed;
 pub use bidi_base::steps::Steps;
+pub use borrowed::BorrowedSequence;
 pub use gathered::GatheredSequence;
 pub use joining::isolating_run_sequences;
-pub use lent::LentSequence;
 pub use links::RunLinks;
 pub use sequence::{BackwardsFrom, ForwardsFrom, IsolatingRunSequence};
 use std::ops::Range;

@@ -3,9 +3,9 @@
 
 ghost use Rattle.std.specs.Prelude.{◌≡◌, ◌+◌, ◌-◌, ◌*◌, ◌<◌, ◌≤◌, ◌&&◌, nat_lt, length, map, get_or, if◌then◌else◌, IsTrue};
 ghost use Rattle.bidi_base.specs.Classes.{is_kept_in_place};
-ghost use Rattle.bidi_base.specs.Places.{class_at};
+ghost use Rattle.bidi_base.specs.Indexes.{class_at};
 ghost use Rattle.bidi_base.specs.Units.{bounds, are_ordered};
-ghost use Rattle.bidi_explicit.specs.Written.{count_below, IsWrittenOver, WritesInRuns};
+ghost use Rattle.bidi_explicit.specs.SequenceUnits.{count_below, IsWrittenOver, WritesInRuns};
 
 use crate::prepare::{LevelRun, Steps};
 use bidi_base::char_data::BidiClass::{self, BN};
@@ -20,7 +20,7 @@ pub fn is_kept_in_place(class: BidiClass) -> bool
     !matches!(class, BN)
 }
 
-/// The class of a code unit of class `before` after `class` is written over it. BN stays.
+/// Returns the class of a code unit of class `before` after `class` is written over it. BN stays.
 fn written_over(before: BidiClass, class: BidiClass) -> BidiClass
     ensures { result ≡ (if is_kept_in_place before then class else before) }
 {
@@ -50,6 +50,9 @@ fn write_over<S: Ledger>(
 }
 
 /// Writes `class` to the code units of `runs` from `from` up to `to`, except to those with BN.
+///
+/// Each run must be non-empty and end at or before the start of the next, and `to` must be at most the number of
+/// classes.
 pub fn write_over_runs(
     runs: &[LevelRun],
     classes: &mut [BidiClass],
@@ -86,8 +89,8 @@ fn write_over_runs_with_new_count<S: Ledger>(
 
 /// Like [`write_over_runs`], and counts each loop iteration in `steps`.
 ///
-/// If every run ends after `from`, each run that begins before `to` has a code unit between `from` and
-/// `to`. So there are at most two iterations for each of these code units.
+/// If `from` is before `to` and the first run ends after `from`, each run that begins before `to` has a code
+/// unit between `from` and `to`. So there are at most two iterations for each code unit of the runs there.
 pub fn write_over_runs_counted<S: Ledger>(
     runs: &[LevelRun],
     classes: &mut [BidiClass],
@@ -99,8 +102,8 @@ pub fn write_over_runs_counted<S: Ledger>(
     requires ordered { IsTrue (are_ordered (map bounds runs.now)) }
     requires inside { to ≤ length classes.old }
     ensures written { WritesInRuns runs.now class from to classes.old classes.new }
-    ensures at_least { steps.old ≤ steps.new }
-    ensures at_most { from < to → from < (get_or (map bounds runs.now) 0 (0, 0)).1
+    ensures steps_at_least { steps.old ≤ steps.new }
+    ensures steps_at_most { from < to → from < (get_or (map bounds runs.now) 0 (0, 0)).1
         → steps.new + 2 * count_below (map bounds runs.now) from
         ≤ steps.old + 2 * count_below (map bounds runs.now) to }
 {
@@ -113,7 +116,7 @@ pub fn write_over_runs_counted<S: Ledger>(
     }
 }
 
-/// Whether there is a run at `index`, and it begins before `unit`.
+/// Returns whether there is a run at `index`, and it begins before `unit`.
 fn begins_below(runs: &[LevelRun], index: usize, unit: usize) -> bool
     ensures { result ≡ (nat_lt index (length runs.now) && nat_lt (get_or (map bounds runs.now) index (0, 0)).0 unit) }
 {

@@ -1,3 +1,3 @@
 pub mod Entries
 pub mod Statuses
-pub mod Told
+pub mod LineReports

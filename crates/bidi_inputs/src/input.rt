@@ -2,24 +2,24 @@
 ghost use Rattle.std.specs.Prelude.{◌≡◌, ◌||◌, IfErr, IfOk, IsErrOf, OnOk, string_bytes};
 ghost use Rattle.std.specs.Str.{chars, IsUtf8};
 ghost use Rattle.bidi_unicode.specs.Unicode.{unicode_source};
-ghost use Rattle.bidi_explain.specs.Explained.{AreTold};
+ghost use Rattle.bidi_explain.specs.Explained.{AreReported};
 ghost use Rattle.bidi_bytes.specs.Decoded.{decoded as decoded_chars, first_invalid as first_invalid_of};
 ghost use Rattle.bidi_bytes.specs.FileLines.{file_lines_of};
 ghost use Rattle.bidi_scan.specs.FileSearch.{found_from};
-ghost use Rattle.bidi_shown.specs.Faults.{TellsBytes};
+ghost use Rattle.bidi_shown.specs.Faults.{ReportsBytes};
 ghost use Rattle.bidi_shown.specs.declared.stream.StreamFault.TheVariants.{Memory};
-ghost use Rattle.bidi_inputs.specs.Told.{is_any_told, told_report};
+ghost use Rattle.bidi_inputs.specs.LineReports.{is_any_reported, lines_report};
 
+use crate::line_reports::push_lines_reported;
 use crate::status::Status;
-use crate::told::push_lines_told;
 use bidi_allowed::allowed::AllowList;
 use bidi_controls::finding::Wanted;
-use bidi_terminal::names::chars_of;
+use bidi_explain::explain::explain;
+use bidi_explain::view::StageView;
 use bidi_reports::report::Report;
 use bidi_scan::file_search::found_lines;
 use bidi_shown::stream::StreamFault;
-use bidi_explain::explain::explain;
-use bidi_explain::view::StageView;
+use bidi_terminal::names::chars_of;
 use bidi_unicode::UnicodeData;
 use std::alloc::{AllocError, Global};
 
@@ -69,17 +69,17 @@ pub fn check_input(
 ) -> Result<Checked, AllocError>
     ensures report { let found = found_from unicode_source wanted 1 (file_lines_of (decoded_chars bytes.now)) in
         IfOk result (λ checked. string_bytes checked.report
-        ≡ told_report unicode_source allowed.now report.old.form report.old.later name.now found) }
+        ≡ lines_report unicode_source allowed.now report.old.form report.old.later name.now found) }
     ensures found { let found = found_from unicode_source wanted 1 (file_lines_of (decoded_chars bytes.now)) in
-        IfOk result (λ checked. checked.found ≡ is_any_told allowed.now name.now found) }
+        IfOk result (λ checked. checked.found ≡ is_any_reported allowed.now name.now found) }
     ensures invalid { IfOk result (λ checked. checked.invalid ≡ first_invalid_of bytes.now) }
     ensures form { report.new.form ≡ report.old.form }
     ensures later { let found = found_from unicode_source wanted 1 (file_lines_of (decoded_chars bytes.now)) in
-        OnOk result (report.new.later ≡ (report.old.later || is_any_told allowed.now name.now found)) }
+        OnOk result (report.new.later ≡ (report.old.later || is_any_reported allowed.now name.now found)) }
 {
     let searched = found_lines(alloc, wanted, bytes)?;
     let mut out = String::new(alloc);
-    let found = push_lines_told(
+    let found = push_lines_reported(
         alloc,
         report,
         allowed,
@@ -99,17 +99,17 @@ pub fn check_input(
 /// A line ends after a paragraph separator, with CR LF as one. `view` has the base level, the form and the width of a
 /// table. The head and the foot of the page are in `bidi_explain::frame`. Returns an error if an allocation fails.
 pub fn explain_text(alloc: Global, view: StageView, text: &str) -> Result<String, AllocError>
-    ensures { IfOk result (λ out. AreTold unicode_source view (chars text.now) (string_bytes out)) }
+    ensures { IfOk result (λ out. AreReported unicode_source view (chars text.now) (string_bytes out)) }
 {
     let chars = chars_of(alloc, text)?;
-    let told = explain(alloc, &UnicodeData, view, chars.as_slice())?;
-    Ok(told)
+    let reported = explain(alloc, &UnicodeData, view, chars.as_slice())?;
+    Ok(reported)
 }
 
 /// Returns the text that an input is.
 fn text_of(bytes: &[u8]) -> Result<&str, StreamFault>
     ensures text { IfOk result (λ text. (text.now ≡ bytes.now) × IsUtf8 bytes.now) }
-    ensures fault { IfErr result (TellsBytes bytes.now) }
+    ensures fault { IfErr result (ReportsBytes bytes.now) }
     ensures memory { ¬ IsErrOf result Memory }
 {
     match str::from_utf8(bytes) {
@@ -124,10 +124,10 @@ fn text_of(bytes: &[u8]) -> Result<&str, StreamFault>
 /// `StreamFault::Memory` if an allocation fails.
 pub fn explain_input(alloc: Global, view: StageView, bytes: &[u8]) -> Result<String, StreamFault>
     ensures text { IfOk result (λ out. IsUtf8 bytes.now
-        × AreTold unicode_source view (chars bytes.now) (string_bytes out)) }
-    ensures fault { IfErr result (TellsBytes bytes.now) }
+        × AreReported unicode_source view (chars bytes.now) (string_bytes out)) }
+    ensures fault { IfErr result (ReportsBytes bytes.now) }
 {
     let text = text_of(bytes)?;
-    let told = explain_text(alloc, view, text)?;
-    Ok(told)
+    let reported = explain_text(alloc, view, text)?;
+    Ok(reported)
 }

@@ -3,5 +3,5 @@
 
 pub mod entries;
 pub mod input;
+pub mod line_reports;
 pub mod status;
-pub mod told;

@@ -1,6 +1,6 @@
 -- Sequences and level runs read levels at kept characters alone.
 use Rattle.bidi_base.proofs.Common.{◌≡◌, ℕ, zero, suc, ◌<◌, true, List, [], ◌∷◌, length, map, Some, refl, arith, inl, inr}
-use Rattle.bidi_base.proofs.Common.{filter_agree, class_at, chain, last_or, matching_pdi, is_kept_at, kept_places}
+use Rattle.bidi_base.proofs.Common.{filter_agree, class_at, chain, last_or, matching_pdi, is_kept_at, kept_indexes}
 use Rattle.bidi_base.proofs.Common.{next_kept, kept_before, level_at, resumed_at, successor, is_first, start_class, end_class, sequence_from, sequences, explicit_levels, get_or-map-range_with_len}
 use Rattle.bidi_base.specs.declared.char_data.BidiClass.{BidiClass}
 use Rattle.bidi_base.specs.Sequences.{HasExplicitLevels}
@@ -36,13 +36,13 @@ module _ (classes : List BidiClass) (levels other : List ℕ) (agree : (p : ℕ)
   chain-agree zero p kept within = refl
   chain-agree (suc k) p kept within = grind (arith, successor-agree p, successor-IsLaterKept classes levels p, chain-agree k, chain-None)
 
-  start_class-agree : (paragraph p : ℕ) → is_kept_at classes p ≡ true → p < length classes → start_class paragraph classes levels p ≡ start_class paragraph classes other p
+  start_class-agree : (para_level p : ℕ) → is_kept_at classes p ≡ true → p < length classes → start_class para_level classes levels p ≡ start_class para_level classes other p
   unfolding start_class
-  start_class-agree paragraph p kept within = grind (arith, before_level)
+  start_class-agree para_level p kept within = grind (arith, before_level)
 
-  end_class-agree : (paragraph p : ℕ) → is_kept_at classes p ≡ true → p < length classes → end_class paragraph classes levels p ≡ end_class paragraph classes other p
+  end_class-agree : (para_level p : ℕ) → is_kept_at classes p ≡ true → p < length classes → end_class para_level classes levels p ≡ end_class para_level classes other p
   unfolding end_class
-  end_class-agree paragraph p kept within = grind (arith, next_level)
+  end_class-agree para_level p kept within = grind (arith, next_level)
 
   last_along : (p : ℕ) (ps : List ℕ) → is_kept_at classes p ≡ true → p < length classes → AreSuccessors classes levels (p ∷ ps)
       → (is_kept_at classes (last_or p ps) ≡ true) × (last_or p ps < length classes)
@@ -53,21 +53,21 @@ module _ (classes : List BidiClass) (levels other : List ℕ) (agree : (p : ℕ)
       → (is_kept_at classes (last_or p (places_from classes levels p)) ≡ true) × (last_or p (places_from classes levels p) < length classes)
   last_kept p kept within = grind (arith, IsMaximal-chain (length classes) (is_kept_at classes) (successor classes levels) (IsLinked-successor classes levels) p, last_along p)
 
-  sequence_from-agree : (paragraph p : ℕ) → is_kept_at classes p ≡ true → p < length classes → sequence_from paragraph classes levels p ≡ sequence_from paragraph classes other p
+  sequence_from-agree : (para_level p : ℕ) → is_kept_at classes p ≡ true → p < length classes → sequence_from para_level classes levels p ≡ sequence_from para_level classes other p
   unfolding sequence_from
-  sequence_from-agree paragraph p kept within = grind (arith, last_kept, start_class-agree, end_class-agree, chain-agree)
+  sequence_from-agree para_level p kept within = grind (arith, last_kept, start_class-agree, end_class-agree, chain-agree)
 
-  pub sequences-agree : (paragraph : ℕ) → sequences paragraph classes levels ≡ sequences paragraph classes other
-  unfolding sequences kept_places
-  sequences-agree paragraph =
+  pub sequences-agree : (para_level : ℕ) → sequences para_level classes levels ≡ sequences para_level classes other
+  unfolding sequences kept_indexes
+  sequences-agree para_level =
       grind (arith, filter_agree, is_first-agree, AllFirst-filter, sequence_from-agree, all_agree)
     where
-      all_agree : (ps : List ℕ) → AllFirst classes other ps → map (sequence_from paragraph classes levels) ps ≡ map (sequence_from paragraph classes other) ps
+      all_agree : (ps : List ℕ) → AllFirst classes other ps → map (sequence_from para_level classes levels) ps ≡ map (sequence_from para_level classes other) ps
       all_agree [] h = refl
-      all_agree (p ∷ ps) h = grind (arith, sequence_from-agree paragraph p, all_agree ps)
+      all_agree (p ∷ ps) h = grind (arith, sequence_from-agree para_level p, all_agree ps)
 
 -- with the explicit levels at kept characters, the sequences are those of all explicit levels
-pub sequences-explicit_levels : (paragraph : ℕ) (classes : List BidiClass) (levels : List ℕ) → HasExplicitLevels paragraph classes levels
-    → sequences paragraph classes levels ≡ sequences paragraph classes (explicit_levels paragraph classes)
+pub sequences-explicit_levels : (para_level : ℕ) (classes : List BidiClass) (levels : List ℕ) → HasExplicitLevels para_level classes levels
+    → sequences para_level classes levels ≡ sequences para_level classes (explicit_levels para_level classes)
 unfolding explicit_levels
-sequences-explicit_levels paragraph classes levels h = grind (arith, sequences-agree, get_or-map-range_with_len)
+sequences-explicit_levels para_level classes levels h = grind (arith, sequences-agree, get_or-map-range_with_len)

@@ -10,7 +10,7 @@ use borrow.Rule.Slice.PartMut.{put_mid}
 use Rattle.bidi_base.proofs.PlacesLemmas.{reverse-take_more, length-in_context, get_or-in_context}
 use Rattle.bidi_laws.proofs.InPlace.{IsRewritten, IsRewritten-end}
 
--- the n classes from i on pass the test, and the one behind them does not
+-- the n classes from i on pass the test, and the one after them does not
 pub record IsBlock (test : BidiClass → Bool) (xs : List BidiClass) (i n : ℕ) : Type 0 where
   pub room : i + n ≤ length xs
   pub inside : (k : ℕ) → k < n → test (get_or xs (i + k) L) ≡ true
@@ -19,7 +19,7 @@ pub record IsBlock (test : BidiClass → Bool) (xs : List BidiClass) (i n : ℕ)
 pub IsBlock-prefix_len : (test : BidiClass → Bool) (xs : List BidiClass) (i n : ℕ) → i ≤ length xs → n ≡ prefix_len test (drop i xs) → IsBlock test xs i n
 IsBlock-prefix_len test xs i n fits is = grind (arith, length-drop, prefix_len-le-length, get_or-drop, prefix_len_passes, prefix_len_stops)
 
--- the same from what a pass counts, behind i nothing being written yet
+-- the same from what a pass counts, after i nothing being written yet
 pub IsBlock-counted : (test : BidiClass → Bool) (old now : List BidiClass) (i n : ℕ) → i ≤ length old → drop i now ≡ drop i old
     → n ≡ prefix_len test (take (length now - i) (drop i now)) → IsBlock test old i n
 IsBlock-counted test old now i n fits rest is = grind (arith, IsBlock-prefix_len test old i n fits, take_rest now i)

@@ -1,4 +1,5 @@
--- What the paragraphs of a text are by each rule: also where a carriage return and the line feed after it stay together.
+-- What the paragraphs of a text are by each rule: also where a carriage return and the line feed after it stay
+-- together.
 use Rattle.bidi_base.proofs.Common.{◌≡◌, ℕ, true, false, not, ◌&&◌, ◌==◌, List, [], ◌∷◌, refl, inl, inr, arith, All, onto_first, All-nil, All-cons, All-tail}
 use Rattle.bidi_base.proofs.Common.{cases_Bool, and_parts, SplitTest, cut_after, begins_with_line_feed, cr_lf_together, ends_by, paragraphs_of, ranges_from, Source}
 use Rattle.bidi_base.specs.Paragraphs.{has_inner_end, AreParagraphRanges}

@@ -1,13 +1,13 @@
 -- The base direction of a text in one walk, which counts the isolates that are open.
-use Rattle.bidi_base.proofs.Common.{◌≡◌, ◌↔◌, ℕ, ◌+◌, ◌-◌, ◌≤◌, Bool, true, false, ◌&&◌, cond, if◌then◌else◌, List, [], ◌∷◌, drop, map, find, Option, Some, None, is_some, refl, ap, ◌∙◌, ◌⊎◌, inl}
-use Rattle.bidi_base.proofs.Common.{inr, arith, onto_first, option_or, cases_Bool, is_strong, is_initiator, is_pdi, is_paragraph_separator, direction_by, base_direction, deciding_class}
+use Rattle.bidi_base.proofs.Common.{◌≡◌, ◌↔◌, ℕ, Bool, true, false, ◌&&◌, cond, if◌then◌else◌, List, [], ◌∷◌, map, find, Option, Some, None, is_some, refl, ap, ◌∙◌, inl}
+use Rattle.bidi_base.proofs.Common.{inr, arith, onto_first, option_or, cases_Bool, is_strong, is_paragraph_separator, direction_by, base_direction, deciding_class}
 use Rattle.bidi_base.proofs.Common.{paragraph_level, paragraphs_of, each_separator, first_or, Source, option_and_then, full_base_direction}
+use Rattle.bidi_base.specs.ClassParagraphs.{class_paragraphs}
 use Rattle.bidi_base.specs.declared.char_data.BidiClass.{BidiClass}
 use Rattle.bidi_base.specs.declared.char_data.Direction.{Direction}
 use Rattle.bidi_base.specs.declared.char_data.Direction.TheVariants.{Rtl, Mixed}
-use Rattle.bidi_base.specs.declared.char_data.BidiClass.TheVariants.{B}
 use Rattle.bidi_laws.proofs.IsolatesLemmas.{direction_by-Rtl}
-use Rattle.bidi_laws.proofs.IsolateWalk.{kind_of, initiator-kind, pdi-kind, depth_by, is_zero, deciding_from, deciding_class-from}
+use Rattle.bidi_laws.proofs.IsolateWalk.{kind_of, depth_by, is_zero, deciding_from, deciding_class-from}
 use Rattle.bidi_base.proofs.Lists.{cases_Option}
 
 -- the direction that is found where d isolates are open, and no character has decided
@@ -24,23 +24,14 @@ first_piece [] = []
 first_piece (c ∷ cs) = c ∷ cond (is_paragraph_separator c) [] (first_piece cs)
 
 -- the pieces from the next separator on
-class_pieces : List BidiClass → List (List BidiClass)
-class_pieces [] = []
-class_pieces (c ∷ cs) = cond (is_paragraph_separator c) ((c ∷ []) ∷ class_pieces cs) (onto_first c (class_pieces cs))
-
 other_pieces : List BidiClass → List (List BidiClass)
 other_pieces [] = []
-other_pieces (c ∷ cs) = cond (is_paragraph_separator c) (class_pieces cs) (other_pieces cs)
+other_pieces (c ∷ cs) = cond (is_paragraph_separator c) (class_paragraphs cs) (other_pieces cs)
 
-class_pieces-first : (c : BidiClass) (cs : List BidiClass) → class_pieces (c ∷ cs) ≡ first_piece (c ∷ cs) ∷ other_pieces (c ∷ cs)
-unfolding first_piece class_pieces other_pieces
-class_pieces-first c [] = elim (cases_Bool (is_paragraph_separator c)) [ inl ends ↦ rw ends refl | inr on ↦ rw on refl ]
-class_pieces-first c (d ∷ cs) = elim (cases_Bool (is_paragraph_separator c)) [ inl ends ↦ rw ends refl | inr on ↦ rw on (ap (onto_first c) (class_pieces-first d cs)) ]
-
-pieces-map : (source : Source) (chars : List ℕ) → map (map source.class_of) (paragraphs_of (each_separator source) chars) ≡ class_pieces (map source.class_of chars)
-unfolding class_pieces
-pieces-map source [] = refl
-pieces-map source (c ∷ cs) = grind (arith, pieces-map source cs)
+class_paragraphs-first : (c : BidiClass) (cs : List BidiClass) → class_paragraphs (c ∷ cs) ≡ first_piece (c ∷ cs) ∷ other_pieces (c ∷ cs)
+unfolding first_piece other_pieces
+class_paragraphs-first c [] = elim (cases_Bool (is_paragraph_separator c)) [ inl ends ↦ rw ends refl | inr on ↦ rw on refl ]
+class_paragraphs-first c (d ∷ cs) = elim (cases_Bool (is_paragraph_separator c)) [ inl ends ↦ rw ends refl | inr on ↦ rw on (ap (onto_first c) (class_paragraphs-first d cs)) ]
 
 -- ---- the first paragraph
 
@@ -52,10 +43,10 @@ first_direction d (c ∷ cs) = elim (cases_Bool (is_strong c && is_zero d)) [
   | inr on ↦ elim (cases_Bool (is_paragraph_separator c)) [ inl ends ↦ simp (on, ends) | inr more ↦ simp (on, more) (first_direction (depth_by (kind_of c) d) cs) ]
 ]
 
-first_or-pieces : (cs : List BidiClass) → first_or [] (class_pieces cs) ≡ first_piece cs
-unfolding first_piece class_pieces
+first_or-pieces : (cs : List BidiClass) → first_or [] (class_paragraphs cs) ≡ first_piece cs
+unfolding first_piece
 first_or-pieces [] = refl
-first_or-pieces (c ∷ cs) = ap (first_or []) (class_pieces-first c cs)
+first_or-pieces (c ∷ cs) = ap (first_or []) (class_paragraphs-first c cs)
 
 -- ---- any paragraph
 
@@ -67,13 +58,13 @@ found_in-cons : (p : List BidiClass) (ps : List (List BidiClass)) → found_in (
 unfolding found_in
 found_in-cons p ps = elim (cases_Option (deciding_class p)) [ inl e ↦ rw e refl | inr c ↦ rw c.1 c.1 ]
 
-found_from : (cs : List BidiClass) → found_in (class_pieces cs) ≡ option_or (deciding_from 0 (first_piece cs)) (found_in (other_pieces cs))
-unfolding first_piece class_pieces other_pieces found_in
+found_from : (cs : List BidiClass) → found_in (class_paragraphs cs) ≡ option_or (deciding_from 0 (first_piece cs)) (found_in (other_pieces cs))
+unfolding first_piece other_pieces found_in
 found_from [] = refl
 found_from (c ∷ cs) =
     let first = first_piece (c ∷ cs) in
     let others = other_pieces (c ∷ cs) in
-    ap found_in (class_pieces-first c cs) ∙ found_in-cons first others ∙ ap (λ o. option_or o (found_in others)) (deciding_class-from first)
+    ap found_in (class_paragraphs-first c cs) ∙ found_in-cons first others ∙ ap (λ o. option_or o (found_in others)) (deciding_class-from first)
 
 full_direction : (d : ℕ) (cs : List BidiClass) → direction_by (option_or (deciding_from d (first_piece cs)) (found_in (other_pieces cs))) ≡ direction_from true d cs
 unfolding first_piece other_pieces found_in
@@ -88,51 +79,20 @@ full_direction d (c ∷ cs) = elim (cases_Bool (is_strong c && is_zero d)) [
 
 -- ---- what the walk answers
 
+pub direction_from-classes : (full : Bool) (cs : List BidiClass)
+    → direction_from full 0 cs ≡ (if full then full_base_direction (class_paragraphs cs) else base_direction (class_paragraphs cs))
+unfolding base_direction full_base_direction found_in
+direction_from-classes full cs = grind (arith, full_direction, found_from, first_direction, deciding_class-from, first_or-pieces)
+
+class_paragraphs-map : (source : Source) (chars : List ℕ) → map (map source.class_of) (paragraphs_of (each_separator source) chars) ≡ class_paragraphs (map source.class_of chars)
+class_paragraphs-map source [] = refl
+class_paragraphs-map source (c ∷ cs) = grind (arith, class_paragraphs-map source cs)
+
 pub direction_from-is : (source : Source) (chars : List ℕ) (full : Bool)
     → direction_from full 0 (map source.class_of chars) ≡ (if full then full_base_direction (map (map source.class_of) (paragraphs_of (each_separator source) chars)) else base_direction (map (map source.class_of) (paragraphs_of (each_separator source) chars)))
-unfolding base_direction full_base_direction found_in
-direction_from-is source chars full = grind (arith, full_direction, found_from, pieces-map, first_direction, deciding_class-from, first_or-pieces)
+direction_from-is source chars full = rw (class_paragraphs-map source chars) (direction_from-classes full (map source.class_of chars))
 
 -- the base direction is right to left exactly if the first paragraph's own level is 1
 pub base_direction-Rtl : (paragraphs : List (List BidiClass)) → (base_direction paragraphs ≡ Rtl) ↔ (paragraph_level None (first_or [] paragraphs) ≡ 1)
 unfolding base_direction paragraph_level
 base_direction-Rtl paragraphs = direction_by-Rtl (deciding_class (first_or [] paragraphs))
-
--- ---- one character of the walk
-
-separator_weak : (c : BidiClass) → is_paragraph_separator c ≡ true → is_strong c ≡ false
-separator_weak B e = refl
-separator_weak _ e = absurd (cc e)
-
-depth_by-counted : (c : BidiClass) (d : ℕ) → (if is_initiator c then d + 1 else if is_pdi c then d - 1 else d) ≡ depth_by (kind_of c) d
-depth_by-counted c d = grind (arith, initiator-kind c, pdi-kind c)
-
-module _ (f : ℕ → BidiClass) (chars : List ℕ) (n c : ℕ) (class : BidiClass) (next : drop n chars ≡ c ∷ drop (n + 1) chars) (is : class ≡ f c) (d : ℕ) where
-  step : (full : Bool) → direction_from full d (map f (drop n chars))
-      ≡ cond (is_strong class && is_zero d) (direction_by (Some class)) (cond (is_paragraph_separator class) (cond full (direction_from full 0 (map f (drop (n + 1) chars))) Mixed) (direction_from full (depth_by (kind_of class) d) (map f (drop (n + 1) chars))))
-  step full = simp (next, ← is)
-
-  -- it decides
-  pub direction-decided : (full : Bool) → d ≡ 0 → is_strong class ≡ true → direction_by (Some class) ≡ direction_from full d (map f (drop n chars))
-  direction-decided full none strong = simp (step full) (simp (strong, none))
-
-  -- it ends the first paragraph
-  pub direction-ended : (full : Bool) → full ≡ false → is_paragraph_separator class ≡ true → Mixed ≡ direction_from full d (map f (drop n chars))
-  direction-ended full first separator = simp (step full) (simp (separator_weak class separator, separator, first))
-
-  -- it ends another one
-  pub direction-next : (full : Bool) → full ≡ true → is_paragraph_separator class ≡ true → direction_from full d (map f (drop n chars)) ≡ direction_from full 0 (map f (drop (n + 1) chars))
-  direction-next full all separator = simp (step full) (simp (separator_weak class separator, separator, all))
-
-  -- it goes on
-  pub direction-on : (full : Bool) (e : ℕ) → e ≡ (if is_initiator class then d + 1 else if is_pdi class then d - 1 else d)
-      → (is_strong class ≡ false) ⊎ (d ≡ 0 → ⊥) → is_paragraph_separator class ≡ false
-      → direction_from full d (map f (drop n chars)) ≡ direction_from full e (map f (drop (n + 1) chars))
-  direction-on full e counted undecided other = simp (step full, open_or_weak undecided, other, counted, depth_by-counted class d)
-    where
-      open_or_weak : (is_strong class ≡ false) ⊎ (d ≡ 0 → ⊥) → (is_strong class && is_zero d) ≡ false
-      open_or_weak (inl none) = simp none
-      open_or_weak (inr deep) = grind arith
-
-pub depth-le : (class : BidiClass) (d n : ℕ) → d ≤ n → (if is_initiator class then d + 1 else if is_pdi class then d - 1 else d) ≤ n + 1
-depth-le class d n order = grind (arith, cases_Bool (is_initiator class), cases_Bool (is_pdi class))

@@ -17,7 +17,7 @@ brackets_from-push k [] b = ap (λ (n : ℕ). brackets_from n (b ∷ [])) (let s
 brackets_from-push k (None ∷ brackets) b = grind (arith, brackets_from-push (k + 1) brackets b)
 brackets_from-push k (Some x ∷ brackets) b = grind (arith, brackets_from-push (k + 1) brackets b)
 
--- one more character, with its bracket behind the others if it counts
+-- one more character, with its bracket after the others if it counts
 pub found_brackets-push : (classes : List BidiClass) (brackets : List (Option BidiMatchedOpeningBracket)) (c : BidiClass) (b : Option BidiMatchedOpeningBracket) → length brackets ≡ length classes
     → found_brackets (classes ++ c ∷ []) (brackets ++ b ∷ []) ≡ found_brackets classes brackets ++ brackets_from (length classes) (counted_bracket c b ∷ [])
 unfolding found_brackets

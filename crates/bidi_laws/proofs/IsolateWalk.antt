@@ -1,7 +1,8 @@
--- Isolates in one walk from the front, which counts those that are open: the matching PDI (BD9), the deciding character (P2), and what an FSI becomes (X5c).
+-- Isolates in one walk from the front, which counts those that are open: the matching PDI (BD9), the deciding character
+-- (P2), and what an FSI becomes (X5c).
 use Rattle.bidi_base.proofs.Common.{◌≡◌, ℕ, zero, suc, ◌+◌, ◌-◌, ◌<◌, ◌≤◌, Bool, true, false, not, ◌&&◌, ◌||◌, cond, List, [], ◌∷◌, ◌++◌, length, take, drop, map, find, Option, Some, None}
 use Rattle.bidi_base.proofs.Common.{unwrap_or, option_map, refl, ap, ◌∙◌, arith, inl, inr, lt-ltb, le-ltb, length-drop, range_with_len, list_any, take_more, cases_Bool, is_strong, class_at}
-use Rattle.bidi_base.proofs.Common.{count_between, is_closed_at, is_before, match_of, is_initiator_at, is_pdi_at, is_initiator, is_pdi, matching_pdi, is_inside, is_isolated, deciding_class}
+use Rattle.bidi_base.proofs.Common.{count_between, is_closed_at, is_before, match_of, is_isolate_initiator_at, is_pdi_at, is_isolate_initiator, is_pdi, matching_pdi, is_inside, is_isolated, deciding_class}
 use Rattle.bidi_base.proofs.Common.{isolated_classes, resolved_fsi, stored_class, stored_classes, get_or-drop}
 use Rattle.bidi_base.specs.declared.char_data.BidiClass.{BidiClass}
 use Rattle.bidi_base.specs.declared.char_data.BidiClass.TheVariants.{L, LRI, RLI, FSI, PDI}
@@ -30,7 +31,7 @@ kind_of PDI = closing
 kind_of _ = neither
 
 -- what the tests of a class say of its kind
-pub initiator-kind : (c : BidiClass) → is_initiator c ≡ opens_one (kind_of c)
+pub initiator-kind : (c : BidiClass) → is_isolate_initiator c ≡ opens_one (kind_of c)
 unfolding kind_of
 initiator-kind c = grind arith
 
@@ -108,10 +109,10 @@ at_front (y ∷ xs) (suc p) x rest e = grind (arith, at_front xs p x rest e)
 -- of the indexes after q and below p, d more open than close
 record IsUnder (classes : List BidiClass) (q p d : ℕ) : Type 0 where
   later : q < p
-  counts : count_between (is_initiator_at classes) (q + 1) p ≡ count_between (is_pdi_at classes) (q + 1) p + d
+  counts : count_between (is_isolate_initiator_at classes) (q + 1) p ≡ count_between (is_pdi_at classes) (q + 1) p + d
 
 find_end : (classes : List BidiClass) (q p d : ℕ) (rest : List BidiClass) → drop p classes ≡ rest → IsUnder classes q p d
-    → find (is_closed_at (is_initiator_at classes) (is_pdi_at classes) q) (range_with_len p (length rest)) ≡ end_from d p rest
+    → find (is_closed_at (is_isolate_initiator_at classes) (is_pdi_at classes) q) (range_with_len p (length rest)) ≡ end_from d p rest
 find_end classes q p d [] e h = refl
 find_end classes q p d (x ∷ rest) e h =
     grind (arith, at_front classes p x rest e, count_between-more, initiator-kind x, pdi-kind x, find_end classes q (p + 1) (depth_by (kind_of x) d) rest)
@@ -122,7 +123,7 @@ unfolding matching_pdi match_of
 matching_pdi-end_from classes q =
     grind (arith, count_between-none, length-drop (q + 1) classes, find_end classes q (q + 1) 0 (drop (q + 1) classes) refl)
 
--- ---- what stands in an isolate
+-- ---- what is in an isolate
 
 -- a walk that starts later finds only later ends
 end_from-from : (d u k : ℕ) (xs : List BidiClass) → end_from d u xs ≡ Some k → u ≤ k
@@ -198,7 +199,7 @@ not_not : (b : Bool) → not (not b) ≡ b
 not_not true = refl
 not_not false = refl
 
--- a search takes what stands first, or goes on
+-- a search takes what is first, or goes on
 find_step : (test : ℕ → Bool) (f : ℕ → BidiClass) (p n : ℕ) (b : Bool) (c : BidiClass) (later : Option BidiClass) → test p ≡ b → f p ≡ c → option_map f (find test (range_with_len (p + 1) n)) ≡ later
     → option_map f (find test (range_with_len p (suc n))) ≡ cond b (Some c) later
 find_step test f p n true c later here is on = grind arith
@@ -227,7 +228,7 @@ deciding_class-from classes = find_deciding classes 0 classes refl
 
 -- ---- what an FSI becomes (X5c)
 
--- the deciding character of what stands before the first end
+-- the deciding character of what is before the first end
 resolved : (d u n : ℕ) (xs : List BidiClass) → u + length xs ≤ n → deciding_from d (take (unwrap_or (end_from d u xs) n - u) xs) ≡ resolving_from d xs
 resolved d u n [] fits = grind (arith, take-nil)
 resolved d u n (x ∷ xs) fits = elim (cases_Bool (ends_by (kind_of x) d)) [

@@ -2,35 +2,35 @@
 use Rattle.bidi_base.proofs.Common.{◌≡◌, ◌≢◌, ℕ, zero, suc, ◌+◌, ◌-◌, ◌<◌, ◌≤◌, Bool, leb, List, [], ◌∷◌, length, get_or, map, take, drop, Some, slice_get, refl, sym, ap, ◌∙◌, arith, inl, inr}
 use Rattle.bidi_base.proofs.Common.{length-drop, common_steps, slice_range, range_with_len, IsPermutation, le-leb, take-append-drop, drop-drop, drop-take, get_or-map, get_or_default, length-map}
 use Rattle.bidi_base.proofs.Common.{same_lists, length-range_with_len, get_or-range_with_len, All-permutation, Contains-permutation, length_permutation, slice_get-get_or, All-nil, All-cons}
-use Rattle.bidi_base.proofs.Common.{lines_of, line_ranges, visual_places, visual_place, IsVisualOrder, ranges_from, IsPartition, indexes, find_last, place, text_len, char_index, subrange, IsLine}
+use Rattle.bidi_base.proofs.Common.{lines_of, line_ranges, visual_indexes, visual_index, IsVisualOrder, ranges_from, IsPartition, indexes, find_last, unit_index, text_len, char_index, subrange, IsLine}
 use Rattle.bidi_base.proofs.Common.{All, length-take-le, slice_get_within, get_or_from_slice_get, AreInverse}
 use Rattle.bidi_base.specs.Layout.{fitting, line_length, lines_up_to}
 use Rattle.bidi_base.proofs.Lists.{cases_Option}
 use Rattle.bidi_laws.proofs.ParagraphsLemmas.{joined, ranges_from-IsPartition}
-use Rattle.bidi_base.proofs.PlaceLemmas.{CharTurn, place-more, place-end, place-mono, place-lt, place-slice_range, char_index-place, IsLine-places, line_places, text_len-subrange}
+use Rattle.bidi_base.proofs.UnitIndexLemmas.{CharTurn, unit_index-more, unit_index-end, unit_index-mono, unit_index-lt, unit_index-slice_range, char_index-unit_index, IsLine-unit_indexes, line_unit_indexes, text_len-subrange}
 use Rattle.bidi_base.proofs.PlacesLemmas.{find_last-range_with_len, find_last-range_with_len-None}
 use Rattle.bidi_base.proofs.TextLemmas.{HasUnits}
-use Rattle.bidi_laws.proofs.VisualOrderLemmas.{visual_place-order, contains_index, all_below}
+use Rattle.bidi_laws.proofs.VisualOrderLemmas.{visual_index-order, contains_index, all_below}
 
 -- the widths of one character more
-pub place-turn : (width_of len_of : ℕ → ℕ) (chars : List ℕ) (n at c : ℕ) → CharTurn len_of chars n at c → place width_of chars (n + 1) ≡ place width_of chars n + width_of c
-place-turn width_of len_of chars n at c turn = grind (arith, place-more)
+pub unit_index-turn : (width_of len_of : ℕ → ℕ) (chars : List ℕ) (n at c : ℕ) → CharTurn len_of chars n at c → unit_index width_of chars (n + 1) ≡ unit_index width_of chars n + width_of c
+unit_index-turn width_of len_of chars n at c turn = grind (arith, unit_index-more)
 
 module _ (width_of : ℕ → ℕ) (limit : ℕ) where
   -- ---- how many characters fit
 
   -- the characters up to n fit
   fits : List ℕ → ℕ → Bool
-  fits chars n = leb (place width_of chars n) limit
+  fits chars n = leb (unit_index width_of chars n) limit
 
-  pub fitting-is : (chars : List ℕ) (n : ℕ) → n ≤ length chars → place width_of chars n ≤ limit → (n < length chars → limit < place width_of chars (n + 1)) → fitting width_of limit chars ≡ n
+  pub fitting-is : (chars : List ℕ) (n : ℕ) → n ≤ length chars → unit_index width_of chars n ≤ limit → (n < length chars → limit < unit_index width_of chars (n + 1)) → fitting width_of limit chars ≡ n
   unfolding fitting fits
   fitting-is chars n short fit full = elim (cases_Option (find_last (fits chars) (range_with_len 0 (length chars + 1)))) [
     | inl e ↦ grind (arith, find_last-range_with_len-None (fits chars) 0 (length chars + 1) e n, le-leb)
     | inr (p, e) ↦ let same : p ≡ n = grind (
       arith,
       find_last-range_with_len (fits chars) 0 (length chars + 1) p e,
-      place-mono,
+      unit_index-mono,
     ) in simp (e, same)
   ]
 
@@ -95,19 +95,19 @@ module _ (width_of : ℕ → ℕ) (limit : ℕ) where
 
   module _ (len_of : ℕ → ℕ) (units : HasUnits len_of) (chars : List ℕ) where
     -- the character after the first n is too wide for what those leave of the limit
-    module _ (n at c left : ℕ) (turn : CharTurn len_of chars n at c) (rest : left + place width_of chars n ≡ limit) (wide : left < width_of c) where
+    module _ (n at c left : ℕ) (turn : CharTurn len_of chars n at c) (rest : left + unit_index width_of chars n ≡ limit) (wide : left < width_of c) where
       stops : fitting width_of limit chars ≡ n
       stops = grind (arith, common_steps, fitting-is)
 
-      pub first_line-one : at ≡ 0 → len_of c ≡ place len_of chars (line_length width_of limit chars)
+      pub first_line-one : at ≡ 0 → len_of c ≡ unit_index len_of chars (line_length width_of limit chars)
       first_line-one none = grind (arith, common_steps, stops)
 
-      pub first_line-stops : at ≢ 0 → at ≡ place len_of chars (line_length width_of limit chars)
+      pub first_line-stops : at ≢ 0 → at ≡ unit_index len_of chars (line_length width_of limit chars)
       first_line-stops some = grind (arith, stops)
 
     -- all characters fit
-    pub first_line-all : (n left : ℕ) → n ≡ length chars → left + place width_of chars n ≡ limit → text_len len_of chars ≡ place len_of chars (line_length width_of limit chars)
-    first_line-all n left all rest = grind (arith, fitting-is, place-end)
+    pub first_line-all : (n left : ℕ) → n ≡ length chars → left + unit_index width_of chars n ≡ limit → text_len len_of chars ≡ unit_index len_of chars (line_length width_of limit chars)
+    first_line-all n left all rest = grind (arith, fitting-is, unit_index-end)
 
     -- an empty range has no lines
     pub line_ranges-none : (start end : ℕ) → start ≡ end → line_ranges len_of chars width_of limit start end ≡ []
@@ -132,9 +132,9 @@ module _ (width_of : ℕ → ℕ) (limit : ℕ) where
       pub ranges : line_ranges len_of chars width_of limit start end ≡ (start, next) ∷ line_ranges len_of chars width_of limit next end
 
     pub first_line : (start end next : ℕ) → IsLine len_of chars start end → start < end
-        → next ≡ start + place len_of (subrange len_of chars start end) (line_length width_of limit (subrange len_of chars start end)) → FirstLine start end next
+        → next ≡ start + unit_index len_of (subrange len_of chars start end) (line_length width_of limit (subrange len_of chars start end)) → FirstLine start end next
     first_line start end next line some e =
-        let w = line_places len_of units chars start end line in
+        let w = line_unit_indexes len_of units chars start end line in
         let i : ℕ = char_index len_of chars start in
         let j : ℕ = char_index len_of chars end in
         let cs : List ℕ = slice_range chars i j in
@@ -142,8 +142,8 @@ module _ (width_of : ℕ → ℕ) (limit : ℕ) where
         let before : i < j = grind (arith, w.ordered, w.begins, w.ends) in
         let long : length cs ≡ j - i = length-take-le (j - i) (drop i chars) (omega (arith, length-drop i chars, w.within)) in
         let inside : i + n ≤ j = omega (arith, line_length-within cs (omega arith)) in
-        let stop : next ≡ place len_of chars (i + n) = omega (arith, e, w.begins, place-slice_range len_of chars i j n inside w.within) in
-        let last : char_index len_of chars next ≡ i + n = ap (char_index len_of chars) stop ∙ char_index-place len_of chars units (i + n) (omega (arith, w.within)) in
+        let stop : next ≡ unit_index len_of chars (i + n) = omega (arith, e, w.begins, unit_index-slice_range len_of chars i j n inside w.within) in
+        let last : char_index len_of chars next ≡ i + n = ap (char_index len_of chars) stop ∙ char_index-unit_index len_of chars units (i + n) (omega (arith, w.within)) in
         let left : subrange len_of chars next end ≡ drop n cs = grind (
           arith,
           last,
@@ -157,9 +157,9 @@ module _ (width_of : ℕ → ℕ) (limit : ℕ) where
           w.ends,
           left,
           ap (ranges_from len_of start) (lines_of-more cs (omega arith)),
-          IsLine-places len_of chars i (i + n),
-          IsLine-places len_of chars (i + n) j,
-          place-lt len_of chars units i (i + n),
+          IsLine-unit_indexes len_of chars i (i + n),
+          IsLine-unit_indexes len_of chars (i + n) j,
+          unit_index-lt len_of chars units i (i + n),
         )
 
 -- ---- the maps between places in a line and on the screen
@@ -172,21 +172,21 @@ module _ (levels order : List ℕ) (visual : IsVisualOrder levels order) where
   pub own_indexes : IsPermutation (indexes order) order
   own_indexes = grind (arith, order-long)
 
-  -- the inverse of a visual order has the visual place of each index
-  pub visual_places-inverse : (places : List ℕ) → AreInverse order places → places ≡ visual_places levels
-  unfolding visual_places
-  visual_places-inverse places inverse = same_lists places (map (visual_place levels) (indexes levels))
+  -- the inverse of a visual order has the visual index of each index
+  pub visual_indexes-inverse : (places : List ℕ) → AreInverse order places → places ≡ visual_indexes levels
+  unfolding visual_indexes
+  visual_indexes-inverse places inverse = same_lists places (map (visual_index levels) (indexes levels))
       (grind (arith, order-long, length-map, length-range_with_len)) at_each
     where
-      at_place : (v k : ℕ) → slice_get order v ≡ Some k → v ≡ visual_place levels k
-      at_place v k e = grind (arith, visual_place-order, slice_get_within, get_or_from_slice_get)
+      at_place : (v k : ℕ) → slice_get order v ≡ Some k → v ≡ visual_index levels k
+      at_place v k e = grind (arith, visual_index-order, slice_get_within, get_or_from_slice_get)
 
-      at_each : (k d : ℕ) → k < length places → get_or places k d ≡ get_or (map (visual_place levels) (indexes levels)) k d
+      at_each : (k d : ℕ) → k < length places → get_or places k d ≡ get_or (map (visual_index levels) (indexes levels)) k d
       at_each k d within =
           let fits : k < length (indexes levels) = omega (arith, order-long, inverse.same_len, length-range_with_len 0 (length levels)) in
           let here : get_or (indexes levels) k 0 ≡ k = grind (arith, get_or-range_with_len, order-long) in
           get_or_default places k d 0 within ∙ at_place (get_or places k 0) k (inverse.forth k within)
-          ∙ sym (simp here at (get_or-map (visual_place levels) (indexes levels) k 0 d fits))
+          ∙ sym (simp here at (get_or-map (visual_index levels) (indexes levels) k 0 d fits))
 
 -- a list that has at each number of a permutation the place where it stands there is its inverse
 pub AreInverse-from_back : (order places : List ℕ) → IsPermutation (indexes order) order → length order ≡ length places

@@ -1,4 +1,5 @@
--- The levels of a paragraph: how many they are, where they lie, and that one character of class BN is as good as another.
+-- The levels of a paragraph: how many they are, where they lie, and that one character of class BN is as good as
+-- another.
 use Rattle.bidi_base.proofs.Common.{◌≡◌, ℕ, ◌≤◌, List, [], ◌∷◌, length, map, Option, refl, append-nil, arith, All, IfSome, length-map, All-nil, All-head, All-tail, All-append, paragraph_level}
 use Rattle.bidi_base.proofs.Common.{stored_classes, AreLevelsFrom, Source, stored_levels, text_classes, text_levels, paragraph_levels, per_unit, replicate}
 use Rattle.bidi_base.specs.declared.char_data.BidiClass.{BidiClass}
@@ -12,32 +13,32 @@ use Rattle.bidi_laws.proofs.ResolvedLemmas.{length-levels_in, levels_in-IsStored
 -- ---- the paragraph level
 
 -- it is one that an embedding can have
-pub paragraph_level-few : (base : Option ℕ) (classes : List BidiClass) → IfSome base (λ level. level ≤ 125) → paragraph_level base classes ≤ 125
+pub paragraph_level-few : (base_level : Option ℕ) (classes : List BidiClass) → IfSome base_level (λ level. level ≤ 125) → paragraph_level base_level classes ≤ 125
 unfolding paragraph_level
-paragraph_level-few base classes h = grind arith
+paragraph_level-few base_level classes h = grind arith
 
 -- ---- the levels of its characters
 
-pub length-stored_levels : (source : Source) (base : Option ℕ) (piece : List ℕ) → length (stored_levels source base piece) ≡ length piece
+pub length-stored_levels : (source : Source) (base_level : Option ℕ) (piece : List ℕ) → length (stored_levels source base_level piece) ≡ length piece
 unfolding stored_levels
-length-stored_levels source base piece = grind (arith, length-levels_in, length-map)
+length-stored_levels source base_level piece = grind (arith, length-levels_in, length-map)
 
-pub stored_levels-AreLevelsFrom : (source : Source) (base : Option ℕ) (piece : List ℕ) → IfSome base (λ level. level ≤ 125)
-    → AreLevelsFrom (paragraph_level base (map source.class_of piece)) (stored_levels source base piece)
+pub stored_levels-AreLevelsFrom : (source : Source) (base_level : Option ℕ) (piece : List ℕ) → IfSome base_level (λ level. level ≤ 125)
+    → AreLevelsFrom (paragraph_level base_level (map source.class_of piece)) (stored_levels source base_level piece)
 unfolding stored_levels
-stored_levels-AreLevelsFrom source base piece few k d within = grind (arith, levels_in-IsStoredIn, paragraph_level-few)
+stored_levels-AreLevelsFrom source base_level piece few k d within = grind (arith, levels_in-IsStoredIn, paragraph_level-few)
 
--- those of a text are one a character
-pub length-text_levels : (source : Source) (base : Option ℕ) (pieces : List (List ℕ)) (chars : List ℕ) → joined pieces ≡ chars → length (text_levels source base pieces) ≡ length chars
+-- a text has one of them for each character
+pub length-text_levels : (source : Source) (base_level : Option ℕ) (pieces : List (List ℕ)) (chars : List ℕ) → joined pieces ≡ chars → length (text_levels source base_level pieces) ≡ length chars
 unfolding text_levels
-length-text_levels source base pieces chars whole = grind (arith, length-values, length-stored_levels)
+length-text_levels source base_level pieces chars whole = grind (arith, length-values, length-stored_levels)
 
-pub BoundaryNeutralsAreAlike-all : (source : Source) (base : Option ℕ) → BoundaryNeutralsAreAlike source base
-BoundaryNeutralsAreAlike-all source base = stored_levels-BN source base
+pub BoundaryNeutralsAreAlike-all : (source : Source) (base_level : Option ℕ) → BoundaryNeutralsAreAlike source base_level
+BoundaryNeutralsAreAlike-all source base_level = stored_levels-BN source base_level
 
-pub StaysLeftToRight-all : (source : Source) (base : Option ℕ) → StaysLeftToRight source base
+pub StaysLeftToRight-all : (source : Source) (base_level : Option ℕ) → StaysLeftToRight source base_level
 unfolding stored_levels
-StaysLeftToRight-all source base piece pure even = grind (arith, levels_in-pure_ltr, length-map)
+StaysLeftToRight-all source base_level piece pure even = grind (arith, levels_in-pure_ltr, length-map)
 
 -- ---- a text of one paragraph
 
@@ -45,13 +46,13 @@ pub text_classes-one : (source : Source) (piece : List ℕ) → text_classes sou
 unfolding text_classes
 text_classes-one source piece = append-nil (stored_classes (map source.class_of piece))
 
-pub text_levels-one : (source : Source) (base : Option ℕ) (piece : List ℕ) → text_levels source base (piece ∷ []) ≡ stored_levels source base piece
+pub text_levels-one : (source : Source) (base_level : Option ℕ) (piece : List ℕ) → text_levels source base_level (piece ∷ []) ≡ stored_levels source base_level piece
 unfolding text_levels
-text_levels-one source base piece = append-nil (stored_levels source base piece)
+text_levels-one source base_level piece = append-nil (stored_levels source base_level piece)
 
-pub paragraph_levels-one : (source : Source) (base : Option ℕ) (piece : List ℕ) → paragraph_levels source base (piece ∷ []) ≡ paragraph_level base (map source.class_of piece) ∷ []
+pub paragraph_levels-one : (source : Source) (base_level : Option ℕ) (piece : List ℕ) → paragraph_levels source base_level (piece ∷ []) ≡ paragraph_level base_level (map source.class_of piece) ∷ []
 unfolding paragraph_levels
-paragraph_levels-one source base piece = refl
+paragraph_levels-one source base_level piece = refl
 
 -- ---- and of its units
 

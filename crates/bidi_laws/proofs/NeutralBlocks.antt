@@ -1,7 +1,7 @@
 -- N1 and N2 block by block.
 use Rattle.bidi_base.proofs.Common.{◌≡◌, ℕ, suc, ◌+◌, ◌-◌, ◌<◌, ◌≤◌, true, cond, List, ◌∷◌, length, get_or, take, drop, replicate}
 use Rattle.bidi_base.proofs.Common.{reverse, unwrap_or, sym, ap, subst, ◌∙◌, arith, inl, inr, cases_lt, drop_more}
-use Rattle.bidi_base.proofs.Common.{drop_all, get_or_past, get_or_default, list_all_at, list_all, as_direction, has_direction, is_neutral, is_weak_resolved, same_class, nearest_direction, n1_rule}
+use Rattle.bidi_base.proofs.Common.{drop_all, get_or_past, get_or_default, list_all_at, list_all, as_direction, has_direction, is_ni, is_weak_resolved, same_class, nearest_direction, n1_rule}
 use Rattle.bidi_base.specs.declared.char_data.BidiClass.{BidiClass}
 use Rattle.bidi_base.specs.declared.char_data.BidiClass.TheVariants.{L, ON}
 use borrow.Rule.Slice.PartMut.{put_mid}
@@ -11,7 +11,7 @@ use Rattle.bidi_laws.proofs.InPlace.{IsRewritten, IsRewritten-keep}
 use Rattle.bidi_laws.proofs.Blocks.{IsBlock, read_later, look-drop, look-take, answer, IsRewritten-filled, IsRewritten-past}
 
 -- a neutral is looked past
-pub past_neutral : (d c : BidiClass) (cs : List BidiClass) → is_neutral c ≡ true → nearest_direction d (c ∷ cs) ≡ nearest_direction d cs
+pub past_neutral : (d c : BidiClass) (cs : List BidiClass) → is_ni c ≡ true → nearest_direction d (c ∷ cs) ≡ nearest_direction d cs
 past_neutral d c cs e = grind arith
 
 -- what neutrals between two directions take
@@ -25,8 +25,8 @@ module _ (e sos eos : BidiClass) where
     pub is_left : start ≤ length old → left ≡ nearest_direction sos (reverse (take start old))
 
   module _ (old now : List BidiClass) (left right : BidiClass) (start n : ℕ) (resolved : list_all is_weak_resolved old ≡ true) (h : IsAtNeutrals old now left start) (fits : start ≤ length old)
-      (block : IsBlock is_neutral old start n) (next : right ≡ unwrap_or (as_direction (get_or now (start + n) ON)) eos) where
-    -- the class behind the block has a direction
+      (block : IsBlock is_ni old start n) (next : right ≡ unwrap_or (as_direction (get_or now (start + n) ON)) eos) where
+    -- the class after the block has a direction
     is_directed : start + n < length old → has_direction (get_or old (start + n) L) ≡ true
     is_directed more = grind (arith, block.behind more, list_all_at is_weak_resolved old (start + n) L more)
 
@@ -48,11 +48,11 @@ module _ (e sos eos : BidiClass) where
         let room = block.room in
         let place : start + k + 1 + (n - suc k) ≡ start + n = omega arith in
         let before : nearest_direction sos (reverse (take (start + k) old)) ≡ left =
-        look-take is_neutral (nearest_direction sos) (past_neutral sos) old start k (omega arith) (λ j less. block.inside j (omega arith)) ∙ sym (h.is_left fits)
+        look-take is_ni (nearest_direction sos) (past_neutral sos) old start k (omega arith) (λ j less. block.inside j (omega arith)) ∙ sym (h.is_left fits)
         in
         let after : nearest_direction eos (drop (start + k + 1) old) ≡ right =
-        look-drop is_neutral (nearest_direction eos) (past_neutral eos) old (start + k + 1) (n - suc k) (omega arith)
-        (λ j less. subst (λ (p : ℕ). is_neutral (get_or old p L) ≡ true) (omega arith) (block.inside (k + 1 + j) (omega arith)))
+        look-drop is_ni (nearest_direction eos) (past_neutral eos) old (start + k + 1) (n - suc k) (omega arith)
+        (λ j less. subst (λ (p : ℕ). is_ni (get_or old p L) ≡ true) (omega arith) (block.inside (k + 1 + j) (omega arith)))
         ∙ ap (λ (p : ℕ). nearest_direction eos (drop p old)) place ∙ right_near
         in
         simp (block.inside k below, before, after)

@@ -1,6 +1,6 @@
 -- The classes that N0 to N2 leave: N0 keeps those that W7 leaves, and after N2 each has a direction.
 use Rattle.bidi_base.proofs.Common.{◌≡◌, ℕ, zero, suc, ◌+◌, ◌<◌, ◌≤◌, Bool, true, List, [], ◌∷◌, map, Option, Some, unwrap_or, refl, arith, rules, common_steps}
-use Rattle.bidi_base.proofs.Common.{list_all, range_with_len, and_from, or_left, as_direction, has_direction, is_l_or_r, is_neutral, is_weak_resolved, is_odd}
+use Rattle.bidi_base.proofs.Common.{list_all, range_with_len, and_from, or_left, as_direction, has_direction, is_l_or_r, is_ni, is_weak_resolved, is_odd}
 use Rattle.bidi_base.proofs.Common.{direction_of, nearest_direction, pair_direction, with_pair, n0_pair, n0, n1_rule, n1_n2, neutral_classes}
 use Rattle.bidi_base.specs.declared.char_data.BidiClass.{BidiClass}
 use Rattle.bidi_base.specs.declared.char_data.BidiClass.TheVariants.{L, R}
@@ -34,23 +34,23 @@ list_all-map-range p f low zero each = refl
 list_all-map-range p f low (suc n) each = and_from _ _ (each low (omega arith) (omega arith)) (list_all-map-range p f (low + 1) n (λ k from below. each k (omega arith) (omega arith)))
 
 resolved : (c : BidiClass) → is_l_or_r c ≡ true → is_weak_resolved c ≡ true
-resolved c h = or_left (has_direction c) (is_neutral c) (directed c h)
+resolved c h = or_left (has_direction c) (is_ni c) (directed c h)
 
 -- what each class passes, and each direction that a pair may take, each passes after N0 too
-module _ (p : BidiClass → Bool) (e sos : BidiClass) (source : List BidiClass)
+module _ (p : BidiClass → Bool) (e sos : BidiClass) (source_classes : List BidiClass)
     (takes : (classes : List BidiClass) (pair : ℕ × ℕ) (d : BidiClass) → list_all p classes ≡ true → pair_direction e sos classes pair ≡ Some d → p d ≡ true) where
-  n0_pair-keeps : (classes : List BidiClass) (pair : ℕ × ℕ) → list_all p classes ≡ true → list_all p (n0_pair e sos source classes pair) ≡ true
+  n0_pair-keeps : (classes : List BidiClass) (pair : ℕ × ℕ) → list_all p classes ≡ true → list_all p (n0_pair e sos source_classes classes pair) ≡ true
   unfolding n0_pair with_pair
   n0_pair-keeps classes pair l = grind (arith, list_all-map-range, list_all-get_or)
 
-  pub n0-keeps : (pairs : List (ℕ × ℕ)) (classes : List BidiClass) → list_all p classes ≡ true → list_all p (n0 e sos source pairs classes) ≡ true
+  pub n0-keeps : (pairs : List (ℕ × ℕ)) (classes : List BidiClass) → list_all p classes ≡ true → list_all p (n0 e sos source_classes pairs classes) ≡ true
   unfolding n0
   n0-keeps [] classes l = l
-  n0-keeps (pair ∷ pairs) classes l = n0-keeps pairs (n0_pair e sos source classes pair) (n0_pair-keeps classes pair l)
+  n0-keeps (pair ∷ pairs) classes l = n0-keeps pairs (n0_pair e sos source_classes classes pair) (n0_pair-keeps classes pair l)
 
-pub n0-resolved : (e sos : BidiClass) (source : List BidiClass) (pairs : List (ℕ × ℕ)) (classes : List BidiClass) → is_l_or_r e ≡ true → is_l_or_r sos ≡ true → list_all is_weak_resolved classes ≡ true
-    → list_all is_weak_resolved (n0 e sos source pairs classes) ≡ true
-n0-resolved e sos source pairs classes h k l = grind (arith, n0-keeps, resolved, pair_direction-l_or_r)
+pub n0-resolved : (e sos : BidiClass) (source_classes : List BidiClass) (pairs : List (ℕ × ℕ)) (classes : List BidiClass) → is_l_or_r e ≡ true → is_l_or_r sos ≡ true → list_all is_weak_resolved classes ≡ true
+    → list_all is_weak_resolved (n0 e sos source_classes pairs classes) ≡ true
+n0-resolved e sos source_classes pairs classes h k l = grind (arith, n0-keeps, resolved, pair_direction-l_or_r)
 
 n1_rule-directed : (e sos eos : BidiClass) → is_l_or_r e ≡ true → is_l_or_r sos ≡ true → (before : List BidiClass) (c : BidiClass) (after : List BidiClass) → is_weak_resolved c ≡ true
     → has_direction (n1_rule e sos eos before c after) ≡ true
@@ -60,8 +60,8 @@ pub n1_n2-directed : (e sos eos : BidiClass) (classes : List BidiClass) → is_l
     → list_all is_weak_resolved classes ≡ true → list_all has_direction (n1_n2 e sos eos classes) ≡ true
 n1_n2-directed e sos eos classes h k l = search (rules, list_all-in_context, n1_rule-directed)
 
-pub neutral_classes-directed : (level : ℕ) (sos eos : BidiClass) (source : List BidiClass) (brackets : List (Option BidiMatchedOpeningBracket)) (classes : List BidiClass)
+pub neutral_classes-directed : (level : ℕ) (sos eos : BidiClass) (source_classes : List BidiClass) (brackets : List (Option BidiMatchedOpeningBracket)) (classes : List BidiClass)
     → is_l_or_r sos ≡ true → list_all is_weak_resolved classes ≡ true
-    → list_all has_direction (neutral_classes level sos eos source brackets classes) ≡ true
+    → list_all has_direction (neutral_classes level sos eos source_classes brackets classes) ≡ true
 unfolding neutral_classes
-neutral_classes-directed level sos eos source brackets classes h k = grind (arith, n1_n2-directed, n0-resolved)
+neutral_classes-directed level sos eos source_classes brackets classes h k = grind (arith, n1_n2-directed, n0-resolved)

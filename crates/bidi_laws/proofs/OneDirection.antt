@@ -1,7 +1,8 @@
--- A list in which each class is a neutral or one direction, which stands at its ends too: N0 to N2 give that direction to all.
+-- A list in which each class is a neutral or one direction, which stands at its ends too: N0 to N2 give that direction
+-- to all.
 use Rattle.bidi_base.proofs.Common.{◌≡◌, ℕ, Bool, true, false, cond, if◌then◌else◌, List, [], ◌∷◌, length, take, reverse, filter_map, find, Option, Some, None}
 use Rattle.bidi_base.proofs.Common.{option_map, refl, ap, ◌∙◌, arith, ◌⊎◌, inl, inr, sym, and_parts, list_all, list_any, bracket_pairs, as_direction, is_l_or_r}
-use Rattle.bidi_base.proofs.Common.{is_neutral, same_class, direction_of, nearest_direction, pair_direction, n0, n1_rule, neutral_classes}
+use Rattle.bidi_base.proofs.Common.{is_ni, same_class, direction_of, nearest_direction, pair_direction, n0, n1_rule, neutral_classes}
 use Rattle.bidi_base.specs.declared.char_data.BidiClass.{BidiClass}
 use Rattle.bidi_base.specs.declared.char_data.BidiClass.TheVariants.{L, R}
 use Rattle.bidi_base.specs.declared.data_source.BidiMatchedOpeningBracket.{BidiMatchedOpeningBracket}
@@ -13,14 +14,14 @@ use Rattle.bidi_laws.proofs.NeutralLemmas.{n0-keeps}
 abbrev pub goes_with : BidiClass → BidiClass → Bool
 goes_with L L = true
 goes_with R R = true
-goes_with _ c = is_neutral c
+goes_with _ c = is_ni c
 
 pub itself : (e : BidiClass) → is_l_or_r e ≡ true → same_class e e ≡ true
 itself L s = refl
 itself R s = refl
 itself _ s = absurd (cc s)
 
-neutral_only : (c : BidiClass) → is_neutral c ≡ true → (as_direction c ≡ None) × (is_neutral c ≡ true)
+neutral_only : (c : BidiClass) → is_ni c ≡ true → (as_direction c ≡ None) × (is_ni c ≡ true)
 neutral_only c h = (grind arith, h)
 
 -- a class of this direction is the direction
@@ -30,7 +31,7 @@ only R c s h = grind arith
 only _ c s h = absurd (cc s)
 
 -- what goes with a direction is that direction, or a neutral
-goes_with-cases : (e c : BidiClass) → is_l_or_r e ≡ true → goes_with e c ≡ true → ((c ≡ e) × (as_direction c ≡ Some e) × (is_neutral c ≡ false)) ⊎ ((as_direction c ≡ None) × (is_neutral c ≡ true))
+goes_with-cases : (e c : BidiClass) → is_l_or_r e ≡ true → goes_with e c ≡ true → ((c ≡ e) × (as_direction c ≡ Some e) × (is_ni c ≡ false)) ⊎ ((as_direction c ≡ None) × (is_ni c ≡ true))
 goes_with-cases L L s h = inl (refl, refl, refl)
 goes_with-cases L c s h = inr (neutral_only c h)
 goes_with-cases R R s h = inl (refl, refl, refl)
@@ -78,13 +79,13 @@ module _ (e : BidiClass) (side : is_l_or_r e ≡ true) where
     | inr none ↦ simp (none.1, nearest-is before h, either_way (same_class e (nearest_direction e after)) e) (itself e side)
   ]
 
-  pub neutral_classes-one : (level : ℕ) (source : List BidiClass) (brackets : List (Option BidiMatchedOpeningBracket)) (classes : List BidiClass)
+  pub neutral_classes-one : (level : ℕ) (source_classes : List BidiClass) (brackets : List (Option BidiMatchedOpeningBracket)) (classes : List BidiClass)
       → e ≡ direction_of level → list_all (goes_with e) classes ≡ true
-      → list_all (same_class e) (neutral_classes level e e source brackets classes) ≡ true
+      → list_all (same_class e) (neutral_classes level e e source_classes brackets classes) ≡ true
   unfolding neutral_classes
-  neutral_classes-one level source brackets classes is h =
-      rw (← is) (list_all-in_context (n1_rule e e e) (goes_with e) (same_class e) n1_rule-is [] (n0 e e source (bracket_pairs classes brackets) classes) refl
-      (n0-keeps (goes_with e) e e source (λ cs pair d all is. ap (goes_with e) (pair_direction-is cs pair d all is) ∙ grind arith) (bracket_pairs classes brackets) classes h))
+  neutral_classes-one level source_classes brackets classes is h =
+      rw (← is) (list_all-in_context (n1_rule e e e) (goes_with e) (same_class e) n1_rule-is [] (n0 e e source_classes (bracket_pairs classes brackets) classes) refl
+      (n0-keeps (goes_with e) e e source_classes (λ cs pair d all is. ap (goes_with e) (pair_direction-is cs pair d all is) ∙ grind arith) (bracket_pairs classes brackets) classes h))
 
   -- lists of this class alone
   pub same_lists : (xs ys : List BidiClass) → list_all (same_class e) xs ≡ true → list_all (same_class e) ys ≡ true → length xs ≡ length ys → xs ≡ ys

@@ -1,4 +1,5 @@
--- Openings and their matches: a closing matches the innermost opening that is open before it, so no two openings have one match.
+-- Openings and their matches: a closing matches the innermost opening that is open before it, so no two openings have
+-- one match.
 use Rattle.bidi_base.proofs.Common.{◌≡◌, ℕ, zero, suc, ◌+◌, ◌<◌, Bool, true, false, List, [], ◌∷◌, Some, refl, sym, ap, arith, inl, inr, eqb-true, is_closed_at, match_of}
 use Rattle.bidi_base.proofs.PlacesLemmas.{find-between-is}
 use Rattle.bidi_laws.proofs.MatchingLemmas.{at_most_one, match_of-IsLeast}

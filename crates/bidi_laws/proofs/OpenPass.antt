@@ -1,11 +1,10 @@
 -- The pass from the front, with what is open as the code keeps it: the innermost last.
-use Rattle.bidi_base.proofs.Common.{◌≡◌, ℕ, ◌+◌, ◌-◌, ◌<◌, ◌≤◌, true, false, List, [], ◌∷◌, ◌++◌, length, map, get_or, take, reverse, Option, Some, None, refl, sym, ap, subst, ◌⊎◌, inl}
-use Rattle.bidi_base.proofs.Common.{inr, cases_Bool, reverse-append, class_at, last_or, is_initiator_at, is_pdi_at, successor, is_first, sequences, read_class, waiting_for}
+use Rattle.bidi_base.proofs.Common.{◌≡◌, ℕ, ◌+◌, ◌-◌, ◌<◌, ◌≤◌, true, false, List, [], ◌∷◌, ◌++◌, length, get_or, take, reverse, Option, Some, None, refl, sym, ap, subst, ◌⊎◌, inl}
+use Rattle.bidi_base.proofs.Common.{inr, cases_Bool, reverse-append, class_at, last_or, is_isolate_initiator_at, is_pdi_at, successor, is_first, read_class, waiting_for}
 use Rattle.bidi_base.specs.declared.char_data.BidiClass.{BidiClass}
 use Rattle.bidi_base.proofs.Lists.{reverse_front, last_or-reverse, reverse_none}
-use Rattle.bidi_laws.proofs.PassLemmas.{sequence_of}
 use Rattle.bidi_laws.proofs.RunsLemmas.{BeginsRun}
-use Rattle.bidi_laws.proofs.WaitingLemmas.{IsWaiting, IsPass, IsPass-end, IsPass-stay, IsPass-initiator, IsPass-pdi, successor-waiting, is_first-no_pdi, is_first-none_open, is_first-not_waiting}
+use Rattle.bidi_laws.proofs.WaitingLemmas.{IsWaiting, IsPass, IsPass-stay, IsPass-initiator, IsPass-pdi, successor-waiting, is_first-no_pdi, is_first-none_open, is_first-not_waiting}
 
 module _ (classes : List BidiClass) (levels : List ℕ) where
   -- the runs up to a came, and what is open was read up to m
@@ -13,27 +12,23 @@ module _ (classes : List BidiClass) (levels : List ℕ) where
     pub stack : List ℕ
     pub pass : IsPass classes levels a m out stack (reverse waits)
 
-  pub IsAt-end : (paragraph m : ℕ) (out : List (List ℕ)) (waits : List (Option ℕ)) → IsAt (length classes) m out waits → map (sequence_of classes levels paragraph) out ≡ sequences paragraph
-      classes levels
-  IsAt-end paragraph m out waits h = IsPass-end classes levels paragraph m out h.stack (reverse waits) h.pass
-
   -- one character is read for what is open
-  pub IsAt-read : (a m : ℕ) (out : List (List ℕ)) (waits : List (Option ℕ)) (w : Option ℕ) → IsAt a m out waits → (is_initiator_at classes m ≡ true → IsWaiting classes levels out m w) → IsAt
+  pub IsAt-read : (a m : ℕ) (out : List (List ℕ)) (waits : List (Option ℕ)) (w : Option ℕ) → IsAt a m out waits → (is_isolate_initiator_at classes m ≡ true → IsWaiting classes levels out m w) → IsAt
       a (m + 1) out (read_class (class_at classes m) w waits)
-  IsAt-read a m out waits w h wait = elim (cases_Bool (is_initiator_at classes m)) [
+  IsAt-read a m out waits w h wait = elim (cases_Bool (is_isolate_initiator_at classes m)) [
     | inl opens ↦
         rw opens
         (finish (waits ++ w ∷ []) (m ∷ h.stack) (w ∷ reverse waits) (IsPass-initiator classes levels a m out h.stack (reverse waits) w h.pass opens (wait opens)) (sym (reverse-append waits (w ∷ []))))
     | inr other ↦ elim (cases_Bool (is_pdi_at classes m)) [
       | inl closes ↦ rw (other, closes) (popped other closes h.stack (reverse waits) refl h.pass)
-      | inr quiet ↦ rw (other, quiet) (finish waits h.stack (reverse waits) (IsPass-stay classes levels a m out h.stack (reverse waits) h.pass other (inl quiet)) refl)
+      | inr inert ↦ rw (other, inert) (finish waits h.stack (reverse waits) (IsPass-stay classes levels a m out h.stack (reverse waits) h.pass other (inl inert)) refl)
     ]
   ]
     where
       finish : (now : List (Option ℕ)) (st : List ℕ) (r : List (Option ℕ)) → IsPass classes levels a (m + 1) out st r → r ≡ reverse now → IsAt a (m + 1) out now
       finish now st r pass e = record { stack = st; pass = subst (λ (x : List (Option ℕ)). IsPass classes levels a (m + 1) out st x) e pass }
 
-      popped : is_initiator_at classes m ≡ false → is_pdi_at classes m ≡ true → (st : List ℕ) (r : List (Option ℕ)) → reverse waits ≡ r → IsPass classes levels a m out st r → IsAt a (m + 1)
+      popped : is_isolate_initiator_at classes m ≡ false → is_pdi_at classes m ≡ true → (st : List ℕ) (r : List (Option ℕ)) → reverse waits ≡ r → IsPass classes levels a m out st r → IsAt a (m + 1)
           out (take (length waits - 1) waits)
       popped other closes [] [] e pass =
           let none : waits ≡ [] = reverse_none waits e in

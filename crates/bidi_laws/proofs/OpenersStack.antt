@@ -1,11 +1,11 @@
--- The openers that are open, as one stack of indexes: an opener is pushed, a PDI takes away the innermost isolate and all inside it,
--- a PDF the innermost embedding if no isolate is inside that. It holds exactly what `open_at` counts.
+-- The openers that are open, as one stack of indexes: an opener is pushed, a PDI takes away the innermost isolate and
+-- all inside it, a PDF the innermost embedding if no isolate is inside that. It holds exactly what `open_at` counts.
 --
--- Of that stack the initiators are what a stack of isolates alone holds, and so they are the isolates round a place. The embeddings
--- level with a place c are what a stack of those alone holds, as long as no isolate round c has ended.
+-- Of that stack the initiators are what a stack of isolates alone holds, and so they are the isolates round a place.
+-- The embeddings level with a place c are what a stack of those alone holds, as long as no isolate round c has ended.
 use Rattle.bidi_base.proofs.Common.{◌≡◌, ℕ, zero, suc, ◌+◌, ◌-◌, ◌<◌, ◌≤◌, Bool, true, false, not, ◌||◌, cond, List, [], ◌∷◌, length, reverse, rules, refl, sym, ap, subst, ◌∙◌, arith}
 use Rattle.bidi_base.proofs.Common.{◌⊎◌, inl, inr, add-one, ⊤, filter, range_with_len, cases_Bool, both_ways, and_from, and_right, or_left, false_from_ne_true, reverse-append}
-use Rattle.bidi_base.proofs.Common.{filter-append, is_initiator, is_embedding, is_opener, is_pdi, is_pdf, class_at, match_of, is_before, is_initiator_at, is_pdi_at, matching_pdi}
+use Rattle.bidi_base.proofs.Common.{filter-append, is_isolate_initiator, is_embedding_initiator, is_opener, is_pdi, is_pdf, class_at, match_of, is_before, is_isolate_initiator_at, is_pdi_at, matching_pdi}
 use Rattle.bidi_base.proofs.Common.{is_inside, is_level_with, is_embedding_level_with, is_pdf_level_with, closing_pdf, shares_isolates, is_embedded, is_open_at, open_at}
 use Rattle.bidi_base.specs.declared.char_data.BidiClass.{BidiClass}
 use Rattle.bidi_base.proofs.ChainLemmas.{range_with_len-append, filter_range-none}
@@ -13,15 +13,15 @@ use Rattle.bidi_laws.proofs.IsolatesLemmas.{initiators_apart}
 use Rattle.bidi_laws.proofs.EmbeddingsLemmas.{same_if, list_all-range_with_len, list_all-from_each, is_level_with-each, is_level_with-same, is_level_with-refl}
 use Rattle.bidi_laws.proofs.ReadStack.{Member, read_closed, IsReadStack, IsReadStack-start, IsReadStack-more, IsReadStack-open, IsReadStack-complete}
 
--- what stands below the innermost isolate initiator of a stack, or `whole` where there is none
+-- what is below the innermost isolate initiator of a stack, or `whole` where there is none
 abbrev pub below_isolate : List BidiClass → List ℕ → List ℕ → List ℕ
 below_isolate classes whole [] = whole
-below_isolate classes whole (q ∷ stack) = cond (is_initiator_at classes q) stack (below_isolate classes whole stack)
+below_isolate classes whole (q ∷ stack) = cond (is_isolate_initiator_at classes q) stack (below_isolate classes whole stack)
 
 -- the stack without its innermost opener, where that is an embedding
 abbrev pub below_embedding : List BidiClass → List ℕ → List ℕ
 below_embedding classes [] = []
-below_embedding classes (q ∷ stack) = cond (is_initiator_at classes q) (q ∷ stack) stack
+below_embedding classes (q ∷ stack) = cond (is_isolate_initiator_at classes q) (q ∷ stack) stack
 
 -- what p leaves open of what was open before it
 unfoldable pub closed_by : List BidiClass → ℕ → List ℕ → List ℕ
@@ -38,7 +38,7 @@ openers_read classes zero = []
 openers_read classes (suc p) = opened_by classes p (closed_by classes p (openers_read classes p))
 
 -- an embedding initiator is nothing else, nor is a PDI
-pub embedding_apart : (c : BidiClass) → is_embedding c ≡ true → (is_initiator c ≡ false) × (is_pdf c ≡ false)
+pub embedding_apart : (c : BidiClass) → is_embedding_initiator c ≡ true → (is_isolate_initiator c ≡ false) × (is_pdf c ≡ false)
 embedding_apart c e = grind arith
 
 pub pdf_apart : (c : BidiClass) → is_pdf c ≡ true → is_pdi c ≡ true → ⊥
@@ -75,7 +75,7 @@ module _ (classes : List BidiClass) where
   -- ---- what a character leaves of a stack
 
   abbrev pub initiators : List ℕ → List ℕ
-  initiators stack = filter (is_initiator_at classes) stack
+  initiators stack = filter (is_isolate_initiator_at classes) stack
 
   -- a PDI finds no isolate, or leaves what the innermost one left open
   below_isolate-initiators : (p : ℕ) (whole stack : List ℕ) → IsPushed p stack → ((initiators stack ≡ []) × (below_isolate classes whole stack ≡ whole))
@@ -83,23 +83,23 @@ module _ (classes : List BidiClass) where
   below_isolate-initiators p whole [] h = inl (refl, refl)
   below_isolate-initiators p whole (q ∷ stack) h = grind (arith, below_isolate-initiators q whole stack)
 
-  first_initiator : (x : ℕ) (stack rest : List ℕ) → initiators stack ≡ x ∷ rest → Member x stack × (is_initiator_at classes x ≡ true)
-  first_initiator x stack rest e = Member-filter (is_initiator_at classes) x stack (subst (Member x) (sym e) (inl refl))
+  first_initiator : (x : ℕ) (stack rest : List ℕ) → initiators stack ≡ x ∷ rest → Member x stack × (is_isolate_initiator_at classes x ≡ true)
+  first_initiator x stack rest e = Member-filter (is_isolate_initiator_at classes) x stack (subst (Member x) (sym e) (inl refl))
 
   abbrev pub HasNoEmbeddingOnTop : List ℕ → Type 0
   HasNoEmbeddingOnTop [] = ⊤
-  HasNoEmbeddingOnTop (q ∷ stack) = is_initiator_at classes q ≡ true
+  HasNoEmbeddingOnTop (q ∷ stack) = is_isolate_initiator_at classes q ≡ true
 
-  -- of a stack p leaves what stands below its innermost isolate, what stands below an embedding on top, or the whole
+  -- of a stack p leaves what is below its innermost isolate, what is below an embedding on top, or the whole
   pub data Leaves (p : ℕ) : List ℕ → List ℕ → Type 0 where
     closes_isolate : (stack : List ℕ) (x : ℕ) → is_pdi_at classes p ≡ true → initiators stack ≡ x ∷ initiators (left_at x) → Leaves p stack (left_at x)
-    closes_embedding : (q : ℕ) (stack : List ℕ) → is_pdf (class_at classes p) ≡ true → is_initiator_at classes q ≡ false → Leaves p (q ∷ stack) stack
+    closes_embedding : (q : ℕ) (stack : List ℕ) → is_pdf (class_at classes p) ≡ true → is_isolate_initiator_at classes q ≡ false → Leaves p (q ∷ stack) stack
     closes_nothing : (stack : List ℕ) → (is_pdi_at classes p ≡ true → initiators stack ≡ [])
         → (is_pdf (class_at classes p) ≡ true → HasNoEmbeddingOnTop stack) → Leaves p stack stack
 
   leaves_by_pdf : (p : ℕ) (stack : List ℕ) → is_pdf (class_at classes p) ≡ true → Leaves p stack (below_embedding classes stack)
   leaves_by_pdf p [] pdf = closes_nothing [] (λ e. refl) (λ e. tt)
-  leaves_by_pdf p (q ∷ stack) pdf = elim (cases_Bool (is_initiator_at classes q)) [
+  leaves_by_pdf p (q ∷ stack) pdf = elim (cases_Bool (is_isolate_initiator_at classes q)) [
     | inl opens ↦ simp opens (closes_nothing (q ∷ stack) (λ pdi. absurd (pdf_apart _ pdf pdi)) (λ e. opens))
     | inr other ↦ simp other (closes_embedding q stack pdf other)
   ]
@@ -170,10 +170,10 @@ module _ (classes : List BidiClass) where
   initiators-Leaves p stack left h0 = grind arith
 
   -- the initiators of the stack are the isolates that are open
-  pub initiators-IsReadStack : (p : ℕ) → IsReadStack (is_initiator_at classes) (is_pdi_at classes) p (initiators (openers_read classes p))
+  pub initiators-IsReadStack : (p : ℕ) → IsReadStack (is_isolate_initiator_at classes) (is_pdi_at classes) p (initiators (openers_read classes p))
   initiators-IsReadStack p = search (rules, filter-IsReadStack, or_left, initiators_apart, initiators-Leaves, leaves_at)
 
-  pub is_inside-parts : (q p : ℕ) → is_inside classes q p ≡ true → (is_initiator_at classes q ≡ true) × (q < p) × (is_before p (matching_pdi classes q) ≡ true)
+  pub is_inside-parts : (q p : ℕ) → is_inside classes q p ≡ true → (is_isolate_initiator_at classes q ≡ true) × (q < p) × (is_before p (matching_pdi classes q) ≡ true)
   unfolding is_inside
   is_inside-parts q p e = grind arith
 
@@ -183,21 +183,21 @@ module _ (classes : List BidiClass) where
   inside-left r p fits inside = grind (
     arith,
     is_inside-parts,
-    counted-left (is_initiator_at classes) (is_pdi_at classes) p r,
+    counted-left (is_isolate_initiator_at classes) (is_pdi_at classes) p r,
     initiators-IsReadStack (suc p),
   )
 
-  pub left-inside : (r p : ℕ) → is_initiator_at classes r ≡ true → Member r (left_at p) → is_inside classes r p ≡ true
+  pub left-inside : (r p : ℕ) → is_isolate_initiator_at classes r ≡ true → Member r (left_at p) → is_inside classes r p ≡ true
   unfolding is_inside matching_pdi
   left-inside r p opens member = grind (
     arith,
     IsPushed-member p r (left_at p),
     left_at-IsPushed,
-    left-counted (is_initiator_at classes) (is_pdi_at classes) p r,
+    left-counted (is_isolate_initiator_at classes) (is_pdi_at classes) p r,
     initiators-IsReadStack (suc p),
   )
 
-  -- an isolate that goes on to p holds what stands before p
+  -- an isolate that goes on to p holds what is before p
   pub is_inside-sooner : (r k p : ℕ) → is_inside classes r p ≡ true → r < k → k ≤ p → is_inside classes r k ≡ true
   unfolding is_inside
   is_inside-sooner r k p inside from to = grind arith
@@ -213,16 +213,16 @@ module _ (classes : List BidiClass) where
     abbrev level : List ℕ → List ℕ
     level stack = filter (is_embedding_level_with classes c) stack
 
-    -- what stands in an isolate x, and c not, or c and not it, is not level with c
+    -- what is in an isolate x, and c not, or c and not it, is not level with c
     apart_level : (x q : ℕ) → x < length classes → (is_inside classes x c ≡ is_inside classes x q → ⊥) → is_embedding_level_with classes c q ≡ false
     apart_level x q within differ = and_right _ _ (false_from_ne_true (is_level_with classes c q) (λ e. absurd (differ (is_level_with-each classes c q e x within))))
 
     -- nothing inside an isolate x of the stack is level with c, if c stands outside
-    closed_isolate : (p x : ℕ) (stack : List ℕ) → p ≤ length classes → IsPushed p stack → Member x stack → is_initiator_at classes x ≡ true → is_inside classes x c ≡ false
+    closed_isolate : (p x : ℕ) (stack : List ℕ) → p ≤ length classes → IsPushed p stack → Member x stack → is_isolate_initiator_at classes x ≡ true → is_inside classes x c ≡ false
         → level stack ≡ level (left_at x)
     closed_isolate p x [] fits h member opens outside = absurd member
     closed_isolate p x (q ∷ stack) fits h (inl same) opens outside =
-        let no_embedding : is_embedding (class_at classes q) ≡ false =
+        let no_embedding : is_embedding_initiator (class_at classes q) ≡ false =
         grind (arith, embedding_apart) in simp (no_embedding, same, h.2)
     closed_isolate p x (q ∷ stack) fits h (inr there) opens outside =
         let inside : is_inside classes x q ≡ true = left-inside x q opens (simp h.2 at there) in
@@ -271,7 +271,7 @@ module _ (classes : List BidiClass) where
 
   -- ---- what the definitions count as open
 
-  module _ (p q : ℕ) (fits : p < length classes) (embedding : is_embedding (class_at classes q) ≡ true) where
+  module _ (p q : ℕ) (fits : p < length classes) (embedding : is_embedding_initiator (class_at classes q) ≡ true) where
     level_itself : is_embedding_level_with classes q q ≡ true
     level_itself = and_from _ _ embedding (is_level_with-refl classes q)
 

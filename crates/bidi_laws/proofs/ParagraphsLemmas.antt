@@ -43,7 +43,8 @@ module _ (ends : SplitTest) where
   cut_after-end x [] h = rw h.0 refl
   cut_after-end x (y ∷ cs) h = grind (arith, append-nil, cut_after-end y cs h.1)
 
-  -- of the characters read, `done` are the pieces that have ended, and `current` is the one that has not; `rest` is still to come
+  -- of the characters read, `done` are the pieces that have ended, and `current` is the one that has not; `rest` is
+  -- still to come
   pub record IsCut (chars : List ℕ) (done : List (List ℕ)) (current rest : List ℕ) : Type 0 where
     pub cut : cut_after ends chars ≡ done ++ cut_after ends (current ++ rest)
     pub goes_on : GoesOn current rest

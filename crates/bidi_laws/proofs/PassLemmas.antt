@@ -1,7 +1,8 @@
--- A pass that begins sequences and lets them go on: once each kept character stands in one of them, once, they are the isolating run sequences.
+-- A pass that begins sequences and lets them go on: once each kept character stands in one of them, once, they are the
+-- isolating run sequences.
 use Rattle.bidi_base.proofs.Common.{◌≡◌, ℕ, zero, suc, ◌+◌, ◌<◌, ◌≤◌, Bool, true, not, cond, List, [], ◌∷◌, ◌++◌, length, map, get_or, set, count_by, append-nil, append_assoc, Some, None, refl}
 use Rattle.bidi_base.proofs.Common.{sym, arith, filter, range_with_len, sum_by, IsPermutation, sum_by-cons, sum_by-append, IsPermutation-trans, IsPermutation-append_left}
-use Rattle.bidi_base.proofs.Common.{IsPermutation-append_right, IsPermutation-append_comm, sum_by-IsPermutation, last_or, RunSequence, is_kept_at, kept_places, successor, is_first, with_ends}
+use Rattle.bidi_base.proofs.Common.{IsPermutation-append_right, IsPermutation-append_comm, sum_by-IsPermutation, last_or, RunSequence, is_kept_at, kept_indexes, successor, is_first, with_ends}
 use Rattle.bidi_base.proofs.Common.{sequence_from, sequences, flat_map-append, flat_map-map, filter-append, flat_map, is_some}
 use Rattle.bidi_base.specs.declared.char_data.BidiClass.{BidiClass}
 use Rattle.bidi_base.proofs.ChainLemmas.{range_with_len-append, Follows, Follows-chain, Follows-join, IsMaximal-chain}
@@ -76,9 +77,9 @@ module _ (classes : List BidiClass) (levels : List ℕ) where
   AllFirst-filter low (suc m) fits = grind (arith, AllFirst-filter (low + 1) m)
 
   -- in all, as many have a successor as are one
-  counts_kept : count_by has_successor (kept_places classes) ≡ count_by is_later (kept_places classes)
-  unfolding kept_places
-  counts_kept = grind (arith, sum_by-IsPermutation, IsPermutation-places classes levels, counts_chains (filter (is_first classes levels) (kept_places classes)), AllFirst-filter 0 (length classes))
+  counts_kept : count_by has_successor (kept_indexes classes) ≡ count_by is_later (kept_indexes classes)
+  unfolding kept_indexes
+  counts_kept = grind (arith, sum_by-IsPermutation, IsPermutation-places classes levels, counts_chains (filter (is_first classes levels) (kept_indexes classes)), AllFirst-filter 0 (length classes))
 
   abbrev pub AllEnded : List (List ℕ) → Type 0
   AllEnded [] = Unit {0}
@@ -89,7 +90,7 @@ module _ (classes : List BidiClass) (levels : List ℕ) where
   ended_by (xs ∷ out) e = grind (arith, sum_by-cons (λ (ys : List ℕ). cond (has_successor (last_or 0 ys)) 1 0) xs out, ended_by out)
 
   -- once each kept character stands in one list, once, no list goes on
-  pub AllEnded-shared : (out : List (List ℕ)) → AllBegun out → IsPermutation (kept_places classes) (all_of out) → AllEnded out
+  pub AllEnded-shared : (out : List (List ℕ)) → AllBegun out → IsPermutation (kept_indexes classes) (all_of out) → AllEnded out
   AllEnded-shared out begun shared = grind (arith, ended_by, sum_by-IsPermutation, counts_all, counts_kept)
 
   -- the first characters
@@ -112,26 +113,26 @@ module _ (classes : List BidiClass) (levels : List ℕ) where
 
   -- the sequence of these places
   abbrev pub sequence_of : ℕ → List ℕ → RunSequence
-  sequence_of paragraph xs = with_ends paragraph classes levels xs
+  sequence_of para_level xs = with_ends para_level classes levels xs
 
-  all_sequences : (paragraph : ℕ) (out : List (List ℕ)) → AllBegun out → AllEnded out → map (sequence_from paragraph classes levels) (firsts out) ≡ map (sequence_of paragraph) out
+  all_sequences : (para_level : ℕ) (out : List (List ℕ)) → AllBegun out → AllEnded out → map (sequence_from para_level classes levels) (firsts out) ≡ map (sequence_of para_level) out
   unfolding sequence_from
-  all_sequences paragraph [] begun ended = refl
-  all_sequences paragraph (xs ∷ out) begun ended = grind (arith, chain_is, all_sequences paragraph out begun.1 ended.1)
+  all_sequences para_level [] begun ended = refl
+  all_sequences para_level (xs ∷ out) begun ended = grind (arith, chain_is, all_sequences para_level out begun.1 ended.1)
 
-  shared_chains : (out : List (List ℕ)) → AllBegun out → IsPermutation (kept_places classes) (all_of out) → IsPermutation (kept_places classes) (flat_map (places_from classes levels) (firsts out))
+  shared_chains : (out : List (List ℕ)) → AllBegun out → IsPermutation (kept_indexes classes) (all_of out) → IsPermutation (kept_indexes classes) (flat_map (places_from classes levels) (firsts out))
   shared_chains out begun shared = rw (← flat_map-map (λ (xs : List ℕ). xs) (places_from classes levels) (firsts out), all_chains out begun (AllEnded-shared out begun shared)) shared
 
   -- in the order of their first characters it is the list of sequences
-  pub sequences-from_pass_in_order : (paragraph : ℕ) (out : List (List ℕ)) → AllBegun out
-      → IsPermutation (kept_places classes) (all_of out) → Ascends 0 (firsts out) (length classes)
-      → map (sequence_of paragraph) out ≡ sequences paragraph classes levels
-  unfolding sequences kept_places
-  sequences-from_pass_in_order paragraph out begun shared in_order =
-      let starts : List ℕ = filter (is_first classes levels) (kept_places classes) in
+  pub sequences-from_pass_in_order : (para_level : ℕ) (out : List (List ℕ)) → AllBegun out
+      → IsPermutation (kept_indexes classes) (all_of out) → Ascends 0 (firsts out) (length classes)
+      → map (sequence_of para_level) out ≡ sequences para_level classes levels
+  unfolding sequences kept_indexes
+  sequences-from_pass_in_order para_level out begun shared in_order =
+      let starts : List ℕ = filter (is_first classes levels) (kept_indexes classes) in
       let all : IsPermutation starts (firsts out) = IsPermutation-first classes levels (firsts out) (AllFirst-firsts out begun) (shared_chains out begun shared) in
       let same : starts ≡ firsts out = same_ascending 0 (length classes) starts (firsts out) (grind (arith, Ascends-filter, Ascends-range)) in_order (λ x. count_of-IsPermutation x starts (firsts out) all) in
-      sym (rw same (all_sequences paragraph out begun (AllEnded-shared out begun shared)))
+      sym (rw same (all_sequences para_level out begun (AllEnded-shared out begun shared)))
 
   -- a step: a sequence begins
   pub AllBegun-push : (out : List (List ℕ)) (p : ℕ) (ps : List ℕ) → AllBegun out → IsBegun p ps → AllBegun (out ++ (p ∷ ps) ∷ [])

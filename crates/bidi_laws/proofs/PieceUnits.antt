@@ -1,4 +1,4 @@
--- One value a unit of a text that is cut into pieces: the range of each piece has the piece's own values.
+-- One value for each code unit of a text that is cut into pieces: the range of each piece has the piece's own values.
 use Rattle.bidi_base.proofs.Common.{◌≡◌, ℕ, ◌+◌, List, [], ◌∷◌, ◌++◌, length, refl, append_assoc, arith, length-append, common_steps, All, All-nil, All-cons, sum_by-append, HasOwnUnits}
 use Rattle.bidi_base.proofs.Common.{ranges_from, text_len, per_unit, flat_map}
 use Rattle.bidi_laws.proofs.ParagraphsLemmas.{joined}

@@ -1,4 +1,5 @@
--- The openings that are still open once p characters were read, innermost first: an opening is pushed, and a closing pops one.
+-- The openings that are still open once p characters were read, innermost first: an opening is pushed, and a closing
+-- pops one.
 use Rattle.bidi_base.proofs.Common.{◌≡◌, ℕ, ◌+◌, ◌<◌, ◌≤◌, Bool, true, false, cond, List, [], ◌∷◌, refl, arith, ◌⊎◌, inl, inr, eq-eqb, ⊤, count_between, is_closed_at, match_of, is_before}
 use Rattle.bidi_laws.proofs.MatchingLemmas.{closings, openings, not_closed, count_between-more, is_before-match, match-is_before}
 

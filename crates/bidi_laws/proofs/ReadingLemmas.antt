@@ -1,15 +1,15 @@
 -- The steps of the pass that reads a paragraph, as its calls leave them.
 use Rattle.bidi_base.proofs.Common.{◌≡◌, ℕ, suc, ◌+◌, ◌-◌, ◌<◌, Bool, ◌&&◌, cond, List, [], ◌∷◌, ◌++◌, length, get_or, set, take, drop, Some, refl, sym, ap, subst, ◌∙◌, arith, length-take}
-use Rattle.bidi_base.proofs.Common.{length-append, All, Range, take-append-drop, take-take, drop_more, get_or-append-add, All-head, All-tail, is_strong, place, per_unit, class_at, resolved_fsi}
+use Rattle.bidi_base.proofs.Common.{length-append, All, Range, take-append-drop, take-take, drop_more, get_or-append-add, All-head, All-tail, is_strong, unit_index, per_unit, class_at, resolved_fsi}
 use Rattle.bidi_base.proofs.Common.{innermost, outer, is_fsi, filled, met_units, slice_get}
 use Rattle.bidi_base.specs.declared.char_data.BidiClass.{BidiClass}
 use Rattle.std.proofs.lemmas.List.{set_split, set-append_right}
-use Rattle.bidi_base.proofs.PlaceLemmas.{place-more}
-use Rattle.bidi_base.proofs.PerUnit.{per_unit-append, take-per_unit, drop-per_unit, get_or-per_unit-place}
+use Rattle.bidi_base.proofs.UnitIndexLemmas.{unit_index-more}
+use Rattle.bidi_base.proofs.PerUnit.{per_unit-append, take-per_unit, drop-per_unit, get_or-per_unit-unit_index}
 use Rattle.bidi_base.proofs.TextLemmas.{HasUnits}
 use Rattle.bidi_laws.proofs.StoredSteps.{met_by}
 
--- what stands at the end of a list is innermost
+-- what is at the end of a list is innermost
 pub innermost-last : {X : Type 0} (xs : List X) → slice_get xs (length xs - 1) ≡ innermost xs
 innermost-last [] = refl
 innermost-last (x ∷ []) = refl
@@ -27,11 +27,11 @@ innermost-All P [] x h e = absurd (cc e)
 innermost-All {X} P (y ∷ []) x h e = let same : y ≡ x = cc e in subst P same (All-head P y [] h)
 innermost-All P (y ∷ z ∷ xs) x h e = innermost-All P (z ∷ xs) x (All-tail P y (z ∷ xs) h) e
 
--- ---- one value a unit, where the value of one character changes
+-- ---- one value for each code unit, if the value of one character changes
 
 -- the units of a character
 abbrev pub char_units : (ℕ → ℕ) → List ℕ → ℕ → Range ℕ
-char_units len_of chars k = record { start = place len_of chars k; end = place len_of chars (k + 1) }
+char_units len_of chars k = record { start = unit_index len_of chars k; end = unit_index len_of chars (k + 1) }
 
 -- they stay where more characters are read
 pub char_units-take : (len_of : ℕ → ℕ) (chars : List ℕ) (n k : ℕ) → k < n → char_units len_of (take n chars) k ≡ char_units len_of chars k
@@ -44,7 +44,7 @@ module _ {X : Type 0} (len_of : ℕ → ℕ) (chars : List ℕ) (values : List X
       let c : ℕ = get_or chars k 0 in
       let cut : chars ≡ take k chars ++ c ∷ drop (k + 1) chars = grind (arith, take-append-drop, drop_more) in
       let changed : set values k x ≡ take k values ++ x ∷ drop (k + 1) values = grind (arith, set_split) in
-      let wide : place len_of chars (k + 1) - place len_of chars k ≡ len_of c = omega (arith, place-more len_of chars k 0 within) in
+      let wide : unit_index len_of chars (k + 1) - unit_index len_of chars k ≡ len_of c = omega (arith, unit_index-more len_of chars k 0 within) in
       ap (per_unit len_of chars) changed ∙ ap (λ (cs : List ℕ). per_unit len_of cs (take k values ++ x ∷ drop (k + 1) values)) cut
       ∙ per_unit-append len_of (take k chars) (c ∷ drop (k + 1) chars) (take k values) (x ∷ drop (k + 1) values) (omega (arith, length-take k values, length-take k chars))
       ∙ simp (wide, take-per_unit len_of chars values k long, drop-per_unit len_of chars values (k + 1) long)
@@ -56,8 +56,8 @@ met_units-char len_of units chars front stored class q long within =
     let k : ℕ = length front + q in
     let all : length (front ++ stored) ≡ length chars = omega (arith, length-append front stored) in
     let inside : k < length chars = omega arith in
-    let read : class_at (per_unit len_of chars (front ++ stored)) (place len_of chars k) ≡ class_at stored q =
-    grind (arith, get_or-per_unit-place, get_or-append-add) in
+    let read : class_at (per_unit len_of chars (front ++ stored)) (unit_index len_of chars k) ≡ class_at stored q =
+    grind (arith, get_or-per_unit-unit_index, get_or-append-add) in
     let place_in : length front + q - length front ≡ q = omega arith in
     let changed : set (front ++ stored) k (resolved_fsi (Some class)) ≡ front ++ set stored q (resolved_fsi (Some class)) =
     grind (arith, set-append_right) in

@@ -1,21 +1,22 @@
--- The units of some characters: what stands at them is what stands at the characters, repeated; and the units that a pass reads are those of the characters that it reads.
+-- The units of some characters: what is at them is what is at the characters, repeated; and the units that a pass reads
+-- are those of the characters that it reads.
 use Rattle.bidi_base.proofs.Common.{◌≡◌, ◌≢◌, ◌⊎◌, ℕ, zero, suc, ◌+◌, ◌-◌, ◌<◌, ◌≤◌, Bool, true, List, [], ◌∷◌, ◌++◌, length, map, get_or, replicate, refl, sym, ap, ◌∙◌, arith, inl, inr, filter}
 use Rattle.bidi_base.proofs.Common.{range_with_len, cases_eq, flat_map-append, All-nil, All-cons, All-head, All-tail, All-append, All-filter, filter-append, length-map, ext_get_or}
-use Rattle.bidi_base.proofs.Common.{is_kept_in_place, between, class_at, at_places, text_len, place, per_unit, per_char, IsPerChar, IsLine, char_index, chars_in_runs, kept_in_place, units_in_runs}
+use Rattle.bidi_base.proofs.Common.{is_kept_in_place, between, class_at, at_indexes, text_len, unit_index, per_unit, per_char, IsPerChar, IsLine, char_index, chars_in_runs, kept_in_place, units_in_runs}
 use Rattle.bidi_base.proofs.Common.{AreLines, flat_map}
 use Rattle.bidi_base.specs.declared.char_data.BidiClass.{BidiClass}
 use Rattle.bidi_base.specs.declared.char_data.BidiClass.TheVariants.{L}
 use Rattle.std.specs.List.{All}
 use Rattle.bidi_base.proofs.ChainLemmas.{range_with_len-append, filter_range-none}
-use Rattle.bidi_base.proofs.PlaceLemmas.{line_places, place-mono, place-more, unit_of}
-use Rattle.bidi_base.proofs.PerUnit.{length-per_unit, length-per_char, get_or-per_char, get_or-per_unit, get_or-per_unit-place}
-use Rattle.bidi_laws.proofs.StoredLemmas.{length-at_places, at_places-append}
+use Rattle.bidi_base.proofs.UnitIndexLemmas.{line_unit_indexes, unit_index-mono, unit_index-more, unit_of}
+use Rattle.bidi_base.proofs.PerUnit.{length-per_unit, length-per_char, get_or-per_char, get_or-per_unit, get_or-per_unit-unit_index}
+use Rattle.bidi_laws.proofs.StoredLemmas.{length-at_indexes, at_indexes-append}
 use Rattle.bidi_base.proofs.TextLemmas.{HasUnits}
 use Rattle.bidi_laws.proofs.Repeated.{HaveUnits}
 
 -- the units of a character, and of some characters, by their indexes
 abbrev pub units_of_char : (ℕ → ℕ) → List ℕ → ℕ → List ℕ
-units_of_char len_of chars k = range_with_len (place len_of chars k) (len_of (get_or chars k 0))
+units_of_char len_of chars k = range_with_len (unit_index len_of chars k) (len_of (get_or chars k 0))
 
 abbrev pub units_of_chars : (ℕ → ℕ) → List ℕ → List ℕ → List ℕ
 units_of_chars len_of chars ks = flat_map (units_of_char len_of chars) ks
@@ -24,57 +25,57 @@ units_of_chars len_of chars ks = flat_map (units_of_char len_of chars) ks
 abbrev pub AreIndexes : List ℕ → List ℕ → Type 0
 AreIndexes chars ks = All (λ k. k < length chars) ks
 
--- ---- what stands there
+-- ---- what is there
 
-row_of : {X : Type 0} (d v : X) (units : List X) (u n : ℕ) → ((p : ℕ) → u ≤ p → p < u + n → get_or units p d ≡ v) → at_places d units (range_with_len u n) ≡ replicate n v
+row_of : {X : Type 0} (d v : X) (units : List X) (u n : ℕ) → ((p : ℕ) → u ≤ p → p < u + n → get_or units p d ≡ v) → at_indexes d units (range_with_len u n) ≡ replicate n v
 row_of d v units u zero each = refl
 row_of d v units u (suc n) each = grind (arith, row_of d v units (u + 1) n)
 
-pub at_places-units : {X : Type 0} (d : X) (len_of : ℕ → ℕ) (chars : List ℕ) (values : List X) → length values ≡ length chars → (ks : List ℕ) → AreIndexes chars ks
-    → at_places d (per_unit len_of chars values) (units_of_chars len_of chars ks) ≡ per_unit len_of (at_places 0 chars ks) (at_places d values ks)
-at_places-units d len_of chars values long [] are = refl
-at_places-units {X} d len_of chars values long (k ∷ ks) are =
-    let row = row_of d (get_or values k d) (per_unit len_of chars values) (place len_of chars k)
+pub at_indexes-units : {X : Type 0} (d : X) (len_of : ℕ → ℕ) (chars : List ℕ) (values : List X) → length values ≡ length chars → (ks : List ℕ) → AreIndexes chars ks
+    → at_indexes d (per_unit len_of chars values) (units_of_chars len_of chars ks) ≡ per_unit len_of (at_indexes 0 chars ks) (at_indexes d values ks)
+at_indexes-units d len_of chars values long [] are = refl
+at_indexes-units {X} d len_of chars values long (k ∷ ks) are =
+    let row = row_of d (get_or values k d) (per_unit len_of chars values) (unit_index len_of chars k)
     (len_of (get_or chars k 0)) (λ p from below.
-    let at : place len_of chars k + (p - place len_of chars k) ≡ p = omega arith in
-    simp at at (get_or-per_unit len_of chars values k (p - place len_of chars k) 0 d long
+    let at : unit_index len_of chars k + (p - unit_index len_of chars k) ≡ p = omega arith in
+    simp at at (get_or-per_unit len_of chars values k (p - unit_index len_of chars k) 0 d long
     (All-head (λ (i : ℕ). i < length chars) k ks are) (omega arith))) in
-    simp (at_places-append, row, at_places-units d len_of chars values long ks (All-tail (λ (i : ℕ). i < length chars) k ks are))
+    simp (at_indexes-append, row, at_indexes-units d len_of chars values long ks (All-tail (λ (i : ℕ). i < length chars) k ks are))
 
 -- ---- and back: what a pass over units left there it left at the characters
 
-row_rest : {X : Type 0} (d w : X) (units xs ys : List X) (u n : ℕ) → at_places d units (range_with_len u n) ++ xs ≡ replicate n w ++ ys → xs ≡ ys
+row_rest : {X : Type 0} (d w : X) (units xs ys : List X) (u n : ℕ) → at_indexes d units (range_with_len u n) ++ xs ≡ replicate n w ++ ys → xs ≡ ys
 row_rest d w units xs ys u zero e = e
 row_rest d w units xs ys u (suc n) e = row_rest d w units xs ys (u + 1) n (cc e)
 
-row_first : {X : Type 0} (d w : X) (units xs ys : List X) (u n : ℕ) → 1 ≤ n → at_places d units (range_with_len u n) ++ xs ≡ replicate n w ++ ys → get_or units u d ≡ w
+row_first : {X : Type 0} (d w : X) (units xs ys : List X) (u n : ℕ) → 1 ≤ n → at_indexes d units (range_with_len u n) ++ xs ≡ replicate n w ++ ys → get_or units u d ≡ w
 row_first d w units xs ys u n some e = grind arith
 
-pub at_places-from_units : {X : Type 0} (d : X) (len_of : ℕ → ℕ) → HasUnits len_of → (chars : List ℕ) (units : List X) (ks : List ℕ) (values : List X) → length values ≡ length ks
-    → at_places d units (units_of_chars len_of chars ks) ≡ per_unit len_of (at_places 0 chars ks) values → at_places d units (map (place len_of chars) ks) ≡ values
-at_places-from_units d len_of h chars units [] [] long e = refl
-at_places-from_units {X} d len_of h chars units (k ∷ ks) (v ∷ values) long e = grind (
+pub at_indexes-from_units : {X : Type 0} (d : X) (len_of : ℕ → ℕ) → HasUnits len_of → (chars : List ℕ) (units : List X) (ks : List ℕ) (values : List X) → length values ≡ length ks
+    → at_indexes d units (units_of_chars len_of chars ks) ≡ per_unit len_of (at_indexes 0 chars ks) values → at_indexes d units (map (unit_index len_of chars) ks) ≡ values
+at_indexes-from_units d len_of h chars units [] [] long e = refl
+at_indexes-from_units {X} d len_of h chars units (k ∷ ks) (v ∷ values) long e = grind (
   arith,
-  at_places-append,
+  at_indexes-append,
   row_first,
   row_rest,
   h (get_or chars k 0),
-  at_places-from_units d len_of h chars units ks values,
+  at_indexes-from_units d len_of h chars units ks values,
 )
-at_places-from_units d len_of h chars units _ _ long e = absurd (omega arith)
+at_indexes-from_units d len_of h chars units _ _ long e = absurd (omega arith)
 
-row_each : {X : Type 0} (d w : X) (units xs ys : List X) (u n j : ℕ) → j < n → at_places d units (range_with_len u n) ++ xs ≡ replicate n w ++ ys → get_or units (u + j) d ≡ w
+row_each : {X : Type 0} (d w : X) (units xs ys : List X) (u n j : ℕ) → j < n → at_indexes d units (range_with_len u n) ++ xs ≡ replicate n w ++ ys → get_or units (u + j) d ≡ w
 row_each d w units xs ys u zero j below e = absurd (omega arith)
 row_each d w units xs ys u (suc n) zero below e = (let here : u + 0 ≡ u = omega arith in ap (λ (p : ℕ). get_or units p d) here) ∙ cc e
 row_each d w units xs ys u (suc n) (suc j) below e = (let next : u + suc j ≡ u + 1 + j = omega arith in ap (λ (p : ℕ). get_or units p d) next) ∙ row_each d w units xs ys (u + 1) n j (omega arith) (cc e)
 
 -- at each unit of the characters
 pub get_or-from_units : {X : Type 0} (d : X) (len_of : ℕ → ℕ) (chars : List ℕ) (units : List X) (ks : List ℕ) (values : List X)
-    → length values ≡ length ks → at_places d units (units_of_chars len_of chars ks) ≡ per_unit len_of (at_places 0 chars ks) values
-    → (i j : ℕ) → i < length ks → j < len_of (get_or chars (get_or ks i 0) 0) → get_or units (place len_of chars (get_or ks i 0) + j) d ≡ get_or values i d
-get_or-from_units {X} d len_of chars units (k ∷ ks) (v ∷ values) long e zero j fits below = grind (arith, row_each, at_places-append)
+    → length values ≡ length ks → at_indexes d units (units_of_chars len_of chars ks) ≡ per_unit len_of (at_indexes 0 chars ks) values
+    → (i j : ℕ) → i < length ks → j < len_of (get_or chars (get_or ks i 0) 0) → get_or units (unit_index len_of chars (get_or ks i 0) + j) d ≡ get_or values i d
+get_or-from_units {X} d len_of chars units (k ∷ ks) (v ∷ values) long e zero j fits below = grind (arith, row_each, at_indexes-append)
 get_or-from_units {X} d len_of chars units (k ∷ ks) (v ∷ values) long e (suc i) j fits below =
-    grind (arith, get_or-from_units d len_of chars units ks values, row_rest, at_places-append)
+    grind (arith, get_or-from_units d len_of chars units ks values, row_rest, at_indexes-append)
 get_or-from_units d len_of chars units _ _ long e i j fits below = absurd (omega arith)
 
 -- ---- where nothing else is written, the units of each character stay alike
@@ -96,24 +97,24 @@ row_without p u (suc n) out = All-cons (λ (q : ℕ). q ≢ p) u (range_with_len
 
 -- the units of a character are not those of others
 units_without : (len_of : ℕ → ℕ) (chars : List ℕ) (k j : ℕ) → k < length chars → j < len_of (get_or chars k 0) → (ks : List ℕ)
-    → AreIndexes chars ks → All (λ q. q ≢ k) ks → All (λ q. q ≢ place len_of chars k + j) (units_of_chars len_of chars ks)
-units_without len_of chars k j fits below [] are none = All-nil (λ (q : ℕ). q ≢ place len_of chars k + j)
+    → AreIndexes chars ks → All (λ q. q ≢ k) ks → All (λ q. q ≢ unit_index len_of chars k + j) (units_of_chars len_of chars ks)
+units_without len_of chars k j fits below [] are none = All-nil (λ (q : ℕ). q ≢ unit_index len_of chars k + j)
 units_without len_of chars k j fits below (q ∷ ks) are none =
     let within = All-head (λ (i : ℕ). i < length chars) q ks are in
     let other = All-head (λ (i : ℕ). i ≢ k) q ks none in
-    All-append (λ (p : ℕ). p ≢ place len_of chars k + j) (units_of_char len_of chars q) (units_of_chars len_of chars ks)
-    (row_without _ (place len_of chars q) _ (grind (
+    All-append (λ (p : ℕ). p ≢ unit_index len_of chars k + j) (units_of_char len_of chars q) (units_of_chars len_of chars ks)
+    (row_without _ (unit_index len_of chars q) _ (grind (
       arith,
-      place-mono,
-      place-more len_of chars k 0,
-      place-more len_of chars q 0,
+      unit_index-mono,
+      unit_index-more len_of chars k 0,
+      unit_index-more len_of chars q 0,
     )))
     (units_without len_of chars k j fits below ks (All-tail (λ (i : ℕ). i < length chars) q ks are) (All-tail (λ (i : ℕ). i ≢ k) q ks none))
 
 pub IsPerChar-units : {X : Type 0} (d : X) (len_of : ℕ → ℕ) → HasUnits len_of
     → (chars : List ℕ) (values new : List X) (ks : List ℕ) (answers : List X) → length values ≡ length chars → AreIndexes chars ks
     → length answers ≡ length ks
-    → length new ≡ text_len len_of chars → at_places d new (units_of_chars len_of chars ks) ≡ per_unit len_of (at_places 0 chars ks) answers
+    → length new ≡ text_len len_of chars → at_indexes d new (units_of_chars len_of chars ks) ≡ per_unit len_of (at_indexes 0 chars ks) answers
     → ((u : ℕ) → All (λ q. q ≢ u) (units_of_chars len_of chars ks) → get_or new u d ≡ get_or (per_unit len_of chars values) u d) → IsPerChar len_of chars new
 IsPerChar-units {X} d len_of h chars values new ks answers long are many size e stays =
     let now = per_char d len_of chars new in
@@ -126,15 +127,15 @@ IsPerChar-units {X} d len_of h chars values new ks answers long are many size e 
           ∙ simp (get_or-per_unit len_of chars now w.index w.offset 0 d count w.within w.below, get_or-per_char d len_of chars new w.index d w.within))),
     )
   where
-    alike : (k j : ℕ) → k < length chars → j < len_of (get_or chars k 0) → get_or new (place len_of chars k + j) d ≡ get_or new (place len_of chars k) d
+    alike : (k j : ℕ) → k < length chars → j < len_of (get_or chars k 0) → get_or new (unit_index len_of chars k + j) d ≡ get_or new (unit_index len_of chars k) d
     alike k j fits below =
-        let first : place len_of chars k + 0 ≡ place len_of chars k = omega arith in
-        let each : (v : X) × ((j : ℕ) → j < len_of (get_or chars k 0) → get_or new (place len_of chars k + j) d ≡ v) = elim (among k ks) [
+        let first : unit_index len_of chars k + 0 ≡ unit_index len_of chars k = omega arith in
+        let each : (v : X) × ((j : ℕ) → j < len_of (get_or chars k 0) → get_or new (unit_index len_of chars k + j) d ≡ v) = elim (among k ks) [
           | inl w ↦ (get_or answers w.0 d, grind (arith, get_or-from_units))
           | inr none ↦ (
             get_or values k d,
             λ j below.
-                grind (arith, stays (place len_of chars k + j) (units_without len_of chars k j fits below ks are none), get_or-per_unit),
+                grind (arith, stays (unit_index len_of chars k + j) (units_without len_of chars k j fits below ks are none), get_or-per_unit),
           )
         ] in
         each.1 j below ∙ sym (simp first at (each.1 0 (omega arith)))
@@ -150,18 +151,18 @@ module _ (len_of : ℕ → ℕ) (h : HasUnits len_of) (chars : List ℕ) (values
   reads u = is_kept_in_place (class_at (per_unit len_of chars values) u)
 
   abbrev reads_char : ℕ → Bool
-  reads_char k = reads (place len_of chars k)
+  reads_char k = reads (unit_index len_of chars k)
 
   -- of the n characters from i on
-  in_line : (i n : ℕ) → i + n ≤ length chars → filter reads (between (place len_of chars i) (place len_of chars (i + n))) ≡ units_of_chars len_of chars (filter reads_char (range_with_len i n))
+  in_line : (i n : ℕ) → i + n ≤ length chars → filter reads (between (unit_index len_of chars i) (unit_index len_of chars (i + n))) ≡ units_of_chars len_of chars (filter reads_char (range_with_len i n))
   in_line i zero fits = grind arith
   in_line i (suc n) fits =
-      let a = place len_of chars i in
+      let a = unit_index len_of chars i in
       let b = a + len_of (get_or chars i 0) in
-      let end = place len_of chars (i + suc n) in
-      let step : place len_of chars (i + 1) ≡ b = place-more len_of chars i 0 (omega arith) in
+      let end = unit_index len_of chars (i + suc n) in
+      let step : unit_index len_of chars (i + 1) ≡ b = unit_index-more len_of chars i 0 (omega arith) in
       let count : end - a ≡ len_of (get_or chars i 0) + (end - b) =
-      omega (arith, place-mono len_of chars (i + 1) (i + suc n) (omega arith)) in
+      omega (arith, unit_index-mono len_of chars (i + 1) (i + suc n) (omega arith)) in
       let next : i + 1 + n ≡ i + suc n = omega arith in
       let rest = simp (next, step) at (in_line (i + 1) n (omega arith)) in
       let one : (p : ℕ) → a ≤ p → p < b → reads p ≡ reads a = λ p from below.
@@ -169,7 +170,7 @@ module _ (len_of : ℕ → ℕ) (h : HasUnits len_of) (chars : List ℕ) (values
       grind (
         arith,
         simp at at (get_or-per_unit len_of chars values i (p - a) 0 L long (omega arith) (omega arith)),
-        get_or-per_unit-place,
+        get_or-per_unit-unit_index,
       ) in
       simp (count, range_with_len-append, filter-append) (grind (
         arith,
@@ -185,7 +186,7 @@ module _ (len_of : ℕ → ℕ) (h : HasUnits len_of) (chars : List ℕ) (values
   read_units-is [] lines = refl
   read_units-is (r ∷ runs) lines =
       let i = char_index len_of chars r.0 in
-      let w = line_places len_of h chars r.0 r.1 (All-head (λ (q : ℕ × ℕ). IsLine len_of chars q.0 q.1) r runs lines) in
+      let w = line_unit_indexes len_of h chars r.0 r.1 (All-head (λ (q : ℕ × ℕ). IsLine len_of chars q.0 q.1) r runs lines) in
       let whole : i + (char_index len_of chars r.1 - i) ≡ char_index len_of chars r.1 = omega (arith, w.ordered) in
       let here = simp (whole, ← w.begins, ← w.ends) at (in_line i (char_index len_of chars r.1 - i)
       (omega (arith, w.within))) in
@@ -204,26 +205,26 @@ module _ (len_of : ℕ → ℕ) (h : HasUnits len_of) (chars : List ℕ) (values
       in_runs_below : (runs : List (ℕ × ℕ)) → AreLines len_of chars runs → All (λ k. k < length chars) (chars_in_runs len_of chars runs)
       in_runs_below [] lines = All-nil (λ (k : ℕ). k < length chars)
       in_runs_below (r ∷ runs) lines =
-          let w = line_places len_of h chars r.0 r.1 (All-head (λ (q : ℕ × ℕ). IsLine len_of chars q.0 q.1) r runs lines) in
+          let w = line_unit_indexes len_of h chars r.0 r.1 (All-head (λ (q : ℕ × ℕ). IsLine len_of chars q.0 q.1) r runs lines) in
           All-append (λ (k : ℕ). k < length chars) _ _ (range_below _ _ _ (omega (arith, w.ordered, w.within)))
           (in_runs_below runs (All-tail (λ (q : ℕ × ℕ). IsLine len_of chars q.0 q.1) r runs lines))
 
   module _ (runs : List (ℕ × ℕ)) (lines : AreLines len_of chars runs) where
     -- the classes at the units that are read, of the list before the pass, are those at the characters, repeated
-    pub read_units-old : at_places L (per_unit len_of chars values) (filter (λ u. is_kept_in_place (class_at (per_unit len_of chars values) u)) (units_in_runs runs))
-        ≡ per_unit len_of (at_places 0 chars (kept_in_place len_of chars (per_unit len_of chars values) runs))
-        (at_places L (per_unit len_of chars values) (map (place len_of chars) (kept_in_place len_of chars (per_unit len_of chars values) runs)))
-    read_units-old = grind (arith, at_places-units, kept_in_place-AreIndexes, at_places-from_units, length-at_places, read_units-is)
+    pub read_units-old : at_indexes L (per_unit len_of chars values) (filter (λ u. is_kept_in_place (class_at (per_unit len_of chars values) u)) (units_in_runs runs))
+        ≡ per_unit len_of (at_indexes 0 chars (kept_in_place len_of chars (per_unit len_of chars values) runs))
+        (at_indexes L (per_unit len_of chars values) (map (unit_index len_of chars) (kept_in_place len_of chars (per_unit len_of chars values) runs)))
+    read_units-old = grind (arith, at_indexes-units, kept_in_place-AreIndexes, at_indexes-from_units, length-at_indexes, read_units-is)
 
     -- where the pass leaves the answers of the characters at their units, it leaves them at the characters
     pub read_units-new : (new answers : List BidiClass) → length answers ≡ length (kept_in_place len_of chars (per_unit len_of chars values) runs)
-        → at_places L new (filter (λ u. is_kept_in_place (class_at (per_unit len_of chars values) u)) (units_in_runs runs)) ≡ per_unit len_of (at_places 0 chars (kept_in_place len_of chars (per_unit len_of chars values) runs)) answers
-        → at_places L new (map (place len_of chars) (kept_in_place len_of chars (per_unit len_of chars values) runs)) ≡ answers
-    read_units-new new answers many e = grind (arith, at_places-from_units, read_units-is)
+        → at_indexes L new (filter (λ u. is_kept_in_place (class_at (per_unit len_of chars values) u)) (units_in_runs runs)) ≡ per_unit len_of (at_indexes 0 chars (kept_in_place len_of chars (per_unit len_of chars values) runs)) answers
+        → at_indexes L new (map (unit_index len_of chars) (kept_in_place len_of chars (per_unit len_of chars values) runs)) ≡ answers
+    read_units-new new answers many e = grind (arith, at_indexes-from_units, read_units-is)
 
     -- and where it writes nothing else, each character has one class still
     pub read_units-per_char : (new answers : List BidiClass) → length answers ≡ length (kept_in_place len_of chars (per_unit len_of chars values) runs) → length new ≡ text_len len_of chars
-        → (let us = filter (λ u. is_kept_in_place (class_at (per_unit len_of chars values) u)) (units_in_runs runs) in at_places L new us ≡ per_unit len_of (at_places 0 chars (kept_in_place len_of chars (per_unit len_of chars values) runs)) answers)
+        → (let us = filter (λ u. is_kept_in_place (class_at (per_unit len_of chars values) u)) (units_in_runs runs) in at_indexes L new us ≡ per_unit len_of (at_indexes 0 chars (kept_in_place len_of chars (per_unit len_of chars values) runs)) answers)
         → ((u : ℕ) → All (λ q. q ≢ u) (filter (λ u. is_kept_in_place (class_at (per_unit len_of chars values) u)) (units_in_runs runs)) → class_at new u ≡ class_at (per_unit len_of chars values) u) → IsPerChar len_of chars new
     read_units-per_char new answers many size e stays =
         grind (arith, read_units-is, IsPerChar-units, kept_in_place-AreIndexes)
@@ -232,6 +233,6 @@ module _ (len_of : ℕ → ℕ) (h : HasUnits len_of) (chars : List ℕ) (values
     pub read_units-rule : (rule : List BidiClass → List BidiClass) → ((cs : List BidiClass) → length (rule cs) ≡ length cs)
         → ((ds : List ℕ) (cs : List BidiClass) → HaveUnits len_of ds → length cs ≡ length ds → rule (per_unit len_of ds cs) ≡ per_unit len_of ds (rule cs))
         → (new : List BidiClass)
-        → (let us = filter (λ u. is_kept_in_place (class_at (per_unit len_of chars values) u)) (units_in_runs runs) in at_places L new us ≡ rule (at_places L (per_unit len_of chars values) us))
-        → (let places = map (place len_of chars) (kept_in_place len_of chars (per_unit len_of chars values) runs) in at_places L new places ≡ rule (at_places L (per_unit len_of chars values) places))
-    read_units-rule rule keeps commutes new e = grind (arith, length-at_places, length-map, read_units-new, read_units-old)
+        → (let us = filter (λ u. is_kept_in_place (class_at (per_unit len_of chars values) u)) (units_in_runs runs) in at_indexes L new us ≡ rule (at_indexes L (per_unit len_of chars values) us))
+        → (let places = map (unit_index len_of chars) (kept_in_place len_of chars (per_unit len_of chars values) runs) in at_indexes L new places ≡ rule (at_indexes L (per_unit len_of chars values) places))
+    read_units-rule rule keeps commutes new e = grind (arith, length-at_indexes, length-map, read_units-new, read_units-old)

@@ -1,5 +1,6 @@
--- Repetition, rule by rule: W1 to W3, W5 to W7, N1 and N2 commute with it, and W4 does where it changes no item of several units.
-use Rattle.bidi_base.proofs.Common.{◌≡◌, ℕ, not, List, length, unwrap_or, refl, if◌then◌else◌, arith, as_direction, is_nsm, is_neutral}
+-- Repetition, rule by rule: W1 to W3, W5 to W7, N1 and N2 commute with it, and W4 does where it changes no item of
+-- several units.
+use Rattle.bidi_base.proofs.Common.{◌≡◌, ℕ, not, List, length, unwrap_or, refl, if◌then◌else◌, arith, as_direction, is_nsm, is_ni}
 use Rattle.bidi_base.proofs.Common.{same_class, nearest, per_unit, carried, w1_rule, w1, nearest_direction, n1_rule, n1_n2}
 use Rattle.bidi_base.specs.declared.char_data.BidiClass.{BidiClass}
 use Rattle.bidi_base.specs.declared.char_data.BidiClass.TheVariants.{NSM}
@@ -12,7 +13,7 @@ w1_answer v NSM = carried v
 w1_answer v c = c
 
 abbrev n1_answer : BidiClass → BidiClass → BidiClass → BidiClass → BidiClass
-n1_answer e v c w = if is_neutral c then (if same_class v w then v else e) else c
+n1_answer e v c w = if is_ni c then (if same_class v w then v else e) else c
 
 -- the nearest direction, as N1 sees it
 abbrev pub direction_step : BidiClass → BidiClass → BidiClass

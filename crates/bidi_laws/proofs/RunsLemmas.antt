@@ -1,6 +1,7 @@
--- Level runs: each is a stretch of characters that follow one another, and a sequence that goes on does so at the first character of a run.
+-- Level runs: each is a stretch of characters that follow one another, and a sequence that goes on does so at the first
+-- character of a run.
 use Rattle.bidi_base.proofs.Common.{◌≡◌, ℕ, zero, suc, ◌+◌, ◌-◌, ◌<◌, ◌≤◌, true, false, List, [], ◌∷◌, length, Some, refl, subst, arith, ◌⊎◌, inl, inr, filter, range_with_len, cases_Bool}
-use Rattle.bidi_base.proofs.Common.{false_from_ne_true, last_or, is_initiator_at, matching_pdi, is_kept_at, next_kept, kept_before, level_at, have_one_level, successor, is_first, begins_run}
+use Rattle.bidi_base.proofs.Common.{false_from_ne_true, last_or, is_isolate_initiator_at, matching_pdi, is_kept_at, next_kept, kept_before, level_at, have_one_level, successor, is_first, begins_run}
 use Rattle.bidi_base.specs.declared.char_data.BidiClass.{BidiClass}
 use Rattle.bidi_laws.proofs.SuccessorLemmas.{IsRunStep, have_one_level-level, have_one_level-from, next_kept-IsLeast, kept_before-next, kept_before-is}
 use Rattle.bidi_laws.proofs.SuccessorLemmas.{kept_before-is_None, next_kept-before, successor-cases, successor-run_step, successor-resumed}
@@ -35,11 +36,11 @@ module _ (classes : List BidiClass) (levels : List ℕ) where
   AreRunSteps-successors p (q ∷ ps) steps = grind (arith, successor-run_step, AreRunSteps-successors q ps)
 
   -- an initiator that ends a run goes on where its matching PDI begins one
-  pub successor-at_match : (i m : ℕ) → is_initiator_at classes i ≡ true → matching_pdi classes i ≡ Some m → EndsRun i → BeginsRun m → successor classes levels i ≡ Some m
+  pub successor-at_match : (i m : ℕ) → is_isolate_initiator_at classes i ≡ true → matching_pdi classes i ≡ Some m → EndsRun i → BeginsRun m → successor classes levels i ≡ Some m
   successor-at_match i m opens matches ends begins = grind (arith, successor-resumed)
 
   -- a run that no such initiator goes on with begins a sequence
-  pub is_first-run : (m : ℕ) → BeginsRun m → ((i : ℕ) → is_initiator_at classes i ≡ true → matching_pdi classes i ≡ Some m → EndsRun i → ⊥) → is_first classes levels m ≡ true
+  pub is_first-run : (m : ℕ) → BeginsRun m → ((i : ℕ) → is_isolate_initiator_at classes i ≡ true → matching_pdi classes i ≡ Some m → EndsRun i → ⊥) → is_first classes levels m ≡ true
   is_first-run m begins none = is_first-from_none classes levels m
       (λ p kept within e. grind (
         arith,
@@ -49,7 +50,8 @@ module _ (classes : List BidiClass) (levels : List ℕ) where
         none p,
       ))
 
-  -- the characters from a up to b are a level run: one begins at a, or a is the front of the paragraph, and none begins after it before b
+  -- the characters from a up to b are a level run: one begins at a, or a is the front of the paragraph, and none begins
+  -- after it before b
   pub record IsLevelRun (a b : ℕ) : Type 0 where
     pub not_empty : a < b
     pub within : b ≤ length classes

@@ -1,6 +1,6 @@
 -- Isolating run sequences: each kept character stands in exactly one, once.
 use Rattle.bidi_base.proofs.Common.{◌≡◌, ℕ, ◌<◌, true, false, List, [], ◌∷◌, length, Some, refl, arith, filter, IsPermutation, filter-append, flat_map-map, holds_number, chain, RunSequence}
-use Rattle.bidi_base.proofs.Common.{is_kept_at, kept_places, successor, is_first, sequence_from, sequences, flat_map}
+use Rattle.bidi_base.proofs.Common.{is_kept_at, kept_indexes, successor, is_first, sequence_from, sequences, flat_map}
 use Rattle.bidi_base.specs.declared.char_data.BidiClass.{BidiClass}
 use Rattle.bidi_base.proofs.ChainLemmas.{holds_number-from, IsLinked, none_in_range, fails_in_range, IsPermutation-chains, filter_chain_from}
 use Rattle.bidi_laws.proofs.PermutationLemmas.{IsPermutation-filter}
@@ -21,28 +21,28 @@ module _ (classes : List BidiClass) (levels : List ℕ) where
 
   -- the first characters are those that are no successor
   pub is_first-none : (q : ℕ) → is_first classes levels q ≡ true → (p : ℕ) → is_kept_at classes p ≡ true → p < length classes → successor classes levels p ≡ Some q → ⊥
-  unfolding is_first kept_places
+  unfolding is_first kept_indexes
   is_first-none q first p kept within e =
       grind (arith, fails_in_range (λ r. holds_number (successor classes levels r) q) (is_kept_at classes) 0 (length classes) p, holds_number-from (successor classes levels p) q e)
 
   pub is_first-from_none : (q : ℕ) → ((p : ℕ) → is_kept_at classes p ≡ true → p < length classes → successor classes levels p ≡ Some q → ⊥) → is_first classes levels q ≡ true
-  unfolding is_first kept_places
+  unfolding is_first kept_indexes
   is_first-from_none q none = grind (arith, none_in_range)
 
   pub is_first-successor : (p q : ℕ) → is_kept_at classes p ≡ true → p < length classes → successor classes levels p ≡ Some q → is_first classes levels q ≡ false
   is_first-successor p q kept within e = grind (arith, is_first-none)
 
   -- the places of all sequences are the kept places, each once
-  pub sequences-places : (paragraph : ℕ) → flat_map (λ (s : RunSequence). s.places) (sequences paragraph classes levels) ≡ flat_map places_from (filter (is_first classes levels) (kept_places classes))
+  pub sequences-places : (para_level : ℕ) → flat_map (λ (s : RunSequence). s.places) (sequences para_level classes levels) ≡ flat_map places_from (filter (is_first classes levels) (kept_indexes classes))
   unfolding sequences sequence_from
-  sequences-places paragraph = grind (arith, flat_map-map)
+  sequences-places para_level = grind (arith, flat_map-map)
 
-  pub IsPermutation-places : IsPermutation (kept_places classes) (flat_map places_from (filter (is_first classes levels) (kept_places classes)))
-  unfolding kept_places is_first
+  pub IsPermutation-places : IsPermutation (kept_indexes classes) (flat_map places_from (filter (is_first classes levels) (kept_indexes classes)))
+  unfolding kept_indexes is_first
   IsPermutation-places = IsPermutation-chains (length classes) (is_kept_at classes) (successor classes levels) (IsLinked-successor classes levels) 0 (length classes) (omega arith)
 
-  pub IsPermutation-sequences : (paragraph : ℕ) → IsPermutation (kept_places classes) (flat_map (λ (s : RunSequence). s.places) (sequences paragraph classes levels))
-  IsPermutation-sequences paragraph = rw (sequences-places paragraph) IsPermutation-places
+  pub IsPermutation-sequences : (para_level : ℕ) → IsPermutation (kept_indexes classes) (flat_map (λ (s : RunSequence). s.places) (sequences para_level classes levels))
+  IsPermutation-sequences para_level = rw (sequences-places para_level) IsPermutation-places
 
   -- some first characters
   abbrev pub AllFirst : List ℕ → Type 0
@@ -56,5 +56,5 @@ module _ (classes : List BidiClass) (levels : List ℕ) where
       simp (filter-append, here, first_of_chains ps h.3)
 
   -- first characters whose chains hold each kept character once are all the first characters
-  pub IsPermutation-first : (ps : List ℕ) → AllFirst ps → IsPermutation (kept_places classes) (flat_map places_from ps) → IsPermutation (filter (is_first classes levels) (kept_places classes)) ps
-  IsPermutation-first ps h shared = rw (first_of_chains ps h) at (IsPermutation-filter (is_first classes levels) (kept_places classes) (flat_map places_from ps) shared)
+  pub IsPermutation-first : (ps : List ℕ) → AllFirst ps → IsPermutation (kept_indexes classes) (flat_map places_from ps) → IsPermutation (filter (is_first classes levels) (kept_indexes classes)) ps
+  IsPermutation-first ps h shared = rw (first_of_chains ps h) at (IsPermutation-filter (is_first classes levels) (kept_indexes classes) (flat_map places_from ps) shared)

@@ -1,4 +1,6 @@
--- A paragraph that is read from the front, one character more: its stored classes (X5c), its deciding character (P2) and its open isolates. The rules at what was read so far are what a pass holds, since an isolate with no matching PDI ends at the end.
+-- A paragraph that is read from the front, one character more: its stored classes (X5c), its deciding character (P2)
+-- and its open isolates. The rules at what was read so far are what a pass holds, since an isolate with no matching PDI
+-- ends at the end.
 use Rattle.bidi_base.proofs.Common.{◌≡◌, ℕ, suc, ◌<◌, Bool, true, false, not, ◌&&◌, ◌||◌, cond, List, [], ◌∷◌, ◌++◌, length, set, map, Option, Some, None, option_map, refl, ap, ◌∙◌}
 use Rattle.bidi_base.proofs.Common.{arith, inl, inr, cases_Bool, and-true, and_parts, All, option_or, length-map, map-append, length-set, length-map-range_with_len, All-nil, All-map}
 use Rattle.bidi_base.proofs.Common.{is_strong, class_at, innermost, outer, opened_by, decided_by, is_fsi, deciding_class, resolved_fsi, stored_classes}
@@ -125,7 +127,7 @@ or_none : (o : Option BidiClass) → option_or o None ≡ o
 or_none None = refl
 or_none (Some s) = refl
 
--- what stands first is stored as before, where the new character says nothing of it
+-- what is first is stored as before, where the new character says nothing of it
 first_stays : (x c : BidiClass) (xs : List BidiClass) → found_by c xs ≡ None → stored_by x (resolving_from 0 (xs ++ c ∷ [])) ≡ stored_by x (resolving_from 0 xs)
 first_stays x c xs none = ap (stored_by x) (resolving-push xs c ∙ ap (option_or (resolving_from 0 xs)) none ∙ or_none (resolving_from 0 xs))
 
@@ -144,7 +146,7 @@ other_met : (c : BidiClass) (open_ended : Bool) (y : BidiClass) (stored : List B
 other_met c false y stored other = refl
 other_met c true y stored other = elim (cases_Bool (is_strong c)) [ inl decides ↦ simp (decides, other) | inr weak ↦ simp weak ]
 
--- where no isolate is open after it, what stands first is the innermost open initiator, or none is
+-- where no isolate is open after it, what is first is the innermost open initiator, or none is
 first_met : (x c : BidiClass) (xs stored : List BidiClass) → is_zero (depth_after 0 xs) ≡ true
     → stored_by x (resolving_from 0 (xs ++ c ∷ [])) ∷ stored ≡ met_by c (innermost (onto_later (opens_one (kind_of x) && not (has_end 0 xs)) [])) (stored_by x (resolving_from 0 xs) ∷ stored)
 unfolding kind_of

@@ -1,6 +1,6 @@
 -- The successor of a character in its sequence: the two ways in which there is one, and what both have in common.
-use Rattle.bidi_base.proofs.Common.{◌≡◌, ℕ, ◌+◌, ◌-◌, ◌<◌, true, false, List, length, Option, Some, None, refl, ap, ◌∙◌, arith, ◌⊎◌, inl, inr, both_ways, is_kept, is_initiator}
-use Rattle.bidi_base.proofs.Common.{is_pdi, is_initiator_at, matching_pdi, is_kept_at, next_kept, kept_before, level_at, have_one_level, resumed_at, successor}
+use Rattle.bidi_base.proofs.Common.{◌≡◌, ℕ, ◌+◌, ◌-◌, ◌<◌, true, false, List, length, Option, Some, None, refl, ap, ◌∙◌, arith, ◌⊎◌, inl, inr, both_ways, is_kept, is_isolate_initiator}
+use Rattle.bidi_base.proofs.Common.{is_pdi, is_isolate_initiator_at, matching_pdi, is_kept_at, next_kept, kept_before, level_at, have_one_level, resumed_at, successor}
 use Rattle.bidi_base.specs.declared.char_data.BidiClass.{BidiClass}
 use Rattle.bidi_base.proofs.PlacesLemmas.{IsLeast, find-between, find-between-is, IsGreatest, find_last-range_with_len, find_last-range_with_len-None, find-between-is_None}
 use Rattle.bidi_laws.proofs.IsolatesLemmas.{matching_pdi-IsLeast, matching_pdi-is_pdi}
@@ -52,7 +52,7 @@ next_kept-before classes p q kept within e = grind (arith, kept_before-IsGreates
 pub is_kept-pdi : (c : BidiClass) → is_pdi c ≡ true → is_kept c ≡ true
 is_kept-pdi c e = grind arith
 
-pub is_kept-initiator : (c : BidiClass) → is_initiator c ≡ true → is_kept c ≡ true
+pub is_kept-initiator : (c : BidiClass) → is_isolate_initiator c ≡ true → is_kept c ≡ true
 is_kept-initiator c e = grind arith
 
 -- q follows p in one level run
@@ -62,7 +62,7 @@ pub record IsRunStep (classes : List BidiClass) (levels : List ℕ) (p q : ℕ) 
 
 -- p is an initiator at the end of its level run, and its matching PDI q begins one
 pub record IsResumed (classes : List BidiClass) (levels : List ℕ) (p q : ℕ) : Type 0 where
-  pub opens : is_initiator_at classes p ≡ true
+  pub opens : is_isolate_initiator_at classes p ≡ true
   pub matches : matching_pdi classes p ≡ Some q
   pub ends : have_one_level levels (next_kept classes p) p ≡ false
   pub begins : have_one_level levels (kept_before classes q) q ≡ false
@@ -99,13 +99,13 @@ successor-IsLaterKept classes levels p q e = elim (successor-cases classes level
 
 -- a matching PDI has the level of its initiator: so it is where levels are explicit levels
 abbrev pub SameLevelAtMatch : List BidiClass → List ℕ → Type 0
-SameLevelAtMatch classes levels = (p q : ℕ) → is_initiator_at classes p ≡ true → matching_pdi classes p ≡ Some q → level_at levels q ≡ level_at levels p
+SameLevelAtMatch classes levels = (p q : ℕ) → is_isolate_initiator_at classes p ≡ true → matching_pdi classes p ≡ Some q → level_at levels q ≡ level_at levels p
 
 pub successor-level : (classes : List BidiClass) (levels : List ℕ) (p q : ℕ) → SameLevelAtMatch classes levels → successor classes levels p ≡ Some q → level_at levels q ≡ level_at levels p
 successor-level classes levels p q same e = grind (arith, successor-cases classes levels p q e)
 
 -- two initiators have no match in common
-pub matching_pdi-injective : (classes : List BidiClass) (p r q : ℕ) → is_initiator_at classes p ≡ true → is_initiator_at classes r ≡ true
+pub matching_pdi-injective : (classes : List BidiClass) (p r q : ℕ) → is_isolate_initiator_at classes p ≡ true → is_isolate_initiator_at classes r ≡ true
     → matching_pdi classes p ≡ Some q → matching_pdi classes r ≡ Some q → p ≡ r
 unfolding matching_pdi
 matching_pdi-injective classes p r q opens_p opens_r e f = grind (arith, match_of-injective)

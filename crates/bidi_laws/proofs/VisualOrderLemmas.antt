@@ -2,7 +2,7 @@
 use Rattle.bidi_base.proofs.Common.{◌≡◌, ℕ, zero, suc, ◌+◌, ◌<◌, Bool, true, false, cond, eqb, List, [], ◌∷◌, map, length, get_or, take, drop, find, count_by, fold, AllPairs, Contains, Option}
 use Rattle.bidi_base.proofs.Common.{Some, None, unwrap_or, refl, ◌∙◌, arith, eqb-true, length-drop, get_or-take, get_or-drop, range_with_len, get_or-map, same_lists, length-map, get_or_default}
 use Rattle.bidi_base.proofs.Common.{length-range_with_len, get_or-range_with_len, sum_by-append, sum_by-IsPermutation, Contains-permutation, length_permutation, All-permutation, indexes}
-use Rattle.bidi_base.proofs.Common.{stands_left, visual_place, index_at_visual, visual_order, IsVisualOrder, All, length-take-le, take-append-drop}
+use Rattle.bidi_base.proofs.Common.{stands_left, visual_index, index_at_visual, visual_order, IsVisualOrder, All, length-take-le, take-append-drop}
 use Rattle.bidi_base.proofs.PlacesLemmas.{IsLeast, find-range_with_len, find-range_with_len-None}
 use Rattle.bidi_laws.proofs.OrderLemmas.{stands_left-other}
 
@@ -33,9 +33,9 @@ count-left levels order v ordered within =
     after zero below = grind (arith, get_or-drop, stands_left-same)
     after (suc k) below = grind (arith, length-drop, get_or-drop, stands_left-other, stands_left-same levels (get_or order v 0), ordered)
 
-pub visual_place-order : (levels order : List ℕ) (v : ℕ) → IsVisualOrder levels order → v < length order → visual_place levels (get_or order v 0) ≡ v
-unfolding visual_place
-visual_place-order levels order v h within = grind (arith, sum_by-IsPermutation, count-left levels order v h.in_order within)
+pub visual_index-order : (levels order : List ℕ) (v : ℕ) → IsVisualOrder levels order → v < length order → visual_index levels (get_or order v 0) ≡ v
+unfolding visual_index
+visual_index-order levels order v h within = grind (arith, sum_by-IsPermutation, count-left levels order v h.in_order within)
 
 pub contains_index : (n i : ℕ) → i < n → Contains (range_with_len 0 n) i
 contains_index n i below = (i, omega (arith, length-range_with_len 0 n), get_or-range_with_len 0 n i i below ∙ (let same : 0 + i ≡ i = omega arith in same))
@@ -49,7 +49,7 @@ unfolding index_at_visual
 index_at-order levels order v h within = found (find test (indexes levels)) refl
   where
     test : ℕ → Bool
-    test = λ i. eqb (visual_place levels i) v
+    test = λ i. eqb (visual_index levels i) v
 
     long : length order ≡ length levels
     long = grind (arith, length_permutation, length-range_with_len)
@@ -57,14 +57,14 @@ index_at-order levels order v h within = found (find test (indexes levels)) refl
     is_index : get_or order v 0 < length levels
     is_index = All-permutation (λ i. i < length levels) (indexes levels) order h.all_indexes (all_below levels) v 0 within
 
-    same_place : (i : ℕ) → Contains order i → visual_place levels i ≡ v → i ≡ get_or order v 0
-    same_place i c e = grind (arith, get_or_default, visual_place-order)
+    same_place : (i : ℕ) → Contains order i → visual_index levels i ≡ v → i ≡ get_or order v 0
+    same_place i c e = grind (arith, get_or_default, visual_index-order)
 
     found : (o : Option ℕ) → find test (indexes levels) ≡ o → unwrap_or o 0 ≡ get_or order v 0
-    found None e = grind (arith, find-range_with_len-None test 0 (length levels) e (get_or order v 0), is_index, visual_place-order)
+    found None e = grind (arith, find-range_with_len-None test 0 (length levels) e (get_or order v 0), is_index, visual_index-order)
     found (Some i) e =
         let least : IsLeast test 0 (0 + length levels) i = find-range_with_len test 0 (length levels) i e in
-        same_place i (Contains-permutation (indexes levels) order i h.all_indexes (contains_index (length levels) i (omega (arith, least.below)))) (eqb-true (visual_place levels i) v least.passes)
+        same_place i (Contains-permutation (indexes levels) order i h.all_indexes (contains_index (length levels) i (omega (arith, least.below)))) (eqb-true (visual_index levels i) v least.passes)
 
 pub visual_order-unique : (levels order : List ℕ) → IsVisualOrder levels order → order ≡ visual_order levels
 unfolding visual_order

@@ -1,7 +1,8 @@
--- A pass over level runs: what is open waits for its match, and a run goes on with the sequence whose initiator its first character matches.
+-- A pass over level runs: what is open waits for its match, and a run goes on with the sequence whose initiator its
+-- first character matches.
 use Rattle.bidi_base.proofs.Common.{◌≡◌, ◌≢◌, ℕ, zero, suc, ◌+◌, ◌<◌, ◌≤◌, true, false, List, [], ◌∷◌, ◌++◌, length, map, get_or, set, length-append, append-nil, Option, Some, None, refl, subst}
-use Rattle.bidi_base.proofs.Common.{arith, ◌⊎◌, eq-eqb, ne_eqb, filter, range_with_len, IsPermutation, false_from_ne_true, get_or_append_left, length-set, last_or, is_initiator_at, is_pdi_at}
-use Rattle.bidi_base.proofs.Common.{matching_pdi, is_kept_at, kept_places, next_kept, have_one_level, successor, is_first, sequences, get_or-set_same, get_or-set_other}
+use Rattle.bidi_base.proofs.Common.{arith, ◌⊎◌, eq-eqb, ne_eqb, filter, range_with_len, IsPermutation, false_from_ne_true, get_or_append_left, length-set, last_or, is_isolate_initiator_at, is_pdi_at}
+use Rattle.bidi_base.proofs.Common.{matching_pdi, is_kept_at, kept_indexes, next_kept, have_one_level, successor, is_first, sequences, get_or-set_same, get_or-set_other}
 use Rattle.bidi_base.specs.declared.char_data.BidiClass.{BidiClass}
 use Rattle.bidi_laws.proofs.ReadStack.{Member, IsReadStack, IsReadStack-more, IsReadStack-stay}
 use Rattle.bidi_laws.proofs.OpenMatches.{IsReadStack-match, IsReadStack-matched, IsReadStack-no_match}
@@ -57,7 +58,8 @@ module _ (classes : List BidiClass) (levels : List ℕ) where
   begun_at [] s begun within = absurd (omega arith)
   begun_at (xs ∷ out) s begun within = grind (arith, begun_at out)
 
-  -- an open initiator that ended its level run stands in the sequence at s, which waits; one inside its run waits for nothing
+  -- an open initiator that ended its level run stands in the sequence at s, which waits; one inside its run waits for
+  -- nothing
   abbrev pub IsWaiting : List (List ℕ) → ℕ → Option ℕ → Type 0
   IsWaiting out i None = have_one_level levels (next_kept classes i) i ≡ true
   IsWaiting out i (Some s) = (s < length out) × Member i (get_or out s []) × EndsRun classes levels i
@@ -84,14 +86,14 @@ module _ (classes : List BidiClass) (levels : List ℕ) where
     pub begun : AllBegun classes levels out
     pub shares : IsPermutation (kept_below classes levels a) (all_of classes levels out)
     pub in_order : Ascends 0 (firsts classes levels out) a
-    pub isolates : IsReadStack (is_initiator_at classes) (is_pdi_at classes) m stack
+    pub isolates : IsReadStack (is_isolate_initiator_at classes) (is_pdi_at classes) m stack
     pub waiting : AreWaiting out stack waits
 
   -- once all was read, these are the sequences
-  pub IsPass-end : (paragraph m : ℕ) (out : List (List ℕ)) (stack : List ℕ) (waits : List (Option ℕ)) → IsPass (length classes) m out stack waits
-      → map (sequence_of classes levels paragraph) out ≡ sequences paragraph classes levels
-  unfolding kept_places
-  IsPass-end paragraph m out stack waits h = grind (arith, sequences-from_pass_in_order)
+  pub IsPass-end : (para_level m : ℕ) (out : List (List ℕ)) (stack : List ℕ) (waits : List (Option ℕ)) → IsPass (length classes) m out stack waits
+      → map (sequence_of classes levels para_level) out ≡ sequences para_level classes levels
+  unfolding kept_indexes
+  IsPass-end para_level m out stack waits h = grind (arith, sequences-from_pass_in_order)
 
   -- characters that X9 removes come to no sequence
   pub IsPass-removed : (a n m : ℕ) (out : List (List ℕ)) (stack : List ℕ) (waits : List (Option ℕ)) → IsPass a m out stack waits
@@ -100,12 +102,12 @@ module _ (classes : List BidiClass) (levels : List ℕ) where
 
   -- reading up to k for what is open
   IsPass-read : (a m k : ℕ) (out : List (List ℕ)) (stack next : List ℕ) (waits waits_next : List (Option ℕ)) → IsPass a m out stack waits
-      → IsReadStack (is_initiator_at classes) (is_pdi_at classes) k next → AreWaiting out next waits_next → IsPass a k out next waits_next
+      → IsReadStack (is_isolate_initiator_at classes) (is_pdi_at classes) k next → AreWaiting out next waits_next → IsPass a k out next waits_next
   IsPass-read a m k out stack next waits waits_next h isolates waiting = grind arith
 
   -- one character: nothing happens, an initiator, a PDI
   pub IsPass-stay : (a m : ℕ) (out : List (List ℕ)) (stack : List ℕ) (waits : List (Option ℕ)) → IsPass a m out stack waits
-      → is_initiator_at classes m ≡ false → (is_pdi_at classes m ≡ false) ⊎ (stack ≡ []) → IsPass a (m + 1) out stack waits
+      → is_isolate_initiator_at classes m ≡ false → (is_pdi_at classes m ≡ false) ⊎ (stack ≡ []) → IsPass a (m + 1) out stack waits
   IsPass-stay a m out stack waits h other still = grind (arith, IsPass-read, IsReadStack-stay)
 
   -- characters that X9 removes change nothing of what is open
@@ -115,14 +117,14 @@ module _ (classes : List BidiClass) (levels : List ℕ) where
   IsPass-skip (suc n) a m out stack waits h none = grind (arith, IsPass-stay, IsPass-skip n a (m + 1) out stack waits, false_from_ne_true, is_kept-initiator, is_kept-pdi)
 
   pub IsPass-initiator : (a m : ℕ) (out : List (List ℕ)) (stack : List ℕ) (waits : List (Option ℕ)) (w : Option ℕ) → IsPass a m out stack waits
-      → is_initiator_at classes m ≡ true → IsWaiting out m w → IsPass a (m + 1) out (m ∷ stack) (w ∷ waits)
+      → is_isolate_initiator_at classes m ≡ true → IsWaiting out m w → IsPass a (m + 1) out (m ∷ stack) (w ∷ waits)
   IsPass-initiator a m out stack waits w h here wait = IsPass-read a m (m + 1) out stack (m ∷ stack) waits (w ∷ waits) h
-      (IsReadStack-more (is_initiator_at classes) (is_pdi_at classes) m true false stack here (initiators_apart classes m here) (λ e. refl) h.isolates) (wait, h.waiting)
+      (IsReadStack-more (is_isolate_initiator_at classes) (is_pdi_at classes) m true false stack here (initiators_apart classes m here) (λ e. refl) h.isolates) (wait, h.waiting)
 
   pub IsPass-pdi : (a m i : ℕ) (out : List (List ℕ)) (stack : List ℕ) (w : Option ℕ) (waits : List (Option ℕ)) → IsPass a m out (i ∷ stack) (w ∷ waits)
       → is_pdi_at classes m ≡ true → IsPass a (m + 1) out stack waits
   IsPass-pdi a m i out stack w waits h here = IsPass-read a m (m + 1) out (i ∷ stack) stack (w ∷ waits) waits h
-      (IsReadStack-more (is_initiator_at classes) (is_pdi_at classes) m false true (i ∷ stack) (pdis_apart classes m here) here (λ e. absurd (cc e)) h.isolates) h.waiting.1
+      (IsReadStack-more (is_isolate_initiator_at classes) (is_pdi_at classes) m false true (i ∷ stack) (pdis_apart classes m here) here (λ e. absurd (cc e)) h.isolates) h.waiting.1
 
   -- the kept characters from a on, which follow one another, begin a sequence
   pub IsPass-begin : (a n m p : ℕ) (ps : List ℕ) (out : List (List ℕ)) (stack : List ℕ) (waits : List (Option ℕ)) → IsPass a m out stack waits
@@ -157,7 +159,7 @@ module _ (classes : List BidiClass) (levels : List ℕ) where
       → successor classes levels (last_or 0 (get_or out s [])) ≡ Some m
   unfolding matching_pdi
   successor-waiting a m i s out stack waits h after fits here begins =
-      let matches = IsReadStack-match (is_initiator_at classes) (is_pdi_at classes) (initiators_apart classes) (length classes) m i stack h.isolates here fits in
+      let matches = IsReadStack-match (is_isolate_initiator_at classes) (is_pdi_at classes) (initiators_apart classes) (length classes) m i stack h.isolates here fits in
       grind (
         arith,
         matches,
@@ -185,7 +187,7 @@ module _ (classes : List BidiClass) (levels : List ℕ) where
       is_first-run classes levels m begins (λ j opens matches ends.
       grind (
         arith,
-        IsReadStack-matched (is_initiator_at classes) (is_pdi_at classes) (initiators_apart classes)
+        IsReadStack-matched (is_isolate_initiator_at classes) (is_pdi_at classes) (initiators_apart classes)
             (length classes) m j (i ∷ stack) h.isolates opens matches,
         ends,
         h.waiting.0,

@@ -1,13 +1,13 @@
 -- The level runs of a line's units are those of its characters, where each unit has its character's level.
 use Rattle.bidi_base.proofs.Common.{◌≡◌, ◌≢◌, ℕ, zero, suc, ◌+◌, ◌<◌, ◌≤◌, List, [], ◌∷◌, ◌++◌, map, replicate, length, get_or, refl, arith, eqb-true, eq-eqb, eqb-false, map-map, get_or-map}
-use Rattle.bidi_base.proofs.Common.{length-map, nil_from_length, sum_by-cons, All-tail, at_places, place, per_unit, visual_order, Run, level_runs_from, level_runs, run_level, visual_runs}
+use Rattle.bidi_base.proofs.Common.{length-map, nil_from_length, sum_by-cons, All-tail, at_indexes, unit_index, per_unit, visual_order, Run, level_runs_from, level_runs, run_level, visual_runs}
 use Rattle.bidi_base.proofs.Common.{IsLevelRun, All}
 use Rattle.std.proofs.Common.{add-zero}
 use Rattle.bidi_base.proofs.TextLemmas.{HasUnits}
-use Rattle.bidi_base.proofs.PerUnit.{get_or-per_unit-place}
+use Rattle.bidi_base.proofs.PerUnit.{get_or-per_unit-unit_index}
 use Rattle.bidi_lines.proofs.Ordered.{visual_order-is}
 use Rattle.bidi_lines.proofs.VisualRuns.{order_below}
-use Rattle.bidi_lines.proofs.Pieces.{at_places-map}
+use Rattle.bidi_lines.proofs.Pieces.{at_indexes-map}
 use Rattle.bidi_lines.proofs.RunsLemmas.{level_runs-each}
 
 -- units of the same level go on with the run
@@ -26,7 +26,7 @@ units_of P run = (P run.0, P run.1)
 
 -- P tells the places of the characters from f on
 Places : (ℕ → ℕ) → (ℕ → ℕ) → ℕ → List ℕ → Type 0
-Places P len_of f chars = (j : ℕ) → j ≤ length chars → P (f + j) ≡ P f + place len_of chars j
+Places P len_of f chars = (j : ℕ) → j ≤ length chars → P (f + j) ≡ P f + unit_index len_of chars j
 
 next_place : (P len_of : ℕ → ℕ) (f c : ℕ) (chars : List ℕ) → Places P len_of f (c ∷ chars) → P (f + 1) ≡ P f + len_of c
 unfolding Places
@@ -48,7 +48,7 @@ runs_of_units P len_of some (c ∷ chars) (k ∷ levels) e s f level h =
 
 -- the place of a character in a line that starts at the unit `from`
 abbrev pub place_from : ℕ → (ℕ → ℕ) → List ℕ → ℕ → ℕ
-place_from from len_of chars k = from + place len_of chars k
+place_from from len_of chars k = from + unit_index len_of chars k
 
 places : (from : ℕ) (len_of : ℕ → ℕ) (chars : List ℕ) → Places (place_from from len_of chars) len_of 0 chars
 unfolding Places
@@ -73,10 +73,10 @@ map-same_on f g (x ∷ xs) h = cc (h zero x (omega arith), map-same_on f g xs (A
 -- the level of a run of units is that of the run of characters
 pub run_level-units : (from : ℕ) (len_of : ℕ → ℕ) → HasUnits len_of → (chars levels : List ℕ) → length levels ≡ length chars
     → (run : Run) → IsLevelRun 0 levels run → run_level from (per_unit len_of chars levels) (units_of (place_from from len_of chars) run) ≡ run_level 0 levels run
-run_level-units from len_of some chars levels e run h = grind (arith, get_or-per_unit-place)
+run_level-units from len_of some chars levels e run h = grind (arith, get_or-per_unit-unit_index)
 
-pub at_places-moved : (f : Run → Run) (runs : List Run) (order : List ℕ) → All (λ k. k < length runs) order → at_places (0, 0) (map f runs) order ≡ map f (at_places (0, 0) runs order)
-at_places-moved f runs order h = grind (arith, at_places-map, map-same_on, get_or-map, map-map)
+pub at_indexes-moved : (f : Run → Run) (runs : List Run) (order : List ℕ) → All (λ k. k < length runs) order → at_indexes (0, 0) (map f runs) order ≡ map f (at_indexes (0, 0) runs order)
+at_indexes-moved f runs order h = grind (arith, at_indexes-map, map-same_on, get_or-map, map-map)
 
 -- the visual runs of the units
 pub visual_runs-units : (from : ℕ) (len_of : ℕ → ℕ) → HasUnits len_of → (chars levels : List ℕ) → length levels ≡ length chars
@@ -87,4 +87,4 @@ visual_runs-units from len_of some chars levels e =
     let below = order_below own (visual_order own) (length (level_runs 0 levels)) (length-map (level_runs 0 levels) (run_level 0 levels)) (visual_order-is own) in
     let same_levels = map-same_on (λ r. run_level from (per_unit len_of chars levels) (units_of (place_from from len_of chars) r)) (run_level 0 levels) (level_runs 0 levels)
     (λ k d fits. run_level-units from len_of some chars levels e (get_or (level_runs 0 levels) k d) (level_runs-each 0 levels k d fits)) in
-    simp (level_runs-units from len_of some chars levels e, map-map, same_levels, at_places-moved (units_of (place_from from len_of chars)) (level_runs 0 levels) (visual_order own) below)
+    simp (level_runs-units from len_of some chars levels e, map-map, same_levels, at_indexes-moved (units_of (place_from from len_of chars)) (level_runs 0 levels) (visual_order own) below)

@@ -1,10 +1,10 @@
 -- What a program's list of runs is: runs are ranges there.
 use Rattle.bidi_base.proofs.Common.{◌≡◌, ℕ, ◌+◌, ◌<◌, ◌≤◌, false, List, [], ◌∷◌, map, length, get_or, refl, sym, subst, le_refl, ◌∙◌, arith, rules, Range, get_or-map, length-map}
-use Rattle.bidi_base.proofs.Common.{length-range_with_len, IsPermutation-refl, has_rtl, indexes, at_places, visual_order, IsVisualOrder, Run, run_of, level_runs, run_level, visual_runs}
+use Rattle.bidi_base.proofs.Common.{length-range_with_len, IsPermutation-refl, has_rtl, indexes, at_indexes, visual_order, IsVisualOrder, Run, run_of, level_runs, run_level, visual_runs}
 use Rattle.bidi_base.proofs.Common.{AreVisualRuns, All, drop_all}
 use Rattle.bidi_lines.proofs.Ordered.{visual_order-still, none_odd}
 use Rattle.bidi_laws.proofs.VisualOrderLemmas.{visual_order-unique}
-use Rattle.bidi_lines.proofs.Pieces.{at_places-map}
+use Rattle.bidi_lines.proofs.Pieces.{at_indexes-map}
 use Rattle.bidi_lines.proofs.RunsLemmas.{Follow, level_runs-each, level_runs-follow, level_runs-more}
 use Rattle.bidi_lines.proofs.VisualRuns.{all-runs, visual_runs-are}
 
@@ -28,7 +28,7 @@ visual_runs-one start levels few =
       all_indexes = IsPermutation-refl (indexes of_runs);
       in_order = λ p q d before fits. absurd (omega (arith, length-range_with_len 0 (length of_runs)));
     } in
-    simp (← visual_order-unique of_runs (indexes of_runs) upwards, long, at_places-map (0, 0) (level_runs start levels), all-runs (level_runs start levels))
+    simp (← visual_order-unique of_runs (indexes of_runs) upwards, long, at_indexes-map (0, 0) (level_runs start levels), all-runs (level_runs start levels))
 
 -- which is the whole line
 one_is_whole : (a b : ℕ) (runs : List Run) → length runs ≡ 1 → Follow a b runs → runs ≡ (a, b) ∷ []
@@ -49,7 +49,7 @@ visual_runs-same start levels some same =
 
 -- and otherwise in the order of their levels
 pub visual_runs-found : (start : ℕ) (levels of_runs order : List ℕ) (runs : List Run) → runs ≡ level_runs start levels → of_runs ≡ map (run_level start levels) runs → order ≡ visual_order of_runs
-    → at_places (0, 0) runs order ≡ visual_runs start levels
+    → at_indexes (0, 0) runs order ≡ visual_runs start levels
 unfolding visual_runs
 visual_runs-found start levels of_runs order runs e f g = grind arith
 

@@ -1,28 +1,28 @@
 pub mod CharRuns
-pub mod DirectionLemmas
-pub mod Distinct
+mod DirectionLemmas
+mod Distinct
 pub mod FoundRuns
-pub mod Gathered
-pub mod Least
+mod Gathered
+mod Least
 pub mod LineInText
 pub mod LineLevels
-pub mod LineShown
-pub mod LineText
-pub mod LineUnits
-pub mod LineUtf8
+mod LineByLevels
+mod LineText
+mod LineUnits
+mod LineUtf8
 pub mod Ordered
 pub mod Pieces
-pub mod Reversed
+mod Reversed
 pub mod RunLengths
 pub mod RunText
 pub mod RunsLemmas
-pub mod ShownLines
-pub mod ShownUnits
+mod ShownLines
+pub mod VisualUnits
 pub mod StillLine
 pub mod StoredLine
-pub mod Stretches
+mod Stretches
 pub mod TextOfLine
-pub mod TurnedText
-pub mod Utf16Backwards
+mod ReversedUtf8
+mod Utf16Backwards
 pub mod VisualRuns
 pub mod WrittenRuns

@@ -22,7 +22,7 @@ module _ (level : ℕ) (classes : List BidiClass) (levels : List ℕ) (start end
   pub length-line : length (line_levels level (slice_range classes start end) (slice_range levels start end)) ≡ end - start
   length-line = grind (arith, length-line_levels, length-part)
 
-  -- the line between what stands before it and after it
+  -- the line between what is before it and after it
   cut : levels_with_line level classes levels start end ≡ take start levels ++ (line_levels level (slice_range classes start end) (slice_range levels start end) ++ drop end levels)
   unfolding levels_with_line
   cut = grind (arith, append_assoc)

@@ -4,7 +4,7 @@ use Rattle.bidi_base.proofs.Common.{◌∙◌, arith, inl, inr, drop-cons, get_o
 use Rattle.bidi_base.proofs.Common.{list_any_at, list_any_none, is_removed, is_odd, has_rtl, is_reset, line_levels_after, line_levels, class_at, length-set, is_separator, is_blank}
 use Rattle.bidi_base.specs.declared.char_data.BidiClass.{BidiClass}
 use Rattle.bidi_base.specs.declared.char_data.BidiClass.TheVariants.{L}
-use Rattle.bidi_lines.specs.Stops.{is_stop, is_break_at}
+use Rattle.bidi_lines.specs.ResetStops.{is_stop, is_break_at}
 
 -- ---- classes
 
@@ -163,15 +163,15 @@ module _ (level : ℕ) (classes : List BidiClass) (old new : List ℕ) (start be
       → IsSweptTo level classes old new start before i → IsSweptTo level classes old new start (level_before level new to) to
   IsSweptTo-plain order plain h = swept order (λ k a b. grind (arith, plain k a b)) (λ k a b. grind (arith, plain k a b, h.rest k a)) h
 
-  steady_level : (k : ℕ) → 0 < k → is_break_at classes new k ≡ false → get_or new k 0 ≡ get_or old k 0 → get_or new k 0 ≡ kept_level level classes old new k
-  steady_level zero some steady same = absurd (omega arith)
-  steady_level (suc k) some steady same = grind (arith, nat_tests)
+  no_break_level : (k : ℕ) → 0 < k → is_break_at classes new k ≡ false → get_or new k 0 ≡ get_or old k 0 → get_or new k 0 ≡ kept_level level classes old new k
+  no_break_level zero some no_break same = absurd (omega arith)
+  no_break_level (suc k) some no_break same = grind (arith, nat_tests)
 
   -- one of units that keep the level that they have, or that of the unit before
-  pub IsSweptTo-steady : 0 < i → i ≤ to → ((k : ℕ) → i ≤ k → k < to → is_break_at classes new k ≡ false)
+  pub IsSweptTo-no_break : 0 < i → i ≤ to → ((k : ℕ) → i ≤ k → k < to → is_break_at classes new k ≡ false)
       → IsSweptTo level classes old new start before i → IsSweptTo level classes old new start (level_before level new to) to
-  IsSweptTo-steady some order steady h =
-      swept order (λ k a b. let here = steady k a b in grind arith) (λ k a b. steady_level k (omega arith) (steady k a b) (h.rest k a)) h
+  IsSweptTo-no_break some order no_break h =
+      swept order (λ k a b. let here = no_break k a b in grind arith) (λ k a b. no_break_level k (omega arith) (no_break k a b) (h.rest k a)) h
 
 module _ (level : ℕ) (classes : List BidiClass) (old new : List ℕ) (start before i : ℕ) where
   -- a removed unit takes the level before it
@@ -242,13 +242,13 @@ module _ (level : ℕ) (classes : List BidiClass) (old new next : List ℕ) (sta
 
 -- ---- whether some level is odd
 
--- a character that is not removed shows an odd level: the one handed in, or its own
+-- a character that is not removed shows an odd level: the one passed, or its own
 abbrev pub shows_rtl : ℕ → List BidiClass → List ℕ → ℕ → Bool
 shows_rtl level classes levels k =
     if is_reset (drop k classes) then is_odd level else (not (is_removed (class_at classes k)) && is_odd (get_or levels k 0))
 
 module _ (level : ℕ) (classes : List BidiClass) (levels : List ℕ) (same : length levels ≡ length classes) where
-  -- one such character settles it
+  -- one such character decides it
   pub has_rtl-shown : (k : ℕ) → k < length classes → shows_rtl level classes levels k ≡ true → has_rtl (line_levels level classes levels) ≡ true
   has_rtl-shown k fits e = grind (arith, list_any_at is_odd (line_levels level classes levels) k 0, length-line_levels, line_levels-at level classes levels k)
 
@@ -265,7 +265,7 @@ module _ (level : ℕ) (classes : List BidiClass) (levels : List ℕ) (same : le
       even_at zero fits = simp (line_levels-at level classes levels zero fits same) (grind (arith, none zero fits, start fits))
       even_at (suc k) fits = simp (line_levels-at level classes levels (suc k) fits same) (grind (arith, none (suc k) fits, even_at k (omega arith)))
 
-  -- where neither the level handed in is odd nor a stored one
+  -- where neither the level passed is odd nor a stored one
   pub has_rtl-even : is_odd level ≡ false → has_rtl levels ≡ false → has_rtl (line_levels level classes levels) ≡ false
   has_rtl-even even stored = grind (arith, has_rtl-none, list_any_at)
 
@@ -277,14 +277,14 @@ module _ (level : ℕ) (classes : List BidiClass) (levels : List ℕ) (same : le
 -- ---- a pass from the line's end
 
 -- the units from `at` on are looked at: none shows an odd level
-pub record IsQuietFrom (level : ℕ) (classes : List BidiClass) (levels : List ℕ) (reset : Bool) (at : ℕ) : Type 0 where
+pub record ShowsNoRtlFrom (level : ℕ) (classes : List BidiClass) (levels : List ℕ) (reset : Bool) (at : ℕ) : Type 0 where
   pub within : at ≤ length classes
   pub reset_next : reset ≡ is_reset (drop at classes)
   pub none : (k : ℕ) → at ≤ k → k < length classes → shows_rtl level classes levels k ≡ false
 
 module _ (level : ℕ) (classes : List BidiClass) (levels : List ℕ) where
-  pub IsQuietFrom-start : IsQuietFrom level classes levels true (length classes)
-  IsQuietFrom-start = grind (arith, is_reset-end)
+  pub ShowsNoRtlFrom-start : ShowsNoRtlFrom level classes levels true (length classes)
+  ShowsNoRtlFrom-start = grind (arith, is_reset-end)
 
   -- what is read at a unit: whether it is reset, and whether it shows an odd level
   pub read-at : (at : ℕ) (next reset shows : Bool) (own : ℕ) → at < length classes → next ≡ is_reset (drop (at + 1) classes)
@@ -292,9 +292,9 @@ module _ (level : ℕ) (classes : List BidiClass) (levels : List ℕ) where
       → shows ≡ (if reset then is_odd level else (not (is_removed (class_at classes at)) && is_odd own)) → (reset ≡ is_reset (drop at classes)) × (shows ≡ shows_rtl level classes levels at)
   read-at at next reset shows own fits e f g h = grind (arith, common_steps)
 
-  pub IsQuietFrom-more : (at : ℕ) (next reset : Bool) → at < length classes → reset ≡ is_reset (drop at classes)
-      → shows_rtl level classes levels at ≡ false → IsQuietFrom level classes levels next (at + 1) → IsQuietFrom level classes levels reset at
-  IsQuietFrom-more at next reset fits e here h = record {
+  pub ShowsNoRtlFrom-more : (at : ℕ) (next reset : Bool) → at < length classes → reset ≡ is_reset (drop at classes)
+      → shows_rtl level classes levels at ≡ false → ShowsNoRtlFrom level classes levels next (at + 1) → ShowsNoRtlFrom level classes levels reset at
+  ShowsNoRtlFrom-more at next reset fits e here h = record {
     within = omega arith;
     reset_next = e;
     none = λ k from below. elim (cases_lt at k) [ inl past ↦ h.none k (omega arith) below | inr same ↦ let e : k ≡ at = omega arith in simp (e, here) ];

@@ -1,10 +1,10 @@
 -- L1 over the units of a line is L1 over its characters.
 use Rattle.bidi_base.proofs.Common.{◌≡◌, ℕ, zero, suc, ◌-◌, ◌≤◌, if◌then◌else◌, Bool, List, [], ◌∷◌, ◌++◌, length, take, drop, refl, ap₂, ◌∙◌, arith, append_assoc, length-drop, slice_range}
 use Rattle.bidi_base.proofs.Common.{list_any, or-false, drop-drop, take-append-drop, nil_from_length, list_any-append, is_removed, is_reset, line_levels_after, line_levels, levels_with_line}
-use Rattle.bidi_base.proofs.Common.{place, per_unit, char_index, IsLine, length-take-le, replicate}
+use Rattle.bidi_base.proofs.Common.{unit_index, per_unit, char_index, IsLine, length-take-le, replicate}
 use Rattle.bidi_base.specs.declared.char_data.BidiClass.{BidiClass}
 use Rattle.bidi_base.proofs.TextLemmas.{HasUnits}
-use Rattle.bidi_base.proofs.PlaceLemmas.{place-sum, line_places, IsLineAt}
+use Rattle.bidi_base.proofs.UnitIndexLemmas.{unit_index-sum, line_unit_indexes, IsLineAt}
 use Rattle.bidi_base.proofs.PerUnit.{take-per_unit, drop-per_unit, per_unit-append}
 use Rattle.bidi_lines.proofs.LineInText.{length-part}
 use Rattle.bidi_lines.proofs.LineLevels.{length-line_levels}
@@ -58,11 +58,11 @@ module _ (len_of : ℕ → ℕ) (h : HasUnits len_of) where
 
 -- the units of the characters i up to j
 pub slice_range-per_unit : {X : Type 0} (len_of : ℕ → ℕ) (chars : List ℕ) (values : List X) (i j : ℕ) → i ≤ j → j ≤ length chars → length values ≡ length chars
-    → slice_range (per_unit len_of chars values) (place len_of chars i) (place len_of chars j) ≡ per_unit len_of (slice_range chars i j) (slice_range values i j)
+    → slice_range (per_unit len_of chars values) (unit_index len_of chars i) (unit_index len_of chars j) ≡ per_unit len_of (slice_range chars i j) (slice_range values i j)
 slice_range-per_unit len_of chars values i j order within long =
     grind (
       arith,
-      place-sum len_of chars i j,
+      unit_index-sum len_of chars i j,
       drop-per_unit len_of chars values i,
       take-per_unit len_of (drop i chars) (drop i values) (j - i),
       length-drop,
@@ -80,20 +80,20 @@ list_any-per_unit test len_of h [] values e = simp (nil_from_length values (omeg
 list_any-per_unit test len_of h (c ∷ chars) [] e = absurd (omega arith)
 list_any-per_unit test len_of h (c ∷ chars) (v ∷ values) e = grind (arith, list_any-append, list_any-units test v, list_any-per_unit test len_of h chars values)
 
--- the levels of the whole text, one a unit, are those of its characters
+-- the levels of the whole text, one for each code unit, are those of its characters
 pub levels_with_line-per_unit : (len_of : ℕ → ℕ) → HasUnits len_of → (level : ℕ) (chars : List ℕ) (classes : List BidiClass) (levels : List ℕ) (start end : ℕ)
     → length classes ≡ length chars → length levels ≡ length chars → IsLine len_of chars start end
     → levels_with_line level (per_unit len_of chars classes) (per_unit len_of chars levels) start end
     ≡ per_unit len_of chars (levels_with_line level classes levels (char_index len_of chars start) (char_index len_of chars end))
 unfolding levels_with_line
 levels_with_line-per_unit len_of h level chars classes levels start end e f line =
-    let w : IsLineAt len_of chars start end (char_index len_of chars start) (char_index len_of chars end) = line_places len_of h chars start end line in
+    let w : IsLineAt len_of chars start end (char_index len_of chars start) (char_index len_of chars end) = line_unit_indexes len_of h chars start end line in
     ap₂ (levels_with_line level (per_unit len_of chars classes) (per_unit len_of chars levels)) w.begins w.ends
-    ∙ at_places (char_index len_of chars start) (char_index len_of chars end) w.ordered w.within
+    ∙ at_indexes (char_index len_of chars start) (char_index len_of chars end) w.ordered w.within
   where
-    at_places : (i j : ℕ) → i ≤ j → j ≤ length chars
-        → levels_with_line level (per_unit len_of chars classes) (per_unit len_of chars levels) (place len_of chars i) (place len_of chars j) ≡ per_unit len_of chars (levels_with_line level classes levels i j)
-    at_places i j order within =
+    at_indexes : (i j : ℕ) → i ≤ j → j ≤ length chars
+        → levels_with_line level (per_unit len_of chars classes) (per_unit len_of chars levels) (unit_index len_of chars i) (unit_index len_of chars j) ≡ per_unit len_of chars (levels_with_line level classes levels i j)
+    at_indexes i j order within =
         let three : take i chars ++ (slice_range chars i j ++ drop j chars) ≡ chars = grind (
           arith,
           take-append-drop i chars,

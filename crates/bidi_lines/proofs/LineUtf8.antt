@@ -3,8 +3,8 @@ use Rattle.bidi_base.proofs.Common.{ℕ, List, [], ◌∷◌, flat_map, arith, i
 use Rattle.bidi_base.proofs.Common.{visual_runs, levels_of_line, slice_range, All, len_utf8, scalars-chars, IsUtf8-nil, IsUtf8-append, IsUtf8-between}
 use Rattle.bidi_base.specs.declared.char_data.BidiClass.{BidiClass}
 use Rattle.bidi_text.proofs.StrLemmas.{has_units, IsCharBoundary-from_is_boundary, subrange-from_str}
-use Rattle.bidi_lines.specs.Written.{run_units, shown_units, line_units, AreRunsOfChars}
-use Rattle.bidi_lines.proofs.TurnedText.{backwards-utf8}
+use Rattle.bidi_lines.specs.LineUnits.{run_units, visual_units, line_units, AreRunsOfChars}
+use Rattle.bidi_lines.proofs.ReversedUtf8.{backwards-utf8}
 use Rattle.bidi_lines.proofs.TextOfLine.{visual_runs_at_boundaries}
 
 IsUtf8-flat_map : {X : Type 0} (f : X → List ℕ) (xs : List X) → All (λ x. IsUtf8 (f x)) xs → IsUtf8 (flat_map f xs)
@@ -22,7 +22,7 @@ module _ (text : List ℕ) (u : IsUtf8 text) where
       ]
 
   -- a line whose runs cut no character
-  pub shown_utf8 : (start : ℕ) (levels : List ℕ) → AreRunsOfChars len_utf8 (chars text) start levels → IsUtf8 (shown_units len_utf8 encode_utf8 (chars text) text start levels)
+  pub shown_utf8 : (start : ℕ) (levels : List ℕ) → AreRunsOfChars len_utf8 (chars text) start levels → IsUtf8 (visual_units len_utf8 encode_utf8 (chars text) text start levels)
   shown_utf8 start levels of_chars =
       IsUtf8-flat_map (run_units len_utf8 encode_utf8 (chars text) text start levels) (visual_runs start levels) (λ k d fits. run_utf8 start levels _ (of_chars k d fits))
 

@@ -4,7 +4,7 @@ use Rattle.bidi_base.proofs.Common.{length-range_with_len, get_or-range_with_len
 use Rattle.bidi_base.proofs.Common.{has_rtl, indexes, stands_left, visual_order, IsVisualOrder, order_by_reversals}
 use Rattle.bidi_laws.proofs.OrderLemmas.{stands_left-before, stands_left-after}
 use Rattle.bidi_laws.proofs.VisualOrderLemmas.{visual_order-unique}
-use Rattle.bidi_lines.specs.Arranged.{IsEven, StandsLeft, IsArranged, NoneIsOdd}
+use Rattle.bidi_lines.specs.ArrangedItems.{IsEven, StandsLeft, IsArranged, NoneIsOdd}
 use Rattle.bidi_lines.proofs.Distinct.{distinct}
 use Rattle.bidi_lines.proofs.Least.{least_between-has}
 use Rattle.bidi_lines.proofs.Reversed.{order_by_reversals-pairs, order_by_reversals-permutation}

@@ -2,7 +2,7 @@
 use Rattle.bidi_base.proofs.Common.{◌≡◌, ℕ, zero, suc, ◌+◌, ◌-◌, ◌<◌, ◌≤◌, List, [], ◌∷◌, ◌++◌, map, flat_map, reverse, length, get_or, set, AllPairs, refl, arith, append_assoc, suc-add}
 use Rattle.bidi_base.proofs.Common.{range_with_len, IsPermutation, common_steps, get_or-map, get_or-reverse, length-reverse, All-append, All-head, All-tail, length-range_with_len}
 use Rattle.bidi_base.proofs.Common.{get_or-range_with_len, IsPermutation-refl, IsPermutation-sym, IsPermutation-trans, IsPermutation-append_left, IsPermutation-append_right}
-use Rattle.bidi_base.proofs.Common.{IsPermutation-append_comm, between, at_places, All}
+use Rattle.bidi_base.proofs.Common.{IsPermutation-append_comm, between, at_indexes, All}
 use Rattle.std.proofs.Common.{swap}
 use Rattle.std.proofs.Math.Nat.{zero-add}
 use Rattle.std.proofs.lemmas.List.Sorted.{IsPermutation-keeps, IsPermutation-append}
@@ -58,9 +58,9 @@ pub between-append : (a b c : ℕ) → a ≤ b → b ≤ c → between a b ++ be
 between-append a b c h k = grind (arith, range-append)
 
 -- the elements at places
-pub at_places-map : {X : Type 0} (d : X) (xs : List X) (ps : List ℕ) → at_places d xs ps ≡ map (λ p. get_or xs p d) ps
-at_places-map d xs [] = refl
-at_places-map d xs (p ∷ ps) = simp (at_places-map d xs ps)
+pub at_indexes-map : {X : Type 0} (d : X) (xs : List X) (ps : List ℕ) → at_indexes d xs ps ≡ map (λ p. get_or xs p d) ps
+at_indexes-map d xs [] = refl
+at_indexes-map d xs (p ∷ ps) = simp (at_indexes-map d xs ps)
 
 -- ---- permutations
 

@@ -7,7 +7,7 @@ use Rattle.std.proofs.Math.Nat.{add-suc}
 use Rattle.bidi_base.specs.Order.{reversed_after, reversals, highest, lowest_odd}
 use Rattle.bidi_laws.proofs.OrderLemmas.{le-least, least_between-le}
 use Rattle.bidi_laws.proofs.VisualOrderLemmas.{contains_index, all_below}
-use Rattle.bidi_lines.specs.Arranged.{IsEven, IsOdd, StandsLeft}
+use Rattle.bidi_lines.specs.ArrangedItems.{IsEven, IsOdd, StandsLeft}
 use Rattle.bidi_lines.proofs.Least.{least_between-at, least_between-has, least-has}
 use Rattle.bidi_lines.proofs.Pieces.{AllPairs-head, AllPairs-tail, AllPairs-append}
 

@@ -1,16 +1,16 @@
 -- The reordered text of a line is that of its runs, from left to right.
 use Rattle.bidi_base.proofs.Common.{◌≡◌, ℕ, zero, suc, ◌+◌, ◌-◌, ◌<◌, ◌≤◌, List, [], ◌∷◌, ◌++◌, map, flat_map, length, get_or, drop, refl, sym, arith, inl, inr, zero-add, le_refl, range_with_len}
 use Rattle.bidi_base.proofs.Common.{cases_Bool, get_or-map, length-map, drop-drop, flat_map-map, All-tail, All-permutation, IsPermutation-reverse, flat_map-append, same_number_lists, is_odd}
-use Rattle.bidi_base.proofs.Common.{between, place, text_len, per_unit, Run, run_level, visual_runs, written_run, written_runs, reordered_text, IsLevelRun, slice_range, All, map-id, take_all}
+use Rattle.bidi_base.proofs.Common.{between, unit_index, text_len, per_unit, Run, run_level, visual_runs, written_run, written_runs, reordered_text, IsLevelRun, slice_range, All, map-id, take_all}
 use Rattle.bidi_base.proofs.Common.{run_text, take-add, sub-zero}
 use Rattle.std.proofs.Common.{add-zero}
 use Rattle.bidi_base.specs.Display.{written_char, char_units}
 use Rattle.bidi_laws.proofs.OrderLemmas.{get_or-slice_range, length-slice_range}
 use Rattle.bidi_base.proofs.TextLemmas.{HasUnits}
-use Rattle.bidi_base.proofs.PlaceLemmas.{place-zero, place-more, place-mono, char_index-place}
+use Rattle.bidi_base.proofs.UnitIndexLemmas.{unit_index-zero, unit_index-more, unit_index-mono, char_index-unit_index}
 use Rattle.bidi_base.proofs.Lists.{map-reverse}
 use Rattle.bidi_lines.proofs.Pieces.{All-between, length-between, get_or-between}
-use Rattle.bidi_lines.specs.Arranged.{NoneIsOdd}
+use Rattle.bidi_lines.specs.ArrangedItems.{NoneIsOdd}
 use Rattle.bidi_lines.proofs.Ordered.{visual_order-still}
 use Rattle.bidi_lines.proofs.VisualRuns.{visual_runs-are}
 use Rattle.std.proofs.Math.Nat.{sub_self}
@@ -29,9 +29,9 @@ slice_range-append xs i j k a b = grind (arith, drop-drop, take-add (j - i) (k -
 
 -- the units of characters that follow one another
 units-joined : (len_of : ℕ → ℕ) (chars units : List ℕ) (a n : ℕ) → a + n ≤ length chars
-    → flat_map (char_units len_of chars units) (range_with_len a n) ≡ slice_range units (place len_of chars a) (place len_of chars (a + n))
+    → flat_map (char_units len_of chars units) (range_with_len a n) ≡ slice_range units (unit_index len_of chars a) (unit_index len_of chars (a + n))
 units-joined len_of chars units a zero fits = simp (add-zero, sub_self)
-units-joined len_of chars units a (suc n) fits = grind (arith, place-more, place-mono, slice_range-append, units-joined len_of chars units (a + 1) n)
+units-joined len_of chars units a (suc n) fits = grind (arith, unit_index-more, unit_index-mono, slice_range-append, units-joined len_of chars units (a + 1) n)
 
 -- the characters at consecutive indexes
 chars-joined : (chars : List ℕ) (a b : ℕ) → b ≤ length chars → map (λ k. get_or chars k 0) (between a b) ≡ slice_range chars a b
@@ -44,8 +44,8 @@ one_run : (len_of : ℕ → ℕ) → HasUnits len_of → (encode : ℕ → List 
     ≡ flat_map (written_char len_of encode chars units levels) (written_run 0 levels run)
 one_run len_of some encode chars units levels e from run h =
     let fits : run.1 ≤ length chars = omega (arith, h.ends_within) in
-    let begins : place_from from len_of chars run.0 - from ≡ place len_of chars run.0 = omega arith in
-    let ends : place_from from len_of chars run.1 - from ≡ place len_of chars run.1 = omega arith in
+    let begins : place_from from len_of chars run.0 - from ≡ unit_index len_of chars run.0 = omega arith in
+    let ends : place_from from len_of chars run.1 - from ≡ unit_index len_of chars run.1 = omega arith in
     let level = simp begins at (run_level-units from len_of some chars levels e run h) in
     let unit : (u : ℕ) → run.0 ≤ u → u < run.1 → get_or levels u 0 ≡ run_level 0 levels run = λ u a b. simp sub-zero (simp sub-zero at (h.equal u a b)) in
     elim (cases_Bool (is_odd (run_level 0 levels run))) [
@@ -55,8 +55,8 @@ one_run len_of some encode chars units levels e from run h =
             odd,
             begins,
             ends,
-            char_index-place len_of chars some run.0 (omega arith),
-            char_index-place len_of chars some run.1 (omega arith),
+            char_index-unit_index len_of chars some run.0 (omega arith),
+            char_index-unit_index len_of chars some run.1 (omega arith),
             ← chars-joined chars run.0 run.1 fits,
             ← map-reverse,
             flat_map-map,
@@ -90,4 +90,4 @@ reordered_text-still len_of encode chars units levels e long even =
     let each = simp sub-zero at (All-between (λ k. written_char len_of encode chars units levels k ≡ char_units len_of chars units k) 0 (length levels)
     (λ u a b. grind (arith, even u b))) in
     let own = flat_map-same_on (written_char len_of encode chars units levels) (char_units len_of chars units) (range_with_len 0 (length levels)) each in
-    simp (visual_order-still levels even, own, units-joined len_of chars units 0 (length levels) (omega arith), all, place-zero, sub-zero, take_all, le_refl, ← long)
+    simp (visual_order-still levels even, own, units-joined len_of chars units 0 (length levels) (omega arith), all, unit_index-zero, sub-zero, take_all, le_refl, ← long)

@@ -5,11 +5,11 @@ use Rattle.bidi_base.proofs.Common.{drop-append_seam, AreRunsOfLine, IsTextOfLin
 use Rattle.bidi_base.proofs.TextLemmas.{HasUnits}
 use Rattle.bidi_lines.specs.declared.shown_line.ShownLine.{ShownLine}
 use Rattle.bidi_lines.specs.ShownLine.{text_of, levels, runs, Shows, AppendsTextOfLine}
-use Rattle.bidi_lines.specs.Written.{shown_units}
-use Rattle.bidi_lines.specs.ShownLevels.{levels as kept_levels}
-use Rattle.bidi_lines.proofs.StillLine.{shown_units-still}
+use Rattle.bidi_lines.specs.LineUnits.{visual_units}
+use Rattle.bidi_lines.specs.LineLevels.{levels as levels_in}
+use Rattle.bidi_lines.proofs.StillLine.{visual_units-still}
 use Rattle.bidi_lines.proofs.StoredLine.{per_char-shown}
-use Rattle.bidi_lines.proofs.LineShown.{shown-runs, shown-stays, shown-text}
+use Rattle.bidi_lines.proofs.LineByLevels.{shown-runs, shown-stays, shown-text}
 
 -- what holds where a call went well follows from what it gives
 pub on_ok : {A E P Q : Type 0} (result : Result A E) → (P → Q) → OnOk result P → OnOk result Q
@@ -37,12 +37,12 @@ same_chars len len' chars chars' start start' end end' shown of_chars e f g h is
 
 -- a line that stays in order is its units
 pub still_shown : {T C I L : Type 0} {t : _} {c : _} {i : _} {l : _} (s : ShownLine T C I L t c i l) {X : Type 0} (encode : ℕ → List X) (units : List X) → s.has_rtl ≡ false
-    → shown_units t.units encode (t.characters (text_of s)) units s.start (levels s) ≡ slice_range units s.start s.end
+    → visual_units t.encoding.len_of encode (t.text (text_of s)).chars units s.start (levels s) ≡ slice_range units s.start s.end
 still_shown {t = t} s encode units even =
-    let end : s.start + length (levels s) ≡ s.end = omega (arith, s.is_line.ordered, s.one_a_unit, length-take-le (s.end - s.start) (kept_levels s.levels) s.one_a_unit) in
-    shown_units-still s.start (levels s) (sym s.of_levels ∙ even) t.units encode (t.characters (text_of s)) units ∙ ap (slice_range units s.start) end
+    let end : s.start + length (levels s) ≡ s.end = omega (arith, s.is_line.ordered, s.one_a_unit, length-take-le (s.end - s.start) (levels_in s.levels) s.one_a_unit) in
+    visual_units-still s.start (levels s) (sym s.of_levels ∙ even) t.encoding.len_of encode (t.text (text_of s)).chars units ∙ ap (slice_range units s.start) end
 
-module _ {T C I L : Type 0} {t : _} {c : _} {i : _} {l : _} (s : ShownLine T C I L t c i l) (some : HasUnits t.units)
+module _ {T C I L : Type 0} {t : _} {c : _} {i : _} {l : _} (s : ShownLine T C I L t c i l) (some : HasUnits t.encoding.len_of)
     (a : AnalysedText) (level : ℕ) (line : Range ℕ) (shows : Shows s a level line) where
   pub some_of : HasUnits a.len_of
   some_of = subst HasUnits (sym shows.len_of) some
@@ -58,13 +58,13 @@ module _ {T C I L : Type 0} {t : _} {c : _} {i : _} {l : _} (s : ShownLine T C I
   pub stays_of_shown : IsTrue (not s.has_rtl) ↔ StaysInOrder a level line
   stays_of_shown = shown-stays a some_of level line is_line_of (levels s) shows.levels s.has_rtl s.of_levels
 
-  -- its levels, one a character
-  pub chars_of_shown : per_char 0 t.units (subrange t.units (t.characters (text_of s)) s.start s.end) (levels s) ≡ line_levels_per_char a level line
+  -- its levels, one for each character
+  pub chars_of_shown : per_char 0 t.encoding.len_of (subrange t.encoding.len_of (t.text (text_of s)).chars s.start s.end) (levels s) ≡ line_levels_per_char a level line
   chars_of_shown = same_chars _ _ _ _ _ _ _ _ _ _ shows.len_of shows.chars shows.start shows.end (per_char-shown a some_of level line is_line_of (levels s) shows.levels)
 
-  -- what is behind a list to which the units of the line were appended
-  pub appends_shown : (encode : ℕ → List ℕ) (units old new : List ℕ) → length units ≡ text_len t.units (t.characters (text_of s))
-      → new ≡ old ++ shown_units t.units encode (t.characters (text_of s)) units s.start (levels s)
+  -- what is after a list to which the units of the line were appended
+  pub appends_shown : (encode : ℕ → List ℕ) (units old new : List ℕ) → length units ≡ text_len t.encoding.len_of (t.text (text_of s)).chars
+      → new ≡ old ++ visual_units t.encoding.len_of encode (t.text (text_of s)).chars units s.start (levels s)
       → AppendsTextOfLine encode units a level line old new
   appends_shown encode units old new same e =
       let text = shown-text a some_of level line is_line_of (levels s) shows.levels encode units (rw (shows.len_of, shows.chars) same) in

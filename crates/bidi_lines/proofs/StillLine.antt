@@ -5,7 +5,7 @@ use Rattle.bidi_lines.proofs.Ordered.{none_odd}
 use Rattle.bidi_lines.proofs.RunsLemmas.{Follow, level_runs-follow, level_runs-each}
 use Rattle.bidi_lines.proofs.FoundRuns.{visual_runs-still}
 use Rattle.bidi_lines.proofs.RunText.{flat_map-same_on}
-use Rattle.bidi_lines.specs.Written.{run_units, shown_units}
+use Rattle.bidi_lines.specs.LineUnits.{run_units, visual_units}
 
 -- two parts of a list that follow one another
 pub slice_range-joined : {X : Type 0} (units : List X) (a b c : ℕ) → a ≤ b → b ≤ c → slice_range units a b ++ slice_range units b c ≡ slice_range units a c
@@ -41,9 +41,9 @@ module _ (start : ℕ) (shown : List ℕ) (even : has_rtl shown ≡ false) where
       even_at : (k d : ℕ) → k < length (level_runs start shown) → is_odd (get_or (map (run_level start shown) (level_runs start shown)) k d) ≡ false
       even_at k d fits = simp (get_or-map (run_level start shown) (level_runs start shown) k (0, 0) d fits, run_even k (0, 0) fits)
 
-  pub shown_units-still : {X : Type 0} (len_of : ℕ → ℕ) (encode : ℕ → List X) (chars : List ℕ) (units : List X)
-      → shown_units len_of encode chars units start shown ≡ slice_range units start (start + length shown)
-  shown_units-still len_of encode chars units =
+  pub visual_units-still : {X : Type 0} (len_of : ℕ → ℕ) (encode : ℕ → List X) (chars : List ℕ) (units : List X)
+      → visual_units len_of encode chars units start shown ≡ slice_range units start (start + length shown)
+  visual_units-still len_of encode chars units =
       simp (
         ← visual_runs-still start shown levels_even,
         flat_map-same_on (run_units len_of encode chars units start shown) (λ (r : Run). slice_range units r.0 r.1) (level_runs start shown) (λ k d fits. simp (run_even k d fits)),

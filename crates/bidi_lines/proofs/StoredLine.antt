@@ -1,15 +1,15 @@
 -- A line of a text whose stored classes and levels pass the test `is_per_char`, as those of the info types do.
 use Rattle.bidi_base.proofs.Common.{◌≡◌, ℕ, ◌≤◌, List, length, refl, ◌∙◌, arith, IsTrue, slice_range, Range, AnalysedText, line_levels_per_char, has_rtl, levels_of_line, levels_with_line}
 use Rattle.bidi_base.proofs.Common.{char_levels_of_line, char_levels_with_line, text_len, subrange, per_char, is_per_char, IsLine, IsPerChar, AreLevelsOfLine, IsTextOfLine, StaysInOrder}
-use Rattle.bidi_base.specs.Analysed.{AreLevelsWithLine, levels_with_line_per_char}
+use Rattle.bidi_base.specs.AnalysedText.{AreLevelsWithLine, levels_with_line_per_char}
 use Rattle.bidi_base.specs.declared.char_data.BidiClass.{BidiClass}
 use Rattle.bidi_base.proofs.PerUnit.{length-per_char, per_char-per_unit}
-use Rattle.bidi_base.proofs.PlaceLemmas.{line_places, text_len-subrange}
+use Rattle.bidi_base.proofs.UnitIndexLemmas.{line_unit_indexes, text_len-subrange}
 use Rattle.bidi_text.proofs.PerCharTests.{class_eq, class_test, level_eq, level_test}
 use Rattle.bidi_base.proofs.TextLemmas.{HasUnits}
 use Rattle.bidi_base.proofs.UnitsLemmas.{IsPerChar-from_is_per_char, length-from_IsPerChar}
 use Rattle.bidi_lines.proofs.LineInText.{length-part, length-line}
-use Rattle.bidi_lines.specs.Written.{line_units}
+use Rattle.bidi_lines.specs.LineUnits.{line_units}
 use Rattle.bidi_lines.proofs.TextOfLine as line_of
 
 module _ (len_of : ℕ → ℕ) (some : HasUnits len_of) (chars : List ℕ) where
@@ -42,7 +42,7 @@ module _ (len_of : ℕ → ℕ) (some : HasUnits len_of) (chars : List ℕ) wher
         → shown ≡ levels_with_line_per_char (record { len_of = len_of; chars = chars; classes = classes; levels = levels }) level line
     of_chars shown e = grind (arith, line_of.per_char-levels_with_line, classes_IsPerChar, levels_IsPerChar)
 
-    -- L1 on the units, read one a character, is L1 on the characters
+    -- L1 on the code units, read by characters, is L1 on the characters
     pub of_chars-units : (shown : List ℕ) → shown ≡ levels_with_line level classes levels line.start line.end
         → per_char 0 len_of chars shown ≡ char_levels_with_line len_of chars level classes levels line.start line.end
     of_chars-units shown e = grind (arith, line_of.per_char-levels_with_line, classes_IsPerChar, levels_IsPerChar)
@@ -75,14 +75,14 @@ module _ (len_of : ℕ → ℕ) (some : HasUnits len_of) (chars : List ℕ) wher
 
 module _ (a : AnalysedText) (some : HasUnits a.len_of) (level : ℕ) (line : Range ℕ) (is_line : IsLine a.len_of a.chars line.start line.end) where
   length-line_levels_per_char : length (line_levels_per_char a level line) ≡ length (subrange a.len_of a.chars line.start line.end)
-  length-line_levels_per_char = grind (arith, line_places, length-line, length-per_char, length-part)
+  length-line_levels_per_char = grind (arith, line_unit_indexes, length-line, length-per_char, length-part)
 
   module _ (shown : List ℕ) (levels : AreLevelsOfLine a level line shown) where
-    -- one level a unit of the line's text
+    -- one level for each code unit of the line's text
     pub length-shown : length shown ≡ text_len a.len_of (subrange a.len_of a.chars line.start line.end)
     length-shown = omega (arith, levels.one_a_unit, text_len-subrange a.len_of some a.chars line.start line.end is_line)
 
-    -- read one a character
+    -- read by characters
     pub per_char-shown : per_char 0 a.len_of (subrange a.len_of a.chars line.start line.end) shown ≡ line_levels_per_char a level line
     per_char-shown =
         rw levels.characters (per_char-per_unit a.len_of some 0 (subrange a.len_of a.chars line.start line.end) (line_levels_per_char a level line) length-line_levels_per_char)

@@ -1,11 +1,12 @@
--- A line of a text whose classes and levels are one a unit, equal within each character: its levels, its runs and its text are those of its characters.
+-- A line of a text with one class and one level for each code unit, equal within each character: its levels, its
+-- runs and its text are those of its characters.
 use Rattle.bidi_base.proofs.Common.{◌≡◌, ℕ, ◌+◌, ◌-◌, ◌<◌, ◌≤◌, List, [], length, get_or, map, flat_map, sym, ap, ◌∙◌, arith, false, slice_range, Range, get_or-map, length-map, Run, run_of}
 use Rattle.bidi_base.proofs.Common.{run_text_in, visual_runs, reordered_text, line_text, IsLevelRun, AreVisualRuns, is_odd, has_rtl, line_levels, line_levels_after, levels_of_line}
 use Rattle.bidi_base.proofs.Common.{levels_with_line, visual_order, text_len, char_index, subrange, per_unit, per_char, IsLine, IsPerChar, char_levels_of_line, char_levels_with_line, All}
 use Rattle.bidi_base.specs.declared.char_data.BidiClass.{BidiClass}
 use Rattle.bidi_base.specs.declared.char_data.BidiClass.TheVariants.{L}
 use Rattle.bidi_base.proofs.TextLemmas.{HasUnits}
-use Rattle.bidi_base.proofs.PlaceLemmas.{place-le, place-end, place-slice_range, line_places, text_len-subrange, IsLineAt, IsLine-places}
+use Rattle.bidi_base.proofs.UnitIndexLemmas.{unit_index-le, unit_index-end, unit_index-slice_range, line_unit_indexes, text_len-subrange, IsLineAt, IsLine-unit_indexes}
 use Rattle.bidi_base.proofs.PerUnit.{length-per_char, per_char-per_unit}
 use Rattle.bidi_base.proofs.UnitsLemmas.{per_unit-from_IsPerChar, length-from_IsPerChar}
 use Rattle.bidi_lines.proofs.CharRuns.{units_of, place_from, visual_runs-units}
@@ -27,17 +28,17 @@ pub runs_begin : (start : ℕ) (levels : List ℕ) (ranges : List (Range ℕ)) �
     → All (λ r. (start ≤ r.start) × (r.start < start + length levels)) ranges
 runs_begin start levels ranges h k d fits = grind (arith, get_or-map run_of ranges k d (0, 0), length-map, h.are_runs k (0, 0))
 
--- the text of `len_of` and `chars`, and one class and one level a unit
+-- the text of `len_of` and `chars`, and one class and one level for each code unit
 module _ (len_of : ℕ → ℕ) (h : HasUnits len_of) (chars : List ℕ) (level : ℕ) (classes : List BidiClass) (levels : List ℕ) (start end : ℕ)
     (of_classes : IsPerChar len_of chars classes) (of_levels : IsPerChar len_of chars levels) (line : IsLine len_of chars start end) where
   ends : IsLineAt len_of chars start end (char_index len_of chars start) (char_index len_of chars end)
-  ends = line_places len_of h chars start end line
+  ends = line_unit_indexes len_of h chars start end line
 
   pub line-same_len : length levels ≡ length classes
   line-same_len = length-from_IsPerChar len_of chars levels of_levels ∙ sym (length-from_IsPerChar len_of chars classes of_classes)
 
   pub line-within : end ≤ length levels
-  line-within = grind (arith, ends, place-le, length-from_IsPerChar)
+  line-within = grind (arith, ends, unit_index-le, length-from_IsPerChar)
 
   pub length-levels_of_line : length (levels_of_line level classes levels start end) ≡ end - start
   length-levels_of_line = length-line level classes levels start end line-same_len line.ordered line-within
@@ -86,8 +87,8 @@ module _ (len_of : ℕ → ℕ) (h : HasUnits len_of) (chars : List ℕ) (level 
       let here : IsLevelRun 0 of_chars r = (visual_runs-are 0 of_chars).are_runs k (0, 0) inside in
       let there : get_or (visual_runs start (levels_of_line level classes levels start end)) k d ≡ units_of P r =
       ap (λ runs. get_or runs k d) same ∙ get_or-map (units_of P) (visual_runs 0 of_chars) k (0, 0) d inside in
-      let at = λ (n : ℕ). place-slice_range len_of chars (char_index len_of chars start) (char_index len_of chars end) n in
-      let line = IsLine-places len_of chars (char_index len_of chars start + r.0) (char_index len_of chars start + r.1) (omega (arith, here.not_empty)) in
+      let at = λ (n : ℕ). unit_index-slice_range len_of chars (char_index len_of chars start) (char_index len_of chars end) n in
+      let line = IsLine-unit_indexes len_of chars (char_index len_of chars start + r.0) (char_index len_of chars start + r.1) (omega (arith, here.not_empty)) in
       grind (arith, there, at r.0, at r.1, here, length-of_chars, ends, line)
 
   -- the runs, written one after the other, are the text of the line
@@ -95,7 +96,7 @@ module _ (len_of : ℕ → ℕ) (h : HasUnits len_of) (chars : List ℕ) (level 
       → flat_map (run_text_in len_of encode chars units start (levels_of_line level classes levels start end)) runs
       ≡ line_text len_of encode chars units level (per_char L len_of chars classes) (per_char 0 len_of chars levels) start end
   unfolding line_text
-  flat_map-runs encode units runs long e = grind (arith, levels_of_line-per_unit, ends, reordered_text-line, place-end, length-of_chars)
+  flat_map-runs encode units runs long e = grind (arith, levels_of_line-per_unit, ends, reordered_text-line, unit_index-end, length-of_chars)
 
   -- where no level is odd the text stays as it is
   pub line_text-still : (encode : ℕ → List ℕ) (units : List ℕ) → length units ≡ text_len len_of chars → has_rtl (levels_of_line level classes levels start end) ≡ false

@@ -2,14 +2,14 @@
 use Rattle.bidi_base.proofs.Common.{◌≡◌, ℕ, zero, suc, ◌+◌, ◌-◌, ◌<◌, ◌≤◌, max, true, List, [], ◌∷◌, map, flat_map, length, get_or, AllPairs, refl, ap, subst, arith, inl, inr, range_with_len}
 use Rattle.bidi_base.proofs.Common.{IsPermutation, cases_lt, cases_order, both_ways, cases_Bool, get_or-map, length-map, same_lists, get_or_default, flat_map-map, length-range_with_len}
 use Rattle.bidi_base.proofs.Common.{get_or-range_with_len, length-map-range_with_len, get_or-map-range_with_len, All-tail, All-map, All-permutation, IsPermutation-refl, IsPermutation-sym}
-use Rattle.bidi_base.proofs.Common.{IsPermutation-trans, IsPermutation-reverse, is_odd, between, indexes, at_places, least_between, stands_left, visual_order, IsVisualOrder, Run, level_runs}
+use Rattle.bidi_base.proofs.Common.{IsPermutation-trans, IsPermutation-reverse, is_odd, between, indexes, at_indexes, least_between, stands_left, visual_order, IsVisualOrder, Run, level_runs}
 use Rattle.bidi_base.proofs.Common.{run_level, visual_runs, written_run, written_runs, IsLevelRun, AreVisualRuns, All, IsPermutation-map}
 use Rattle.bidi_laws.proofs.OrderLemmas.{least_between-le, stands_left-before, stands_left-after}
 use Rattle.bidi_laws.proofs.VisualOrderLemmas.{stands_left-same, visual_order-unique, all_below}
 use Rattle.bidi_lines.proofs.Least.{least_between-is, least_between-at}
 use Rattle.bidi_lines.proofs.Ordered.{visual_order-is}
 use Rattle.bidi_lines.proofs.Pieces.{AllPairs-map, AllPairs-reverse, AllPairs-between, All-between, AllPairs-flat_map}
-use Rattle.bidi_lines.proofs.Pieces.{between-append, at_places-map, IsPermutation-flat_map, IsPermutation-flat_map_each}
+use Rattle.bidi_lines.proofs.Pieces.{between-append, at_indexes-map, IsPermutation-flat_map, IsPermutation-flat_map_each}
 use Rattle.bidi_lines.proofs.RunsLemmas.{Follow, level_runs-follow, level_runs-each}
 
 abbrev pub run_at : List Run → ℕ → Run
@@ -183,11 +183,11 @@ runs_order from levels = visual_order (map (run_level from levels) (level_runs f
 
 -- The runs lemma: the runs in a visual order of their levels, written out, are the visual order of the units.
 pub written-visual : (from : ℕ) (levels : List ℕ) (order : List ℕ) → IsVisualOrder (map (run_level from levels) (level_runs from levels)) order
-    → written_runs from levels (at_places (0, 0) (level_runs from levels) order) ≡ map (λ u. from + u) (visual_order levels)
+    → written_runs from levels (at_indexes (0, 0) (level_runs from levels) order) ≡ map (λ u. from + u) (visual_order levels)
 unfolding run_levels written_runs
 written-visual from levels order h =
     let back = and_back from (written_in from levels order) (λ k d fits. (inside k d fits).0) in
-    simp (at_places-map (0, 0) (level_runs from levels), flat_map-map (written_run from levels) (run_at (level_runs from levels)), ← visual_order-unique levels _ visual, back)
+    simp (at_indexes-map (0, 0) (level_runs from levels), flat_map-map (written_run from levels) (run_at (level_runs from levels)), ← visual_order-unique levels _ visual, back)
   where
     cut : Cut from levels (level_runs from levels)
     cut = level_runs-cut from levels
@@ -215,6 +215,6 @@ visual_runs-are from levels =
     let visual = visual_order-is (map (run_level from levels) (level_runs from levels)) in
     let each = order_below (map (run_level from levels) (level_runs from levels)) (runs_order from levels) (length (level_runs from levels)) (length-map (level_runs from levels) (run_level from levels)) visual in
     record {
-      are_runs = rw (at_places-map (0, 0) (level_runs from levels) (runs_order from levels)) (All-map (IsLevelRun from levels) (run_at (level_runs from levels)) (runs_order from levels) (λ i d fits. level_runs-each from levels _ (0, 0) (each i d fits)));
+      are_runs = rw (at_indexes-map (0, 0) (level_runs from levels) (runs_order from levels)) (All-map (IsLevelRun from levels) (run_at (level_runs from levels)) (runs_order from levels) (λ i d fits. level_runs-each from levels _ (0, 0) (each i d fits)));
       in_order = written-visual from levels (runs_order from levels) visual;
     }

@@ -2,7 +2,7 @@
 use Rattle.bidi_base.proofs.Common.{◌≡◌, ℕ, ◌+◌, ◌-◌, ◌<◌, ◌≤◌, Bool, true, false, List, ◌++◌, flat_map, reverse, length, get_or, take, drop, map, ap, sym, subst, ◌∙◌, arith, append_assoc}
 use Rattle.bidi_base.proofs.Common.{length-append, Range, get_or-map, get_or_default, length-map, take_more, flat_map-append, is_odd, subrange, IsLine, Run, run_of, All, slice_range}
 use Rattle.bidi_base.proofs.Common.{length-take-le, take-append_seam, append-nil}
-use Rattle.bidi_lines.specs.Written.{run_units}
+use Rattle.bidi_lines.specs.LineUnits.{run_units}
 
 -- the ranges of runs cut no character if the runs do not
 pub ranges_at_boundaries : (len_of : ℕ → ℕ) (chars : List ℕ) (ranges : List (Range ℕ)) (runs : List Run) → map run_of ranges ≡ runs

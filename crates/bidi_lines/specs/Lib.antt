@@ -1,10 +1,11 @@
 pub mod Analysed
-pub mod Arranged
+pub mod ArrangedItems
+pub mod InText
 pub mod LineOrder
 pub mod LineRuns
 pub mod Runs
-pub mod ShownLevels
+pub mod LineLevels
 pub mod ShownLine
-pub mod Stops
-pub mod Turned
-pub mod Written
+pub mod ResetStops
+pub mod ReversedUtf8
+pub mod LineUnits

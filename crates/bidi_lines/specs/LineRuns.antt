@@ -1,4 +1,4 @@
--- The runs that are kept of a line.
+-- The visual runs that a value has found for a line.
 use Rattle.std.specs.Prelude.{List, map}
 use Rattle.bidi_base.specs.Display.{Run, run_of}
 use Rattle.bidi_lines.specs.declared.visual_runs.LineRuns.{LineRuns}

@@ -7,8 +7,8 @@ use bidi_base::level::Level;
 
 /// Returns the direction of a list of levels.
 ///
-/// It is right to left if no level is even, left to right if none is odd, and mixed otherwise. An empty list is
-/// right to left.
+/// It is right to left if no level is even, left to right if none is odd, and mixed otherwise. An empty list is right
+/// to left. Takes time linear in the list.
 pub fn direction_of(levels: &[Level]) -> Direction
     ensures { result ≡ direction_of_levels levels.now }
 {

@@ -4,13 +4,13 @@ ghost use Rattle.std.specs.Prelude.{◌≡◌, ℕ, ◌+◌, ◌-◌, ◌<◌, �
 ghost use Rattle.bidi_base.specs.Classes.{is_removed, is_separator};
 ghost use Rattle.bidi_base.specs.Levels.{is_odd, has_rtl};
 ghost use Rattle.bidi_base.specs.Line.{is_blank, line_levels, levels_of_line, levels_with_line};
-ghost use Rattle.bidi_base.specs.Places.{class_at};
+ghost use Rattle.bidi_base.specs.Indexes.{class_at};
 ghost use Rattle.bidi_base.specs.Search.{IsFirst};
-ghost use Rattle.bidi_base.specs.Text.{text_len, per_char};
-ghost use Rattle.bidi_lines.specs.Arranged.{SameBelow, SameFrom};
-ghost use Rattle.bidi_lines.specs.Stops.{is_break, is_break_at};
+ghost use Rattle.bidi_base.specs.Texts.{text_len, per_char};
+ghost use Rattle.bidi_lines.specs.ArrangedItems.{SameBelow, SameFrom};
+ghost use Rattle.bidi_lines.specs.ResetStops.{is_break, is_break_at};
 
-use crate::stored::ClassList;
+use crate::lists::ClassList;
 use bidi_base::char_data::BidiClass;
 use bidi_base::classes::{is_blank, is_removed, is_separator};
 use bidi_base::level::{Level, has_rtl};
@@ -23,14 +23,15 @@ use std::ops::Range;
 fn write_level(levels: &mut [Level], from: usize, to: usize, level: Level)
     requires begins { from ≤ to }
     requires ends { to ≤ length levels.old }
-    ensures before { SameBelow levels.old levels.new from }
+    ensures outside_before { SameBelow levels.old levels.new from }
     ensures inside { (k : ℕ) → from ≤ k → k < to → slice_index levels.new k ≡ level }
-    ensures after { SameFrom levels.old levels.new to }
+    ensures outside_after { SameFrom levels.old levels.new to }
 {
     levels[from..to].fill(level);
 }
 
-// Returns whether a class is a blank. It has no branch, so that many units are tested at once.
+// Returns whether a class is a blank: white space, an isolate formatting character, or a class that X9 removes (L1). It
+// has no branch, so that many code units are tested at once.
 fn is_blank_unit(class: BidiClass) -> bool
     ensures { result ≡ is_blank class }
 {
@@ -42,7 +43,7 @@ fn is_blank_unit(class: BidiClass) -> bool
         | is_removed(class)
 }
 
-/// The units of a line, with a test for those that are not blanks.
+/// The classes of a line, with a test for those that are not blanks.
 #[derive(Clone, Copy, Debug)]
 struct NoBlanks<C: ClassList> {
     classes: C,
@@ -70,7 +71,7 @@ fn blanks_start<C: ClassList>(classes: C, from: usize, to: usize) -> usize
     requires begins { from ≤ to }
     requires ends { to ≤ length (C.classes classes) }
     ensures begins { from ≤ result }
-    ensures ends { result ≤ to }
+    ensures within { result ≤ to }
     ensures blank { (k : ℕ) → result ≤ k → k < to → is_blank (class_at (C.classes classes) k) ≡ true }
     ensures stops { (k : ℕ) → from < result → k + 1 ≡ result → is_blank (class_at (C.classes classes) k) ≡ false }
 {
@@ -81,15 +82,16 @@ fn blanks_start<C: ClassList>(classes: C, from: usize, to: usize) -> usize
     end_of_last_passing(NoBlanks { classes }, TESTED_SINGLY, from, to)
 }
 
-// Returns whether the pass of L1 stops at a unit that comes after another one: at a separator, and at a unit that X9
-// removes, unless it has the level of the unit before it. It has no branch, so that many units are tested at once.
+// Returns whether the pass of L1 stops at a code unit that comes after another one: at a separator, and at a code unit
+// that X9 removes, unless it has the level of the code unit before it. It has no branch, so that many code units are
+// tested at once.
 fn is_break(class: BidiClass, before: Level, own: Level) -> bool
     ensures { result ≡ is_break class before own }
 {
     is_separator(class) | (is_removed(class) & (before.number() != own.number()))
 }
 
-/// The units of a line after the first one, with a test for those at which the pass of L1 stops.
+/// The code units of a line after the first one, with a test for those at which the pass of L1 stops.
 #[derive(Clone, Copy, Debug)]
 struct Breaks<'l, C: ClassList> {
     classes: C,
@@ -114,8 +116,9 @@ impl<'l, C: ClassList> Tested for Breaks<'l, C> {
     }
 }
 
-// Returns the first index after `at` at which the pass of L1 stops, or the number of units if there is none. The first
-// unit is tested by itself: in a stretch of removed units that get another level, the pass stops at each.
+// Returns the first index after `at` at which the pass of L1 stops, or the number of code units if there is none. The
+// first code unit is tested by itself: in a stretch of removed code units that get another level, the pass stops at
+// each.
 fn next_break<C: ClassList>(classes: C, levels: &[Level], at: usize) -> usize
     requires same_len { length levels.now ≡ length (C.classes classes) }
     requires within { at < length levels.now }
@@ -126,25 +129,27 @@ fn next_break<C: ClassList>(classes: C, levels: &[Level], at: usize) -> usize
 
 /// Applies L1 to the levels of a line.
 ///
-/// `level` is the paragraph level. `classes` has the stored class of each code unit, and `levels` its stored
-/// level. Separators get the paragraph level. So do blanks before a separator or at the line's end. Any other
-/// code unit that X9 removes gets the level of the code unit before it, or `level` at the line's start.
-pub fn reset_levels<C: ClassList>(level: Level, classes: C, levels: &mut [Level])
+/// `para_level` is the paragraph level. `classes` has the stored class of each code unit, and `levels` its stored
+/// level. Separators get the paragraph level. So do white space, isolate formatting characters and characters that X9
+/// removes, if only these come before a separator or the line's end. Any other character that X9 removes gets the level
+/// of the code unit before it, or `para_level` at the line's start. Takes time linear in the line, and does not
+/// allocate.
+pub fn reset_levels<C: ClassList>(para_level: Level, classes: C, levels: &mut [Level])
     requires { length levels.old ≡ length (C.classes classes) }
-    ensures { levels.new ≡ line_levels level (C.classes classes) levels.old }
+    ensures { levels.new ≡ line_levels para_level (C.classes classes) levels.old }
 {
-    let mut before = level;
+    let mut before = para_level;
     // There is no separator from here up to `at`.
     let mut start = 0;
     let mut at = 0;
-    // Each iteration reads one separator, a removed unit with the units after it that keep their levels, or a stretch
-    // of other units.
+    // Each iteration reads one separator, a removed code unit with the code units after it that keep their levels, or a
+    // stretch of other code units.
     while at < classes.len() {
         let class = classes.class_at(at);
         if is_separator(class) {
             let blanks = blanks_start(classes, start, at);
-            write_level(levels, blanks, at + 1, level);
-            before = level;
+            write_level(levels, blanks, at + 1, para_level);
+            before = para_level;
             at += 1;
             start = at;
         } else if is_removed(class) {
@@ -157,29 +162,30 @@ pub fn reset_levels<C: ClassList>(level: Level, classes: C, levels: &mut [Level]
         }
     }
     let blanks = blanks_start(classes, start, at);
-    write_level(levels, blanks, at, level);
+    write_level(levels, blanks, at, para_level);
 }
 
-// Returns whether L1 resets a unit. `is_next_reset` says whether it resets the next unit, or the line ends there.
+// Returns whether L1 resets a code unit. `is_next_reset` says whether it resets the next code unit, or the line ends
+// there.
 fn is_reset(class: BidiClass, is_next_reset: bool) -> bool
     ensures { result ≡ (is_separator class || (is_blank class && is_next_reset)) }
 {
     is_separator(class) || is_next_reset && is_blank(class)
 }
 
-// Returns whether a unit has an odd level after L1 by itself. A unit that X9 removes and L1 does not reset takes
-// the level of the unit before it, so it does not count.
-fn shows_rtl(level: Level, class: BidiClass, own: Level, is_reset: bool) -> bool
-    ensures { result ≡ (if is_reset then is_odd level else (not (is_removed class) && is_odd own)) }
+// Returns whether a code unit has an odd level after L1 that it does not take from the code unit before it. A code unit
+// that X9 removes takes that level, unless L1 resets it.
+fn shows_rtl(para_level: Level, class: BidiClass, own: Level, is_reset: bool) -> bool
+    ensures { result ≡ (if is_reset then is_odd para_level else (not (is_removed class) && is_odd own)) }
 {
     if is_reset {
-        level.is_rtl()
+        para_level.is_rtl()
     } else {
         !is_removed(class) && own.is_rtl()
     }
 }
 
-// Returns whether X9 removes the first unit of a line.
+// Returns whether X9 removes the first code unit of a line.
 fn starts_removed(classes: &[BidiClass]) -> bool
     ensures { result ≡ (nat_lt 0 (length classes.now) && is_removed (class_at classes.now 0)) }
 {
@@ -189,15 +195,15 @@ fn starts_removed(classes: &[BidiClass]) -> bool
     }
 }
 
-/// Returns whether some unit of a line has an odd level after L1.
+/// Returns whether some code unit of a line has an odd level after L1.
 ///
-/// `classes` and `levels` are the stored ones of the line's code units, and `level` is the paragraph level. Does
-/// not allocate.
-pub fn line_has_rtl(level: Level, classes: &[BidiClass], levels: &[Level]) -> bool
+/// `classes` and `levels` are the stored ones of the line's code units, and `para_level` is the paragraph level. Takes
+/// time linear in the line, and does not allocate.
+pub(crate) fn line_has_rtl(para_level: Level, classes: &[BidiClass], levels: &[Level]) -> bool
     requires { length levels.now ≡ length classes.now }
-    ensures { result ≡ has_rtl (line_levels level classes.now levels.now) }
+    ensures { result ≡ has_rtl (line_levels para_level classes.now levels.now) }
 {
-    if level.is_ltr() && !has_rtl(levels) {
+    if para_level.is_ltr() && !has_rtl(levels) {
         return false;
     }
     let mut reset = true;
@@ -205,23 +211,23 @@ pub fn line_has_rtl(level: Level, classes: &[BidiClass], levels: &[Level]) -> bo
     while at > 0 {
         at -= 1;
         reset = is_reset(classes[at], reset);
-        if shows_rtl(level, classes[at], levels[at], reset) {
+        if shows_rtl(para_level, classes[at], levels[at], reset) {
             return true;
         }
     }
-    // At the line's start, units that X9 removes have the paragraph level.
-    level.is_rtl() && starts_removed(classes)
+    // At the line's start, code units that X9 removes have the paragraph level.
+    para_level.is_rtl() && starts_removed(classes)
 }
 
 // Applies L1 to one line of a text. `classes` and `levels` are the stored ones of the whole text.
-fn reset_line(level: Level, classes: &[BidiClass], levels: &mut [Level], line: Range<usize>)
+fn reset_line(para_level: Level, classes: &[BidiClass], levels: &mut [Level], line: Range<usize>)
     requires same_len { length levels.old ≡ length classes.now }
     requires ordered { line.start ≤ line.end }
     requires within { line.end ≤ length levels.old }
-    ensures { levels.new ≡ levels_with_line level classes.now levels.old line.start line.end }
+    ensures { levels.new ≡ levels_with_line para_level classes.now levels.old line.start line.end }
 {
     reset_levels(
-        level,
+        para_level,
         &classes[line.start..line.end],
         &mut levels[line.start..line.end],
     );
@@ -229,11 +235,12 @@ fn reset_line(level: Level, classes: &[BidiClass], levels: &mut [Level], line: R
 
 /// Returns the level of each code unit of a line after L1.
 ///
-/// `classes` and `levels` are the stored ones of the whole text. The line is the range `line` of its code units,
-/// and `level` is the level of the line's paragraph.
+/// `classes` and `levels` are the stored ones of the whole text. The line is the range `line` of its code units, and
+/// `para_level` is the level of the line's paragraph. Takes time linear in the line. Allocates only the list that it
+/// returns.
 pub fn levels_of_line(
     alloc: Global,
-    level: Level,
+    para_level: Level,
     classes: &[BidiClass],
     levels: &[Level],
     line: Range<usize>,
@@ -241,20 +248,25 @@ pub fn levels_of_line(
     requires same_len { length levels.now ≡ length classes.now }
     requires ordered { line.start ≤ line.end }
     requires within { line.end ≤ length levels.now }
-    ensures { IfOk result (λ v. v.items ≡ levels_of_line level classes.now levels.now line.start line.end) }
+    ensures { IfOk result (λ v. v.items ≡ levels_of_line para_level classes.now levels.now line.start line.end) }
 {
-    let mut shown = Vec::from_slice(alloc, &levels[line.start..line.end])?;
-    reset_levels(level, &classes[line.start..line.end], shown.as_mut_slice());
-    Ok(shown)
+    let mut after_l1 = Vec::from_slice(alloc, &levels[line.start..line.end])?;
+    reset_levels(
+        para_level,
+        &classes[line.start..line.end],
+        after_l1.as_mut_slice(),
+    );
+    Ok(after_l1)
 }
 
 /// Returns the level of each code unit of a text: after L1 in the line, and as stored outside it.
 ///
-/// `classes` and `levels` are the stored ones of the whole text. The line is the range `line` of its code units,
-/// and `level` is the level of the line's paragraph.
+/// `classes` and `levels` are the stored ones of the whole text. The line is the range `line` of its code units, and
+/// `para_level` is the level of the line's paragraph. Takes time linear in the text. Allocates only the list that it
+/// returns.
 pub fn levels_with_line(
     alloc: Global,
-    level: Level,
+    para_level: Level,
     classes: &[BidiClass],
     levels: &[Level],
     line: Range<usize>,
@@ -262,22 +274,22 @@ pub fn levels_with_line(
     requires same_len { length levels.now ≡ length classes.now }
     requires ordered { line.start ≤ line.end }
     requires within { line.end ≤ length levels.now }
-    ensures { IfOk result (λ v. v.items ≡ levels_with_line level classes.now levels.now line.start line.end) }
+    ensures { IfOk result (λ v. v.items ≡ levels_with_line para_level classes.now levels.now line.start line.end) }
 {
-    let mut shown = Vec::from_slice(alloc, levels)?;
-    reset_line(level, classes, shown.as_mut_slice(), line);
-    Ok(shown)
+    let mut after_l1 = Vec::from_slice(alloc, levels)?;
+    reset_line(para_level, classes, after_l1.as_mut_slice(), line);
+    Ok(after_l1)
 }
 
-// Moves the level of each character's first unit to the character's index, and returns the number of characters.
+// Moves the level of each character's first code unit to the character's index, and returns the number of characters.
 //
-// If the text can test a unit in place, tests each one, with no branch in the loop: a branch on a character's length is
-// hard to predict. That loop ends at the text's own length, so that `is_boundary` need not compare the index with it.
-// In any other text, steps from character to character by their lengths.
+// If the text can test a code unit in place, this tests each one, with no branch in the loop: a branch on a character's
+// length is hard to predict. That loop ends at the text's own length, so that `is_boundary` need not compare the index
+// with it. In any other text, this goes from character to character by their lengths.
 pub(crate) fn gather<T: TextSource>(text: T, levels: &mut [Level]) -> usize
-    requires { length levels.old ≡ text_len T.units (T.characters text) }
-    ensures count { result ≡ length (T.characters text) }
-    ensures gathered { take result levels.new ≡ per_char 0 T.units (T.characters text) levels.old }
+    requires { length levels.old ≡ text_len (T.text text) }
+    ensures count { result ≡ length (T.text text).chars }
+    ensures gathered { take result levels.new ≡ per_char 0 (T.text text) levels.old }
 {
     if T::READS_IN_PLACE {
         let mut count = 0;
@@ -297,13 +309,14 @@ pub(crate) fn gather<T: TextSource>(text: T, levels: &mut [Level]) -> usize
 
 /// Writes the level of each character of a text, and returns the number of characters.
 ///
-/// A character has the level of its first code unit. `levels` has one level for each code unit, and `out` is as
-/// long. After the last character, the entries of `out` hold any levels. Does not allocate.
+/// A character has the level of its first code unit. `levels` has one level for each code unit, and `out` is as long.
+/// The entries of `out` after those of the characters hold any levels. Takes time linear in the text, and does not
+/// allocate.
 pub fn write_first_units<T: TextSource>(text: T, levels: &[Level], out: &mut [Level]) -> usize
-    requires one_a_unit { length levels.now ≡ text_len T.units (T.characters text) }
+    requires same_len { length levels.now ≡ text_len (T.text text) }
     requires room { length out.old ≡ length levels.now }
-    ensures count { result ≡ length (T.characters text) }
-    ensures written { take result out.new ≡ per_char 0 T.units (T.characters text) levels.now }
+    ensures count { result ≡ length (T.text text).chars }
+    ensures written { take result out.new ≡ per_char 0 (T.text text) levels.now }
 {
     if !T::READS_IN_PLACE {
         out.copy_from_slice(levels);
@@ -319,10 +332,11 @@ pub fn write_first_units<T: TextSource>(text: T, levels: &[Level], out: &mut [Le
 
 /// Returns the level of each character of a text.
 ///
-/// A character has the level of its first code unit. `levels` has one level for each code unit. Does not allocate.
+/// A character has the level of its first code unit. `levels` has one level for each code unit. Takes time linear in
+/// the text, and does not allocate: the result reuses the memory of `levels`.
 pub fn first_units<T: TextSource>(text: T, mut levels: Vec<Level>) -> Vec<Level>
-    requires { length levels.items ≡ text_len T.units (T.characters text) }
-    ensures { result.items ≡ per_char 0 T.units (T.characters text) levels.items }
+    requires { length levels.items ≡ text_len (T.text text) }
+    ensures { result.items ≡ per_char 0 (T.text text) levels.items }
 {
     let count = gather(text, levels.as_mut_slice());
     levels.truncate(count);
@@ -332,22 +346,23 @@ pub fn first_units<T: TextSource>(text: T, mut levels: Vec<Level>) -> Vec<Level>
 /// Returns the level of each character of a text: after L1 in the line, and as stored outside it.
 ///
 /// A character has the level of its first code unit. `classes` and `levels` are the stored ones of the text's code
-/// units. `line` is a range of code units, and `level` is the level of its paragraph.
+/// units. `line` is a range of code units, and `para_level` is the level of its paragraph. Takes time linear in the
+/// text. Allocates only the list that it returns.
 pub fn levels_per_char<T: TextSource>(
     alloc: Global,
     text: T,
-    level: Level,
+    para_level: Level,
     classes: &[BidiClass],
     levels: &[Level],
     line: Range<usize>,
 ) -> Result<Vec<Level>, AllocError>
-    requires one_a_unit { length levels.now ≡ text_len T.units (T.characters text) }
+    requires one_a_unit { length levels.now ≡ text_len (T.text text) }
     requires same_len { length levels.now ≡ length classes.now }
     requires ordered { line.start ≤ line.end }
     requires within { line.end ≤ length levels.now }
     ensures { IfOk result (λ v. v.items
-        ≡ per_char 0 T.units (T.characters text) (levels_with_line level classes.now levels.now line.start line.end)) }
+        ≡ per_char 0 (T.text text) (levels_with_line para_level classes.now levels.now line.start line.end)) }
 {
-    let shown = levels_with_line(alloc, level, classes, levels, line)?;
-    Ok(first_units(text, shown))
+    let after_l1 = levels_with_line(alloc, para_level, classes, levels, line)?;
+    Ok(first_units(text, after_l1))
 }

@@ -1,25 +1,26 @@
 //! The text of a line from left to right (L2), written to a slice.
-ghost use Rattle.std.specs.Prelude.{◌≡◌, ℕ, ◌+◌, ◌-◌, ◌<◌, ◌≤◌, List, length, slice_range, reverse, flat_map, map, sum_by, IfOk, IfSome, OnOk, OnErr, IsNone, IsTrue, All, ◌↔◌};
-ghost use Rattle.bidi_base.specs.Analysed.{IsLineOf, StaysInOrder};
+ghost use Rattle.std.specs.Prelude.{◌≡◌, ℕ, ◌+◌, ◌-◌, List, length, slice_range, reverse, flat_map, map, sum_by, IfOk, IfSome, OnOk, OnErr, IsNone, All, ◌↔◌};
+ghost use Rattle.bidi_base.specs.AnalysedText.{IsLineOf, StaysInOrder};
 ghost use Rattle.bidi_base.specs.Display.{run_of};
-ghost use Rattle.bidi_base.specs.Text.{subrange, IsLine};
+ghost use Rattle.bidi_base.specs.Texts.{subrange, IsLine};
 ghost use Rattle.bidi_base.specs.Line.{line_levels};
 ghost use Rattle.bidi_lines.specs.Runs.{StartsInLine};
-ghost use Rattle.bidi_lines.specs.Written.{run_units, shown_units, line_units, AreRunsOfChars};
+ghost use Rattle.bidi_lines.specs.InText.{run_units, visual_units, AreRunsOfChars};
+ghost use Rattle.bidi_lines.specs.LineUnits.{line_units};
 
 use crate::analysed::Analysed;
-use bidi_base::level::Level;
 use crate::line_levels::line_has_rtl;
-use crate::shown_levels::ShownLevels;
-use crate::stored::{ClassList, LevelList};
+use crate::lists::{ClassList, LevelList};
+use crate::reused_levels::LineLevels;
 use crate::visual_runs::{LineRuns, first_run_end};
+use bidi_base::level::Level;
 use bidi_text::text::TextSource;
 use std::alloc::{AllocError, Global};
 use std::ops::Range;
 
 mod chars;
 mod reversed;
-mod turned;
+mod reversed_utf8;
 mod utf16;
 mod utf8;
 
@@ -35,25 +36,30 @@ pub trait LineText: TextSource {
     ghost encode: { ℕ → List Self.Unit };
 
     /// Writes the code units of a run unchanged.
+    ///
+    /// The run is a range of code units of the text that cuts no character (see `is_line`), and `out` is as long.
     fn copy_run(self, run: Range<usize>, out: &mut [Self::Unit])
-        requires is_line { IsLine Self.units (Self.characters self) run.start run.end }
+        requires is_line { IsLine (Self.text self) run.start run.end }
         requires room { length out.old + run.start ≡ run.end }
         ensures { out.new ≡ slice_range (units_of self) run.start run.end };
 
     /// Writes the characters of a run in reverse order.
     ///
-    /// The code units of each character keep their order.
+    /// The run is a range of code units of the text that cuts no character, and `out` is as long. Each character is
+    /// written in the encoding of the text. So its code units keep their order, and an unpaired surrogate of UTF-16 is
+    /// written as 0xFFFD.
     fn reverse_run(self, run: Range<usize>, out: &mut [Self::Unit])
-        requires is_line { IsLine Self.units (Self.characters self) run.start run.end }
+        requires is_line { IsLine (Self.text self) run.start run.end }
         requires room { length out.old + run.start ≡ run.end }
-        ensures { out.new ≡ flat_map encode (reverse (subrange Self.units (Self.characters self) run.start run.end)) };
+        ensures { out.new ≡ flat_map encode (reverse (subrange (Self.text self) run.start run.end).chars) };
 }
 
 /// Writes the runs of a line to `out`, in the order of `runs`.
 ///
-/// Copies a run at an even level, and reverses the characters of a run at an odd level (L2). The line begins at
-/// the code unit `start` of the text. `levels` has the level of each code unit of the line after L1. The lengths
-/// of the runs add up to the line's length. Takes time linear in the line, and does not allocate.
+/// Copies a run at an even level, and reverses the characters of a run at an odd level (L2). The line begins at the
+/// code unit `start` of the text. `levels` has the level of each code unit of the line after L1, and `out` is as long.
+/// Each run is a range of code units of the text that begins in the line and cuts no character. The lengths of the runs
+/// add up to the line's length. Takes time linear in the line, and does not allocate.
 pub fn write_runs<T: LineText>(
     text: T,
     start: usize,
@@ -63,9 +69,9 @@ pub fn write_runs<T: LineText>(
 )
     requires room { length out.old ≡ length levels.now }
     requires within { All (StartsInLine start levels.now) runs.now }
-    requires boundaries { All (λ r. IsLine T.units (T.characters text) r.start r.end) runs.now }
+    requires are_lines { All (λ r. IsLine (T.text text) r.start r.end) runs.now }
     requires whole { sum_by (λ r. r.end - r.start) runs.now ≡ length levels.now }
-    ensures { out.new ≡ flat_map (run_units T.units T.encode (T.characters text) (T.units_of text) start levels.now) (map run_of runs.now) }
+    ensures { out.new ≡ flat_map (run_units (T.text text) T.encode (T.units_of text) start levels.now) (map run_of runs.now) }
 {
     let mut at = 0;
     for run in runs {
@@ -82,19 +88,19 @@ pub fn write_runs<T: LineText>(
 
 // Writes the text of a line from left to right (L2), given its levels after L1. If an allocation fails, writes
 // nothing.
-fn write_shown<T: LineText>(
+fn write_line_units<T: LineText>(
     alloc: Global,
     text: T,
     line: Range<usize>,
     levels: &[Level],
     out: &mut [T::Unit],
 ) -> Result<(), AllocError>
-    requires is_line { IsLine T.units (T.characters text) line.start line.end }
-    requires levels { length levels.now + line.start ≡ line.end }
+    requires is_line { IsLine (T.text text) line.start line.end }
+    requires same_len { length levels.now + line.start ≡ line.end }
     requires room { length out.old ≡ length levels.now }
-    requires runs { AreRunsOfChars T.units (T.characters text) line.start levels.now }
-    ensures text { OnOk result (out.new ≡ shown_units T.units T.encode (T.characters text) (T.units_of text) line.start levels.now) }
-    ensures kept { OnErr result (out.new ≡ out.old) }
+    requires runs { AreRunsOfChars (T.text text) line.start levels.now }
+    ensures text { OnOk result (out.new ≡ visual_units (T.text text) T.encode (T.units_of text) line.start levels.now) }
+    ensures unchanged { OnErr result (out.new ≡ out.old) }
 {
     let start = line.start;
     if levels.is_empty() {
@@ -124,8 +130,10 @@ pub struct StoredLine<C, L> {
 
 /// Writes the text of a line from left to right (L2).
 ///
-/// The line is a range of code units of the text, and `stored` is what is stored of them. A line of up to 256 code
-/// units with up to 16 runs needs no allocation. If an allocation fails, writes nothing.
+/// The line is a range of code units of the text, and `stored` is what is stored of them. Neither the line nor its
+/// visual runs may cut a character. No run does if all code units of a character have one class and one level. `out` is
+/// as long as the line. Takes time linear in the line. A line of up to 256 code units with up to 16 runs needs no
+/// allocation. If an allocation fails, writes nothing.
 pub fn write_line<T: LineText, C: ClassList, L: LevelList>(
     alloc: Global,
     text: T,
@@ -133,53 +141,53 @@ pub fn write_line<T: LineText, C: ClassList, L: LevelList>(
     stored: &StoredLine<C, L>,
     out: &mut [T::Unit],
 ) -> Result<(), AllocError>
-    requires is_line { IsLine T.units (T.characters text) line.start line.end }
+    requires is_line { IsLine (T.text text) line.start line.end }
     requires valid { L.are_levels stored.now.levels }
-    requires levels { length (L.numbers stored.now.levels) + line.start ≡ line.end }
-    requires classes { length (C.classes stored.now.classes) ≡ length (L.numbers stored.now.levels) }
+    requires levels_same_len { length (L.numbers stored.now.levels) + line.start ≡ line.end }
+    requires classes_same_len { length (C.classes stored.now.classes) ≡ length (L.numbers stored.now.levels) }
     requires room { length out.old ≡ length (L.numbers stored.now.levels) }
-    requires runs { AreRunsOfChars T.units (T.characters text) line.start
+    requires runs { AreRunsOfChars (T.text text) line.start
         (line_levels stored.now.level (C.classes stored.now.classes) (L.numbers stored.now.levels)) }
-    ensures text { OnOk result (out.new ≡ shown_units T.units T.encode (T.characters text) (T.units_of text) line.start
+    ensures text { OnOk result (out.new ≡ visual_units (T.text text) T.encode (T.units_of text) line.start
         (line_levels stored.now.level (C.classes stored.now.classes) (L.numbers stored.now.levels))) }
-    ensures kept { OnErr result (out.new ≡ out.old) }
+    ensures unchanged { OnErr result (out.new ≡ out.old) }
 {
     if stored.level.is_ltr() && !stored.levels.has_rtl() {
         text.copy_run(line, out);
         return Ok(());
     }
-    let mut shown = ShownLevels::new(alloc);
-    shown.show(stored.level, stored.classes, stored.levels)?;
-    write_shown(alloc, text, line, shown.as_slice(), out)
+    let mut after_l1 = LineLevels::new(alloc);
+    after_l1.show(stored.level, stored.classes, stored.levels)?;
+    write_line_units(alloc, text, line, after_l1.as_slice(), out)
 }
 
 impl<T: LineText> Analysed<T> {
     ghost use Rattle.bidi_lines.specs.Analysed.{analysed, text_of};
 
     // Returns the text of a line from left to right. If no level of the line is odd after L1, the line stays in order:
-    // returns `None`, and does not allocate. `blank` may be any code unit.
-    fn turned_line(
+    // this returns `None`, and does not allocate. `blank` may be any code unit.
+    fn reversed_line(
         &self,
         alloc: Global,
-        level: Level,
+        para_level: Level,
         line: Range<usize>,
         blank: T::Unit,
     ) -> Result<Option<Vec<T::Unit>>, AllocError>
         requires { IsLineOf (analysed self.now) line }
         ensures text { IfOk result (λ o. IfSome o (λ v.
-            v.items ≡ line_units T.encode (T.units_of (text_of self.now)) (analysed self.now) level line)) }
-        ensures still { IfOk result (λ o. IsNone o ↔ StaysInOrder (analysed self.now) level line) }
+            v.items ≡ line_units T.encode (T.units_of (text_of self.now)) (analysed self.now) para_level line)) }
+        ensures still { IfOk result (λ o. IsNone o ↔ StaysInOrder (analysed self.now) para_level line) }
     {
         let (start, end) = (line.start, line.end);
         let classes = &self.original_classes()[start..end];
         let levels = &self.levels()[start..end];
-        if !line_has_rtl(level, classes, levels) {
+        if !line_has_rtl(para_level, classes, levels) {
             return Ok(None);
         }
         let mut out = vec![in alloc; blank; end - start]?;
         let text = self.text();
         let stored = StoredLine {
-            level,
+            level: para_level,
             classes,
             levels,
         };

@@ -3,8 +3,8 @@
 ghost use Rattle.std.specs.Prelude.{◌≡◌, ℕ, ◌∷◌, ◌+◌, ◌<◌, ◌≤◌, ◌++◌, [], length, IfOk, OnOk, OnErr, All, map};
 ghost use Rattle.bidi_base.specs.Display.{run_of, level_runs, run_level, visual_runs, AreVisualRuns};
 ghost use Rattle.bidi_base.specs.Line.{levels_of_line, levels_with_line};
-ghost use Rattle.bidi_base.specs.Order.{visual_order, IsVisualOrder};
-ghost use Rattle.bidi_base.specs.Places.{at_places};
+ghost use Rattle.bidi_base.specs.Order.{visual_order};
+ghost use Rattle.bidi_base.specs.Indexes.{at_indexes};
 ghost use Rattle.bidi_lines.specs.Runs.{IsFirstRunEnd, StartsInLine};
 
 use crate::line_levels::levels_with_line;
@@ -22,9 +22,9 @@ const FEW_RUNS: usize = 16;
 ///
 /// `levels` has the level of each code unit after L1, and must not be empty. If the result is the line's length,
 /// the whole line is one run.
-pub fn first_run_end(levels: &[Level]) -> usize
+pub(crate) fn first_run_end(levels: &[Level]) -> usize
     requires { 0 < length levels.now }
-    ensures some { 0 < result }
+    ensures advances { 0 < result }
     ensures within { result ≤ length levels.now }
     ensures first { (start : ℕ) → IsFirstRunEnd start levels.now result }
     ensures whole { result ≡ length levels.now → (start : ℕ) → visual_runs start levels.now ≡ (start, start + result) ∷ [] }
@@ -32,8 +32,8 @@ pub fn first_run_end(levels: &[Level]) -> usize
     run_end(levels, 0)
 }
 
-// Splits a line into its level runs. The line starts at the unit `start` of the text. Its first run ends at its
-// unit `first`.
+// Splits a line into its level runs. The line starts at the code unit `start` of the text. Its first run has `first`
+// code units.
 fn cut_runs(
     runs: &mut SmallVec<Range<usize>, FEW_RUNS>,
     levels: &[Level],
@@ -75,8 +75,8 @@ fn copy_in_order(
 ) -> Result<(), AllocError>
     requires { All (λ k. k < length runs.now) order.now }
     ensures runs { OnOk result (map run_of ordered.new.items
-        ≡ map run_of ordered.old.items ++ at_places (0, 0) (map run_of runs.now) order.now) }
-    ensures kept { OnErr result (ordered.new.items ≡ ordered.old.items) }
+        ≡ map run_of ordered.old.items ++ at_indexes (0, 0) (map run_of runs.now) order.now) }
+    ensures unchanged { OnErr result (ordered.new.items ≡ ordered.old.items) }
 {
     ordered.reserve(order.len())?;
     for k in order {
@@ -85,9 +85,9 @@ fn copy_in_order(
     Ok(())
 }
 
-// Copies the level runs of a line from left to right (L2). The line starts at the unit `start` of the text.
-// `numbers` and `order` are buffers with one entry for each run: the number of its level, and the visual order.
-// If an allocation fails, copies nothing.
+// Copies the level runs of a line from left to right (L2). The line starts at the code unit `start` of the text.
+// `numbers` and `order` are buffers with one entry for each run: the number of its level, and the visual order. If an
+// allocation fails, copies nothing.
 fn copy_visual(
     ordered: &mut SmallVec<Range<usize>, FEW_RUNS>,
     levels: &[Level],
@@ -101,7 +101,7 @@ fn copy_visual(
     requires numbers { length numbers.old ≡ length runs.now }
     requires order { length order.old ≡ length runs.now }
     ensures runs { OnOk result (map run_of ordered.new.items ≡ visual_runs start levels.now) }
-    ensures none { OnErr result (ordered.new.items ≡ []) }
+    ensures emptied { OnErr result (ordered.new.items ≡ []) }
 {
     write_numbers(numbers, levels, start, runs);
     write_visual_order(&*numbers, order);
@@ -144,7 +144,7 @@ impl LineRuns {
         requires { start + length levels.now ≤ usize.MAX }
         ensures runs { OnOk result (runs self.new ≡ visual_runs start levels.now) }
         ensures visual { OnOk result (AreVisualRuns start levels.now (runs self.new)) }
-        ensures none { OnErr result (runs self.new ≡ []) }
+        ensures emptied { OnErr result (runs self.new ≡ []) }
     {
         if levels.is_empty() {
             self.ordered.clear();
@@ -157,7 +157,7 @@ impl LineRuns {
     ///
     /// [`first_run_end`] returns that end. The line starts at the code unit `start` of a text, and `levels` has the
     /// level of each code unit after L1. If an allocation fails, there are no runs.
-    pub fn find_behind(
+    pub(crate) fn find_behind(
         &mut self,
         levels: &[Level],
         start: usize,
@@ -168,7 +168,7 @@ impl LineRuns {
         requires first { IsFirstRunEnd start levels.now first }
         ensures runs { OnOk result (runs self.new ≡ visual_runs start levels.now) }
         ensures visual { OnOk result (AreVisualRuns start levels.now (runs self.new)) }
-        ensures none { OnErr result (runs self.new ≡ []) }
+        ensures emptied { OnErr result (runs self.new ≡ []) }
     {
         self.ordered.clear();
         cut_runs(&mut self.runs, levels, start, first)?;
@@ -203,7 +203,7 @@ impl LineRuns {
     }
 
     /// Returns the runs from left to right as a list. Allocates that list if the line has up to 16 runs.
-    pub fn into_vec(self) -> Result<Vec<Range<usize>>, AllocError>
+    fn into_vec(self) -> Result<Vec<Range<usize>>, AllocError>
         ensures { IfOk result (λ v. map run_of v.items ≡ runs self) }
     {
         let LineRuns { ordered, .. } = self;
@@ -224,8 +224,9 @@ fn copied(alloc: Global, runs: &[Range<usize>]) -> Result<Vec<Range<usize>>, All
 
 /// Returns the level runs (BD7) of a line from left to right (L2).
 ///
-/// Each run is a range of code units of the text. The line starts at the code unit `start`, and `levels` has the
-/// level of each of its code units after L1. A line of up to 16 runs allocates only the list that is returned.
+/// Each run is a range of code units of the text. The line starts at the code unit `start`, and `levels` has the level
+/// of each of its code units after L1. An empty line has no runs. A line of up to 16 runs allocates only the list that
+/// is returned.
 pub fn visual_runs_of(
     alloc: Global,
     levels: &[Level],
@@ -254,9 +255,9 @@ pub fn visual_runs_of(
 /// Returns the level of each code unit of a text, and the level runs (BD7) of a line from left to right (L2).
 ///
 /// The levels are those of [`levels_with_line`]. The runs are ranges of code units of the text.
-pub fn levels_and_runs(
+pub(crate) fn levels_and_runs(
     alloc: Global,
-    level: Level,
+    para_level: Level,
     classes: &[BidiClass],
     levels: &[Level],
     line: Range<usize>,
@@ -264,14 +265,14 @@ pub fn levels_and_runs(
     requires same_len { length levels.now ≡ length classes.now }
     requires ordered { line.start ≤ line.end }
     requires within { line.end ≤ length levels.now }
-    ensures levels { IfOk result (λ r. r.0.items ≡ levels_with_line level classes.now levels.now line.start line.end) }
+    ensures levels { IfOk result (λ r. r.0.items ≡ levels_with_line para_level classes.now levels.now line.start line.end) }
     ensures runs { IfOk result (λ r. map run_of r.1.items
-        ≡ visual_runs line.start (levels_of_line level classes.now levels.now line.start line.end)) }
+        ≡ visual_runs line.start (levels_of_line para_level classes.now levels.now line.start line.end)) }
     ensures visual { IfOk result (λ r. AreVisualRuns line.start
-        (levels_of_line level classes.now levels.now line.start line.end) (map run_of r.1.items)) }
+        (levels_of_line para_level classes.now levels.now line.start line.end) (map run_of r.1.items)) }
 {
     let (start, end) = (line.start, line.end);
-    let shown = levels_with_line(alloc, level, classes, levels, line)?;
-    let runs = visual_runs_of(alloc, &shown.as_slice()[start..end], start)?;
-    Ok((shown, runs))
+    let after_l1 = levels_with_line(alloc, para_level, classes, levels, line)?;
+    let runs = visual_runs_of(alloc, &after_l1.as_slice()[start..end], start)?;
+    Ok((after_l1, runs))
 }

@@ -1,4 +1,4 @@
--- Why a call is refused, and the number that stands for it.
+-- Why a call returns an error, and the number of each error.
 use Rattle.std.specs.Prelude.{◌≡◌, ◌≢◌, ℕ, ℤ, pos, negsuc, ◌-◌, ◌^◌, min, Bool, ◌||◌, ◌==◌, nat_le, if◌then◌else◌, Option, Some, None, Result, Ok, Err, MatchResult}
 use Rattle.bidi_numbers.specs.declared.fault.Fault.{Fault}
 use Rattle.bidi_numbers.specs.declared.fault.Fault.TheVariants.{NoMemory, NotUtf8, NotScalar, BadBaseLevel, BadSplit, BadClass, BadLevel, UnequalLengths, BadLine, CutCharacter, UnevenCharacter, NoRoom, BadRanges}
@@ -7,7 +7,7 @@ use Rattle.bidi_numbers.specs.declared.fault.Fault.TheVariants.{NoMemory, NotUtf
 abbrev pub fault_unless : Bool → Fault → Option Fault
 fault_unless holds fault = if holds then None else Some fault
 
--- a buffer for an answer of so many entries has room for all, or for none, which asks for their number alone
+-- a buffer of `room` entries has room for `count` entries, or is empty: then the entries are only counted
 abbrev pub has_room_or_none : ℕ → ℕ → Bool
 has_room_or_none count room = room == 0 || nat_le count room
 
@@ -27,12 +27,12 @@ code_of UnevenCharacter = negsuc 10
 code_of NoRoom = negsuc 11
 code_of BadRanges = negsuc 12
 
--- what an export answers: a count, which no buffer makes greater than this, or the number of a fault
+-- what an export returns: a count, at most 2^63 - 1, or the number of a fault
 abbrev pub answer_of : Result ℕ Fault → ℤ
 answer_of (Ok count) = pos (min count (2 ^ 63 - 1))
 answer_of (Err fault) = code_of fault
 
--- a call whose first fault is the one told, if it has one: it goes well only without a fault, and any refusal
--- but for want of memory is that fault
+-- a call that returns the first fault, if there is one: it succeeds only without a fault, and any error but a failed
+-- allocation is that fault
 abbrev pub FaultsAs : {A : Type 0} → Result A Fault → Option Fault → Type 0
-FaultsAs result told = MatchResult result (λ _. told ≡ None) (λ fault. fault ≢ NoMemory → told ≡ Some fault)
+FaultsAs result expected = MatchResult result (λ _. expected ≡ None) (λ fault. fault ≢ NoMemory → expected ≡ Some fault)

@@ -1,5 +1,5 @@
 pub mod Faults
 pub mod Numbers
-pub mod Rows
+pub mod Structs
 pub mod Tables
 pub mod Texts

@@ -1,4 +1,4 @@
--- Classes, base levels and split rules as the numbers that stand for them.
+-- The numbers of classes, base levels, split rules and directions.
 use Rattle.std.specs.Prelude.{ℕ, Bool, ◌==◌, ◌||◌, nat_lt, nat_le, if◌then◌else◌, List, map, Option, Some, None}
 use Rattle.bidi_base.specs.declared.char_data.BidiClass.{BidiClass}
 use Rattle.bidi_base.specs.declared.char_data.BidiClass.TheVariants.{L, R, AL, EN, ES, ET, AN, CS, NSM, BN, B, S, WS, ON, LRE, LRO, RLE, RLO, PDF, LRI, RLI, FSI, PDI}
@@ -10,11 +10,11 @@ use Rattle.bidi_base.specs.Source.{Source}
 use Rattle.bidi_base.specs.declared.split_rule.SplitRule.{SplitRule}
 use Rattle.bidi_base.specs.declared.split_rule.SplitRule.TheVariants.{EachSeparator, CrLfTogether}
 
--- the number stands for a class
+-- the number is that of a class
 abbrev pub is_class : ℕ → Bool
 is_class n = nat_lt n 23
 
--- the class of such a number
+-- the class of such a number, and PDI for any other
 unfoldable pub class_numbered : ℕ → BidiClass
 class_numbered n =
     if n == 0 then L else if n == 1 then R else if n == 2 then AL else if n == 3 then EN
@@ -24,23 +24,23 @@ class_numbered n =
     else if n == 16 then RLE else if n == 17 then RLO else if n == 18 then PDF else if n == 19 then LRI
     else if n == 20 then RLI else if n == 21 then FSI else PDI
 
--- the number stands for a level
+-- the number is that of a level
 abbrev pub is_level : ℕ → Bool
 is_level n = nat_lt n 127
 
--- the number stands for a base level, or for none
+-- the number is that of a base level, or that of none
 abbrev pub is_base : ℕ → Bool
 is_base n = n == 255 || nat_le n 125
 
--- the base level that such a number asks for
+-- the base level of such a number
 abbrev pub base_of : ℕ → Option ℕ
 base_of n = if n == 255 then None else Some n
 
--- the number stands for a split rule, or for none
+-- the number is that of a split rule, or that of none
 abbrev pub is_split : ℕ → Bool
 is_split n = nat_lt n 3
 
--- the split rule that such a number asks for
+-- the split rule of such a number
 abbrev pub split_of : ℕ → Option SplitRule
 split_of n = if n == 0 then None else if n == 1 then Some EachSeparator else Some CrLfTogether
 
@@ -50,7 +50,8 @@ direction_number Ltr = 0
 direction_number Rtl = 1
 direction_number Mixed = 2
 
--- the number of the base direction of these characters: that of the first paragraph, or of the first that has one
+-- the number of the base direction of these characters: that of the first paragraph, or with `full` of the first
+-- paragraph that has one
 unfoldable pub direction_in : Source → Bool → List ℕ → ℕ
 direction_in source full chars =
     let classes = map (map source.class_of) (paragraphs_of (each_separator source) chars) in

@@ -1,4 +1,4 @@
--- Tables of the caller's as a data source.
+-- The caller's tables as a data source.
 use Rattle.std.specs.Prelude.{ℕ, Bool, ◌&&◌, List, map, Option, Some, is_none}
 use Rattle.std.specs.List.{list_all}
 use Rattle.std.specs.Option.{option_or}
@@ -6,13 +6,14 @@ use Rattle.bidi_base.specs.declared.char_data.BidiClass.{BidiClass}
 use Rattle.bidi_base.specs.Source.{Source, table_fault, table_source}
 use Rattle.bidi_numbers.specs.declared.fault.Fault.{Fault}
 use Rattle.bidi_numbers.specs.declared.fault.Fault.TheVariants.{NotScalar, BadClass, BadRanges}
-use Rattle.bidi_numbers.specs.declared.rows.BracketPair.{BracketPair}
-use Rattle.bidi_numbers.specs.declared.rows.ClassRange.{ClassRange}
+use Rattle.bidi_numbers.specs.declared.structs.BracketPair.{BracketPair}
+use Rattle.bidi_numbers.specs.declared.structs.ClassRange.{ClassRange}
 use Rattle.bidi_numbers.specs.Faults.{fault_unless}
 use Rattle.bidi_numbers.specs.Numbers.{class_numbered, is_class}
 use Rattle.bidi_numbers.specs.Texts.{is_scalar}
 
--- the ends of a range are characters, and so are the members of a pair; a range's number stands for a class
+-- the ends of a range are scalar values, and so are the brackets of a pair and its normal form; the number of a range
+-- is that of a class
 abbrev pub has_scalars : ClassRange → Bool
 has_scalars r = is_scalar r.first && is_scalar r.last
 
@@ -29,21 +30,21 @@ range_of r = (r.first, r.last, class_numbered r.class)
 abbrev pub bracket_of : BracketPair → ℕ × ℕ × Option ℕ
 bracket_of p = (p.opening, p.closing, Some p.normal_form)
 
--- what is wrong with the rows by themselves
+-- the first fault of the rows, each by itself
 abbrev pub rows_fault : List ClassRange → List BracketPair → Option Fault
 rows_fault ranges brackets =
     option_or (fault_unless (list_all has_scalars ranges) NotScalar)
     (option_or (fault_unless (list_all has_brackets brackets) NotScalar)
     (fault_unless (list_all has_class ranges) BadClass))
 
--- what is wrong with the order of ranges
+-- the fault of the order of ranges
 abbrev pub order_fault : List (ℕ × ℕ × BidiClass) → Option Fault
 order_fault ranges = fault_unless (is_none (table_fault ranges)) BadRanges
 
--- what is wrong with tables
+-- the first fault of the tables
 abbrev pub tables_fault : List ClassRange → List BracketPair → Option Fault
 tables_fault ranges brackets = option_or (rows_fault ranges brackets) (order_fault (map range_of ranges))
 
--- tables as a source
+-- the tables as a data source
 abbrev pub rows_source : List ClassRange → List BracketPair → Source
 rows_source ranges brackets = table_source (map range_of ranges) (map bracket_of brackets)

@@ -1,13 +1,13 @@
 //! Classes that are stored as their numbers.
 ghost use Rattle.std.specs.Prelude.{◌≡◌, length, map};
 ghost use Rattle.bidi_base.specs.Search.{passing};
-ghost use Rattle.bidi_lines.specs.Stops.{is_stop};
+ghost use Rattle.bidi_lines.specs.ResetStops.{is_stop};
 ghost use Rattle.bidi_numbers.specs.Numbers.{class_numbered};
 
 use crate::numbers::class_of;
 use bidi_base::char_data::BidiClass;
 use bidi_base::search::{Tested, first_passing};
-use bidi_lines::stored::ClassList;
+use bidi_lines::lists::ClassList;
 
 /// A list of classes that is read in place from their numbers. A number above 22 is read as PDI.
 #[derive(Clone, Copy, Debug)]

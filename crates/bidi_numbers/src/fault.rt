@@ -18,7 +18,7 @@ pub enum Fault {
     BadBaseLevel,
     /// A number is not that of a split rule.
     BadSplit,
-    /// A number is not that of a class.
+    /// The number of a class is above 22.
     BadClass,
     /// A level is above 126.
     BadLevel,
@@ -53,7 +53,7 @@ pub fn check(holds: bool, fault: Fault) -> Result<(), Fault>
     if holds { Ok(()) } else { Err(fault) }
 }
 
-/// Returns `NoRoom` if a buffer is not empty, but too short for `count` entries.
+/// Returns `NoRoom` if a buffer of `room` entries is not empty, but too short for `count` entries.
 pub fn check_room_or_none(count: usize, room: usize) -> Result<(), Fault>
     ensures { result_err result ≡ fault_unless (has_room_or_none count room) Fault.NoRoom }
 {
@@ -81,7 +81,7 @@ fn code(fault: Fault) -> i64
     }
 }
 
-/// Returns what an export returns: a count, or the negative number of a fault.
+/// Returns the number that an export returns: a count, or the negative number of a fault. A count is at most 2^63 - 1.
 pub fn answer(found: Result<usize, Fault>) -> i64
     ensures { result ≡ answer_of found }
 {

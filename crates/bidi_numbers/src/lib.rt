@@ -1,10 +1,10 @@
-//! What callers in other languages pass: numbers, rows, tables and texts. Tests every condition, and names the
-//! faults that a call returns.
+//! What callers in other languages pass: numbers, structs, tables and texts. It tests their values, and has the faults
+//! that a call returns.
 #![tactic(auto)]
 
 pub mod class_numbers;
 pub mod fault;
 pub mod numbers;
-pub mod rows;
+pub mod structs;
 pub mod tables;
 pub mod texts;

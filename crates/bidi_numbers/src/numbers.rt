@@ -16,7 +16,7 @@ use bidi_base::split_rule::SplitRule;
 const AUTO: u8 = 255;
 
 /// The number of classes.
-const CLASSES: u8 = 23;
+pub(crate) const CLASSES: u8 = 23;
 
 /// Returns the number of a class.
 pub fn number_of(class: BidiClass) -> u8
@@ -49,7 +49,7 @@ pub fn number_of(class: BidiClass) -> u8
     }
 }
 
-/// Returns the class with a number below 23.
+/// Returns the class with a number. A number above 22 is read as PDI.
 #[tactic(auto, unfolding(crate::specs::Numbers::class_numbered))]
 pub fn class_of(number: u8) -> BidiClass
     ensures { result ≡ class_numbered number }
@@ -110,7 +110,7 @@ pub fn all_below(numbers: &[u8], limit: u8) -> bool
     first_passing(NotBelow { numbers, limit }, 0, 0, len) == len
 }
 
-/// Returns `BadClass` unless each number is that of a class.
+/// Returns `BadClass` unless each number is that of a class. Reads sixteen numbers at a time.
 pub fn check_classes(numbers: &[u8]) -> Result<(), Fault>
     ensures { result_err result ≡ fault_unless (list_all is_class numbers.now) Fault.BadClass }
 {

@@ -1,14 +1,14 @@
 //! A data source that reads the caller's tables.
-ghost use Rattle.std.specs.Prelude.{◌≡◌, true, map, IsTrue, IfOk, None};
+ghost use Rattle.std.specs.Prelude.{◌≡◌, true, map, IsTrue, IfOk};
 ghost use Rattle.std.specs.List.{list_all};
-ghost use Rattle.bidi_base.specs.Source.{table_fault, table_source};
+ghost use Rattle.bidi_base.specs.Source.{table_source};
 ghost use Rattle.bidi_base.specs.Table.{source_of};
 ghost use Rattle.bidi_numbers.specs.Faults.{FaultsAs};
 ghost use Rattle.bidi_numbers.specs.Tables.{has_scalars, has_brackets, has_class, range_of, bracket_of, rows_fault, order_fault};
 
 use crate::fault::{Fault, check};
-use crate::numbers::class_of;
-use crate::rows::{BracketPair, ClassRange};
+use crate::numbers::{CLASSES, class_of};
+use crate::structs::{BracketPair, ClassRange};
 use crate::texts::{char_of, is_scalar};
 use bidi_base::char_data::BidiClass;
 use bidi_base::data_source::TableBidiData;
@@ -28,7 +28,7 @@ fn has_scalars(range: &ClassRange) -> bool
     is_scalar(range.first) && is_scalar(range.last)
 }
 
-// Returns whether all members of a pair are scalar values.
+// Returns whether both brackets of a pair and its normal form are scalar values.
 fn has_brackets(pair: &BracketPair) -> bool
     ensures { result ≡ has_brackets pair.now }
 {
@@ -94,7 +94,7 @@ fn all_have_scalars(rows: &[ClassRange]) -> bool
     rows.iter().all(has_scalars)
 }
 
-// Returns whether all members of all pairs are scalar values.
+// Returns whether all brackets and normal forms of all pairs are scalar values.
 fn all_have_brackets(rows: &[BracketPair]) -> bool
     ensures { result ≡ list_all has_brackets rows.now }
 {
@@ -105,13 +105,14 @@ fn all_have_brackets(rows: &[BracketPair]) -> bool
 fn all_have_classes(rows: &[ClassRange]) -> bool
     ensures { result ≡ list_all has_class rows.now }
 {
-    rows.iter().all(|row| row.class < 23)
+    rows.iter().all(|row| row.class < CLASSES)
 }
 
 impl Tables {
     /// Checks and converts the rows of both tables.
     ///
-    /// Returns `NotScalar` if an entry is not a scalar value, and `BadClass` if a number is not that of a class.
+    /// Returns `NotScalar` if the number of a character is not a scalar value, or else `BadClass` if a number is not
+    /// that of a class. Does not check the order of the ranges: [`Tables::source`] does.
     pub fn new(
         alloc: Global,
         ranges: &[ClassRange],
@@ -130,7 +131,7 @@ impl Tables {
         })
     }
 
-    /// Returns the data source, or `BadRanges` if a range is reversed or the ranges do not ascend.
+    /// Returns the data source, or `BadRanges` if a range is reversed or the ranges do not ascend. Reads all ranges.
     pub fn source(&self) -> Result<TableBidiData<'_>, Fault>
         ensures fault { FaultsAs result (order_fault self.now.ranges.items) }
         ensures source { IfOk result (λ t. source_of t ≡ table_source self.now.ranges.items self.now.brackets.items) }

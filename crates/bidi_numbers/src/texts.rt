@@ -1,12 +1,12 @@
 //! Texts as callers in other languages pass them: bytes, code units and numbers of characters.
-ghost use Rattle.std.specs.Prelude.{◌≡◌, ℕ, ◌<◌, ◌≤◌, IsTrue, IsUtf8, IfOk, MatchResult, length, slice_get, List, true};
+ghost use Rattle.std.specs.Prelude.{◌≡◌, ◌<◌, IsUtf8, IfOk, MatchResult, true};
 ghost use Rattle.std.specs.List.{list_all};
 ghost use Rattle.bidi_numbers.specs.Texts.{is_scalar, goes_on};
 
 use crate::fault::Fault;
 use std::alloc::{AllocError, Global};
 
-/// Returns bytes as a text, or `NotUtf8` if they are not UTF-8.
+/// Returns bytes as a text, or `NotUtf8` if they are not UTF-8. Reads all bytes, and does not allocate.
 pub fn utf8(bytes: &[u8]) -> Result<&str, Fault>
     ensures { MatchResult result
         (λ text. (text.now ≡ bytes.now) × IsUtf8 bytes.now)
@@ -20,7 +20,8 @@ pub fn utf8(bytes: &[u8]) -> Result<&str, Fault>
     Ok(unsafe { std::str::from_utf8_unchecked(bytes) })
 }
 
-/// Returns whether the byte at an index continues a character of UTF-8.
+/// Returns whether the byte at an index continues a character of UTF-8. From the end on there is no byte, and this
+/// returns false.
 pub fn goes_on(bytes: &[u8], index: usize) -> bool
     ensures { result ≡ goes_on bytes.now index }
 {
@@ -56,7 +57,7 @@ pub fn char_of(number: u32) -> char
     }
 }
 
-/// Returns the characters with these scalar values.
+/// Returns the characters with these scalar values. Allocates only the list that it returns.
 pub fn chars_of(alloc: Global, numbers: &[u32]) -> Result<Vec<char>, AllocError>
     requires { list_all is_scalar numbers.now ≡ true }
     ensures { IfOk result (λ v. v.items ≡ numbers.now) }

@@ -6,7 +6,7 @@ use Rattle.bidi_base.specs.declared.char_data.BidiClass.TheVariants.{L}
 use Rattle.bidi_paragraphs.specs.declared.class_set.ClassSet.{ClassSet}
 use Rattle.bidi_paragraphs.specs.declared.paragraph_flags.ParagraphFlags.{ParagraphFlags}
 use Rattle.bidi_paragraphs.specs.ClassSet.{has, with, any_of}
-use Rattle.bidi_paragraphs.specs.FirstWalk.{set_of_first}
+use Rattle.bidi_paragraphs.specs.FirstPass.{set_of_first}
 use Rattle.bidi_paragraphs.specs.ParagraphFlags.{with_set}
 use Rattle.bidi_paragraphs.proofs.ClassSets.{has-with, with-small, any_of-apart}
 use Rattle.bidi_paragraphs.proofs.FlagsLemmas.{AreSought, other-idle, other-same, flags_to, flags_to-set, flags_to-same}
@@ -57,7 +57,7 @@ module _ (source : Source) (block : List ℕ) (start : ℕ) (old : List BidiClas
 -- and the set of what is sought was made anew
 pub record IsBlockPassed (source : Source) (block : List ℕ) (stop_classes : ClassSet) (old new : ParagraphFlags) (sought : ClassSet) : Type 0 where
   pub idle : (k : ℕ) → k < 16 → has stop_classes (source.class_of (get_or block k 0)) ≡ false
-  pub turns : flags_to source block old 16 ≡ new
+  pub own_flags : flags_to source block old 16 ≡ new
   pub are : AreSought sought stop_classes new
 
 module _ (source : Source) (block : List ℕ) (stop_classes : ClassSet) (flags : ParagraphFlags) (found : ClassSet) (found_is : found ≡ set_of_first source block 16) where
@@ -72,7 +72,7 @@ module _ (source : Source) (block : List ℕ) (stop_classes : ClassSet) (flags :
   pub IsBlockPassed-other : (sought : ClassSet) → AreSought sought stop_classes flags → any_of sought (has found) ≡ false → IsBlockPassed source block stop_classes flags flags sought
   IsBlockPassed-other sought are none = record {
     idle = λ k below. other-idle sought stop_classes flags are _ (apart sought none k below);
-    turns = flags_to-same source block flags 16 (λ k below. other-same sought stop_classes flags are _ (apart sought none k below));
+    own_flags = flags_to-same source block flags 16 (λ k below. other-same sought stop_classes flags are _ (apart sought none k below));
     are = are;
   }
 
@@ -80,6 +80,6 @@ module _ (source : Source) (block : List ℕ) (stop_classes : ClassSet) (flags :
       → IsBlockPassed source block stop_classes flags (with_set flags found) sought
   IsBlockPassed-noted sought are none = record {
     idle = apart stop_classes none;
-    turns = flags_to-set source block flags 16 ∙ ap (with_set flags) (sym found_is);
+    own_flags = flags_to-set source block flags 16 ∙ ap (with_set flags) (sym found_is);
     are = are;
   }

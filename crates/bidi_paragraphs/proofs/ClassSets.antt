@@ -62,9 +62,9 @@ module _ (a b : ClassSet) (small : b.bits < 2 ^ 23) where
   ]
 
   -- the bits of both are none exactly if no class is in both
-  pub meets_any : not (bit_and a.bits b.bits == 0) ≡ any_of a (has b)
+  pub intersects_any : not (bit_and a.bits b.bits == 0) ≡ any_of a (has b)
   unfolding any_of
-  meets_any = elim (cases_Bool (list_any (λ c. has a c && has b c) every_class)) [
+  intersects_any = elim (cases_Bool (list_any (λ c. has a c && has b c) every_class)) [
     | inl some ↦
         let apart = λ (none : bit_and a.bits b.bits ≡ 0). both_ways _ (list_any_none (λ c. has a c && has b c) every_class (λ k d within. none_of a b none (get_or every_class k d))) some in
         simp (some, apart_eqb (bit_and a.bits b.bits) 0 apart)

@@ -1,11 +1,11 @@
 -- What a paragraph's flags say of its classes.
 use Rattle.bidi_base.proofs.Common.{◌≡◌, ◌∙◌, ℕ, ◌<◌, ◌^◌, ◌==◌, zero, suc, bit_or, Bool, false, not, ◌||◌, List, [], ◌∷◌, ◌++◌, length, get_or, arith, refl, sym, ap, inl, inr, cases_eq}
-use Rattle.bidi_base.proofs.Common.{cases_Bool, common_steps, nat_tests, list_any, class_number, Source, is_initiator, is_opener, is_removed, may_turn, is_pure_ltr, is_flat, may_leave, or_assoc}
+use Rattle.bidi_base.proofs.Common.{cases_Bool, common_steps, nat_tests, list_any, class_number, Source, is_isolate_initiator, is_opener, is_removed, may_turn, is_pure_ltr, is_flat, may_leave, or_assoc}
 use Rattle.bidi_base.proofs.Common.{or-false, bit_and, bit_at, bit_at_or, bit_at_and, bit_at-zero, bit_at-lt, bit_at-pow_other, same_from_bits, keeps_to}
 use Rattle.std.proofs.lemmas.Nat.Bits.{bit_at-pow_same}
 use Rattle.bidi_base.specs.declared.char_data.BidiClass.{BidiClass}
 use Rattle.bidi_paragraphs.specs.ClassSet.{has, with, any_of}
-use Rattle.bidi_paragraphs.specs.FirstWalk.{set_of_first}
+use Rattle.bidi_paragraphs.specs.FirstPass.{set_of_first}
 use Rattle.bidi_paragraphs.specs.ParagraphFlags.{is_counted, is_missing, counted_set, with_set, with_class, with_classes, flags_of}
 use Rattle.bidi_paragraphs.specs.declared.class_set.ClassSet.{ClassSet}
 use Rattle.bidi_paragraphs.specs.declared.paragraph_flags.ParagraphFlags.{ParagraphFlags}
@@ -112,7 +112,7 @@ module _ (test : BidiClass → Bool) (of_counted : IsOfCounted test) where
 -- ---- the tests of the flags
 
 module _ (flags : ParagraphFlags) (classes : List BidiClass) (is : flags ≡ flags_of classes) where
-  pub has_isolates-flags : any_of flags.seen is_initiator ≡ list_any is_initiator classes
+  pub has_isolates-flags : any_of flags.seen is_isolate_initiator ≡ list_any is_isolate_initiator classes
   has_isolates-flags = grind (arith, any_of-flags_of)
 
   pub is_pure_ltr-flags : not (any_of flags.seen may_turn) ≡ is_pure_ltr classes

@@ -1,8 +1,8 @@
 -- A character that the walk does not mind changes nothing but the flags.
-use Rattle.bidi_base.proofs.Common.{◌≡◌, ℕ, false, List, [], arith, Range, is_some, is_strong, is_initiator, is_pdi, true, is_paragraph_separator}
+use Rattle.bidi_base.proofs.Common.{◌≡◌, ℕ, false, List, [], arith, Range, is_some, is_strong, is_isolate_initiator, is_pdi, true, is_paragraph_separator}
 use Rattle.bidi_base.specs.declared.char_data.BidiClass.{BidiClass}
-use Rattle.bidi_paragraphs.specs.FirstWalk.{waiting, classes_after, is_decided, stops_at}
-use Rattle.bidi_paragraphs.specs.declared.first_walk.paragraph_state.ParagraphState.{ParagraphState}
+use Rattle.bidi_paragraphs.specs.FirstPass.{waiting, classes_after, is_decided, stops_at}
+use Rattle.bidi_paragraphs.specs.declared.first_pass.paragraph_state.ParagraphState.{ParagraphState}
 
 module _ (r : ParagraphState) (c : BidiClass) (range : Range ℕ) (idle : stops_at r c ≡ false) (empty : r.depth ≡ 0 → r.undecided.items ≡ []) where
   pub idle-separator : is_paragraph_separator c ≡ false
@@ -12,7 +12,7 @@ module _ (r : ParagraphState) (c : BidiClass) (range : Range ℕ) (idle : stops_
   idle-classes classes = grind arith
 
 -- an initiator that is no stop class comes where the state is decided
-pub idle-initiator : (r : ParagraphState) (c : BidiClass) → stops_at r c ≡ false → is_initiator c ≡ true → is_decided r ≡ true
+pub idle-initiator : (r : ParagraphState) (c : BidiClass) → stops_at r c ≡ false → is_isolate_initiator c ≡ true → is_decided r ≡ true
 idle-initiator r c idle opens = grind arith
 
 -- a PDI that is no stop class comes where no isolate is counted

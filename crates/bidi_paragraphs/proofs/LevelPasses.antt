@@ -1,9 +1,10 @@
--- The passes over the units of a paragraph, put together: what they leave once some sequences are resolved, and once all are.
+-- The passes over the units of a paragraph, put together: what they leave once some sequences are resolved, and once
+-- all are.
 use Rattle.bidi_base.proofs.Common.{◌≡◌, ℕ, Range, bounds, take_all, zero, suc, ◌+◌, ◌<◌, ◌≤◌, true, false, List, [], ◌∷◌, ◌++◌, length, get_or, take, map, Option, None, refl, sym, ap, ◌∙◌, arith}
 use Rattle.bidi_base.proofs.Common.{filter, list_all, length-map, get_or-map, get_or_default, get_or-append_seam, take-append_seam, length-append, map-append, is_kept, is_kept_in_place, is_l_or_r}
-use Rattle.bidi_base.proofs.Common.{length-replicate, nil_from_length, get_or-zip, length-zip, is_weak_resolved, class_at, at_places, first_or, stored_classes, explicit_levels, explicit_classes}
+use Rattle.bidi_base.proofs.Common.{length-replicate, nil_from_length, get_or-zip, length-zip, is_weak_resolved, class_at, at_indexes, first_or, stored_classes, explicit_levels, explicit_classes}
 use Rattle.bidi_base.proofs.Common.{processing_classes, RunSequence, level_at, has_places, sequences, weak_classes, direction_of, n2_rule, neutral_classes, implicit_level, AreResolved, text_len}
-use Rattle.bidi_base.proofs.Common.{place, is_per_char, per_unit, per_char, AreLines, in_runs, kept_in_runs, kept_in_place, zip, replicate}
+use Rattle.bidi_base.proofs.Common.{unit_index, is_per_char, per_unit, per_char, AreLines, in_runs, kept_in_runs, kept_in_place, zip, replicate}
 use Rattle.std.specs.List.{All}
 use Rattle.bidi_base.specs.declared.char_data.BidiClass.{BidiClass}
 use Rattle.bidi_base.specs.declared.char_data.BidiClass.TheVariants.{L, BN}
@@ -22,8 +23,8 @@ use Rattle.bidi_explicit.specs.Links.{begins, sequence_at, sequences_before, lin
 use Rattle.bidi_explicit.specs.declared.prepare.links.RunLinks.{RunLinks}
 use Rattle.bidi_explicit.proofs.LinkedSequences.{IsPart, linked_sequences-part, sequences_before-more, sequences_before-same}
 use Rattle.bidi_paragraphs.proofs.OneLevel.{GiveLevels, KeepLevels}
-use Rattle.bidi_paragraphs.proofs.SequencesInPlace.{IsUnderWay, IsNext, IsWeakNext, IsWeakNext-from, weak_next-resolved, IsUnderWay-more, IsUnderWay-settled, IsUnderWay-start, IsUnderWay-written, kept_before, IsNext-at, AreResolved-all}
-use Rattle.bidi_paragraphs.proofs.SequenceUnits.{at_places-map, at_places-place, level_at-first, kept_in_place-kept, kept_in_runs-within, stays_elsewhere}
+use Rattle.bidi_paragraphs.proofs.SequencesInPlace.{IsUnderWay, IsNext, IsWeakNext, IsWeakNext-from, weak_next-resolved, IsUnderWay-more, IsUnderWay-known, IsUnderWay-start, IsUnderWay-written, kept_before, IsNext-at, AreResolved-all}
+use Rattle.bidi_paragraphs.proofs.SequenceUnits.{at_indexes-map, at_indexes-unit_index, level_at-first, kept_in_place-kept, kept_in_runs-within, stays_elsewhere}
 
 -- two values for each unit
 zip-append : {X Y : Type 0} (vs ws : List X) (xs ys : List Y) → length vs ≡ length xs → zip (vs ++ ws) (xs ++ ys) ≡ zip vs xs ++ zip ws ys
@@ -42,18 +43,18 @@ zip-per_unit len_of (c ∷ chars) (x ∷ xs) [] = nil_from_length _ (grind (arit
 zip-per_unit len_of (c ∷ chars) (x ∷ xs) (y ∷ ys) =
     simp (zip-append, length-replicate, zip-replicate, zip-per_unit len_of chars xs ys)
 
-module _ (len_of : ℕ → ℕ) (h : HasUnits len_of) (chars : List ℕ) (source : List BidiClass) (bracket_of : ℕ → Option BidiMatchedOpeningBracket) (paragraph : ℕ) where
+module _ (len_of : ℕ → ℕ) (h : HasUnits len_of) (chars : List ℕ) (source_classes : List BidiClass) (bracket_of : ℕ → Option BidiMatchedOpeningBracket) (para_level : ℕ) where
   abbrev stored : List BidiClass
-  stored = stored_classes source
+  stored = stored_classes source_classes
 
   abbrev brackets : List (Option BidiMatchedOpeningBracket)
   brackets = map bracket_of chars
 
   abbrev levels : List ℕ
-  levels = explicit_levels paragraph stored
+  levels = explicit_levels para_level stored
 
   abbrev classes : List BidiClass
-  classes = explicit_classes paragraph stored
+  classes = explicit_classes para_level stored
 
   -- the characters of runs that were joined, and of a sequence
   abbrev members : JoinedRuns → RunSequence
@@ -63,36 +64,36 @@ module _ (len_of : ℕ → ℕ) (h : HasUnits len_of) (chars : List ℕ) (source
   pub record AreResolvedTo (seqs : List RunSequence) (units : List BidiClass) : Type 0 where
     pub values : List BidiClass
     pub is : units ≡ per_unit len_of chars values
-    pub under_way : IsUnderWay source brackets stored levels classes seqs values
+    pub under_way : IsUnderWay source_classes brackets stored levels classes seqs values
 
   -- and the weak types of one more
   pub record AreWeakTo (seqs : List RunSequence) (s : JoinedRuns) (units : List BidiClass) : Type 0 where
     pub values : List BidiClass
     pub is : units ≡ per_unit len_of chars values
-    pub next : IsWeakNext source brackets stored levels classes seqs (members s) values
+    pub next : IsWeakNext source_classes brackets stored levels classes seqs (members s) values
 
-  stored_read : (original : List BidiClass) → length source ≡ length chars → original ≡ per_unit len_of chars stored → per_char L len_of chars original ≡ stored
-  stored_read original fits is = simp (is, per_char-per_unit len_of h L chars stored (length-stored_classes source ∙ fits))
+  stored_read : (original_classes : List BidiClass) → length source_classes ≡ length chars → original_classes ≡ per_unit len_of chars stored → per_char L len_of chars original_classes ≡ stored
+  stored_read original_classes fits is = simp (is, per_char-per_unit len_of h L chars stored (length-stored_classes source_classes ∙ fits))
 
-  pub AreResolvedTo-start : (original units : List BidiClass) → length source ≡ length chars → original ≡ per_unit len_of chars stored
-      → units ≡ per_unit len_of chars (processing_classes paragraph (per_char L len_of chars original)) → AreResolvedTo [] units
-  AreResolvedTo-start original units fits original_is is =
-      let read = simp (stored_read original fits original_is) at is in
-      record { values = processing_classes paragraph stored; is = read; under_way = IsUnderWay-start paragraph source brackets stored levels }
+  pub AreResolvedTo-start : (original_classes classes : List BidiClass) → length source_classes ≡ length chars → original_classes ≡ per_unit len_of chars stored
+      → classes ≡ per_unit len_of chars (processing_classes para_level (per_char L len_of chars original_classes)) → AreResolvedTo [] classes
+  AreResolvedTo-start original_classes classes fits original_is is =
+      let read = simp (stored_read original_classes fits original_is) at is in
+      record { values = processing_classes para_level stored; is = read; under_way = IsUnderWay-start para_level source_classes brackets stored levels }
 
   -- units that did not change
   pub AreResolvedTo-same : (seqs : List RunSequence) (old new : List BidiClass) → new ≡ old → AreResolvedTo seqs old → AreResolvedTo seqs new
   AreResolvedTo-same seqs old new same now = rw same now
 
-  -- they have one entry a unit, equal within each character
-  pub AreResolvedTo-per_char : (seqs : List RunSequence) (units : List BidiClass) → length source ≡ length chars → AreResolvedTo seqs units → is_per_char class_eq len_of chars units ≡ true
-  AreResolvedTo-per_char seqs units fits now = grind (arith, is_per_char-per_unit, class_test, length-stored_classes)
+  -- they have one entry for each code unit, equal within each character
+  pub AreResolvedTo-per_char : (seqs : List RunSequence) (classes : List BidiClass) → length source_classes ≡ length chars → AreResolvedTo seqs classes → is_per_char class_eq len_of chars classes ≡ true
+  AreResolvedTo-per_char seqs classes fits now = grind (arith, is_per_char-per_unit, class_test, length-stored_classes)
 
-  pub AreResolvedTo-long : (seqs : List RunSequence) (units : List BidiClass) → length source ≡ length chars → AreResolvedTo seqs units → length units ≡ text_len len_of chars
-  AreResolvedTo-long seqs units fits now = grind (arith, length-per_unit, length-stored_classes)
+  pub AreResolvedTo-long : (seqs : List RunSequence) (classes : List BidiClass) → length source_classes ≡ length chars → AreResolvedTo seqs classes → length classes ≡ text_len len_of chars
+  AreResolvedTo-long seqs classes fits now = grind (arith, length-per_unit, length-stored_classes)
 
-  module _ (fits : length source ≡ length chars) (seqs : List RunSequence) (s : JoinedRuns) (lines : AreLines len_of chars (s.runs))
-      (next : IsNext source brackets stored levels classes seqs (members s)) where
+  module _ (fits : length source_classes ≡ length chars) (seqs : List RunSequence) (s : JoinedRuns) (lines : AreLines len_of chars (s.runs))
+      (next : IsNext source_classes brackets stored levels classes seqs (members s)) where
     abbrev runs : List (ℕ × ℕ)
     runs = s.runs
 
@@ -100,10 +101,10 @@ module _ (len_of : ℕ → ℕ) (h : HasUnits len_of) (chars : List ℕ) (source
     ps = kept_in_runs len_of chars stored runs
 
     within : (p : ℕ) → p < length chars → p < length stored
-    within p there = omega (arith, there, fits, length-stored_classes source)
+    within p there = omega (arith, there, fits, length-stored_classes source_classes)
 
     as_long : (values : List BidiClass) → length values ≡ length stored → length values ≡ length chars
-    as_long values long = long ∙ length-stored_classes source ∙ fits
+    as_long values long = long ∙ length-stored_classes source_classes ∙ fits
 
     -- its characters, their classes and their level, by its code units
     module _ (units : List BidiClass) (now : AreResolvedTo seqs units) where
@@ -111,27 +112,27 @@ module _ (len_of : ℕ → ℕ) (h : HasUnits len_of) (chars : List ℕ) (source
       characters_are =
           kept_in_place-kept len_of h chars stored now.values units runs (as_long now.values now.under_way.long) now.is (λ p there. now.under_way.read p (within p there))
 
-      classes_are : at_places L units (map (place len_of chars) ps) ≡ at_places L now.values ps
-      classes_are = at_places-place len_of h chars L now.values units ps (as_long now.values now.under_way.long) now.is (kept_in_runs-within len_of h chars stored runs)
+      classes_are : at_indexes L units (map (unit_index len_of chars) ps) ≡ at_indexes L now.values ps
+      classes_are = at_indexes-unit_index len_of h chars L now.values units ps (as_long now.values now.under_way.long) now.is (kept_in_runs-within len_of h chars stored runs)
 
-      pub kept_of_units : list_all is_kept (at_places L units (map (place len_of chars) (kept_in_place len_of chars units runs))) ≡ true
-      kept_of_units = rw (characters_are, classes_are) (kept_before source brackets stored levels classes seqs (members s) next now.values now.under_way)
+      pub kept_of_units : list_all is_kept (at_indexes L units (map (unit_index len_of chars) (kept_in_place len_of chars units runs))) ≡ true
+      kept_of_units = rw (characters_are, classes_are) (kept_before source_classes brackets stored levels classes seqs (members s) next now.values now.under_way)
 
       -- nothing is to be done
-      pub AreResolvedTo-settled : (unit_levels : List ℕ) → unit_levels ≡ per_unit len_of chars levels
-          → (let places = map (place len_of chars) (kept_in_place len_of chars units runs) in
-          KeepLevels (level_at unit_levels (first_or 0 places)) s.sos s.eos (at_places L source ps) (at_places None brackets ps) (at_places L units places))
+      pub AreResolvedTo-known : (unit_levels : List ℕ) → unit_levels ≡ per_unit len_of chars levels
+          → (let places = map (unit_index len_of chars) (kept_in_place len_of chars units runs) in
+          KeepLevels (level_at unit_levels (first_or 0 places)) s.sos s.eos (at_indexes L source_classes ps) (at_indexes None brackets ps) (at_indexes L units places))
           → AreResolvedTo (seqs ++ members s ∷ []) units
-      AreResolvedTo-settled unit_levels levels_is keeps =
-          let level_is = level_at-first len_of h chars levels unit_levels ps (length-explicit_levels paragraph stored ∙ as_long stored refl) levels_is (kept_in_runs-within len_of h chars stored runs) in
+      AreResolvedTo-known unit_levels levels_is keeps =
+          let level_is = level_at-first len_of h chars levels unit_levels ps (length-explicit_levels para_level stored ∙ as_long stored refl) levels_is (kept_in_runs-within len_of h chars stored runs) in
           let read = rw (characters_are, classes_are, level_is) at keeps in
-          record { values = now.values; is = now.is; under_way = IsUnderWay-settled source brackets stored levels classes seqs (members s) next now.values now.under_way read }
+          record { values = now.values; is = now.is; under_way = IsUnderWay-known source_classes brackets stored levels classes seqs (members s) next now.values now.under_way read }
 
     -- no more is to be done than to write some classes
     pub AreResolvedTo-written : (old new : List BidiClass) (unit_levels : List ℕ) → AreResolvedTo seqs old → unit_levels ≡ per_unit len_of chars levels
-        → list_all is_kept_in_place (at_places L new (map (place len_of chars) (kept_in_place len_of chars old runs))) ≡ true
-        → (let places = map (place len_of chars) (kept_in_place len_of chars old runs) in
-        GiveLevels (level_at unit_levels (first_or 0 places)) s.sos s.eos (at_places L source ps) (at_places None brackets ps) (at_places L old places) (at_places L new places))
+        → list_all is_kept_in_place (at_indexes L new (map (unit_index len_of chars) (kept_in_place len_of chars old runs))) ≡ true
+        → (let places = map (unit_index len_of chars) (kept_in_place len_of chars old runs) in
+        GiveLevels (level_at unit_levels (first_or 0 places)) s.sos s.eos (at_indexes L source_classes ps) (at_indexes None brackets ps) (at_indexes L old places) (at_indexes L new places))
         → ((u : ℕ) → class_at old u ≡ BN → class_at new u ≡ BN) → ((u : ℕ) → in_runs runs u ≡ false → class_at new u ≡ class_at old u) → is_per_char class_eq len_of chars new ≡ true
         → AreResolvedTo (seqs ++ members s ∷ []) new
     AreResolvedTo-written old new unit_levels now levels_is kept gives removed outside per =
@@ -141,15 +142,15 @@ module _ (len_of : ℕ → ℕ) (h : HasUnits len_of) (chars : List ℕ) (source
         let new_long = length-per_char L len_of chars new in
         let within_text = kept_in_runs-within len_of h chars stored runs in
         let stays = stays_elsewhere len_of h chars stored now.values values old new runs lines old_long new_long now.is is (λ p there. now.under_way.read p (within p there)) removed outside in
-        let written : at_places L new (map (place len_of chars) ps) ≡ at_places L values ps = at_places-place len_of h chars L values new ps new_long is within_text in
-        let level_is = level_at-first len_of h chars levels unit_levels ps (length-explicit_levels paragraph stored ∙ as_long stored refl) levels_is within_text in
+        let written : at_indexes L new (map (unit_index len_of chars) ps) ≡ at_indexes L values ps = at_indexes-unit_index len_of h chars L values new ps new_long is within_text in
+        let level_is = level_at-first len_of h chars levels unit_levels ps (length-explicit_levels para_level stored ∙ as_long stored refl) levels_is within_text in
         let read = rw (characters_are old now, written) at kept in
         let same = rw (characters_are old now, classes_are old now, written, level_is) at gives in
-        record { values = values; is = is; under_way = IsUnderWay-written source brackets stored levels classes seqs (members s) next now.values values now.under_way (new_long ∙ sym old_long) stays read same }
+        record { values = values; is = is; under_way = IsUnderWay-written source_classes brackets stored levels classes seqs (members s) next now.values values now.under_way (new_long ∙ sym old_long) stays read same }
 
     -- W1 to W7
     pub AreWeakTo-from : (old new : List BidiClass) → AreResolvedTo seqs old
-        → at_places L new (map (place len_of chars) (kept_in_place len_of chars old runs)) ≡ weak_classes s.sos (at_places L old (map (place len_of chars) (kept_in_place len_of chars old runs)))
+        → at_indexes L new (map (unit_index len_of chars) (kept_in_place len_of chars old runs)) ≡ weak_classes s.sos (at_indexes L old (map (unit_index len_of chars) (kept_in_place len_of chars old runs)))
         → ((u : ℕ) → class_at old u ≡ BN → class_at new u ≡ BN) → ((u : ℕ) → in_runs runs u ≡ false → class_at new u ≡ class_at old u) → is_per_char class_eq len_of chars new ≡ true
         → AreWeakTo seqs s new
     AreWeakTo-from old new now kept removed outside per =
@@ -158,25 +159,25 @@ module _ (len_of : ℕ → ℕ) (h : HasUnits len_of) (chars : List ℕ) (source
         let old_long = as_long now.values now.under_way.long in
         let new_long = length-per_char L len_of chars new in
         let stays = stays_elsewhere len_of h chars stored now.values values old new runs lines old_long new_long now.is is (λ p there. now.under_way.read p (within p there)) removed outside in
-        let next = IsWeakNext-from source brackets stored levels classes seqs (members s) next now.values values now.under_way (new_long ∙ sym old_long) stays
+        let next = IsWeakNext-from source_classes brackets stored levels classes seqs (members s) next now.values values now.under_way (new_long ∙ sym old_long) stays
         (grind (
           arith,
           kept_in_place-kept len_of h chars stored now.values old runs,
           kept_in_runs-within len_of h chars stored runs,
-          at_places-place len_of h chars L values new ps,
-          at_places-place len_of h chars L now.values old ps,
+          at_indexes-unit_index len_of h chars L values new ps,
+          at_indexes-unit_index len_of h chars L now.values old ps,
           within,
         )) in
         record { values = values; is = is; next = next }
 
     -- so N0 to N2 can go on
-    pub AreWeakTo-resolved : (units : List BidiClass) → AreWeakTo seqs s units → list_all is_weak_resolved (at_places L units (map (place len_of chars) (kept_in_place len_of chars units runs))) ≡ true
+    pub AreWeakTo-resolved : (units : List BidiClass) → AreWeakTo seqs s units → list_all is_weak_resolved (at_indexes L units (map (unit_index len_of chars) (kept_in_place len_of chars units runs))) ≡ true
     AreWeakTo-resolved units now =
-        let resolved = weak_next-resolved source brackets stored levels classes seqs (members s) next now.values now.next in
+        let resolved = weak_next-resolved source_classes brackets stored levels classes seqs (members s) next now.values now.next in
         grind (
           arith,
           kept_in_place-kept len_of h chars stored now.values units runs,
-          at_places-place len_of h chars L now.values units ps,
+          at_indexes-unit_index len_of h chars L now.values units ps,
           kept_in_runs-within len_of h chars stored runs,
           within,
           as_long,
@@ -184,20 +185,20 @@ module _ (len_of : ℕ → ℕ) (h : HasUnits len_of) (chars : List ℕ) (source
         )
 
     -- N0 to N2
-    pub AreResolvedTo-more : (old new original : List BidiClass) (unit_levels : List ℕ) → original ≡ per_unit len_of chars stored → unit_levels ≡ per_unit len_of chars levels → AreWeakTo seqs s old
-        → map (n2_rule (direction_of (level_at unit_levels (first_or 0 (map (place len_of chars) (kept_in_place len_of chars old runs)))))) (at_places L new (map (place len_of chars) (kept_in_place len_of chars old runs)))
-        ≡ neutral_classes (level_at unit_levels (first_or 0 (map (place len_of chars) (kept_in_place len_of chars old runs)))) s.sos s.eos
-        (at_places L original (map (place len_of chars) (kept_in_place len_of chars old runs))) (map bracket_of (at_places 0 chars (kept_in_place len_of chars old runs))) (at_places L old (map (place len_of chars) (kept_in_place len_of chars old runs)))
+    pub AreResolvedTo-more : (old new original_classes : List BidiClass) (unit_levels : List ℕ) → original_classes ≡ per_unit len_of chars stored → unit_levels ≡ per_unit len_of chars levels → AreWeakTo seqs s old
+        → map (n2_rule (direction_of (level_at unit_levels (first_or 0 (map (unit_index len_of chars) (kept_in_place len_of chars old runs)))))) (at_indexes L new (map (unit_index len_of chars) (kept_in_place len_of chars old runs)))
+        ≡ neutral_classes (level_at unit_levels (first_or 0 (map (unit_index len_of chars) (kept_in_place len_of chars old runs)))) s.sos s.eos
+        (at_indexes L original_classes (map (unit_index len_of chars) (kept_in_place len_of chars old runs))) (map bracket_of (at_indexes 0 chars (kept_in_place len_of chars old runs))) (at_indexes L old (map (unit_index len_of chars) (kept_in_place len_of chars old runs)))
         → ((u : ℕ) → class_at old u ≡ BN → class_at new u ≡ BN) → ((u : ℕ) → in_runs runs u ≡ false → class_at new u ≡ class_at old u) → is_per_char class_eq len_of chars new ≡ true
         → AreResolvedTo (seqs ++ members s ∷ []) new
-    AreResolvedTo-more old new original unit_levels original_is levels_is now kept removed outside per =
+    AreResolvedTo-more old new original_classes unit_levels original_is levels_is now kept removed outside per =
         let values = per_char L len_of chars new in
         let is = per_unit-from_is_per_char class_eq class_test L len_of h chars new per in
         let old_long = as_long now.values now.next.long in
         let new_long = length-per_char L len_of chars new in
-        let own = λ (values : List BidiClass) (units : List BidiClass). at_places-place len_of h chars L values units ps in
+        let own = λ (values : List BidiClass) (units : List BidiClass). at_indexes-unit_index len_of h chars L values units ps in
         let stays = stays_elsewhere len_of h chars stored now.values values old new runs lines old_long new_long now.is is (λ p there. now.next.read p (within p there)) removed outside in
-        let under_way = IsUnderWay-more source brackets stored levels classes seqs (members s) next now.values values now.next (new_long ∙ sym old_long) stays
+        let under_way = IsUnderWay-more source_classes brackets stored levels classes seqs (members s) next now.values values now.next (new_long ∙ sym old_long) stays
         (grind (
           arith,
           kept_in_place-kept len_of h chars stored now.values old runs,
@@ -207,8 +208,8 @@ module _ (len_of : ℕ → ℕ) (h : HasUnits len_of) (chars : List ℕ) (source
           as_long stored refl,
           own values new,
           own now.values old,
-          own stored original,
-          at_places-map,
+          own stored original_classes,
+          at_indexes-map,
           neutral_classes-source,
           marks-stored_classes,
           within,
@@ -219,11 +220,11 @@ module _ (len_of : ℕ → ℕ) (h : HasUnits len_of) (chars : List ℕ) (source
 
   pub record AreLevels (new : List ℕ) : Type 0 where
     pub even : is_per_char level_eq len_of chars new ≡ true
-    pub resolved : AreResolved source brackets levels classes (per_char 0 len_of chars new) (sequences paragraph stored levels)
+    pub resolved : AreResolved source_classes brackets levels classes (per_char 0 len_of chars new) (sequences para_level stored levels)
 
-  pub AreLevels-all : (seqs : List RunSequence) (units : List BidiClass) (unit_levels new : List ℕ) → length source ≡ length chars → unit_levels ≡ per_unit len_of chars levels
-      → filter has_places seqs ≡ sequences paragraph stored levels → AreResolvedTo seqs units → new ≡ map (λ (e : ℕ × BidiClass). implicit_level e.0 e.1) (zip unit_levels units) → AreLevels new
-  AreLevels-all seqs units unit_levels new fits levels_is sequences_are now is =
+  pub AreLevels-all : (seqs : List RunSequence) (classes : List BidiClass) (unit_levels new : List ℕ) → length source_classes ≡ length chars → unit_levels ≡ per_unit len_of chars levels
+      → filter has_places seqs ≡ sequences para_level stored levels → AreResolvedTo seqs classes → new ≡ map (λ (e : ℕ × BidiClass). implicit_level e.0 e.1) (zip unit_levels classes) → AreLevels new
+  AreLevels-all seqs classes unit_levels new fits levels_is sequences_are now is =
       let of_chars : List ℕ = map (λ (e : ℕ × BidiClass). implicit_level e.0 e.1) (zip levels now.values) in
       let long : length of_chars ≡ length chars = grind (
         arith,
@@ -234,7 +235,7 @@ module _ (len_of : ℕ → ℕ) (h : HasUnits len_of) (chars : List ℕ) (source
         length-stored_classes,
       ) in
       let whole : new ≡ per_unit len_of chars of_chars = simp (is, now.is, levels_is, zip-per_unit, map-per_unit) in
-      let resolved = AreResolved-all paragraph stored seqs sequences_are source brackets now.values of_chars now.under_way
+      let resolved = AreResolved-all para_level stored seqs sequences_are source_classes brackets now.values of_chars now.under_way
       (λ p within. grind (
         arith,
         get_or-map,
@@ -255,20 +256,20 @@ module _ (len_of : ℕ → ℕ) (h : HasUnits len_of) (chars : List ℕ) (source
 
   -- ---- what X1 to X10 leave
 
-  pub record ArePrepared (original : List BidiClass) (unit_levels : List ℕ) (out : List JoinedRuns) : Type 0 where
-    pub fits : length source ≡ length chars
-    pub original_is : original ≡ per_unit len_of chars stored
+  pub record ArePrepared (original_classes : List BidiClass) (unit_levels : List ℕ) (out : List JoinedRuns) : Type 0 where
+    pub fits : length source_classes ≡ length chars
+    pub original_is : original_classes ≡ per_unit len_of chars stored
     pub levels_is : unit_levels ≡ per_unit len_of chars levels
-    pub sequences_are : sequences_of len_of chars stored out ≡ sequences paragraph stored levels
+    pub sequences_are : sequences_of len_of chars stored out ≡ sequences para_level stored levels
     pub lines : All (λ (s : JoinedRuns). AreLines len_of chars s.runs) out
 
-  pub prepared : (original : List BidiClass) (unit_levels : List ℕ) (out : List JoinedRuns) → length source ≡ length chars → original ≡ per_unit len_of chars stored
-      → unit_levels ≡ per_unit len_of chars (explicit_levels paragraph (per_char L len_of chars original))
-      → sequences_of len_of chars (per_char L len_of chars original) out ≡ sequences paragraph (per_char L len_of chars original) (explicit_levels paragraph (per_char L len_of chars original))
-      → All (λ (s : JoinedRuns). AreLines len_of chars s.runs) out → ArePrepared original unit_levels out
-  prepared original unit_levels out fits is levels_is sequences_are lines = grind (arith, stored_read original)
+  pub prepared : (original_classes : List BidiClass) (unit_levels : List ℕ) (out : List JoinedRuns) → length source_classes ≡ length chars → original_classes ≡ per_unit len_of chars stored
+      → unit_levels ≡ per_unit len_of chars (explicit_levels para_level (per_char L len_of chars original_classes))
+      → sequences_of len_of chars (per_char L len_of chars original_classes) out ≡ sequences para_level (per_char L len_of chars original_classes) (explicit_levels para_level (per_char L len_of chars original_classes))
+      → All (λ (s : JoinedRuns). AreLines len_of chars s.runs) out → ArePrepared original_classes unit_levels out
+  prepared original_classes unit_levels out fits is levels_is sequences_are lines = grind (arith, stored_read original_classes)
 
-  module _ (original : List BidiClass) (unit_levels : List ℕ) (links : RunLinks) (runs : List (ℕ × ℕ)) (ready : ArePrepared original unit_levels (linked_sequences links runs)) where
+  module _ (original_classes : List BidiClass) (unit_levels : List ℕ) (links : RunLinks) (runs : List (ℕ × ℕ)) (ready : ArePrepared original_classes unit_levels (linked_sequences links runs)) where
     -- the sequences that begin before the run at r
     abbrev pub resolved_before : ℕ → List RunSequence
     resolved_before r = map (characters_of len_of chars stored) (sequences_before links runs r)
@@ -282,7 +283,7 @@ module _ (len_of : ℕ → ℕ) (h : HasUnits len_of) (chars : List ℕ) (source
       all_are = simp (part.is, map-append, is)
 
       pub prepared-next : is_l_or_r s.sos ≡ true
-          → IsNext source brackets stored levels classes (map (characters_of len_of chars stored) (sequences_before links runs r)) (characters_of len_of chars stored s)
+          → IsNext source_classes brackets stored levels classes (map (characters_of len_of chars stored) (sequences_before links runs r)) (characters_of len_of chars stored s)
       prepared-next side =
           let k : ℕ = length (resolved_before r) in
           let m : RunSequence = characters_of len_of chars stored s in
@@ -291,7 +292,7 @@ module _ (len_of : ℕ → ℕ) (h : HasUnits len_of) (chars : List ℕ) (source
           let at : get_or seqs k m ≡ m = ap (λ (qs : List RunSequence). get_or qs k m) all_are ∙ get_or-append_seam (resolved_before r) m rest m in
           let first : take k seqs ≡ resolved_before r = ap (take k) all_are ∙ take-append_seam (resolved_before r) (m ∷ rest) in
           let low : k < length seqs = omega (arith, ap length all_are, length-append (resolved_before r) (m ∷ rest)) in
-          rw (first, at) at (IsNext-at paragraph stored seqs ready.sequences_are source brackets k m low (ap (λ (q : RunSequence). is_l_or_r q.sos) at ∙ side))
+          rw (first, at) at (IsNext-at para_level stored seqs ready.sequences_are source_classes brackets k m low (ap (λ (q : RunSequence). is_l_or_r q.sos) at ∙ side))
 
       pub prepared-lines : AreLines len_of chars s.runs
       prepared-lines =
@@ -308,19 +309,19 @@ module _ (len_of : ℕ → ℕ) (h : HasUnits len_of) (chars : List ℕ) (source
     prepared-same r other = ap (map (characters_of len_of chars stored)) (sequences_before-same links runs r other)
 
     pub prepared-long : length unit_levels ≡ text_len len_of chars
-    prepared-long = simp (ready.levels_is, length-per_unit len_of chars levels (length-explicit_levels paragraph stored ∙ length-stored_classes source ∙ ready.fits))
+    prepared-long = simp (ready.levels_is, length-per_unit len_of chars levels (length-explicit_levels para_level stored ∙ length-stored_classes source_classes ∙ ready.fits))
 
-    pub prepared-low : paragraph ≤ 125 → All (λ (n : ℕ). n ≤ 125) unit_levels
+    pub prepared-low : para_level ≤ 125 → All (λ (n : ℕ). n ≤ 125) unit_levels
     prepared-low fits =
         rw ready.levels_is (All-per_unit (λ (n : ℕ). n ≤ 125) len_of chars levels
-        (λ k d within. grind (arith, get_or_default levels k 0 d, explicit_levels-IsExplicitIn paragraph stored k, length-explicit_levels)))
+        (λ k d within. grind (arith, get_or_default levels k 0 d, explicit_levels-IsExplicitIn para_level stored k, length-explicit_levels)))
 
-    pub AreLevels-from : (r : ℕ) (units : List BidiClass) (new : List ℕ) → r ≡ length runs
-        → AreResolvedTo (map (characters_of len_of chars stored) (sequences_before links runs r)) units
-        → new ≡ map (λ (e : ℕ × BidiClass). implicit_level e.0 e.1) (zip unit_levels units) → AreLevels new
+    pub AreLevels-from : (r : ℕ) (classes : List BidiClass) (new : List ℕ) → r ≡ length runs
+        → AreResolvedTo (map (characters_of len_of chars stored) (sequences_before links runs r)) classes
+        → new ≡ map (λ (e : ℕ × BidiClass). implicit_level e.0 e.1) (zip unit_levels classes) → AreLevels new
     unfolding linked_sequences
-    AreLevels-from r units new all now is =
-        AreLevels-all (map (characters_of len_of chars stored) (sequences_before links runs r)) units unit_levels new ready.fits ready.levels_is
+    AreLevels-from r classes new all now is =
+        AreLevels-all (map (characters_of len_of chars stored) (sequences_before links runs r)) classes unit_levels new ready.fits ready.levels_is
         (ap (λ (k : ℕ). filter has_places (map (characters_of len_of chars stored) (sequences_before links runs k))) all ∙ ready.sequences_are) now is
 
 -- the runs that were linked are all of a list

@@ -1,19 +1,19 @@
-pub mod AsciiBlocks
-pub mod ClassSets
-pub mod FilledUnits
+mod AsciiBlocks
+mod ClassSets
+mod FilledUnits
 pub mod FlagsLemmas
-pub mod FlatPasses
-pub mod IdleClasses
-pub mod LevelPasses
-pub mod LowBlocks
-pub mod NumbersAfterL
-pub mod OneLevel
-pub mod ParagraphLaws
-pub mod PutUnits
-pub mod SequenceUnits
-pub mod SequencesInPlace
-pub mod SettledSequences
-pub mod Skimmed
-pub mod TextRead
-pub mod Undecided
-pub mod WalkSteps
+mod FlatPasses
+mod IdleClasses
+mod LevelPasses
+mod LowBlocks
+mod NumbersAfterL
+mod OneLevel
+mod ParagraphLaws
+mod PutUnits
+mod SequenceUnits
+mod SequencesInPlace
+mod KnownSequenceLevels
+mod Skimmed
+mod TextRead
+mod Undecided
+mod WalkSteps

@@ -23,7 +23,7 @@ module _ (source : Source) (block : List ℕ) (start : ℕ) (sought : ClassSet) 
     own : class_at (set new (start + i) class) (start + i) ≡ class
     own = get_or-set_same new (start + i) class L within
 
-    -- one more is written, be it idle or not
+    -- one more is written, whether or not the pass stops at it
     pub written-more : (k : ℕ) → k ≤ i → class_at (set new (start + i) class) (start + k) ≡ source.class_of (get_or block k 0)
     written-more k le = elim (cases_eq k i) [
       | inl same ↦ cc (own, same, is)

@@ -9,7 +9,7 @@ use Rattle.bidi_laws.proofs.ContextLemmas.{list_all-in_context, list_all-mapped}
 use Rattle.bidi_laws.proofs.ResolvedLemmas.{length-weak_classes}
 use Rattle.bidi_laws.proofs.WeakLemmas.{weak_classes-resolved}
 use Rattle.bidi_paragraphs.proofs.OneLevel.{GiveLevels, all_go, length-neutral_classes, nearest-passes, neutral_classes-is, same_levels}
-use Rattle.bidi_paragraphs.specs.Settled.{is_r_al_or_an, number_as_l, raises}
+use Rattle.bidi_paragraphs.specs.KnownLevels.{is_r_al_or_an, number_as_l, raises}
 
 -- no class but L, European numbers and neutrals
 abbrev may_be_l : BidiClass → Bool
@@ -71,11 +71,11 @@ as_l-raises : (c : BidiClass) → may_be_l c ≡ true → not (raises L (number_
 unfolding raises
 as_l-raises c h = grind arith
 
-pub GiveLevels-numbers : (level : ℕ) (sos eos : BidiClass) (source : List BidiClass) (brackets : List (Option BidiMatchedOpeningBracket)) (classes : List BidiClass) → L ≡ direction_of level → sos ≡ L
-    → list_all is_kept classes ≡ true → list_all (λ c. not (is_r_al_or_an c)) classes ≡ true → GiveLevels level sos eos source brackets classes (map number_as_l classes)
-GiveLevels-numbers level sos eos source brackets classes own before kept all =
-    rw before (same_levels level (map number_as_l classes) (neutral_classes level L eos source brackets (weak_classes L classes))
+pub GiveLevels-numbers : (level : ℕ) (sos eos : BidiClass) (source_classes : List BidiClass) (brackets : List (Option BidiMatchedOpeningBracket)) (classes : List BidiClass) → L ≡ direction_of level → sos ≡ L
+    → list_all is_kept classes ≡ true → list_all (λ c. not (is_r_al_or_an c)) classes ≡ true → GiveLevels level sos eos source_classes brackets classes (map number_as_l classes)
+GiveLevels-numbers level sos eos source_classes brackets classes own before kept all =
+    rw before (same_levels level (map number_as_l classes) (neutral_classes level L eos source_classes brackets (weak_classes L classes))
     (rw (← own) (list_all-mapped number_as_l may_be_l (λ c. not (raises L c)) as_l-raises classes all))
-    (rw (← own) (neutral_classes-is L refl L eos (inl refl) level source brackets (weak_classes L classes) own
+    (rw (← own) (neutral_classes-is L refl L eos (inl refl) level source_classes brackets (weak_classes L classes) own
     (all_go L refl (weak_classes L classes) (weak_classes-resolved L classes refl kept) (l-weak classes all))))
-    (length-map classes number_as_l ∙ sym (length-neutral_classes level L eos source brackets (weak_classes L classes) ∙ length-weak_classes L classes)))
+    (length-map classes number_as_l ∙ sym (length-neutral_classes level L eos source_classes brackets (weak_classes L classes) ∙ length-weak_classes L classes)))

@@ -1,7 +1,7 @@
 -- A list of classes to which W1 to N2 give one direction: its levels can be read off before W1.
 use Rattle.bidi_base.proofs.Common.{◌≡◌, ℕ, Bool, true, false, not, cond, if◌then◌else◌, List, [], ◌∷◌, ◌⊎◌, inl, inr, length, take, reverse, filter_map, find, Option, Some, None, option_map}
 use Rattle.bidi_base.proofs.Common.{refl, sym, ap, ◌∙◌, arith, cases_Bool, and_parts, and_from, or_cases, list_all, list_any, in_context, as_direction, is_en, is_et, is_kept, is_l_or_r}
-use Rattle.bidi_base.proofs.Common.{is_neutral, is_nsm, is_weak_resolved, same_class, carried, nearest, nearest_is, w1, w2, w3, w4, w5, w6, w1_rule, w2_rule, w3_rule, w4_rule, w5_rule, w6_rule}
+use Rattle.bidi_base.proofs.Common.{is_ni, is_nsm, is_weak_resolved, same_class, carried, nearest, nearest_is, w1, w2, w3, w4, w5, w6, w1_rule, w2_rule, w3_rule, w4_rule, w5_rule, w6_rule}
 use Rattle.bidi_base.proofs.Common.{w7_rule, weak_classes, direction_of, nearest_direction, pair_direction, n0, n1_rule, neutral_classes, implicit_level, implicit_levels, bracket_pairs}
 use Rattle.bidi_base.specs.declared.char_data.BidiClass.{BidiClass}
 use Rattle.bidi_base.specs.declared.char_data.BidiClass.TheVariants.{L, EN, ES, ET, AN, CS, NSM, R}
@@ -13,7 +13,7 @@ use Rattle.bidi_laws.proofs.NeutralLemmas.{n0-keeps}
 use Rattle.bidi_laws.proofs.OneDirection.{goes_with, itself, either_way}
 use Rattle.bidi_laws.proofs.ResolvedLemmas.{length-n0, length-weak_classes}
 use Rattle.bidi_laws.proofs.WeakLemmas.{weak_classes-resolved}
-use Rattle.bidi_paragraphs.specs.Settled.{raises}
+use Rattle.bidi_paragraphs.specs.KnownLevels.{raises}
 use Rattle.bidi_laws.proofs.KeepsToLemmas.{list_all-around}
 
 same-is : (a b : BidiClass) → is_l_or_r b ≡ true → same_class a b ≡ true → a ≡ b
@@ -51,7 +51,7 @@ module _ (e : BidiClass) (side : is_l_or_r e ≡ true) where
   stays-w1 sos s before NSM after h k = carried-stays (nearest (λ c. not (is_nsm c)) before sos) (nearest-passes stays (λ c. not (is_nsm c)) before sos h s)
   stays-w1 sos s before c after h k = k
 
-  -- behind a class that is no mark, none takes sos
+  -- after a class that is no mark, none takes sos
   nearest-found : (xs : List BidiClass) (d : BidiClass) → list_all stays xs ≡ true → list_any (λ c. not (is_nsm c)) xs ≡ true → stays (nearest (λ c. not (is_nsm c)) xs d) ≡ true
   nearest-found [] d h k = absurd (cc k)
   nearest-found (x ∷ xs) d h k = grind (arith, cases_Bool (is_nsm x), and_parts, nearest-found xs d)
@@ -129,13 +129,13 @@ module _ (e : BidiClass) (side : is_l_or_r e ≡ true) where
 
   -- ---- N0 to N2
 
-  none_or_this : (c : BidiClass) → goes_with e c ≡ true → ((c ≡ e) × (as_direction c ≡ Some e) × (is_neutral c ≡ false)) ⊎ ((as_direction c ≡ None) × (is_neutral c ≡ true))
+  none_or_this : (c : BidiClass) → goes_with e c ≡ true → ((c ≡ e) × (as_direction c ≡ Some e) × (is_ni c ≡ false)) ⊎ ((as_direction c ≡ None) × (is_ni c ≡ true))
   none_or_this c h = by e c side h
     where
-      neutral_only : (c : BidiClass) → is_neutral c ≡ true → (as_direction c ≡ None) × (is_neutral c ≡ true)
+      neutral_only : (c : BidiClass) → is_ni c ≡ true → (as_direction c ≡ None) × (is_ni c ≡ true)
       neutral_only c h = (grind arith, h)
 
-      by : (e c : BidiClass) → is_l_or_r e ≡ true → goes_with e c ≡ true → ((c ≡ e) × (as_direction c ≡ Some e) × (is_neutral c ≡ false)) ⊎ ((as_direction c ≡ None) × (is_neutral c ≡ true))
+      by : (e c : BidiClass) → is_l_or_r e ≡ true → goes_with e c ≡ true → ((c ≡ e) × (as_direction c ≡ Some e) × (is_ni c ≡ false)) ⊎ ((as_direction c ≡ None) × (is_ni c ≡ true))
       by L L s h = inl (refl, refl, refl)
       by L c s h = inr (neutral_only c h)
       by R R s h = inl (refl, refl, refl)
@@ -194,23 +194,23 @@ module _ (e : BidiClass) (side : is_l_or_r e ≡ true) where
       | inr none ↦ simp none.1 (simp (common-is before after h l) (itself e side))
     ]
 
-    pub neutral_classes-is : (level : ℕ) (source : List BidiClass) (brackets : List (Option BidiMatchedOpeningBracket)) (classes : List BidiClass)
-        → e ≡ direction_of level → list_all (goes_with e) classes ≡ true → list_all (same_class e) (neutral_classes level sos eos source brackets classes) ≡ true
+    pub neutral_classes-is : (level : ℕ) (source_classes : List BidiClass) (brackets : List (Option BidiMatchedOpeningBracket)) (classes : List BidiClass)
+        → e ≡ direction_of level → list_all (goes_with e) classes ≡ true → list_all (same_class e) (neutral_classes level sos eos source_classes brackets classes) ≡ true
     unfolding neutral_classes
-    neutral_classes-is level source brackets classes is h =
-        rw (← is) (list_all-around (n1_rule e sos eos) (goes_with e) (same_class e) n1_rule-is [] (n0 e sos source (bracket_pairs classes brackets) classes) refl
-        (n0-keeps (goes_with e) e sos source (λ cs pair d all is. ap (goes_with e) (pair_direction-is sos cs pair d all is) ∙ grind arith) (bracket_pairs classes brackets) classes h))
+    neutral_classes-is level source_classes brackets classes is h =
+        rw (← is) (list_all-around (n1_rule e sos eos) (goes_with e) (same_class e) n1_rule-is [] (n0 e sos source_classes (bracket_pairs classes brackets) classes) refl
+        (n0-keeps (goes_with e) e sos source_classes (λ cs pair d all is. ap (goes_with e) (pair_direction-is sos cs pair d all is) ∙ grind arith) (bracket_pairs classes brackets) classes h))
 
 -- ---- I1 and I2
 
 -- I1 and I2 give some new classes the levels of the old ones after N2
 abbrev pub GiveLevels : ℕ → BidiClass → BidiClass → List BidiClass → List (Option BidiMatchedOpeningBracket) → List BidiClass → List BidiClass → Type 0
-GiveLevels level sos eos source brackets old new =
-    implicit_levels level new ≡ implicit_levels level (neutral_classes level sos eos source brackets (weak_classes sos old))
+GiveLevels level sos eos source_classes brackets old new =
+    implicit_levels level new ≡ implicit_levels level (neutral_classes level sos eos source_classes brackets (weak_classes sos old))
 
 -- the levels of some classes are those after N2
 abbrev pub KeepLevels : ℕ → BidiClass → BidiClass → List BidiClass → List (Option BidiMatchedOpeningBracket) → List BidiClass → Type 0
-KeepLevels level sos eos source brackets classes = GiveLevels level sos eos source brackets classes classes
+KeepLevels level sos eos source_classes brackets classes = GiveLevels level sos eos source_classes brackets classes classes
 
 not_raised : (level : ℕ) (c : BidiClass) → not (raises (direction_of level) c) ≡ true → implicit_level level c ≡ level
 unfolding raises
@@ -227,19 +227,19 @@ same_levels level (x ∷ xs) (y ∷ ys) h k long =
     grind (arith, and_parts, not_raised level x, same-raised level y, same_levels level xs ys)
 same_levels level _ _ h k long = absurd (omega (arith, long))
 
-pub length-neutral_classes : (level : ℕ) (sos eos : BidiClass) (source : List BidiClass) (brackets : List (Option BidiMatchedOpeningBracket)) (classes : List BidiClass)
-    → length (neutral_classes level sos eos source brackets classes) ≡ length classes
+pub length-neutral_classes : (level : ℕ) (sos eos : BidiClass) (source_classes : List BidiClass) (brackets : List (Option BidiMatchedOpeningBracket)) (classes : List BidiClass)
+    → length (neutral_classes level sos eos source_classes brackets classes) ≡ length classes
 unfolding neutral_classes
-length-neutral_classes level sos eos source brackets classes = grind (arith, length-in_context, length-n0)
+length-neutral_classes level sos eos source_classes brackets classes = grind (arith, length-in_context, length-n0)
 
-pub KeepLevels-one : (level : ℕ) (sos eos : BidiClass) (source : List BidiClass) (brackets : List (Option BidiMatchedOpeningBracket)) (classes : List BidiClass)
+pub KeepLevels-one : (level : ℕ) (sos eos : BidiClass) (source_classes : List BidiClass) (brackets : List (Option BidiMatchedOpeningBracket)) (classes : List BidiClass)
     → is_l_or_r sos ≡ true → (sos ≡ direction_of level) ⊎ ((eos ≡ direction_of level) × (begins_unmarked classes ≡ true))
-    → list_all is_kept classes ≡ true → list_all (λ c. not (raises (direction_of level) c)) classes ≡ true → KeepLevels level sos eos source brackets classes
-KeepLevels-one level sos eos source brackets classes begins sides kept all =
-    same_levels level classes (neutral_classes level sos eos source brackets (weak_classes sos classes)) all
-    (neutral_classes-is e side sos eos one level source brackets (weak_classes sos classes) refl
+    → list_all is_kept classes ≡ true → list_all (λ c. not (raises (direction_of level) c)) classes ≡ true → KeepLevels level sos eos source_classes brackets classes
+KeepLevels-one level sos eos source_classes brackets classes begins sides kept all =
+    same_levels level classes (neutral_classes level sos eos source_classes brackets (weak_classes sos classes)) all
+    (neutral_classes-is e side sos eos one level source_classes brackets (weak_classes sos classes) refl
     (all_go e side (weak_classes sos classes) (weak_classes-resolved sos classes begins kept) (stays-weak e side sos classes after_w1)))
-    (sym (length-neutral_classes level sos eos source brackets (weak_classes sos classes) ∙ length-weak_classes sos classes))
+    (sym (length-neutral_classes level sos eos source_classes brackets (weak_classes sos classes) ∙ length-weak_classes sos classes))
   where
     e : BidiClass
     e = direction_of level

@@ -11,7 +11,7 @@ use Rattle.bidi_laws.proofs.CrLfLemmas.{rule-AreParagraphRanges}
 use Rattle.bidi_laws.proofs.ParagraphsLemmas.{length-text_classes, pieces_by-joined}
 use Rattle.bidi_text.proofs.PerCharTests.{class_test}
 
-module _ (source : Source) (base : Option ℕ) (rule : Option SplitRule) (len_of : ℕ → ℕ) (some : HasUnits len_of) (chars : List ℕ) where
+module _ (source : Source) (base_level : Option ℕ) (rule : Option SplitRule) (len_of : ℕ → ℕ) (some : HasUnits len_of) (chars : List ℕ) where
   one_range : (ranges : List (ℕ × ℕ)) → ranges ≡ ranges_from len_of 0 (pieces_by rule source chars) → rule ≡ None → ranges ≡ (0, text_len len_of chars) ∷ []
   one_range ranges e is = grind arith
 
@@ -21,7 +21,7 @@ module _ (source : Source) (base : Option ℕ) (rule : Option SplitRule) (len_of
 
   pub AreParagraphs-found : (classes : List BidiClass) (ranges : List (ℕ × ℕ)) (own_levels : List ℕ)
       → classes ≡ per_unit len_of chars (text_classes source (pieces_by rule source chars)) → ranges ≡ ranges_from len_of 0 (pieces_by rule source chars)
-      → own_levels ≡ paragraph_levels source base (pieces_by rule source chars) → AreParagraphs source base rule len_of chars classes ranges own_levels
+      → own_levels ≡ paragraph_levels source base_level (pieces_by rule source chars) → AreParagraphs source base_level rule len_of chars classes ranges own_levels
   AreParagraphs-found classes ranges own_levels of_classes of_ranges of_levels = record {
     classes = of_classes;
     ranges = of_ranges;

@@ -20,7 +20,7 @@ module _ {X : Type 0} (range : Range ℕ) (x : X) (xs : List X) (order : range.s
       simp (take-take range.start place xs (omega arith), simp cut at (drop-take range.end (place - range.end) xs))
       (simp whole at (take-written (range.end - range.start) (place - range.end) (drop range.end xs) (omega arith)))
 
--- units behind stay
+-- units after stay
 pub filled-append : {X : Type 0} (range : Range ℕ) (x : X) (xs ys : List X) → range.start ≤ range.end → range.end ≤ length xs → filled range x (xs ++ ys) ≡ filled range x xs ++ ys
 filled-append {X} range x xs ys order fits =
     simp (take-append-le range.start xs ys (omega arith), drop-append-le range.end xs ys fits, append_assoc)

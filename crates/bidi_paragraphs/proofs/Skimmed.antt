@@ -7,12 +7,12 @@ use Rattle.std.proofs.Math.Nat.{add_assoc}
 use Rattle.std.proofs.Math.Seq.{take-suc-set}
 use Rattle.bidi_base.specs.declared.char_data.BidiClass.{BidiClass}
 use Rattle.bidi_base.specs.declared.char_data.BidiClass.TheVariants.{L}
-use Rattle.bidi_base.proofs.PlaceLemmas.{text_len-subrange}
+use Rattle.bidi_base.proofs.UnitIndexLemmas.{text_len-subrange}
 use Rattle.bidi_base.proofs.PerUnit.{per_unit-push, per_unit-append}
 use Rattle.bidi_base.proofs.TextLemmas.{cut_at, HasUnits, char_at-append, char_at-end, char_index-append, is_boundary-append, is_boundary-le}
-use Rattle.bidi_paragraphs.specs.declared.first_walk.stop.Stop.{Stop}
+use Rattle.bidi_paragraphs.specs.declared.first_pass.stop.Stop.{Stop}
 use Rattle.bidi_paragraphs.specs.declared.paragraph_flags.ParagraphFlags.{ParagraphFlags}
-use Rattle.bidi_paragraphs.specs.FirstWalk.{ahead, AreWritten, IsSkimmed, IsStop}
+use Rattle.bidi_paragraphs.specs.FirstPass.{ahead, AreWritten, IsSkimmed, IsStop}
 use Rattle.bidi_paragraphs.specs.ParagraphFlags.{with_class, with_classes}
 use Rattle.bidi_paragraphs.proofs.FlagsLemmas.{with_classes-push, with_classes-append, flags_to}
 
@@ -84,9 +84,9 @@ pub fewer : (source : Source) (len_of : ℕ → ℕ) (more stop_classes : BidiCl
     → MatchOption r (IsSkimmed source len_of more coming from to old new was is) (λ stop. IsStop source len_of more coming from stop old new was is)
     → MatchOption r (IsSkimmed source len_of stop_classes coming from to old new was is) (λ stop. IsStop source len_of stop_classes coming from stop old new was is)
 fewer source len_of more stop_classes less coming from to old new was is None h =
-    record { read = h.read; rest = h.rest; joined = h.joined; idle = λ i d within. less _ (h.idle i d within); written = h.written; turns = h.turns }
+    record { read = h.read; rest = h.rest; joined = h.joined; idle = λ i d within. less _ (h.idle i d within); written = h.written; own_flags = h.own_flags }
 fewer source len_of more stop_classes less coming from to old new was is (Some stop) h =
-    record { read = h.read; rest = h.rest; joined = h.joined; idle = λ i d within. less _ (h.idle i d within); begins = h.begins; long = h.long; class = h.class; written = h.written; turns = h.turns }
+    record { read = h.read; rest = h.rest; joined = h.joined; idle = λ i d within. less _ (h.idle i d within); begins = h.begins; long = h.long; class = h.class; written = h.written; own_flags = h.own_flags }
 
 module _ (source : Source) (len_of : ℕ → ℕ) (stop_classes : BidiClass → Bool) where
   -- ---- one character, and some characters, more
@@ -111,14 +111,14 @@ module _ (source : Source) (len_of : ℕ → ℕ) (stop_classes : BidiClass → 
   IsStop-within coming from stop old new was is h = grind (arith, sum_by-append)
 
   -- the flags with those of the characters that were read, of one more, and of some more
-  pub turns-push : (was now : ParagraphFlags) (read : List ℕ) (c : ℕ) → now ≡ with_classes was (map source.class_of read)
+  pub own_flags-push : (was now : ParagraphFlags) (read : List ℕ) (c : ℕ) → now ≡ with_classes was (map source.class_of read)
       → with_class now (source.class_of c) ≡ with_classes was (map source.class_of (read ++ c ∷ []))
-  turns-push was now read c is =
+  own_flags-push was now read c is =
       ap (λ flags. with_class flags (source.class_of c)) is ∙ sym (ap (with_classes was) (map-append source.class_of read (c ∷ [])) ∙ with_classes-push was (map source.class_of read) (source.class_of c))
 
-  pub turns-join : (was now later : ParagraphFlags) (xs ys : List ℕ) → now ≡ with_classes was (map source.class_of xs)
+  pub own_flags-join : (was now later : ParagraphFlags) (xs ys : List ℕ) → now ≡ with_classes was (map source.class_of xs)
       → later ≡ with_classes now (map source.class_of ys) → later ≡ with_classes was (map source.class_of (xs ++ ys))
-  turns-join was now later xs ys is more =
+  own_flags-join was now later xs ys is more =
       more ∙ ap (λ flags. with_classes flags (map source.class_of ys)) is ∙ sym (ap (with_classes was) (map-append source.class_of xs ys) ∙ with_classes-append was (map source.class_of xs) (map source.class_of ys))
 
   -- a stop whose class is no stop class is read too
@@ -131,13 +131,13 @@ module _ (source : Source) (len_of : ℕ → ℕ) (stop_classes : BidiClass → 
     joined = h.joined ∙ sym (append_assoc h.read (stop.c ∷ []) h.rest);
     idle = All-push (λ c. stop_classes (source.class_of c) ≡ false) h.read stop.c h.idle (rw h.class at idle);
     written = rw (sym h.long) at h.written;
-    turns = ap (with_class is) h.class ∙ turns-push was is h.read stop.c h.turns;
+    own_flags = ap (with_class is) h.class ∙ own_flags-push was is h.read stop.c h.own_flags;
   }
 
   unfoldable pub IsSkimmed-start : (coming : List ℕ) (at : ℕ) (classes : List BidiClass) (flags : ParagraphFlags) → IsSkimmed source len_of stop_classes coming at at classes classes flags flags
   IsSkimmed-start coming at classes flags =
       let written : AreWritten source len_of [] at at classes classes = record { long = omega arith; classes = sym (append-nil (take at classes)) } in
-      record { read = []; rest = coming; joined = refl; idle = All-nil (λ c. stop_classes (source.class_of c) ≡ false); written = written; turns = refl }
+      record { read = []; rest = coming; joined = refl; idle = All-nil (λ c. stop_classes (source.class_of c) ≡ false); written = written; own_flags = refl }
 
   module _ (coming : List ℕ) (from at : ℕ) (old new : List BidiClass) (was now : ParagraphFlags) (h : IsSkimmed source len_of stop_classes coming from at old new was now) where
     unfoldable pub IsSkimmed-more : (c : ℕ) (rest : List ℕ) (to : ℕ) (after : List BidiClass) (later : ParagraphFlags) → h.rest ≡ c ∷ rest → stop_classes (source.class_of c) ≡ false → to ≡ at + len_of c
@@ -146,20 +146,20 @@ module _ (source : Source) (len_of : ℕ → ℕ) (stop_classes : BidiClass → 
         let joined = h.joined ∙ ap (λ cs. h.read ++ cs) next ∙ sym (append_assoc h.read (c ∷ []) rest) in
         let idle = All-push (λ c. stop_classes (source.class_of c) ≡ false) h.read c h.idle idle in
         let written = AreWritten-push h.read from at c old new after h.written (rw end at is) in
-        record { read = h.read ++ c ∷ []; rest = rest; joined = joined; idle = idle; written = rw end written; turns = sym more ∙ turns-push was now h.read c h.turns }
+        record { read = h.read ++ c ∷ []; rest = rest; joined = joined; idle = idle; written = rw end written; own_flags = sym more ∙ own_flags-push was now h.read c h.own_flags }
 
     pub IsStop-next : (stop : Stop) (rest : List ℕ) (after : List BidiClass) → h.rest ≡ stop.c ∷ rest → stop.start ≡ at → stop.class ≡ source.class_of stop.c → stop.len ≡ len_of stop.c
         → take (stop.start + len_of stop.c) after ≡ take stop.start new ++ replicate (len_of stop.c) stop.class → IsStop source len_of stop_classes coming from stop old after was now
     IsStop-next stop rest after next start class long is =
         let joined = h.joined ∙ ap (λ cs. h.read ++ cs) next in
         let written = AreWritten-push h.read from at stop.c old new after h.written (simp (start, class) at is) in
-        record { read = h.read; rest = rest; joined = joined; idle = h.idle; begins = cc start; long = long; class = class; written = rw start written; turns = h.turns }
+        record { read = h.read; rest = rest; joined = joined; idle = h.idle; begins = cc start; long = long; class = class; written = rw start written; own_flags = h.own_flags }
 
-    -- what stands from there on does not count
+    -- what is from there on does not count
     pub IsSkimmed-kept : (after : List BidiClass) → take at after ≡ take at new → IsSkimmed source len_of stop_classes coming from at old after was now
     IsSkimmed-kept after kept =
         let written : AreWritten source len_of h.read from at old after = record { long = h.written.long; classes = kept ∙ h.written.classes } in
-        record { read = h.read; rest = h.rest; joined = h.joined; idle = h.idle; written = written; turns = h.turns }
+        record { read = h.read; rest = h.rest; joined = h.joined; idle = h.idle; written = written; own_flags = h.own_flags }
 
     pub IsSkimmed-join : (to : ℕ) (after : List BidiClass) (later : ParagraphFlags)
         → IsSkimmed source len_of stop_classes h.rest at to new after now later → IsSkimmed source len_of stop_classes coming from to old after was later
@@ -167,7 +167,7 @@ module _ (source : Source) (len_of : ℕ → ℕ) (stop_classes : BidiClass → 
         let joined = h.joined ∙ ap (λ cs. h.read ++ cs) k.joined ∙ sym (append_assoc h.read k.read k.rest) in
         let idle = All-append (λ c. stop_classes (source.class_of c) ≡ false) h.read k.read h.idle k.idle in
         let written = AreWritten-join h.read k.read from at to old new after h.written k.written in
-        record { read = h.read ++ k.read; rest = k.rest; joined = joined; idle = idle; written = written; turns = turns-join was now later h.read k.read h.turns k.turns }
+        record { read = h.read ++ k.read; rest = k.rest; joined = joined; idle = idle; written = written; own_flags = own_flags-join was now later h.read k.read h.own_flags k.own_flags }
 
     pub IsStop-join : (stop : Stop) (after : List BidiClass) (later : ParagraphFlags)
         → IsStop source len_of stop_classes h.rest at stop new after now later → IsStop source len_of stop_classes coming from stop old after was later
@@ -181,7 +181,7 @@ module _ (source : Source) (len_of : ℕ → ℕ) (stop_classes : BidiClass → 
           sum_by-append len_of h.read k.read,
         ) in
         let written = AreWritten-join h.read (k.read ++ stop.c ∷ []) from at (stop.start + len_of stop.c) old new after h.written k.written in
-        record { read = h.read ++ k.read; rest = k.rest; joined = joined; idle = idle; begins = begins; long = k.long; class = k.class; written = rw append_assoc written; turns = turns-join was now later h.read k.read h.turns k.turns }
+        record { read = h.read ++ k.read; rest = k.rest; joined = joined; idle = idle; begins = begins; long = k.long; class = k.class; written = rw append_assoc written; own_flags = own_flags-join was now later h.read k.read h.own_flags k.own_flags }
 
     -- what has not come yet is ahead
     module _ (units : HasUnits len_of) (chars : List ℕ) (begins : is_boundary len_of chars from ≡ true) (is_ahead : coming ≡ ahead len_of chars from) where
@@ -310,7 +310,7 @@ module _ (source : Source) (len_of : ℕ → ℕ) (stop_classes : BidiClass → 
       let before = IsSkimmed-part n (omega (arith, here)) classes idle in
       IsStop-char_there source len_of stop_classes _ from (at + n) old new was _ before units chars begins refl (get_or block n 0) 1 (there n here) refl (omega (arith, fits, here)) (classes n here (omega arith))
 
--- ---- the same of ASCII characters, all of them idle
+-- ---- the same of ASCII characters, none of them of a stop class
 
 module _ (source : Source) (len_of : ℕ → ℕ) (stop_classes : BidiClass → Bool) (units : HasUnits len_of) (chars : List ℕ) (from at : ℕ)
     (begins : is_boundary len_of chars from ≡ true) (old new : List BidiClass)
@@ -356,7 +356,7 @@ module _ (len_of : ℕ → ℕ) (units : HasUnits len_of) (chars : List ℕ) (st
           joined = cc (block_first, append_assoc k.read k.rest behind, k.joined);
           idle = k.idle;
           written = rw (← block-long) (AreWritten-part source len_of stop_classes k.read start (text_len len_of block) classes part written tail inside room k.written);
-          turns = k.turns;
+          own_flags = k.own_flags;
         }
 
         pub IsStop-block : (stop : Stop) → IsStop source len_of stop_classes block 0 stop part written was is
@@ -379,5 +379,5 @@ module _ (len_of : ℕ → ℕ) (units : HasUnits len_of) (chars : List ℕ) (st
               long = k.long;
               class = k.class;
               written = rw (add_assoc start stop.start (len_of stop.c)) (AreWritten-part source len_of stop_classes (k.read ++ stop.c ∷ []) start (stop.start + len_of stop.c) classes part written tail inside fits k.written);
-              turns = k.turns;
+              own_flags = k.own_flags;
             }

@@ -1,7 +1,7 @@
 -- The open isolates of an FSI that no character decided yet: what they are once some characters were read, and after one more.
 use Rattle.bidi_base.proofs.Common.{◌≡◌, ℕ, zero, suc, ◌+◌, ◌-◌, ◌<◌, ◌≤◌, Bool, true, false, ◌&&◌, ◌||◌, cond, List, [], ◌∷◌, ◌++◌, length, take, map, Option, Some, None, refl, ap, ◌∙◌, arith}
 use Rattle.bidi_base.proofs.Common.{length-append, get_or-set_same, get_or-set_other, All, option_or, option_to_list, get_or-append, add-zero, get_or-append_seam, Range, cond_both, length-take-le}
-use Rattle.bidi_base.proofs.Common.{length-map, map-append, get_or-map, option_map, common_steps, All-nil, All-cons, All-head, All-tail, All-take, is_strong, is_initiator, is_pdi, stored_classes}
+use Rattle.bidi_base.proofs.Common.{length-map, map-append, get_or-map, option_map, common_steps, All-nil, All-cons, All-head, All-tail, All-take, is_strong, is_isolate_initiator, is_pdi, stored_classes}
 use Rattle.bidi_base.proofs.Common.{class_at, innermost, outer, opened_by, decided_by, is_fsi, append-nil, All-push}
 use Rattle.std.specs.Option.{is_some}
 use Rattle.bidi_base.specs.declared.char_data.BidiClass.{BidiClass}
@@ -9,8 +9,8 @@ use Rattle.bidi_laws.proofs.ReadingLemmas.{outer-take, innermost-All}
 use Rattle.bidi_laws.proofs.StoredSteps.{innermost-map, onto_later, resolved-strong, open_initiators, open_initiators-push}
 use Rattle.bidi_laws.proofs.StoredSteps.{open_initiators-below, met_by, length-met_by, stored_classes-push, length-stored_classes}
 use Rattle.bidi_paragraphs.proofs.ClassSets.{apart_eqb}
-use Rattle.bidi_paragraphs.specs.FirstWalk.{at_depth, waiting, depth_after, undecided_after, deciding_after, classes_after}
-use Rattle.bidi_paragraphs.specs.declared.first_walk.paragraph_state.Undecided.{Undecided}
+use Rattle.bidi_paragraphs.specs.FirstPass.{at_depth, waiting, depth_after, undecided_after, deciding_after, classes_after}
+use Rattle.bidi_paragraphs.specs.declared.first_pass.paragraph_state.Undecided.{Undecided}
 
 -- of the open initiators those that are FSI by their stored class so far, where k isolates stand around them
 abbrev pub undecided_from : (ℕ → Range ℕ) → ℕ → List BidiClass → List ℕ → List Undecided
@@ -179,12 +179,12 @@ module _ (units : ℕ → Range ℕ) (cs : List BidiClass) (c : BidiClass) where
   closes None e = simp (innermost-none qs e)
   closes (Some q) e = grind (arith, waiting-is (Some q) e, before_cut q e, append-nil, outer-push (under q e) (fsi_at q))
 
-  at_pdi : is_initiator c ≡ false → is_pdi c ≡ true → undecided_from units 0 (stored_classes (cs ++ c ∷ [])) (open_initiators (cs ++ c ∷ [])) ≡ closed true
+  at_pdi : is_isolate_initiator c ≡ false → is_pdi c ≡ true → undecided_from units 0 (stored_classes (cs ++ c ∷ [])) (open_initiators (cs ++ c ∷ [])) ≡ closed true
   at_pdi init pdi =
       let outer_below : All (λ (q : ℕ). q < length cs) (outer qs) = rw outer-take at (All-take (λ (q : ℕ). q < length cs) (length qs - 1) qs (open_initiators-below cs)) in
       grind (arith, pushed, init, pdi, appended stored (length-stored_classes cs) (outer qs) outer_below, closes (innermost qs) refl)
 
-  at_strong : is_initiator c ≡ false → is_pdi c ≡ false → is_strong c ≡ true → undecided_from units 0 (stored_classes (cs ++ c ∷ [])) (open_initiators (cs ++ c ∷ [])) ≡ closed true
+  at_strong : is_isolate_initiator c ≡ false → is_pdi c ≡ false → is_strong c ≡ true → undecided_from units 0 (stored_classes (cs ++ c ∷ [])) (open_initiators (cs ++ c ∷ [])) ≡ closed true
   at_strong init pdi strong =
       grind (
         arith,
@@ -281,6 +281,6 @@ pub counted_after : (class : BidiClass) (range : Range ℕ) (d : ℕ) (us : List
     → All (λ (u : Undecided). 0 < u.depth) (undecided_after class range d us)
 counted_after class range d us h =
     let P : Undecided → Type 0 = λ u. 0 < u.depth in
-    cond_both (is_initiator class) _ _ (All P)
+    cond_both (is_isolate_initiator class) _ _ (All P)
     (λ _. cond_both (is_fsi class) _ _ (All P) (λ _. All-push P us (record { units = range; depth = d + 1 }) h (omega arith)) (λ _. h))
     (λ _. cond_both ((is_strong class || is_pdi class) && is_some (waiting d us)) _ _ (All P) (λ _. rw outer-take at (All-take P (length us - 1) us h)) (λ _. h))

@@ -1,7 +1,8 @@
 pub mod ClassSet
-pub mod FirstWalk
+pub mod FirstPass
+pub mod InText
 pub mod Paragraph
 pub mod ParagraphFlags
 pub mod ParagraphInfo
-pub mod Settled
-pub mod Written
+pub mod KnownLevels
+pub mod Updated

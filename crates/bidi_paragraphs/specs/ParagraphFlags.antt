@@ -1,4 +1,4 @@
--- What the later steps ask of a paragraph's classes.
+-- The classes of a paragraph that later steps need to know.
 use Rattle.std.specs.Prelude.{ℕ, ◌+◌, ◌-◌, ◌^◌, Bool, true, false, not, ◌&&◌, if◌then◌else◌, List, [], ◌∷◌, map}
 use Rattle.bidi_base.specs.declared.char_data.BidiClass.{BidiClass}
 use Rattle.bidi_base.specs.declared.char_data.BidiClass.TheVariants.{ES, ET, CS, NSM, B, S, WS, ON, PDI}
@@ -8,7 +8,7 @@ use Rattle.bidi_paragraphs.specs.ClassSet.{has, with, both, either}
 use Rattle.bidi_paragraphs.specs.declared.class_set.ClassSet.{ClassSet}
 use Rattle.bidi_paragraphs.specs.declared.paragraph_flags.ParagraphFlags.{ParagraphFlags}
 
--- the classes that the later steps tell apart in a paragraph
+-- the classes that later steps tell apart
 abbrev pub is_counted : BidiClass → Bool
 is_counted ES = false
 is_counted ET = false
@@ -43,10 +43,10 @@ abbrev pub with_classes : ParagraphFlags → List BidiClass → ParagraphFlags
 with_classes flags [] = flags
 with_classes flags (c ∷ classes) = with_classes (with_class flags c) classes
 
--- the flags of a paragraph, by its source classes: those of them that are counted
+-- the flags of a paragraph: the counted ones of its source classes
 abbrev pub flags_of : List BidiClass → ParagraphFlags
 flags_of classes = with_classes (record { seen = record { bits = 0 } }) classes
 
--- those of the paragraphs of a text, given by their characters
+-- the flags of the paragraphs of a text, given by their characters
 unfoldable pub paragraph_flags : Source → List (List ℕ) → List ParagraphFlags
 paragraph_flags source pieces = map (λ piece. flags_of (map source.class_of piece)) pieces

@@ -1,4 +1,4 @@
--- What the accessors of `ParagraphInfo` show.
+-- What the accessors of `ParagraphInfo` return.
 use Rattle.std.specs.Prelude.{ℕ, List, map}
 use Rattle.std.specs.declared.ops.Range.{Range}
 use Rattle.bidi_paragraphs.specs.declared.paragraph_info.ParagraphInfo.{ParagraphInfo}

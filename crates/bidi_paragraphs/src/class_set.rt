@@ -1,5 +1,5 @@
 //! Sets of classes.
-ghost use Rattle.std.specs.Prelude.{◌≡◌, ◌<◌, ◌^◌, true, false, not, ◌&&◌, ◌||◌};
+ghost use Rattle.std.specs.Prelude.{◌≡◌, ◌<◌, ◌^◌, not, ◌&&◌, ◌||◌};
 ghost use Rattle.bidi_base.specs.declared.char_data.BidiClass.{BidiClass};
 ghost use Rattle.bidi_paragraphs.specs.ClassSet.{has, with, both, either, any_of};
 
@@ -8,7 +8,7 @@ use bidi_base::char_data::BidiClass;
 /// A set of classes.
 #[derive(Clone, Copy, PartialEq, Debug)]
 pub(crate) struct ClassSet {
-    // Each bit tells whether the class of that number is in the set.
+    // Each bit says whether the class of that number is in the set.
     bits: u32,
 }
 
@@ -39,7 +39,7 @@ impl ClassSet {
         bits: 1 << BidiClass::L as u32 | 1 << BidiClass::R as u32 | 1 << BidiClass::AL as u32,
     };
 
-    /// The classes that always change the state of a paragraph: B, and FSI, whose isolate decides its direction.
+    /// The classes that always change the state of a paragraph: B ends it, and FSI waits for its direction.
     pub(crate) const ALWAYS_STOPS: ClassSet = ClassSet {
         bits: 1 << BidiClass::FSI as u32 | 1 << BidiClass::B as u32,
     };
@@ -70,20 +70,20 @@ impl ClassSet {
             | 1 << BidiClass::AN as u32,
     };
 
-    /// The classes that the later steps tell apart: all but PDI, the neutrals, and those weak types that are
-    /// neither numbers nor removed by X9.
+    /// The classes that later steps tell apart: all but PDI, the neutrals, and those weak types that are neither
+    /// numbers nor removed by X9.
     pub(crate) const COUNTED: ClassSet = ClassSet {
         bits: ClassSet::TURNING_EVEN.bits | ClassSet::TURNING_ODD.bits | ClassSet::REMOVED.bits,
     };
 
-    /// Whether the class is in the set.
+    /// Returns whether the class is in the set.
     pub(crate) fn has(self, class: BidiClass) -> bool
         ensures { result ≡ has self class }
     {
         (self.bits >> class as u32) & 1 == 1
     }
 
-    /// The set with one more class.
+    /// Returns the set with one more class.
     pub(crate) fn with(self, class: BidiClass) -> ClassSet
         ensures { result ≡ with self class }
     {
@@ -92,7 +92,7 @@ impl ClassSet {
         }
     }
 
-    /// The classes that are in one of the sets.
+    /// Returns the classes that are in at least one of the sets.
     pub(crate) fn union(self, other: ClassSet) -> ClassSet
         ensures has { (c : BidiClass) → has result c ≡ (has self c || has other c) }
         ensures bits { result ≡ either self other }
@@ -102,7 +102,7 @@ impl ClassSet {
         }
     }
 
-    /// The classes that are in both sets.
+    /// Returns the classes that are in both sets.
     pub(crate) fn common(self, other: ClassSet) -> ClassSet
         ensures { result ≡ both self other }
     {
@@ -111,7 +111,7 @@ impl ClassSet {
         }
     }
 
-    /// The classes of this set that are not in the other.
+    /// Returns the classes of this set that are not in the other.
     pub(crate) fn without(self, other: ClassSet) -> ClassSet
         ensures { (c : BidiClass) → has result c ≡ (has self c && not (has other c)) }
     {
@@ -120,16 +120,16 @@ impl ClassSet {
         }
     }
 
-    /// The set if `holds`, otherwise no class.
+    /// Returns the set if `holds`, and no class otherwise.
     pub(crate) fn when(self, holds: bool) -> ClassSet
         ensures { (c : BidiClass) → has result c ≡ (holds && has self c) }
     {
         if holds { self } else { ClassSet::NONE }
     }
 
-    /// Whether some class is in both sets.
-    #[tactic(auto, using(crate::proofs::ClassSets::meets_any))]
-    pub(crate) fn meets(self, other: ClassSet) -> bool
+    /// Returns whether some class is in both sets. `other` must have no bits but those of classes.
+    #[tactic(auto, using(crate::proofs::ClassSets::intersects_any))]
+    pub(crate) fn intersects(self, other: ClassSet) -> bool
         requires { other.bits < 2 ^ 23 }
         ensures { result ≡ any_of self (has other) }
     {

@@ -1,8 +1,8 @@
-//! What the later steps need to know of a paragraph's classes.
+//! The classes of a paragraph that later steps need to know.
 ghost use Rattle.std.specs.Prelude.{◌≡◌, ◌||◌, not};
-ghost use Rattle.bidi_base.specs.Classes.{is_initiator, is_opener, is_removed};
+ghost use Rattle.bidi_base.specs.Classes.{is_isolate_initiator, is_opener, is_removed};
 ghost use Rattle.bidi_base.specs.Direction.{may_turn};
-ghost use Rattle.bidi_base.specs.Flat.{may_leave};
+ghost use Rattle.bidi_base.specs.WithoutOpeners.{may_leave};
 ghost use Rattle.bidi_base.specs.declared.char_data.BidiClass.{BidiClass};
 ghost use Rattle.bidi_paragraphs.specs.ClassSet.{any_of, has};
 ghost use Rattle.bidi_paragraphs.specs.ParagraphFlags.{is_missing, with_class, with_set};
@@ -13,8 +13,7 @@ use bidi_base::level::Level;
 use std::alloc::Global;
 use std::default::MadeWith;
 
-/// The classes in a paragraph, as the data source gives them. Only those are kept that the later steps tell
-/// apart.
+/// The source classes of a paragraph's characters. It has only those that later steps tell apart.
 #[derive(Clone, Copy, PartialEq, Debug)]
 pub struct ParagraphFlags {
     pub(crate) seen: ClassSet,
@@ -33,7 +32,7 @@ impl ParagraphFlags {
         seen: ClassSet::NONE,
     };
 
-    /// Adds one more character, of this class.
+    /// Returns the flags with those of one more character, which has this class.
     pub(crate) fn with(self, class: BidiClass) -> ParagraphFlags
         ensures { result ≡ with_class self class }
     {
@@ -46,7 +45,7 @@ impl ParagraphFlags {
         }
     }
 
-    /// Adds characters of these classes.
+    /// Returns the flags with those of characters of these classes.
     pub(crate) fn with_all(self, classes: ClassSet) -> ParagraphFlags
         ensures { result ≡ with_set self classes }
     {
@@ -55,38 +54,38 @@ impl ParagraphFlags {
         }
     }
 
-    /// Returns the classes of a set, and with them those that would change the flags.
+    /// Returns the classes of a set, and those that would change the flags.
     pub(crate) fn sought_with(self, stop_classes: ClassSet) -> ClassSet
         ensures { (c : BidiClass) → has result c ≡ (has stop_classes c || is_missing self c) }
     {
         stop_classes.union(ClassSet::COUNTED.without(self.seen))
     }
 
-    /// Returns whether no character can make the paragraph anything but left to right throughout, at level
-    /// 0.
+    /// Returns whether no character has the class R, AL, AN, LRE, RLE, LRO, RLO, LRI, RLI or FSI.
+    ///
+    /// Without such characters, all levels of a paragraph of level 0 are 0 (the law `stays_left_to_right`).
     pub fn is_pure_ltr(self) -> bool
         ensures { result ≡ not (any_of self.seen may_turn) }
     {
-        !self.seen.meets(ClassSet::TURNING_EVEN)
+        !self.seen.intersects(ClassSet::TURNING_EVEN)
     }
 
     /// Returns whether some character is an isolate initiator.
-    pub fn has_isolates(self) -> bool
-        ensures { result ≡ any_of self.seen is_initiator }
+    pub(crate) fn has_isolates(self) -> bool
+        ensures { result ≡ any_of self.seen is_isolate_initiator }
     {
-        self.seen.meets(ClassSet::INITIATORS)
+        self.seen.intersects(ClassSet::INITIATORS)
     }
 
-    /// Returns whether no character begins an embedding or an isolate.
-    pub fn is_flat(self) -> bool
+    /// Returns whether no character opens an embedding or an isolate.
+    pub(crate) fn is_flat(self) -> bool
         ensures { result ≡ not (any_of self.seen is_opener) }
     {
-        !self.seen.meets(ClassSet::OPENERS)
+        !self.seen.intersects(ClassSet::OPENERS)
     }
 
-    /// Returns whether no character can give the paragraph a level other than this one, if it is the
-    /// paragraph level.
-    pub fn keeps_to(self, level: Level) -> bool
+    /// Returns whether no class can give a character another level than `level`, if that is the paragraph level.
+    pub(crate) fn keeps_to(self, level: Level) -> bool
         ensures { result ≡ not (any_of self.seen (may_leave level)) }
     {
         let turning = if level.is_rtl() {
@@ -94,13 +93,13 @@ impl ParagraphFlags {
         } else {
             ClassSet::TURNING_EVEN
         };
-        !self.seen.meets(turning)
+        !self.seen.intersects(turning)
     }
 
     /// Returns whether X9 removes some character.
-    pub fn has_removed(self) -> bool
+    pub(crate) fn has_removed(self) -> bool
         ensures { result ≡ any_of self.seen is_removed }
     {
-        self.seen.meets(ClassSet::REMOVED)
+        self.seen.intersects(ClassSet::REMOVED)
     }
 }

@@ -20,7 +20,7 @@ impl ParagraphInfo {
 
     /// Creates a paragraph of a range of code units. Returns `None` exactly if the range is reversed.
     pub fn new(range: Range<usize>, level: Level) -> Option<ParagraphInfo>
-        ensures some { IsSome result ↔ (range.start ≤ range.end) }
+        ensures succeeds { IsSome result ↔ (range.start ≤ range.end) }
         ensures range { IfSome result (λ p. range_of p ≡ range) }
         ensures level { IfSome result (λ p. level_of p ≡ level) }
     {
@@ -31,7 +31,7 @@ impl ParagraphInfo {
         }
     }
 
-    /// Creates a paragraph of a range whose start is at most its end.
+    /// Creates a paragraph of a range of code units, which must not be reversed.
     pub fn from_range(range: Range<usize>, level: Level) -> ParagraphInfo
         requires { range.start ≤ range.end }
         ensures range { range_of result ≡ range }
@@ -40,7 +40,7 @@ impl ParagraphInfo {
         ParagraphInfo { range, level }
     }
 
-    /// Returns the paragraph's code units in the text, with those of its separator.
+    /// Returns the range of the paragraph's code units in the text, including those of the separator that ends it.
     pub fn range(&self) -> Range<usize>
         ensures { result ≡ range_of self.now }
     {

@@ -3,32 +3,32 @@
 ghost use Rattle.std.specs.Prelude.{◌≡◌, ℕ, ◌+◌, ◌<◌, ◌≤◌, true, false, length, map, slice_index, All, OnOk};
 ghost use Rattle.bidi_base.specs.declared.char_data.BidiClass.TheVariants.{L};
 ghost use Rattle.bidi_base.specs.Explicit.{explicit_levels, processing_classes};
-ghost use Rattle.bidi_base.specs.Flat.{is_flat, hidden};
+ghost use Rattle.bidi_base.specs.WithoutOpeners.{is_flat, hidden};
 ghost use Rattle.bidi_base.specs.Classes.{is_removed};
 ghost use Rattle.bidi_base.specs.Isolates.{stored_classes};
 ghost use Rattle.bidi_base.specs.Sequences.{is_kept_at, sequences};
 ghost use Rattle.bidi_base.specs.Stored.{levels_in};
-ghost use Rattle.bidi_base.specs.Text.{text_len, per_unit, per_char};
-ghost use Rattle.bidi_base.specs.Units.{AreLines};
-ghost use Rattle.bidi_explicit.specs.Links.{linked_runs, linked_sequences, sequences_of, AreLinked};
-ghost use Rattle.bidi_paragraphs.specs.Written.{IsWritten};
+ghost use Rattle.bidi_base.specs.Texts.{per_char, per_unit, text_len, AreLines};
+ghost use Rattle.bidi_explicit.specs.InText.{sequences_of};
+ghost use Rattle.bidi_explicit.specs.Links.{linked_runs, linked_sequences, AreLinked};
+ghost use Rattle.bidi_paragraphs.specs.Updated.{IsWritten};
 ghost use Rattle.bidi_paragraphs.specs.ParagraphFlags.{flags_of};
 
-use crate::settled::{is_settled, settle_numbers};
+use crate::known_levels::{has_known_levels, write_l_over_numbers};
+use crate::paragraph_flags::ParagraphFlags;
 use bidi_base::char_data::BidiClass;
 use bidi_base::classes::is_removed;
 use bidi_base::data_source::BidiDataSource;
 use bidi_base::level::Level;
 use bidi_base::search::{Among, ClassTest, first_passing};
 use bidi_base::steps::Steps;
-use bidi_explicit::explicit::{Paragraph, Stride, find_levels_counted};
+use bidi_explicit::explicit::{Paragraph, StepUnit, find_levels_counted};
 use bidi_rules::implicit::{
-    NeutralResolver, resolve_levels, resolve_up_to_n1, resolve_weak_lent_counted,
+    NeutralResolver, resolve_levels, resolve_up_to_n1, resolve_weak_borrowed_counted,
 };
 use bidi_rules::leveled_text::LeveledText;
-use bidi_rules::prepare::{LentSequence, LevelRunVec, RunLinks};
+use bidi_rules::prepare::{BorrowedSequence, LevelRunVec, RunLinks};
 use bidi_text::text::TextSource;
-use crate::paragraph_flags::ParagraphFlags;
 use smallvec::SmallVec;
 use std::alloc::{AllocError, Global};
 use std::marker::Brand;
@@ -40,10 +40,10 @@ pub const FEW_UNITS: usize = 256;
 // The list of level runs begins with room for this many, so that it seldom grows in a short text.
 const FEW_RUNS: usize = 16;
 
-/// A paragraph with its stored classes, from which its levels can be found.
+/// A paragraph with all that is needed to find its levels.
 #[derive(Drop)]
 pub struct ClassifiedParagraph<'a, D: BidiDataSource, T: TextSource> {
-    /// The source of its classes and brackets.
+    /// The data source of its classes and brackets.
     pub data_source: &'a D,
     /// The text of this paragraph only.
     pub text: T,
@@ -54,10 +54,10 @@ pub struct ClassifiedParagraph<'a, D: BidiDataSource, T: TextSource> {
     /// The stored classes (X5c) of its text, one for each code unit.
     pub original_classes: &'a [BidiClass],
     ghost low: { level ≤ 125 },
-    ghost own_flags: { flags ≡ flags_of (map (D.source data_source.now).class_of (T.characters text)) },
+    ghost own_flags: { flags ≡ flags_of (map (D.source data_source.now).class_of (T.text text).chars) },
     ghost stored: { original_classes.now
-        ≡ per_unit T.units (T.characters text)
-        (stored_classes (map (D.source data_source.now).class_of (T.characters text))) },
+        ≡ per_unit (T.text text)
+        (stored_classes (map (D.source data_source.now).class_of (T.text text).chars)) },
 }
 
 /// Finds the levels (X1 to I2) of one paragraph after another, and reuses the memory of its lists for each.
@@ -93,21 +93,21 @@ impl LevelResolver {
         steps: &mut Steps<S>,
     ) -> Result<(), AllocError>
         requires { length levels.old ≡ length paragraph.now.original_classes.now }
-        ensures levels { let stored = per_char L T.units (T.characters paragraph.now.text)
+        ensures levels { let stored = per_char L (T.text paragraph.now.text)
             paragraph.now.original_classes.now in
             OnOk result (levels.new
-            ≡ per_unit T.units (T.characters paragraph.now.text) (explicit_levels paragraph.now.level stored)) }
-        ensures classes { let stored = per_char L T.units (T.characters paragraph.now.text)
+            ≡ per_unit (T.text paragraph.now.text) (explicit_levels paragraph.now.level stored)) }
+        ensures classes { let stored = per_char L (T.text paragraph.now.text)
             paragraph.now.original_classes.now in
             OnOk result (self.new.classes.items
-            ≡ per_unit T.units (T.characters paragraph.now.text)
+            ≡ per_unit (T.text paragraph.now.text)
             (processing_classes paragraph.now.level stored)) }
-        ensures sequences { let stored = per_char L T.units (T.characters paragraph.now.text)
+        ensures sequences { let stored = per_char L (T.text paragraph.now.text)
             paragraph.now.original_classes.now in
-            OnOk result (sequences_of T.units (T.characters paragraph.now.text) stored
+            OnOk result (sequences_of (T.text paragraph.now.text) stored
             (linked_sequences self.new.links (linked_runs self.new.links self.new.runs.items))
             ≡ sequences paragraph.now.level stored (explicit_levels paragraph.now.level stored)) }
-        ensures fits { OnOk result (All (λ s. AreLines T.units (T.characters paragraph.now.text) s.runs)
+        ensures are_lines { OnOk result (All (λ s. AreLines (T.text paragraph.now.text) s.runs)
             (linked_sequences self.new.links (linked_runs self.new.links self.new.runs.items))) }
         ensures linked { OnOk result (AreLinked self.new.links (linked_runs self.new.links self.new.runs.items)) }
     {
@@ -119,7 +119,7 @@ impl LevelResolver {
         let stored = Paragraph::new(
             paragraph.text,
             paragraph.level,
-            Stride::CodeUnit,
+            StepUnit::CodeUnit,
             original_classes,
         );
         let classes = self.classes.as_mut_slice();
@@ -138,8 +138,7 @@ impl LevelResolver {
         Ok(())
     }
 
-    /// Copies the classes of a paragraph in which nothing opens a level, with BN for characters that X9
-    /// removes.
+    /// Copies the classes of a paragraph without openers, with BN for characters that X9 removes.
     fn copy_flat<D: BidiDataSource, T: TextSource>(
         &mut self,
         paragraph: &ClassifiedParagraph<D, T>,
@@ -154,18 +153,17 @@ impl LevelResolver {
         Ok(())
     }
 
-    /// Finds the levels of all characters that X9 keeps, in a non-empty paragraph in which nothing opens a
-    /// level. The paragraph is one level run, and one sequence. N2 is left out, since the levels are the
-    /// same with and without it.
+    /// Finds the levels of all characters that X9 keeps, in a non-empty paragraph without openers. The paragraph is one
+    /// level run, and one sequence. N2 is left out, since the levels are the same with and without it.
     fn resolve_flat<D: BidiDataSource, T: TextSource, S: Ledger>(
         &mut self,
         paragraph: &ClassifiedParagraph<D, T>,
         levels: &mut [Level],
         steps: &mut Steps<S>,
     ) -> Result<(), AllocError>
-        requires long { IsOneAUnit paragraph.now levels.old }
+        requires same_len { IsOneAUnit paragraph.now levels.old }
         requires some { 0 < length levels.old }
-        requires flat { is_flat (map (D.source paragraph.now.data_source.now).class_of (T.characters paragraph.now.text)) ≡ true }
+        requires flat { is_flat (map (D.source paragraph.now.data_source.now).class_of (T.text paragraph.now.text).chars) ≡ true }
         ensures per_char { OnOk result (HaveCharLevels paragraph.now levels.new) }
         ensures resolved { OnOk result (AreOfRules paragraph.now levels.new) }
     {
@@ -174,8 +172,8 @@ impl LevelResolver {
         let classes = self.classes.as_mut_slice();
         let runs = [0..classes.len()];
         let side = paragraph.level.bidi_class();
-        let sequence = LentSequence::new(&runs, side, side);
-        resolve_weak_lent_counted(paragraph.text, sequence, classes, steps);
+        let sequence = BorrowedSequence::new(&runs, side, side);
+        resolve_weak_borrowed_counted(paragraph.text, sequence, classes, steps);
         let leveled = LeveledText {
             text: paragraph.text,
             original_classes: paragraph.original_classes,
@@ -209,13 +207,13 @@ impl LevelResolver {
         let classes = self.classes.as_mut_slice();
         for first in 0..links.run_count() {
             if let Some(found) = links.gather(runs, first)? {
-                let sequence = found.lend(runs.as_slice());
-                if is_settled(sequence, levels, classes)
-                    || settle_numbers(sequence, levels, classes)
+                let sequence = found.borrowed(runs.as_slice());
+                if has_known_levels(sequence, levels, classes)
+                    || write_l_over_numbers(sequence, levels, classes)
                 {
                     continue;
                 }
-                resolve_weak_lent_counted(paragraph.text, sequence, classes, steps);
+                resolve_weak_borrowed_counted(paragraph.text, sequence, classes, steps);
                 let leveled = LeveledText {
                     text: paragraph.text,
                     original_classes: paragraph.original_classes,
@@ -241,7 +239,7 @@ impl LevelResolver {
         levels: &mut [Level],
         steps: &mut Steps<S>,
     ) -> Result<(), AllocError>
-        requires long { IsOneAUnit paragraph.now levels.old }
+        requires same_len { IsOneAUnit paragraph.now levels.old }
         requires some { 0 < length levels.old }
         ensures per_char { OnOk result (HaveCharLevels paragraph.now levels.new) }
         ensures resolved { OnOk result (AreOfRules paragraph.now levels.new) }
@@ -260,7 +258,7 @@ impl LevelResolver {
         levels: &mut [Level],
         blank: Blank,
     ) -> Result<(), AllocError>
-        requires long { IsOneAUnit paragraph.now levels.old }
+        requires same_len { IsOneAUnit paragraph.now levels.old }
         requires some { 0 < length levels.old }
         requires name { blank.name ≡ S.name }
         requires parts { blank.parts ≡ S.parts }
@@ -274,17 +272,17 @@ impl LevelResolver {
 
     /// Writes the stored levels of a paragraph, one for each of its code units.
     ///
-    /// `levels` may hold anything before. If an allocation fails, returns an error, and `levels` may hold
+    /// `levels` has one entry for each code unit, and may hold anything before. If an allocation fails, it may hold
     /// anything.
     pub fn write_levels<D: BidiDataSource, T: TextSource>(
         &mut self,
         paragraph: &ClassifiedParagraph<D, T>,
         levels: &mut [Level],
     ) -> Result<(), AllocError>
-        requires { length levels.old ≡ text_len T.units (T.characters paragraph.now.text) }
+        requires { length levels.old ≡ text_len (T.text paragraph.now.text) }
         ensures { let source = D.source paragraph.now.data_source.now in let text = paragraph.now.text in
-            OnOk result (levels.new ≡ per_unit T.units (T.characters text)
-            (levels_in paragraph.now.level (map source.class_of (T.characters text)) (map source.bracket_of (T.characters text)))) }
+            OnOk result (levels.new ≡ per_unit (T.text text)
+            (levels_in paragraph.now.level (map source.class_of (T.text text).chars) (map source.bracket_of (T.text text).chars))) }
     {
         if paragraph.flags.keeps_to(paragraph.level) {
             levels.fill(paragraph.level);
@@ -298,7 +296,7 @@ impl LevelResolver {
     }
 }
 
-// The class that the passes use for a class: BN for what X9 removes.
+// Returns the class that the passes use for a class: BN if X9 removes it.
 fn hidden(class: BidiClass) -> BidiClass
     ensures { result ≡ hidden class }
 {
@@ -318,7 +316,7 @@ fn hide_removed(classes: &mut [BidiClass])
     }
 }
 
-// The level of the code unit before `unit`, or the paragraph level at the start.
+// Returns the level of the code unit before `unit`, or the paragraph level at the start.
 fn level_before(para_level: Level, levels: &[Level], unit: usize) -> Level
     requires { unit ≤ length levels.now }
     ensures front { unit ≡ 0 → result ≡ para_level }
@@ -331,7 +329,7 @@ fn level_before(para_level: Level, levels: &[Level], unit: usize) -> Level
     }
 }
 
-/// What X9 removes.
+/// The classes that X9 removes.
 #[derive(Clone, Copy, Debug)]
 struct Removed;
 
@@ -347,11 +345,11 @@ impl ClassTest for Removed {
 
 // Gives the level `before` to the stretch of removed code units (X9) that begins at `from`. Returns its end.
 fn write_removed(classes: &[BidiClass], levels: &mut [Level], from: usize, before: Level) -> usize
-    requires lengths { length levels.old ≡ length classes.now }
+    requires same_len { length levels.old ≡ length classes.now }
     requires inside { from < length classes.now }
     requires removed { is_kept_at classes.now from ≡ false }
-    ensures begins { from < result }
-    ensures ends { result ≤ length classes.now }
+    ensures advances { from < result }
+    ensures within { result ≤ length classes.now }
     ensures removed { (u : ℕ) → from ≤ u → u < result → is_kept_at classes.now u ≡ false }
     ensures written { IsWritten before from result levels.old levels.new }
 {
@@ -370,7 +368,7 @@ const TESTED_SINGLY: usize = 3;
 // Gives each code unit of a character that X9 removes the level of the code unit before it. At the start it
 // gets the paragraph level.
 fn fill_removed(para_level: Level, classes: &[BidiClass], levels: &mut [Level])
-    requires lengths { length levels.old ≡ length classes.now }
+    requires same_len { length levels.old ≡ length classes.now }
     ensures kept { (u : ℕ) → u < length classes.now → is_kept_at classes.now u ≡ true
         → slice_index levels.new u ≡ slice_index levels.old u }
     ensures front { 0 < length classes.now → is_kept_at classes.now 0 ≡ false → slice_index levels.new 0 ≡ para_level }

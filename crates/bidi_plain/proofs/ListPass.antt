@@ -14,7 +14,8 @@ use Rattle.bidi_base.proofs.Lists.{last_or-append}
 use Rattle.bidi_laws.proofs.WaitingLemmas.{IsPass-end, IsPass-removed, is_first-none_open, Member-append_right, IsWaiting, IsPass, IsPass-begin, IsPass-join, IsPass-skip}
 
 module _ (classes : List BidiClass) (levels : List ℕ) where
-  -- all before p came, l was the last of them that X9 keeps, and came to the sequence at s; what is open was read up to l
+  -- all before p came, l was the last of them that X9 keeps, and came to the sequence at s; what is open was read up to
+  -- l
   pub record IsGoing (p : ℕ) (out : List (List ℕ)) (waits : List (Option ℕ)) (l s : ℕ) : Type 0 where
     pub kept : is_kept_at classes l ≡ true
     pub before : l < p
@@ -121,9 +122,9 @@ module _ (classes : List BidiClass) (levels : List ℕ) where
 
   -- at the end these are the sequences
   pub IsStateAt-end : (out : List (List ℕ)) (waits : List (Option ℕ)) (last : Option (ℕ × ℕ)) → IsStateAt (length classes) out waits last
-      → (paragraph : ℕ) → map (with_ends paragraph classes levels) out ≡ sequences paragraph classes levels
-  IsStateAt-end out waits None h paragraph = ap (map (with_ends paragraph classes levels)) h.0 ∙ IsPass-end classes levels paragraph (length classes) [] [] [] (pass_none (length classes) h.2)
-  IsStateAt-end out waits (Some e) h paragraph = IsPass-end classes levels paragraph e.0 out h.stack (reverse waits) h.pass
+      → (para_level : ℕ) → map (with_ends para_level classes levels) out ≡ sequences para_level classes levels
+  IsStateAt-end out waits None h para_level = ap (map (with_ends para_level classes levels)) h.0 ∙ IsPass-end classes levels para_level (length classes) [] [] [] (pass_none (length classes) h.2)
+  IsStateAt-end out waits (Some e) h para_level = IsPass-end classes levels para_level e.0 out h.stack (reverse waits) h.pass
 
   begun : (p : ℕ) (out : List (List ℕ)) (waits : List (Option ℕ)) (last : Option (ℕ × ℕ)) → IsStateAt p out waits last → AllBegun classes levels out
   begun p out waits None h = simp h.0 tt

@@ -1,4 +1,5 @@
--- A pass over a slice of classes that rewrites it by a rule in context, and carries along the nearest class before that passes a test.
+-- A pass over a slice of classes that rewrites it by a rule in context, and carries along the nearest class before that
+-- passes a test.
 use Rattle.bidi_base.proofs.Common.{◌≡◌, ℕ, ◌+◌, ◌<◌, Bool, cond, List, length, get_or, take, drop, set, reverse, sym, ◌∙◌, arith, nearest}
 use Rattle.bidi_base.specs.declared.char_data.BidiClass.{BidiClass}
 use Rattle.bidi_base.specs.declared.char_data.BidiClass.TheVariants.{L}

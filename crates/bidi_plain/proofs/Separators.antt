@@ -33,6 +33,6 @@ module _ (old now : List BidiClass) where
       IsRewritten-write w4_rule old now i y L (omega arith)
       (cc (is, before, here, next, read_before bs b c (drop (i + 1) old) a (drop (i + 1 + 1) old), left, right)) h
 
-  -- the last class has none behind it
+  -- the last class has none after it
   pub separators_end : (i : ℕ) → length old ≤ i + 1 → IsRewritten w4_rule old now i → now ≡ in_context w4_rule [] old
   separators_end i past h = grind (arith, IsRewritten-end, IsRewritten-keep w4_rule old now i L, alone, drop_all)

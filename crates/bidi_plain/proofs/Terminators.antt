@@ -27,7 +27,8 @@ w5_rule-ET before c after e = grind arith
 w5_rule-other : (before : List BidiClass) (c : BidiClass) (after : List BidiClass) → is_et c ≡ false → c ≡ w5_rule before c after
 w5_rule-other before c after e = grind arith
 
--- the classes before `start` are done, and `after_number` says whether a European number stands before the next block of terminators
+-- the classes before `start` are done, and `after_number` says whether a European number stands before the next block
+-- of terminators
 pub record IsAtBlock (old now : List BidiClass) (after_number : Bool) (start : ℕ) : Type 0 where
   pub rewritten : IsRewritten w5_rule old now start
   pub number : start ≤ length old → after_number ≡ is_number_next (reverse (take start old))
@@ -46,7 +47,7 @@ module _ (old : List BidiClass) (start n : ℕ) (block : IsBlock is_et old start
       (λ j less. subst (λ (p : ℕ). is_et (get_or old p L) ≡ true) (omega arith) (block.inside (k + 1 + j) (omega arith))) in
       simp (w5_rule-ET (reverse (take (start + k) old)) (get_or old (start + k) L) (drop (start + k + 1) old) (block.inside k below), before, number, after, place, before_number_is)
 
-  -- the class behind the block
+  -- the class after the block
   behind : (now : List BidiClass) → IsRewritten w5_rule old now (start + n) → IsAtBlock old now (is_en (class_at old (start + n))) (start + n + 1)
   behind now h = elim (cases_lt (start + n) (length old)) [
     | inl more ↦ grind (arith, IsRewritten-keep w5_rule old now (start + n) L more, block.behind more, w5_rule-other, stops, reverse-take_more old (start + n) L more)
@@ -61,7 +62,7 @@ module _ (old : List BidiClass) (start n : ℕ) (block : IsBlock is_et old start
       → IsAtBlock old now (is_en (class_at old (start + n))) (start + n + 1)
   IsAtBlock-kept now after_number h alone = grind (arith, behind now, IsRewritten-unchanged w5_rule old now start n, answers after_number, is_et-ET)
 
--- the same two steps as the pass makes them, which counts the block and reads behind it in the slice as it is now
+-- the same two steps as the pass makes them, which counts the block and reads after it in the slice as it is now
 module _ (old now : List BidiClass) (after_number before_number : Bool) (start n : ℕ) (h : IsAtBlock old now after_number start) (fits : start ≤ length old)
     (counted : n ≡ prefix_len is_et (take (length now - start) (drop start now))) (next : before_number ≡ is_en (class_at now (start + n))) where
   block : IsBlock is_et old start n

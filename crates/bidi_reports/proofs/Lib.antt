@@ -1,1 +1,1 @@
-pub mod ReportsLemmas
+mod ReportsLemmas

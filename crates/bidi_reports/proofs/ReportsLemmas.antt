@@ -1,8 +1,8 @@
--- What is told of the findings of a line, one finding after another.
+-- What is reported of the findings of a line, one finding after another.
 use Rattle.bidi_base.proofs.Common.{◌≡◌, ℕ, ◌+◌, ◌<◌, ◌≤◌, Bool, true, List, ◌++◌, length, get_or, drop, drop-cons, drop_all, add-one, append-nil, append_assoc, refl, arith, Source}
 use Rattle.bidi_controls.specs.declared.finding.Finding.{Finding}
 use Rattle.bidi_reports.specs.Reports.{finding_report, line_report}
-use Rattle.bidi_reports.specs.Shown.{displayed_for}
+use Rattle.bidi_reports.specs.DisplayedPart.{displayed_for}
 use Rattle.bidi_reports.specs.declared.form.Form.{Form}
 
 module _ (source : Source) (form : Form) (name line : List ℕ) (findings : List Finding) where

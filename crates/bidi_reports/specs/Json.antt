@@ -17,7 +17,7 @@ abbrev pub json_place : List ℕ → Finding → List ℕ
 json_place name finding =
     codes "{\"file\":" ++ (json_string name ++ (codes ",\"line\":" ++ (decimal finding.line ++ (codes ",\"column\":" ++ decimal finding.column))))
 
--- a member of an object behind others, whose value is a string without characters to escape
+-- a member of an object after others, whose value is a string without characters to escape
 unfoldable pub json_member : List ℕ → List ℕ → List ℕ
 json_member key value = codes ",\"" ++ (key ++ (codes "\":\"" ++ (value ++ codes "\"")))
 
@@ -52,7 +52,7 @@ abbrev pub result_rule : Finding → List ℕ
 result_rule finding =
     codes "{\"ruleId\":\"" ++ (kind_of finding.trouble ++ (codes "\"" ++ (json_member (codes "level") (level_of finding.trouble) ++ message_start)))
 
--- the column behind the character, where it is a number of 64 bits
+-- the column after the character, where it is a number of 64 bits
 unfoldable pub result_end : ℕ → List ℕ
 result_end column = if nat_lt (column + 1) (2 ^ 64) then codes ",\"endColumn\":" ++ decimal (column + 1) else []
 
@@ -106,7 +106,7 @@ rules_text =
 unfoldable pub version_text : ℕ × ℕ × ℕ → List ℕ
 version_text version = decimal version.0 ++ (codes "." ++ (decimal version.1 ++ (codes "." ++ decimal version.2)))
 
--- what stands before the results, and after them
+-- what is before the results, and after them
 unfoldable pub sarif_start : List ℕ
 sarif_start =
     codes "{\"$schema\":\"https://json.schemastore.org/sarif-2.1.0.json\",\"version\":\"2.1.0\",\"runs\":[{\"columnKind\":\"unicodeCodePoints\",\n\"tool\":{\"driver\":{\"name\":\"bidi check\",\"version\":\""

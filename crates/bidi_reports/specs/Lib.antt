@@ -1,6 +1,6 @@
 pub mod Json
 pub mod Parts
 pub mod Reports
-pub mod Shown
+pub mod DisplayedPart
 pub mod Text
 pub mod Words

@@ -37,7 +37,7 @@ part_start size place = if nat_le size 200 then 0 else min (place - 100) (size -
 abbrev pub part_end : ℕ → ℕ → ℕ
 part_end size place = min (part_start size place + 200) size
 
--- what stands for characters that are left out
+-- what is for characters that are left out
 abbrev pub dots : Bool → List ℕ
 dots left_out = if left_out then codes "..." else []
 

@@ -1,11 +1,11 @@
--- What is told of the findings of a file's line, and what stands before and after all of it.
+-- What is reported of the findings of a file's line, and what is before and after all of it.
 use Rattle.std.specs.Prelude.{ℕ, Bool, true, List, [], ◌∷◌, ◌++◌}
 use Rattle.std.specs.Str.{chars}
 use Rattle.bidi_base.specs.Source.{Source}
 use Rattle.bidi_controls.specs.declared.finding.Finding.{Finding}
 use Rattle.bidi_terminal.specs.Names.{shown_name}
 use Rattle.bidi_reports.specs.Json.{json_report, sarif_report, sarif_head, sarif_foot}
-use Rattle.bidi_reports.specs.Shown.{displayed_for}
+use Rattle.bidi_reports.specs.DisplayedPart.{displayed_for}
 use Rattle.bidi_reports.specs.Text.{text_report}
 use Rattle.bidi_reports.specs.declared.form.Form.{Form}
 use Rattle.bidi_reports.specs.declared.form.Form.TheVariants.{Quiet, Text, Json, Sarif}
@@ -25,14 +25,14 @@ line_report source form later name line (finding ∷ findings) =
     finding_report form later name line (displayed_for source line finding) finding
     ++ line_report source form true name line findings
 
--- what stands before all findings
+-- what is before all findings
 abbrev pub report_head : Form → List ℕ
 report_head Quiet = []
 report_head (Text excerpts colors) = []
 report_head Json = []
 report_head Sarif = sarif_head
 
--- what stands after all of them
+-- what is after all of them
 abbrev pub report_foot : Form → List ℕ
 report_foot Quiet = []
 report_foot (Text excerpts colors) = []

@@ -1,14 +1,14 @@
 //! How the part of a line is displayed that a finding is about.
 ghost use Rattle.std.specs.Prelude.{◌≡◌, ◌<◌, IfOk, OnOk};
-ghost use Rattle.bidi_controls.specs.Lines.{lines_of};
+ghost use Rattle.bidi_base.specs.Paragraphs.{paragraphs_in};
 ghost use Rattle.bidi_terminal.specs.Bases.{level_of_base};
-ghost use Rattle.bidi_reports.specs.Shown.{paragraph_with, telling_base, displayed_paragraph, displayed_around, displayed_for};
+ghost use Rattle.bidi_reports.specs.DisplayedPart.{paragraph_with, telling_base, displayed_paragraph, displayed_around, displayed_for};
 
 use crate::words::is_about_line;
 use bidi_base::data_source::BidiDataSource;
 use bidi_controls::displayed::{DisplayComparison, DisplayedLine};
 use bidi_controls::finding::Finding;
-use bidi_controls::lines::{first_line_len, own_chars};
+use bidi_controls::lines::{first_paragraph_len, own_chars};
 use bidi_terminal::Base;
 use std::alloc::{AllocError, Global};
 
@@ -18,12 +18,12 @@ fn paragraph_with<'t, D: BidiDataSource>(
     line: &'t [char],
     place: usize,
 ) -> &'t [char]
-    ensures { result.now ≡ paragraph_with place (lines_of (D.source data_source.now) line.now) }
+    ensures { result.now ≡ paragraph_with place (paragraphs_in (D.source data_source.now) line.now) }
 {
     let mut rest = line;
     let mut at = place;
     while !rest.is_empty() {
-        let (paragraph, after) = rest.split_at(first_line_len(data_source, rest));
+        let (paragraph, after) = rest.split_at(first_paragraph_len(data_source, rest));
         if at < paragraph.len() {
             return paragraph;
         }
@@ -84,7 +84,7 @@ impl Displayed {
     }
 
     // Displays the paragraph around the character at an index of a line.
-    #[tactic(auto, unfolding(crate::specs::Shown::displayed_around))]
+    #[tactic(auto, unfolding(crate::specs::DisplayedPart::displayed_around))]
     fn display_around<D: BidiDataSource>(
         &mut self,
         alloc: Global,

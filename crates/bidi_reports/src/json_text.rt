@@ -8,8 +8,8 @@ use crate::parts::push_part;
 use crate::words::{character_of, code_of, is_about_line, kind_of, level_of, push_message};
 use bidi_controls::finding::{Finding, Trouble};
 use bidi_terminal::json_text::push_json_string;
-use bidi_terminal::uri::push_uri;
 use bidi_terminal::push_number;
+use bidi_terminal::uri::push_uri;
 use std::alloc::{AllocError, Global};
 use unicode_bidi::VERSION;
 
@@ -30,7 +30,7 @@ fn push_json_place(
     push_number(out, finding.column)
 }
 
-// Appends a member of an object behind others. Its value is a string without characters to escape.
+// Appends a member of an object after others. Its value is a string without characters to escape.
 #[tactic(auto, unfolding(crate::specs::Json::json_member))]
 fn push_member(out: &mut String, key: &str, value: &str) -> Result<(), AllocError>
     ensures { OnOk result (string_bytes out.new ≡ string_bytes out.old ++ json_member key.now value.now) }
@@ -114,7 +114,7 @@ pub fn push_json(
     out.push_str("}\n")
 }
 
-// Returns what SARIF tells of a finding.
+// Returns what SARIF reports of a finding.
 fn result_message(
     alloc: Global,
     displayed: &[char],
@@ -135,7 +135,7 @@ fn result_message(
     Ok(text)
 }
 
-// Appends what stands before the message of a result.
+// Appends what is before the message of a result.
 #[tactic(auto, unfolding(crate::specs::Json::message_start))]
 fn push_message_start(out: &mut String) -> Result<(), AllocError>
     ensures { OnOk result (string_bytes out.new ≡ string_bytes out.old ++ message_start) }
@@ -154,7 +154,7 @@ fn push_result_rule(out: &mut String, finding: &Finding) -> Result<(), AllocErro
     push_message_start(out)
 }
 
-// Appends the column behind a character, if there is such a number.
+// Appends the column after a character, if there is such a number.
 #[tactic(auto, unfolding(crate::specs::Json::result_end))]
 fn push_result_end(out: &mut String, column: usize) -> Result<(), AllocError>
     ensures { OnOk result (string_bytes out.new ≡ string_bytes out.old ++ result_end column) }
@@ -166,7 +166,7 @@ fn push_result_end(out: &mut String, column: usize) -> Result<(), AllocError>
     push_number(out, end)
 }
 
-// Appends what stands before the line of a result.
+// Appends what is before the line of a result.
 #[tactic(auto, unfolding(crate::specs::Json::region_start))]
 fn push_region_start(out: &mut String) -> Result<(), AllocError>
     ensures { OnOk result (string_bytes out.new ≡ string_bytes out.old ++ region_start) }
@@ -174,7 +174,7 @@ fn push_region_start(out: &mut String) -> Result<(), AllocError>
     out.push_str("\"},\"region\":{\"startLine\":")
 }
 
-// Appends what stands before the columns of a result.
+// Appends what is before the columns of a result.
 #[tactic(auto, unfolding(crate::specs::Json::columns_start))]
 fn push_columns_start(out: &mut String) -> Result<(), AllocError>
     ensures { OnOk result (string_bytes out.new ≡ string_bytes out.old ++ columns_start) }
@@ -203,7 +203,7 @@ fn push_result_region(out: &mut String, finding: &Finding) -> Result<(), AllocEr
     out.push_str("}}}]}")
 }
 
-// Appends what stands before the file of a result.
+// Appends what is before the file of a result.
 #[tactic(auto, unfolding(crate::specs::Json::locations_start))]
 fn push_locations_start(out: &mut String) -> Result<(), AllocError>
     ensures { OnOk result (string_bytes out.new ≡ string_bytes out.old ++ locations_start) }
@@ -245,7 +245,7 @@ pub fn push_result(
     push_result_place(out, name, finding)
 }
 
-// Appends what stands before the description of a rule.
+// Appends what is before the description of a rule.
 #[tactic(auto, unfolding(crate::specs::Json::description_start))]
 fn push_description_start(out: &mut String) -> Result<(), AllocError>
     ensures { OnOk result (string_bytes out.new ≡ string_bytes out.old ++ description_start) }
@@ -253,7 +253,7 @@ fn push_description_start(out: &mut String) -> Result<(), AllocError>
     out.push_str("\",\"shortDescription\":{\"text\":\"A direction control or mark ")
 }
 
-// Appends what stands before the level of a rule.
+// Appends what is before the level of a rule.
 #[tactic(auto, unfolding(crate::specs::Json::rule_level))]
 fn push_rule_level(out: &mut String) -> Result<(), AllocError>
     ensures { OnOk result (string_bytes out.new ≡ string_bytes out.old ++ rule_level) }
@@ -318,14 +318,14 @@ fn push_version(out: &mut String, version: (u64, u64, u64)) -> Result<(), AllocE
     push_number(out, patch as usize)
 }
 
-// What stands before the version in a document of SARIF.
+// What is before the version in a document of SARIF.
 const SARIF_START: &str =
     "{\"$schema\":\"https://json.schemastore.org/sarif-2.1.0.json\",\"version\":\"2.1.0\",\"runs\":[{\"columnKind\":\"unicodeCodePoints\",\n\"tool\":{\"driver\":{\"name\":\"bidi check\",\"version\":\"";
 
-/// What stands after the results in a document of SARIF.
+/// What is after the results in a document of SARIF.
 pub const SARIF_FOOT: &str = "\n]}]}\n";
 
-// Appends what stands before the version in a document of SARIF.
+// Appends what is before the version in a document of SARIF.
 #[tactic(auto, unfolding(crate::specs::Json::sarif_start))]
 fn push_sarif_start(out: &mut String) -> Result<(), AllocError>
     ensures { OnOk result (string_bytes out.new ≡ string_bytes out.old ++ sarif_start) }
@@ -333,7 +333,7 @@ fn push_sarif_start(out: &mut String) -> Result<(), AllocError>
     out.push_str(SARIF_START)
 }
 
-// Appends what stands before the rules in a document of SARIF.
+// Appends what is before the rules in a document of SARIF.
 #[tactic(auto, unfolding(crate::specs::Json::rules_start))]
 fn push_rules_start(out: &mut String) -> Result<(), AllocError>
     ensures { OnOk result (string_bytes out.new ≡ string_bytes out.old ++ rules_start) }
@@ -341,7 +341,7 @@ fn push_rules_start(out: &mut String) -> Result<(), AllocError>
     out.push_str("\",\"rules\":[")
 }
 
-// Appends what stands between the rules and the results in a document of SARIF.
+// Appends what is between the rules and the results in a document of SARIF.
 #[tactic(auto, unfolding(crate::specs::Json::results_start))]
 fn push_results_start(out: &mut String) -> Result<(), AllocError>
     ensures { OnOk result (string_bytes out.new ≡ string_bytes out.old ++ results_start) }
@@ -359,7 +359,7 @@ fn push_sarif_rules(out: &mut String) -> Result<(), AllocError>
     push_results_start(out)
 }
 
-/// Appends what stands before the results in a document of SARIF.
+/// Appends what is before the results in a document of SARIF.
 #[tactic(auto, unfolding(crate::specs::Json::sarif_head))]
 pub fn push_sarif_head(out: &mut String) -> Result<(), AllocError>
     ensures { OnOk result (string_bytes out.new ≡ string_bytes out.old ++ sarif_head) }

@@ -1,6 +1,6 @@
 //! The part of a line that a report shows.
-ghost use Rattle.std.specs.Prelude.{◌≡◌, ◌++◌, ◌≤◌, ◌<◌, length, flat_map, min, slice_range, nat_lt, if◌then◌else◌, [], OnOk, string_bytes};
-ghost use Rattle.bidi_reports.specs.Parts.{bold, bold_red, as_before, styled, is_marked, marked_char, part_start, part_end, dots, marked_part, shown_columns, blanks, blank_part};
+ghost use Rattle.std.specs.Prelude.{◌≡◌, ◌++◌, ◌≤◌, ◌<◌, flat_map, min, if◌then◌else◌, [], OnOk, string_bytes};
+ghost use Rattle.bidi_reports.specs.Parts.{styled, is_marked, marked_char, part_start, part_end, dots, marked_part, shown_columns, blanks, blank_part};
 
 use bidi_columns::cluster::columns;
 use bidi_terminal::names::{is_hidden, push_quoted};
@@ -73,13 +73,13 @@ fn part_start(len: usize, place: usize) -> usize
 fn part_end(len: usize, place: usize) -> usize
     ensures end { result ≡ part_end len place }
     ensures within { result ≤ len }
-    ensures after { part_start len place ≤ result }
+    ensures begins { part_start len place ≤ result }
 {
     let start = part_start(len, place);
     start + MOST_SHOWN.min(len - start)
 }
 
-// Appends what stands for characters that are left out.
+// Appends what is for characters that are left out.
 fn push_dots(out: &mut String, left_out: bool) -> Result<(), AllocError>
     ensures { OnOk result (string_bytes out.new ≡ string_bytes out.old ++ dots left_out) }
 {

@@ -1,13 +1,13 @@
-//! What is told of the findings of a run.
+//! What is reported of the findings of a run.
 ghost use Rattle.std.specs.Prelude.{◌≡◌, ◌++◌, ◌==◌, ◌||◌, false, true, not, length, OnOk, string_bytes};
 ghost use Rattle.std.specs.Str.{chars};
 ghost use Rattle.bidi_reports.specs.Reports.{finding_report, line_report, report_head, report_foot};
-ghost use Rattle.bidi_reports.specs.Shown.{displayed_for};
+ghost use Rattle.bidi_reports.specs.DisplayedPart.{displayed_for};
 
 use crate::displayed::Displayed;
 use crate::form::Form;
 use crate::json_text::{SARIF_FOOT, push_json, push_result, push_sarif_head};
-use crate::text::{ToldFinding, push_text};
+use crate::text::{ReportedFinding, push_text};
 use bidi_base::data_source::BidiDataSource;
 use bidi_controls::finding::Finding;
 use bidi_terminal::names::shown_name;
@@ -19,21 +19,21 @@ fn push_finding(
     out: &mut String,
     form: Form,
     later: bool,
-    told: &ToldFinding<'_>,
+    reported: &ReportedFinding<'_>,
 ) -> Result<(), AllocError>
     ensures { OnOk result (string_bytes out.new ≡ string_bytes out.old
-        ++ finding_report form later told.now.name.now told.now.line.now told.now.displayed.now told.now.finding.now) }
+        ++ finding_report form later reported.now.name.now reported.now.line.now reported.now.displayed.now reported.now.finding.now) }
 {
-    let (name, displayed, finding) = (told.name, told.displayed, told.finding);
+    let (name, displayed, finding) = (reported.name, reported.displayed, reported.finding);
     match form {
         Form::Quiet => Ok(()),
         Form::Text { excerpts, colors } => {
             let shown = shown_name(alloc, name)?;
-            let told = ToldFinding {
+            let reported = ReportedFinding {
                 name: shown.as_str(),
-                ..*told
+                ..*reported
             };
-            push_text(out, excerpts, colors, &told)
+            push_text(out, excerpts, colors, &reported)
         }
         Form::Json => push_json(alloc, out, name, displayed, finding),
         Form::Sarif => push_result(alloc, out, later, name, displayed, finding),
@@ -74,7 +74,7 @@ impl Report {
         }
     }
 
-    /// Appends what stands before all findings.
+    /// Appends what is before all findings.
     pub fn push_head(&self, out: &mut String) -> Result<(), AllocError>
         ensures { OnOk result (string_bytes out.new ≡ string_bytes out.old ++ report_head self.now.form) }
     {
@@ -84,7 +84,7 @@ impl Report {
         }
     }
 
-    /// Appends what stands after all findings.
+    /// Appends what is after all findings.
     pub fn push_foot(&self, out: &mut String) -> Result<(), AllocError>
         ensures { OnOk result (string_bytes out.new ≡ string_bytes out.old ++ report_foot self.now.form) }
     {
@@ -111,13 +111,13 @@ impl Report {
     {
         self.displayed
             .display_for(alloc, data_source, found.line, finding)?;
-        let told = ToldFinding {
+        let reported = ReportedFinding {
             name: found.name,
             line: found.line,
             displayed: self.displayed.chars.as_slice(),
             finding,
         };
-        push_finding(alloc, out, self.form, self.later, &told)?;
+        push_finding(alloc, out, self.form, self.later, &reported)?;
         self.later = true;
         Ok(())
     }

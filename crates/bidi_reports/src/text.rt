@@ -1,7 +1,6 @@
 //! The report as lines of text.
-ghost use Rattle.std.specs.Prelude.{◌≡◌, ◌++◌, ◌-◌, [], if◌then◌else◌, codes, OnOk, string_bytes};
-ghost use Rattle.bidi_controls.specs.Findings.{place_text, trouble_text};
-ghost use Rattle.bidi_controls.specs.Controls.{control_name};
+ghost use Rattle.std.specs.Prelude.{◌≡◌, ◌++◌, codes, OnOk, string_bytes};
+ghost use Rattle.bidi_controls.specs.Findings.{place_text};
 ghost use Rattle.bidi_reports.specs.Parts.{bold, bold_red, styled};
 ghost use Rattle.bidi_reports.specs.Text.{without_last, without_end, finding_text, excerpt_text, note_start, note_text, excerpt_report, note_report, text_report};
 ghost use Rattle.bidi_reports.specs.Words.{is_about_line};
@@ -144,9 +143,9 @@ fn push_note_if(
     push_note(out, colors, name, displayed, finding)
 }
 
-/// A finding, and what is told with it.
+/// A finding, and what is reported with it.
 #[derive(Clone, Copy)]
-pub struct ToldFinding<'f> {
+pub struct ReportedFinding<'f> {
     /// The name of its file.
     pub name: &'f str,
     /// The line of the file, with the characters that end it.
@@ -164,19 +163,19 @@ pub fn push_text(
     out: &mut String,
     excerpts: bool,
     colors: bool,
-    told: &ToldFinding<'_>,
+    reported: &ReportedFinding<'_>,
 ) -> Result<(), AllocError>
     ensures { OnOk result (string_bytes out.new ≡ string_bytes out.old
-        ++ text_report excerpts colors told.now.name.now told.now.line.now told.now.displayed.now told.now.finding.now) }
+        ++ text_report excerpts colors reported.now.name.now reported.now.line.now reported.now.displayed.now reported.now.finding.now) }
 {
-    let (name, finding) = (told.name, told.finding);
+    let (name, finding) = (reported.name, reported.finding);
     push_finding(out, colors, name, finding)?;
     push_excerpt_if(
         out,
         excerpts,
         colors,
-        told.line,
+        reported.line,
         finding.column.saturating_sub(1),
     )?;
-    push_note_if(out, colors, name, told.displayed, finding)
+    push_note_if(out, colors, name, reported.displayed, finding)
 }

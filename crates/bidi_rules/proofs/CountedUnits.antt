@@ -1,13 +1,14 @@
--- The units of some ranges below a unit, as they are counted and paid for by a walk, and the characters that begin in them.
+-- The units of some ranges below a unit, as they are counted and paid for by a walk, and the characters that begin in
+-- them.
 use Rattle.bidi_base.proofs.Common.{◌≡◌, ℕ, zero, suc, ◌+◌, ◌-◌, ◌*◌, ◌<◌, ◌≤◌, List, [], ◌∷◌, length, true, false, get_or, take}
 use Rattle.bidi_base.proofs.Common.{drop, arith, length-append, length-take, length-drop, flat_map-append, All}
 use Rattle.bidi_base.proofs.Common.{slice_range, cond-true, cond-false, All-head, All-tail, char_index, IsLine, are_ordered, are_ordered_from, chars_in_runs, units_in_runs, AreLines, take_more}
-use Rattle.bidi_base.proofs.PlaceLemmas.{line_places, place-sum}
+use Rattle.bidi_base.proofs.UnitIndexLemmas.{line_unit_indexes, unit_index-sum}
 use Rattle.bidi_base.proofs.TextLemmas.{HasUnits, length-le-text_len}
 use Rattle.bidi_rules.specs.declared.weak.w2_w4_w5_w7.Walk.{Walk}
 use Rattle.bidi_rules.specs.WeakPass.{waits}
-use Rattle.bidi_explicit.specs.Written.{count_below}
-use Rattle.bidi_rules.specs.WeakWalk.{settled_to, WaitsBelow}
+use Rattle.bidi_explicit.specs.SequenceUnits.{count_below}
+use Rattle.bidi_rules.specs.WeakWalk.{resolved_to, WaitsBelow}
 use Rattle.bidi_explicit.proofs.WalkLemmas.{are_ordered-front, are_ordered-take}
 use Rattle.bidi_explicit.proofs.CountBelow.{length-between, count_below-cons, count_below-none, count_below-monotone, count_below-parts}
 
@@ -35,14 +36,15 @@ pub length-units_in_runs-more : (index : ℕ) (runs : List (ℕ × ℕ)) → ind
     → length (units_in_runs (take (index + 1) runs)) ≡ length (units_in_runs (take index runs)) + ((get_or runs index (0, 0)).1 - (get_or runs index (0, 0)).0)
 length-units_in_runs-more index runs fits = grind (arith, take_more runs index (0, 0) fits, flat_map-append, length-append, length-between)
 
--- what is settled where something waits, and where nothing does
-pub settled_to-waits : (w : Walk) (u : ℕ) → waits w.before ≡ true → settled_to w u ≡ w.first
-settled_to-waits w u h = cond-true (waits w.before) w.first u h
+-- what is resolved where something waits, and where nothing does
+pub resolved_to-waits : (w : Walk) (u : ℕ) → waits w.before ≡ true → resolved_to w u ≡ w.first
+resolved_to-waits w u h = cond-true (waits w.before) w.first u h
 
-pub settled_to-idle : (w : Walk) (u : ℕ) → waits w.before ≡ false → settled_to w u ≡ u
-settled_to-idle w u h = cond-false (waits w.before) w.first u h
+pub resolved_to-idle : (w : Walk) (u : ℕ) → waits w.before ≡ false → resolved_to w u ≡ u
+resolved_to-idle w u h = cond-false (waits w.before) w.first u h
 
--- some of the ranges and the units that they have between two units, where the turns over those ranges are paid by these
+-- some of the ranges and the units that they have between two units, where these pay for the iterations over those
+-- ranges
 pub paid-by-part : (index : ℕ) (runs : List (ℕ × ℕ)) (u v a b : ℕ) → are_ordered runs ≡ true → u ≤ v
     → a + 2 * count_below (drop index runs) u ≤ b + 2 * count_below (drop index runs) v
     → a + 2 * count_below runs u ≤ b + 2 * count_below runs v
@@ -55,11 +57,8 @@ paid-by-part index runs u v a b ordered order paid =
     )
 
 -- further on
-pub count_settled-monotone : (runs : List (ℕ × ℕ)) (w : Walk) (u v : ℕ) → are_ordered runs ≡ true → u ≤ v → count_below runs (settled_to w u) ≤ count_below runs (settled_to w v)
-count_settled-monotone runs w u v ordered order = grind (arith, count_below-monotone 0 runs (settled_to w u) (settled_to w v))
-
-pub WaitsBelow-later : (runs : List (ℕ × ℕ)) (w : Walk) (u v : ℕ) → u ≤ v → WaitsBelow runs w u → WaitsBelow runs w v
-WaitsBelow-later runs w u v order h = grind arith steps 400000
+pub count_resolved-monotone : (runs : List (ℕ × ℕ)) (w : Walk) (u v : ℕ) → are_ordered runs ≡ true → u ≤ v → count_below runs (resolved_to w u) ≤ count_below runs (resolved_to w v)
+count_resolved-monotone runs w u v ordered order = grind (arith, count_below-monotone 0 runs (resolved_to w u) (resolved_to w v))
 
 pub WaitsBelow-idle : (runs : List (ℕ × ℕ)) (w : Walk) (u : ℕ) → w.first_run ≤ length runs → waits w.before ≡ false → WaitsBelow runs w u
 WaitsBelow-idle runs w u fits idle = grind arith steps 400000
@@ -69,7 +68,7 @@ characters_within : (len_of : ℕ → ℕ) → HasUnits len_of → (chars : List
 characters_within len_of h chars start end line =
     let i = char_index len_of chars start in
     let j = char_index len_of chars end in
-    grind (arith, line_places len_of h chars start end line, place-sum len_of chars i j, length-le-text_len len_of h (slice_range chars i j), length-take (j - i) (drop i chars), length-drop i chars)
+    grind (arith, line_unit_indexes len_of h chars start end line, unit_index-sum len_of chars i j, length-le-text_len len_of h (slice_range chars i j), length-take (j - i) (drop i chars), length-drop i chars)
 
 pub characters-at_most : (len_of : ℕ → ℕ) → HasUnits len_of → (chars : List ℕ) (runs : List (ℕ × ℕ)) → AreLines len_of chars runs
     → length (chars_in_runs len_of chars runs) ≤ length (units_in_runs runs)

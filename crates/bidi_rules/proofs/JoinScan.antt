@@ -1,28 +1,29 @@
--- N1 for the direction against the embedding one, in one walk: neutrals wait from a class of that direction to the next class with one.
+-- N1 for the direction against the embedding one, in one walk: neutrals wait from a class of that direction to the next
+-- class with one.
 use Rattle.bidi_base.proofs.Common.{◌≡◌, ℕ, zero, suc, ◌+◌, ◌-◌, ◌<◌, ◌≤◌, Bool, true, false, not, ◌&&◌, List, [], ◌∷◌, ◌++◌, length, map, replicate, Some, refl, ap, ◌∙◌}
 use Rattle.bidi_base.proofs.Common.{arith, append_assoc, append-nil, ◌⊎◌, filter, list_all, range_with_len, cases_Bool, cases_lt, map-append, as_direction, is_l_or_r}
-use Rattle.bidi_base.proofs.Common.{is_neutral, is_weak_resolved, stands_for, nearest_direction, n1_n2, n2_rule, at_places, class_at, in_runs}
+use Rattle.bidi_base.proofs.Common.{is_ni, is_weak_resolved, stands_for, nearest_direction, n1_n2, n2_rule, at_indexes, class_at, in_runs}
 use Rattle.bidi_base.specs.declared.char_data.BidiClass.{BidiClass}
 use Rattle.bidi_base.specs.declared.char_data.BidiClass.TheVariants.{L}
 use Rattle.bidi_laws.proofs.NeutralBlocks.{common}
 use Rattle.bidi_laws.proofs.NeutralStretches.{n1_n2-neutrals, n1_n2-directed, n1_n2-last}
-use Rattle.bidi_laws.proofs.StoredLemmas.{at_places-append, length-at_places}
+use Rattle.bidi_laws.proofs.StoredLemmas.{at_indexes-append, length-at_indexes}
 use Rattle.bidi_rules.specs.JoinPass.{side_before, Unjoined, IsJoined}
-use Rattle.bidi_rules.specs.PairWalk.{opposite_of}
-use Rattle.bidi_explicit.specs.Written.{is_seen, IsWrittenOver}
+use Rattle.bidi_rules.specs.PairPass.{opposite_of}
+use Rattle.bidi_explicit.specs.SequenceUnits.{is_seen, IsWrittenOver}
 use Rattle.bidi_explicit.proofs.Marks.{marked, marked-parts, at_marked-same, at_marked-all}
 
 -- ---- classes
 
 -- what does not stand for the opposite direction stands for the embedding one, or is a neutral
-quiet : (e c : BidiClass) → is_l_or_r e ≡ true → (is_weak_resolved c && not (stands_for (opposite_of e) c)) ≡ true → (as_direction c ≡ Some e) ⊎ (is_neutral c ≡ true)
-quiet e c s h = grind arith
+inert : (e c : BidiClass) → is_l_or_r e ≡ true → (is_weak_resolved c && not (stands_for (opposite_of e) c)) ≡ true → (as_direction c ≡ Some e) ⊎ (is_ni c ≡ true)
+inert e c s h = grind arith
 
 pub opposite-directed : (e c : BidiClass) → stands_for (opposite_of e) c ≡ true → as_direction c ≡ Some (opposite_of e)
 opposite-directed e c n = grind arith
 
-pub settled-opposite : (e : BidiClass) → n2_rule e (opposite_of e) ≡ opposite_of e
-settled-opposite e = grind arith
+pub n2-opposite : (e : BidiClass) → n2_rule e (opposite_of e) ≡ opposite_of e
+n2-opposite e = grind arith
 
 -- ---- lists of classes
 
@@ -30,8 +31,8 @@ module _ (e eos : BidiClass) (side : is_l_or_r e ≡ true) where
   abbrev o : BidiClass
   o = opposite_of e
 
-  abbrev is_quiet : BidiClass → Bool
-  is_quiet c = is_weak_resolved c && not (stands_for o c)
+  abbrev is_inert : BidiClass → Bool
+  is_inert c = is_weak_resolved c && not (stands_for o c)
 
   same_e : (x : BidiClass) → common e e x ≡ e
   same_e x = grind arith steps 400000
@@ -42,29 +43,29 @@ module _ (e eos : BidiClass) (side : is_l_or_r e ≡ true) where
   common_opposite : common e o o ≡ o
   common_opposite = grind arith
 
-  map-settled : (cs : List BidiClass) → list_all is_neutral cs ≡ true → map (n2_rule e) cs ≡ replicate (length cs) e
-  map-settled [] h = refl
-  map-settled (c ∷ cs) h = grind (arith, map-settled cs)
+  map-n2 : (cs : List BidiClass) → list_all is_ni cs ≡ true → map (n2_rule e) cs ≡ replicate (length cs) e
+  map-n2 [] h = refl
+  map-n2 (c ∷ cs) h = grind (arith, map-n2 cs)
 
   map-opposite : (n : ℕ) → map (n2_rule e) (replicate n o) ≡ replicate n o
   map-opposite zero = refl
-  map-opposite (suc n) = simp (settled-opposite e, map-opposite n)
+  map-opposite (suc n) = simp (n2-opposite e, map-opposite n)
 
-  -- behind the embedding direction, up to the next class for the opposite one
-  quiet-rest : (cs rest : List BidiClass) → list_all is_quiet cs ≡ true → n1_n2 e e eos (cs ++ rest) ≡ map (n2_rule e) cs ++ n1_n2 e e eos rest
-  quiet-rest [] rest h = refl
-  quiet-rest (c ∷ cs) rest h = grind (arith, quiet e c side, quiet-rest cs rest, n1_n2-directed e e e eos c (cs ++ rest), n1_n2-neutrals e e eos (c ∷ []) (cs ++ rest), same_e)
+  -- after the embedding direction, up to the next class for the opposite one
+  inert-rest : (cs rest : List BidiClass) → list_all is_inert cs ≡ true → n1_n2 e e eos (cs ++ rest) ≡ map (n2_rule e) cs ++ n1_n2 e e eos rest
+  inert-rest [] rest h = refl
+  inert-rest (c ∷ cs) rest h = grind (arith, inert e c side, inert-rest cs rest, n1_n2-directed e e e eos c (cs ++ rest), n1_n2-neutrals e e eos (c ∷ []) (cs ++ rest), same_e)
 
   near : (d c : BidiClass) (rest : List BidiClass) → as_direction c ≡ Some d → nearest_direction eos (c ∷ rest) ≡ d
   near d c rest is = grind arith steps 400000
 
   -- neutrals that waited, before the embedding direction
-  turned : (cs rest : List BidiClass) (c : BidiClass) → list_all is_neutral cs ≡ true → as_direction c ≡ Some e → n1_n2 e o eos (cs ++ c ∷ rest) ≡ map (n2_rule e) cs ++ n1_n2 e e eos (c ∷ rest)
+  turned : (cs rest : List BidiClass) (c : BidiClass) → list_all is_ni cs ≡ true → as_direction c ≡ Some e → n1_n2 e o eos (cs ++ c ∷ rest) ≡ map (n2_rule e) cs ++ n1_n2 e e eos (c ∷ rest)
   turned cs rest c h is =
-      simp (n1_n2-neutrals e o eos cs (c ∷ rest) h, near e c rest is, common_apart, map-settled cs h, n1_n2-directed e o e eos c rest is, n1_n2-directed e e e eos c rest is)
+      simp (n1_n2-neutrals e o eos cs (c ∷ rest) h, near e c rest is, common_apart, map-n2 cs h, n1_n2-directed e o e eos c rest is, n1_n2-directed e e e eos c rest is)
 
   -- neutrals between two of the opposite direction
-  between_two : (cs rest : List BidiClass) (c : BidiClass) → list_all is_neutral cs ≡ true → as_direction c ≡ Some o
+  between_two : (cs rest : List BidiClass) (c : BidiClass) → list_all is_ni cs ≡ true → as_direction c ≡ Some o
       → n1_n2 e o eos (cs ++ c ∷ rest) ≡ replicate (length cs) o ++ n1_n2 e o eos (c ∷ rest)
   between_two cs rest c h is = grind (arith, n1_n2-neutrals)
 
@@ -76,11 +77,11 @@ module _ (e eos : BidiClass) (side : is_l_or_r e ≡ true) where
 -- ---- the same at units
 
 module _ (mark : ℕ → Bool) (p : BidiClass → Bool) (old : List BidiClass) where
-  each : (low n : ℕ) → ((k : ℕ) → low ≤ k → k < low + n → mark k ≡ true → p (class_at old k) ≡ true) → list_all p (at_places L old (filter mark (range_with_len low n))) ≡ true
+  each : (low n : ℕ) → ((k : ℕ) → low ≤ k → k < low + n → mark k ≡ true → p (class_at old k) ≡ true) → list_all p (at_indexes L old (filter mark (range_with_len low n))) ≡ true
   each low zero h = refl
   each low (suc n) h = grind (arith, cases_Bool (mark low), h low, each (low + 1) n (λ k from below is. h k (omega arith) (omega arith) is))
 
-  pub at_marked-each : (low high : ℕ) → ((k : ℕ) → low ≤ k → k < high → mark k ≡ true → p (class_at old k) ≡ true) → list_all p (at_places L old (marked mark low high)) ≡ true
+  pub at_marked-each : (low high : ℕ) → ((k : ℕ) → low ≤ k → k < high → mark k ≡ true → p (class_at old k) ≡ true) → list_all p (at_indexes L old (marked mark low high)) ≡ true
   at_marked-each low high h = each low (high - low) (λ k from below is. h k from (omega arith) is)
 
 -- a unit keeps its class, or has one that was written over some units
@@ -102,7 +103,7 @@ module _ (s : Unjoined) where
   mark k = is_seen s.runs s.old k
 
   abbrev at_old : ℕ → ℕ → List BidiClass
-  at_old low high = at_places L s.old (marked mark low high)
+  at_old low high = at_indexes L s.old (marked mark low high)
 
   abbrev size : ℕ
   size = length s.old
@@ -111,16 +112,16 @@ module _ (s : Unjoined) where
   rest_of waits low = n1_n2 e (side_before s waits) s.eos (at_old low size)
 
   abbrev done_with : List BidiClass → ℕ → List BidiClass
-  done_with now high = map (n2_rule e) (at_places L now (marked mark 0 high))
+  done_with now high = map (n2_rule e) (at_indexes L now (marked mark 0 high))
 
   abbrev goal : List BidiClass
   goal = n1_n2 e s.sos s.eos (at_old 0 size)
 
-  split : (xs : List BidiClass) (low mid high : ℕ) → low ≤ mid → mid ≤ high → at_places L xs (marked mark low high) ≡ at_places L xs (marked mark low mid) ++ at_places L xs (marked mark mid high)
-  split xs low mid high a b = ap (at_places L xs) (marked-parts mark low mid high a b) ∙ at_places-append L xs (marked mark low mid) (marked mark mid high)
+  split : (xs : List BidiClass) (low mid high : ℕ) → low ≤ mid → mid ≤ high → at_indexes L xs (marked mark low high) ≡ at_indexes L xs (marked mark low mid) ++ at_indexes L xs (marked mark mid high)
+  split xs low mid high a b = ap (at_indexes L xs) (marked-parts mark low mid high a b) ∙ at_indexes-append L xs (marked mark low mid) (marked mark mid high)
 
-  done-more : (now : List BidiClass) (done to : ℕ) → done ≤ to → done_with now to ≡ done_with now done ++ map (n2_rule e) (at_places L now (marked mark done to))
-  done-more now done to a = ap (map (n2_rule e)) (split now 0 done to (omega arith) a) ∙ map-append (n2_rule e) (at_places L now (marked mark 0 done)) (at_places L now (marked mark done to))
+  done-more : (now : List BidiClass) (done to : ℕ) → done ≤ to → done_with now to ≡ done_with now done ++ map (n2_rule e) (at_indexes L now (marked mark done to))
+  done-more now done to a = ap (map (n2_rule e)) (split now 0 done to (omega arith) a) ∙ map-append (n2_rule e) (at_indexes L now (marked mark 0 done)) (at_indexes L now (marked mark done to))
 
   -- ---- a step that leaves the units of `now` from `done` on as they are, and reads those up to `to`
   read : (now : List BidiClass) (waits after : Bool) (done at to : ℕ) → done ≤ to → to ≤ size → IsJoined s now waits done at
@@ -130,24 +131,24 @@ module _ (s : Unjoined) where
 
   -- more neutrals, or units that are none of the sequence
   pub IsJoined-more : (now : List BidiClass) (waits : Bool) (done at to : ℕ) → at ≤ to
-      → ((k : ℕ) → at ≤ k → k < to → mark k ≡ true → is_neutral (class_at s.old k) ≡ true) → IsJoined s now waits done at
+      → ((k : ℕ) → at ≤ k → k < to → mark k ≡ true → is_ni (class_at s.old k) ≡ true) → IsJoined s now waits done at
       → IsJoined s now waits done to
   IsJoined-more now waits done at to upto more j = grind arith
 
-  waited : (now : List BidiClass) (waits : Bool) (done at : ℕ) → IsJoined s now waits done at → list_all is_neutral (at_old done at) ≡ true
-  waited now waits done at j = at_marked-each mark is_neutral s.old done at j.waiting
+  waited : (now : List BidiClass) (waits : Bool) (done at : ℕ) → IsJoined s now waits done at → list_all is_ni (at_old done at) ≡ true
+  waited now waits done at j = at_marked-each mark is_ni s.old done at j.waiting
 
-  -- behind the embedding direction: units that don't stand for the opposite one
-  pub IsJoined-quiet : (now : List BidiClass) (done at to : ℕ) → at ≤ to → to ≤ size
+  -- after the embedding direction: units that don't stand for the opposite one
+  pub IsJoined-inert : (now : List BidiClass) (done at to : ℕ) → at ≤ to → to ≤ size
       → ((k : ℕ) → at ≤ k → k < to → stands_for against (class_at s.old k) ≡ false) → IsJoined s now false done at → IsJoined s now false to to
-  IsJoined-quiet now done at to upto fits none j =
+  IsJoined-inert now done at to upto fits none j =
       read now false false done at to (omega (arith, j.order)) fits j
       (ap (n1_n2 e e s.eos) (split s.old done to size (omega (arith, j.order)) fits)
-      ∙ quiet-rest e s.eos s.side (at_old done to) (at_old to size)
+      ∙ inert-rest e s.eos s.side (at_old done to) (at_old to size)
       (at_marked-each mark (λ c. is_weak_resolved c && not (stands_for against c)) s.old done to
       (λ k from below is. grind (arith, s.resolved k is, cases_lt k at, j.waiting k from, none k))))
 
-  -- the class at hand, and those behind it
+  -- the class at hand, and those after it
   first_at : (at : ℕ) → at < size → mark at ≡ true → at_old at size ≡ class_at s.old at ∷ at_old (at + 1) size
   first_at at fits is = grind arith
 
@@ -168,14 +169,14 @@ module _ (s : Unjoined) where
 
   -- what is written to units
   row-written : (now new : List BidiClass) (from to : ℕ) → IsWrittenOver mark against from to now new
-      → (done_with new from ≡ done_with now from) × (map (n2_rule e) (at_places L new (marked mark from to)) ≡ replicate (length (at_old from to)) against)
-  row-written now new from to w = grind (arith, at_marked-same, at_marked-all, length-at_places, map-opposite)
+      → (done_with new from ≡ done_with now from) × (map (n2_rule e) (at_indexes L new (marked mark from to)) ≡ replicate (length (at_old from to)) against)
+  row-written now new from to w = grind (arith, at_marked-same, at_marked-all, length-at_indexes, map-opposite)
 
   -- the opposite direction comes, and is written to what waits
-  pub IsJoined-settled : (now new : List BidiClass) (done at : ℕ) → at < size → in_runs s.runs at ≡ true
+  pub IsJoined-decided : (now new : List BidiClass) (done at : ℕ) → at < size → in_runs s.runs at ≡ true
       → as_direction (class_at s.old at) ≡ Some against → IsWrittenOver mark against done at now new → IsJoined s now true done at
       → IsJoined s new true at at
-  IsJoined-settled now new done at fits inside is w j =
+  IsJoined-decided now new done at fits inside is w j =
       let first = first_at at fits (seen-directed at against inside is) in
       let between = between_two e s.eos s.side (at_old done at) (at_old (at + 1) size) (class_at s.old at) (waited now true done at j) is in
       let row = row-written now new done at w in
@@ -208,11 +209,11 @@ module _ (s : Unjoined) where
   none-left = grind arith steps 400000
 
   -- nothing waits
-  pub finished-quiet : (now : List BidiClass) (done : ℕ) → IsJoined s now false done size → done_with now size ≡ goal
-  finished-quiet now done j =
-      simp (none-left, append-nil) at (IsJoined-quiet now done size size (omega arith) (omega arith) (λ k a b. absurd (omega arith)) j).written
+  pub finished-inert : (now : List BidiClass) (done : ℕ) → IsJoined s now false done size → done_with now size ≡ goal
+  finished-inert now done j =
+      simp (none-left, append-nil) at (IsJoined-inert now done size size (omega arith) (omega arith) (λ k a b. absurd (omega arith)) j).written
 
-  -- the embedding direction stands behind what waits
+  -- the embedding direction stands after what waits
   pub finished-embedding : (now : List BidiClass) (done : ℕ) → s.eos ≡ e → IsJoined s now true done size → done_with now size ≡ goal
   finished-embedding now done is j =
       let wait = waited now true done size j in
@@ -220,7 +221,7 @@ module _ (s : Unjoined) where
         arith,
         n1_n2-last e against s.eos (at_old done size) wait,
         common_apart e s.eos s.side,
-        map-settled e s.eos s.side,
+        map-n2 e s.eos s.side,
       ) in
       simp (done-more now done size j.order, at_marked-same mark now s.old done size (λ k from below seen. j.unwritten k from), ← step, j.written)
 

@@ -1,15 +1,15 @@
 -- The walk for N1 over the runs of a sequence.
 use Rattle.bidi_base.proofs.Common.{◌≡◌, ℕ, ◌+◌, ◌<◌, ◌≤◌, Bool, true, false, List, length, map, get_or, drop, Some, arith, add-one, inl, inr, ◌⊎◌, cases_Bool}
-use Rattle.bidi_base.proofs.Common.{as_direction, has_direction, is_kept_in_place, is_l_or_r, stands_for, n1_n2, n2_rule, at_places, class_at, in_runs}
+use Rattle.bidi_base.proofs.Common.{as_direction, has_direction, is_kept_in_place, is_l_or_r, stands_for, n1_n2, n2_rule, at_indexes, class_at, in_runs}
 use Rattle.bidi_base.specs.declared.char_data.BidiClass.{BidiClass}
 use Rattle.bidi_base.specs.declared.char_data.BidiClass.TheVariants.{L}
 use Rattle.bidi_rules.specs.JoinPass.{side_before, units_of, Unjoined, IsAtOpposite, IsJoined, IsUnderWay}
-use Rattle.bidi_rules.specs.PairWalk.{opposite_of}
-use Rattle.bidi_explicit.specs.Written.{is_seen, IsWrittenOver}
+use Rattle.bidi_rules.specs.PairPass.{opposite_of}
+use Rattle.bidi_explicit.specs.SequenceUnits.{is_seen, IsWrittenOver}
 use Rattle.bidi_rules.specs.declared.neutral.directions.Join.{Join}
 use Rattle.bidi_explicit.proofs.InRuns.{in_runs-at, in_runs-drop, start_or, gap_before, gap_after, next_start}
-use Rattle.bidi_rules.proofs.JoinScan.{opposite-directed, own-after, IsJoined-more, IsJoined-quiet, IsJoined-turned}
-use Rattle.bidi_rules.proofs.JoinScan.{IsJoined-settled, IsJoined-stretch, finished-quiet, finished-embedding, finished-opposite}
+use Rattle.bidi_rules.proofs.JoinScan.{opposite-directed, own-after, IsJoined-more, IsJoined-inert, IsJoined-turned}
+use Rattle.bidi_rules.proofs.JoinScan.{IsJoined-decided, IsJoined-stretch, finished-inert, finished-embedding, finished-opposite}
 use Rattle.bidi_explicit.proofs.WrittenOver.{IsWrittenOver-same_test}
 
 -- a direction other than the opposite one is the embedding direction
@@ -31,17 +31,17 @@ module _ (s : Unjoined) (now : List BidiClass) (w : Join) where
     IsUnderWay-more next from upto none = grind arith
 
     -- it comes, and is written to what waits
-    pub IsAtOpposite-settled : (new : List BidiClass) (next : ℕ) → at ≤ next → next < end
+    pub IsAtOpposite-decided : (new : List BidiClass) (next : ℕ) → at ≤ next → next < end
         → ((k : ℕ) → at ≤ k → k < next → has_direction (class_at now k) ≡ false) → stands_for (opposite_of s.e) (class_at now next) ≡ true
         → w.waits ≡ true
         → IsWrittenOver (is_seen (drop w.first_run s.runs) now) (opposite_of s.e) w.first next now new → IsAtOpposite s new w next end
-    IsAtOpposite-settled new next from below none is waiting over =
+    IsAtOpposite-decided new next from below none is waiting over =
         let more = IsUnderWay-more next from (omega arith) none in
         let j : IsJoined s now true more.done next = simp waiting at more.joined in
         grind (
           arith,
           opposite-directed s.e (class_at now next) is,
-          IsJoined-settled s now new more.done next,
+          IsJoined-decided s now new more.done next,
           inside next,
           over-old next new more waiting over,
         )
@@ -55,11 +55,11 @@ module _ (s : Unjoined) (now : List BidiClass) (w : Join) where
         grind (arith, IsJoined-turned s now more.done next, inside next, other-embedding s.e (class_at now next))
 
 -- nothing waits
-pub IsAtOpposite-quiet : (s : Unjoined) (now : List BidiClass) (w : Join) (done from next end : ℕ) → IsJoined s now false done from → w.waits ≡ false → from ≤ next → next ≤ end → end ≤ length s.old
+pub IsAtOpposite-inert : (s : Unjoined) (now : List BidiClass) (w : Join) (done from next end : ℕ) → IsJoined s now false done from → w.waits ≡ false → from ≤ next → next ≤ end → end ≤ length s.old
     → ((k : ℕ) → from ≤ k → k < next → stands_for (opposite_of s.e) (class_at now k) ≡ false) → (next < end → stands_for (opposite_of s.e) (class_at now next) ≡ true) → IsAtOpposite s now w next end
-IsAtOpposite-quiet s now w done from next end j idle low high fits none is = grind (
+IsAtOpposite-inert s now w done from next end j idle low high fits none is = grind (
   arith,
-  IsJoined-quiet s now done from next,
+  IsJoined-inert s now done from next,
   j.unwritten,
 )
 
@@ -79,7 +79,7 @@ module _ (s : Unjoined) where
   abbrev size : ℕ
   size = length s.old
 
-  -- behind a run
+  -- after a run
   pub IsUnderWay-gap : (now : List BidiClass) (w : Join) (run : ℕ) → run < length s.runs → (get_or s.runs run (0, 0)).1 ≤ size
       → IsUnderWay s now w (get_or s.runs run (0, 0)).1 → IsUnderWay s now w (start_or s.runs (run + 1) size)
   IsUnderWay-gap now w run here within u =
@@ -89,16 +89,16 @@ module _ (s : Unjoined) where
   pub IsUnderWay-start : (w : Join) → side_before s w.waits ≡ s.sos → w.first ≡ 0 → w.first_run ≡ 0 → IsUnderWay s s.old w (start_or s.runs 0 size)
   IsUnderWay-start w before first_is run_is = grind (arith, gap_before)
 
-  -- ---- behind the last run
+  -- ---- after the last run
 
-  -- the classes that N1 leaves for N2, once what waits is settled by the direction at the end
+  -- the classes that N1 leaves for N2, once what waits is resolved by the direction at the end
   pub record IsFinished (new : List BidiClass) : Type 0 where
-    pub answers : map (n2_rule s.e) (at_places L new (units_of s 0 size)) ≡ n1_n2 s.e s.sos s.eos (at_places L s.old (units_of s 0 size))
+    pub answers : map (n2_rule s.e) (at_indexes L new (units_of s 0 size)) ≡ n1_n2 s.e s.sos s.eos (at_indexes L s.old (units_of s 0 size))
     pub unseen : (k : ℕ) → is_seen s.runs s.old k ≡ false → class_at new k ≡ class_at s.old k
     pub own : (k : ℕ) → (class_at new k ≡ class_at s.old k) ⊎ (class_at new k ≡ opposite_of s.e)
 
   pub IsFinished-embedding : (now : List BidiClass) (w : Join) → is_l_or_r s.eos ≡ true → stands_for (opposite_of s.e) s.eos ≡ false → IsUnderWay s now w size → IsFinished now
-  IsFinished-embedding now w side other u = grind (arith, finished-embedding, finished-quiet)
+  IsFinished-embedding now w side other u = grind (arith, finished-embedding, finished-inert)
 
   pub IsFinished-opposite : (now new : List BidiClass) (w : Join) → is_l_or_r s.eos ≡ true → stands_for (opposite_of s.e) s.eos ≡ true
       → (w.waits ≡ true → IsWrittenOver (is_seen (drop w.first_run s.runs) now) (opposite_of s.e) w.first size now new) → (w.waits ≡ false → new ≡ now) → IsUnderWay s now w size → IsFinished new
@@ -112,5 +112,5 @@ module _ (s : Unjoined) where
           u.joined,
           own-after (is_seen s.runs s.old) (opposite_of s.e) u.done size s.old now new,
         )
-    | inr no' ↦ grind (arith, finished-quiet)
+    | inr no' ↦ grind (arith, finished-inert)
   ]

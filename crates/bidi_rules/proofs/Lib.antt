@@ -1,22 +1,22 @@
-pub mod CountedUnits
+mod CountedUnits
 pub mod FirstKept
-pub mod FoldAny
-pub mod Gathered
-pub mod JoinScan
-pub mod JoinWalk
-pub mod KeptRuns
-pub mod NearestLemmas
-pub mod NeutralSteps
+mod FoldAny
+mod Gathered
+mod JoinScan
+mod JoinWalk
+mod KeptRuns
+mod NearestLemmas
+mod NeutralSteps
 pub mod NeutralUnits
 pub mod OneDirection
-pub mod PairPlaces
-pub mod PairSteps
-pub mod RowLemmas
-mod Settled
-pub mod Spots
-pub mod UnitBrackets
-pub mod WeakMarks
-pub mod WeakPassLemmas
-pub mod WeakText
-pub mod WeakUnits
-pub mod WeakWalkLemmas
+mod PairPlaces
+mod PairSteps
+mod RowLemmas
+mod ResolvedUnits
+mod ListedUnitIndexes
+mod UnitBrackets
+mod WeakMarks
+mod WeakPassLemmas
+mod WeakText
+mod WeakUnits
+mod WeakWalkLemmas

@@ -1,4 +1,5 @@
--- N0 over the units of a sequence, pair by pair: what a search over units says of the characters between two brackets and before them, and what is written.
+-- N0 over the units of a sequence, pair by pair: what a search over units says of the characters between two brackets
+-- and before them, and what is written.
 use Rattle.bidi_base.proofs.Common.{◌≡◌, ℕ, zero, suc, ◌+◌, ◌-◌, ◌<◌, ◌≤◌, true, false, ltb, List, length, map, get_or, take, drop, reverse, Some, None, refl, sym, ap, ◌∙◌, arith, inl, inr}
 use Rattle.bidi_base.proofs.Common.{lt-ltb, le-ltb, length-take, length-drop, get_or-take, get_or-drop, list_any, Range, cases_lt, list_any_at, list_any_none, as_direction, is_kept_in_place}
 use Rattle.bidi_base.proofs.Common.{stands_for, AreNestedPairs, nearest_direction, class_at, IsPerChar, bounds, in_runs, kept_in_place, slice_range}
@@ -10,8 +11,8 @@ use Rattle.bidi_laws.proofs.NeutralLemmas.{nearest_direction-more}
 use Rattle.bidi_base.proofs.PlacesLemmas.{reverse-take_more}
 use Rattle.bidi_base.proofs.TextLemmas.{HasUnits}
 use Rattle.bidi_rules.specs.NeutralPass.{values_of, IsReady}
-use Rattle.bidi_rules.specs.PairWalk.{spot, IsFirstFor, IsNearestBefore}
-use Rattle.bidi_rules.proofs.Spots.{length-values_of, behind, Owner, owner, spot-behind, behind-spot, spot-rises, spot-lower, spot-seen, class-at}
+use Rattle.bidi_rules.specs.PairPass.{unit_index_at, IsFirstFor, IsNearestBefore}
+use Rattle.bidi_rules.proofs.ListedUnitIndexes.{length-values_of, behind, Owner, owner, unit_index_at-behind, behind-unit_index_at, unit_index_at-rises, unit_index_at-lower, unit_index_at-seen, class-at}
 
 -- a class that stands for a direction is kept
 stands-kept : (d c : BidiClass) → stands_for d c ≡ true → is_kept_in_place c ≡ true
@@ -61,10 +62,10 @@ module _ (len_of : ℕ → ℕ) (h : HasUnits len_of) (chars : List ℕ) (runs :
   ks = kept_in_place len_of chars old rs
 
   abbrev at : ℕ → ℕ
-  at k = spot len_of chars ks k
+  at k = unit_index_at len_of chars ks k
 
   abbrev ends : ℕ → ℕ
-  ends k = behind len_of h chars old rs ready.lines ready.ordered k
+  ends k = behind len_of h chars old rs ready.are_lines ready.ordered k
 
   abbrev cs : List BidiClass
   cs = values_of L len_of chars now ks
@@ -73,29 +74,29 @@ module _ (len_of : ℕ → ℕ) (h : HasUnits len_of) (chars : List ℕ) (runs :
   count = length-values_of len_of chars L now ks
 
   class-is : (k : ℕ) → k < length ks → class_at cs k ≡ class_at now (at k)
-  class-is = class-at len_of h chars old rs ready.lines ready.ordered now
+  class-is = class-at len_of h chars old rs ready.are_lines ready.ordered now
 
   inside : (k : ℕ) → k < length ks → in_runs rs (at k) ≡ true
-  inside k fits = grind (arith, spot-seen) steps 400000
+  inside k fits = grind (arith, unit_index_at-seen) steps 400000
 
-  own : (u : ℕ) → in_runs rs u ≡ true → is_kept_in_place (class_at now u) ≡ true → Owner len_of h chars old rs ready.lines ready.ordered now u
+  own : (u : ℕ) → in_runs rs u ≡ true → is_kept_in_place (class_at now u) ≡ true → Owner len_of h chars old rs ready.are_lines ready.ordered now u
   own u here is = grind (arith, owner) steps 400000
 
   order : (i j : ℕ) → i < j → j < length ks → ends i ≤ at j
-  order = behind-spot len_of h chars old rs ready.lines ready.ordered
+  order = behind-unit_index_at len_of h chars old rs ready.are_lines ready.ordered
 
   rising : (i j : ℕ) → i < j → at i < at j
-  rising = spot-rises len_of h chars old rs ready.lines ready.ordered
+  rising = unit_index_at-rises len_of h chars old rs ready.are_lines ready.ordered
 
   -- ---- what a search forwards finds
 
-  -- the first place behind the i-th character that stands for a direction is one at which a character begins
-  pub first-spot : (d : BidiClass) (i to r : ℕ) → i < length ks → IsFirstFor d rs now (ends i) to r → r < to → (x : ℕ) × (x < length ks) × (i < x) × (r ≡ at x)
-  first-spot d i to r fits f less =
+  -- the first place after the i-th character that stands for a direction is one at which a character begins
+  pub first-unit_index_at : (d : BidiClass) (i to r : ℕ) → i < length ks → IsFirstFor d rs now (ends i) to r → r < to → (x : ℕ) × (x < length ks) × (i < x) × (r ≡ at x)
+  first-unit_index_at d i to r fits f less =
       let found = f.at less in
       let w = own r found.1 (stands-kept d (class_at now r) found.2) in
       let x = w.number in
-      let behind_i : i < x = grind (arith, found.0, w.from, w.below, order x i, spot-behind len_of h chars old rs ready.lines ready.ordered i fits) in (
+      let behind_i : i < x = grind (arith, found.0, w.from, w.below, order x i, unit_index_at-behind len_of h chars old rs ready.are_lines ready.ordered i fits) in (
         x,
         w.fits,
         behind_i,
@@ -134,15 +135,15 @@ module _ (len_of : ℕ → ℕ) (h : HasUnits len_of) (chars : List ℕ) (runs :
   looked-between d i j r less fits f =
       between d i j r fits (λ x after before lower. grind (arith, class-is x, f.before (at x), order i x, inside x))
       (λ found.
-      let w = first-spot d i (at j) r (omega arith) f found in
-      (w.0, w.2, spot-lower len_of h chars old rs ready.lines ready.ordered w.0 j (omega (arith, w.3)), ap (stands_for d) (class-is w.0 w.1 ∙ ap (class_at now) (sym w.3)) ∙ (f.at found).2))
+      let w = first-unit_index_at d i (at j) r (omega arith) f found in
+      (w.0, w.2, unit_index_at-lower len_of h chars old rs ready.are_lines ready.ordered w.0 j (omega (arith, w.3)), ap (stands_for d) (class-is w.0 w.1 ∙ ap (class_at now) (sym w.3)) ∙ (f.at found).2))
 
   -- ---- what a search backwards finds
   pub context-is : (i : ℕ) (d : BidiClass) → i < length ks → IsNearestBefore sos rs now (at i) d → d ≡ nearest_direction sos (reverse (take i cs))
   context-is i d fits (inl found) =
       let w = own found.0 found.2 (directed-kept (class_at now found.0) d found.3) in
       let x = w.number in
-      let early : x < i = spot-lower len_of h chars old rs ready.lines ready.ordered x i (omega (arith, found.1, w.from)) in
+      let early : x < i = unit_index_at-lower len_of h chars old rs ready.are_lines ready.ordered x i (omega (arith, found.1, w.from)) in
       sym (nearest-at sos d cs i x (omega (arith, count)) early (grind (arith, class-is x w.fits, w.same, found.3))
       (λ k after before. grind (arith, class-is k, found.4 (at k), order x k after, w.below, rising k i before, inside k)))
   context-is i d fits (inr none) =

@@ -1,29 +1,29 @@
 -- The row of marks that was written last: a bracket in it that has its direction already needs no writing.
-use Rattle.bidi_base.proofs.Common.{◌≡◌, ℕ, ◌+◌, ◌<◌, ◌≤◌, true, List, length, get_or, arith, cases_lt, place}
+use Rattle.bidi_base.proofs.Common.{◌≡◌, ℕ, ◌+◌, ◌<◌, ◌≤◌, true, List, length, get_or, arith, cases_lt, unit_index}
 use Rattle.bidi_base.specs.declared.char_data.BidiClass.{BidiClass}
-use Rattle.bidi_base.proofs.PlaceLemmas.{place-mono, place-more}
+use Rattle.bidi_base.proofs.UnitIndexLemmas.{unit_index-mono, unit_index-more}
 use Rattle.bidi_base.proofs.TextLemmas.{HasUnits}
-use Rattle.bidi_rules.specs.PairWalk.{IsRow, IsSet, IsSetUpTo}
+use Rattle.bidi_rules.specs.PairPass.{IsRow, IsSet, IsSetUpTo}
 use Rattle.bidi_rules.specs.declared.neutral.pairs.Row.{Row}
-use Rattle.bidi_explicit.specs.Written.{is_seen}
+use Rattle.bidi_explicit.specs.SequenceUnits.{is_seen}
 
-module _ (len_of : ℕ → ℕ) (chars : List ℕ) (runs : List (ℕ × ℕ)) (original : List BidiClass) where
-  pub IsRow-none : (units : List BidiClass) (d : BidiClass) → IsRow len_of chars runs original units (record { from = 0; end = 0; direction = d })
-  IsRow-none units d = grind arith
+module _ (len_of : ℕ → ℕ) (chars : List ℕ) (runs : List (ℕ × ℕ)) (original_classes : List BidiClass) where
+  pub IsRow-none : (classes : List BidiClass) (d : BidiClass) → IsRow len_of chars runs original_classes classes (record { from = 0; end = 0; direction = d })
+  IsRow-none classes d = grind arith
 
-  -- what stands in the row is written as it is to be
-  pub IsSet-held : HasUnits len_of → (units : List BidiClass) (row : Row) (b k : ℕ) (d : BidiClass)
-      → IsRow len_of chars runs original units row → row.from ≤ b → b < row.end → row.direction ≡ d → k < length chars → b ≡ place len_of chars k
-      → IsSet len_of chars runs original d b (k + 1) units units
-  IsSet-held h units row b k d r from below same fits there =
-      let next = place-more len_of chars k 0 fits in
+  -- what is in the row is written as it is to be
+  pub IsSet-held : HasUnits len_of → (classes : List BidiClass) (row : Row) (b k : ℕ) (d : BidiClass)
+      → IsRow len_of chars runs original_classes classes row → row.from ≤ b → b < row.end → row.direction ≡ d → k < length chars → b ≡ unit_index len_of chars k
+      → IsSet len_of chars runs original_classes d b (k + 1) classes classes
+  IsSet-held h classes row b k d r from below same fits there =
+      let next = unit_index-more len_of chars k 0 fits in
       let some = h (get_or chars k 0) in
-      (row.end, (grind (arith, place-mono), grind arith))
+      (row.end, (grind (arith, unit_index-mono), grind arith))
 
   -- what was written is the row
-  pub IsRow-set : (old new : List BidiClass) (b k end : ℕ) (d : BidiClass) → b ≡ place len_of chars k
-      → IsSetUpTo len_of chars runs original d b (k + 1) end old new
-      → IsRow len_of chars runs original new (record { from = b; end = end; direction = d })
+  pub IsRow-set : (old new : List BidiClass) (b k end : ℕ) (d : BidiClass) → b ≡ unit_index len_of chars k
+      → IsSetUpTo len_of chars runs original_classes d b (k + 1) end old new
+      → IsRow len_of chars runs original_classes new (record { from = b; end = end; direction = d })
   IsRow-set old new b k end d there set =
       let e = set.0 in
       let w = set.1 in
@@ -33,8 +33,8 @@ module _ (len_of : ℕ → ℕ) (chars : List ℕ) (runs : List (ℕ × ℕ)) (o
         marks = λ q after inside seen. e.marks q (grind (
           arith,
           cases_lt k q,
-          place-mono,
-        )) inside (seen-before (place len_of chars q) seen);
+          unit_index-mono,
+        )) inside (seen-before (unit_index len_of chars q) seen);
         stops = λ some less. grind arith;
         within = omega (arith, w.long, e.within);
       }

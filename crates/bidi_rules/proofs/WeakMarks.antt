@@ -2,14 +2,14 @@
 use Rattle.bidi_base.proofs.Common.{◌≡◌, ℕ, zero, suc, ◌+◌, ◌-◌, ◌<◌, ◌≤◌, Bool, true, false, List, [], ◌∷◌, ◌++◌, length, map, get_or, set, refl, sym, ap, ◌∙◌, arith, inl, inr, append_assoc}
 use Rattle.bidi_base.proofs.Common.{append-nil, length-take, length-drop, get_or-set_same, get_or-set_other, All, filter, slice_range, list_any, range_with_len, reverse, take, drop, if◌then◌else◌}
 use Rattle.bidi_base.proofs.Common.{nearest, common_steps, Range, All-nil, All-cons, All-head, All-tail, list_any_at, cases_eq, cases_Bool, both_ways, and_from, and_parts, and_left, and_right}
-use Rattle.bidi_base.proofs.Common.{are_ordered, bounds, in_runs, is_kept_in_place, is_nsm, at_places, class_at, carried, length-set, get_or-take, get_or-drop, set-get_or}
+use Rattle.bidi_base.proofs.Common.{are_ordered, bounds, in_runs, is_kept_in_place, is_nsm, at_indexes, class_at, carried, length-set, get_or-take, get_or-drop, set-get_or}
 use Rattle.std.proofs.Math.Numerals.{add-one}
 use Rattle.bidi_base.specs.declared.char_data.BidiClass.{BidiClass}
 use Rattle.bidi_base.specs.declared.char_data.BidiClass.TheVariants.{L}
-use Rattle.bidi_laws.proofs.StoredLemmas.{at_places-append}
+use Rattle.bidi_laws.proofs.StoredLemmas.{at_indexes-append}
 use Rattle.bidi_rules.specs.WeakPass.{marked, after_w1}
-use Rattle.bidi_rules.specs.WeakWalk.{part_of, is_any, is_any_of, wide_part_of, is_any_wide, AreMarked, IsMarked}
-use Rattle.bidi_explicit.specs.Written.{is_seen, seen_from, seen_units}
+use Rattle.bidi_rules.specs.WeakWalk.{part_of, is_any, is_any_of, blocks_of, is_any_in_blocks, AreMarked, IsMarked}
+use Rattle.bidi_explicit.specs.SequenceUnits.{is_seen, seen_from, seen_units}
 use Rattle.bidi_rules.proofs.FoldAny.{fold_any}
 use Rattle.bidi_explicit.proofs.InRuns.{in_run-true, start_or, start_within, gap_before, gap_after, next_start}
 use Rattle.bidi_explicit.proofs.Marks.{marked-parts, marked-empty, marked-one, at_marked-same}
@@ -57,8 +57,8 @@ module _ (runs : List (ℕ × ℕ)) (sos : BidiClass) (old : List BidiClass) whe
         let within : i < length now = omega (arith, h.long) in
         let one : us i (i + 1) ≡ i ∷ [] = marked-one (is_seen runs old) i (i + 1) (omega arith) is (λ k above below. absurd (omega arith)) in
         let front = at_marked-same (is_seen runs old) new now 0 i (λ k from below seen. get_or-set_other now i k own L (omega arith)) in
-        let done : at_places L new (us 0 (i + 1)) ≡ at_places L now (us 0 i) ++ own ∷ [] =
-        simp (marked-parts (is_seen runs old) 0 i (i + 1) (omega arith) (omega arith), one, at_places-append, front, get_or-set_same now i own L within) in
+        let done : at_indexes L new (us 0 (i + 1)) ≡ at_indexes L now (us 0 i) ++ own ∷ [] =
+        simp (marked-parts (is_seen runs old) 0 i (i + 1) (omega arith) (omega arith), one, at_indexes-append, front, get_or-set_same now i own L within) in
         let later : us i (length old) ≡ i ∷ us (i + 1) (length old) = simp (marked-parts (is_seen runs old) i (i + 1) (length old) (omega arith) (omega arith), one) in
         record {
           answers = simp (done, append_assoc) (simp read (simp later at h.answers));
@@ -95,7 +95,7 @@ module _ (runs : List (ℕ × ℕ)) (sos : BidiClass) (old : List BidiClass) whe
             (λ k from below. let same : k ≡ u = omega arith in and_right (in_runs runs k) (is_kept_in_place (class_at old k)) (ap (λ (j : ℕ). is_kept_in_place (class_at old j)) same ∙ sym (ap is_kept_in_place read) ∙ gone))))
       ])
 
-  -- over the runs, one behind another
+  -- over the runs, one after another
   module _ (ordered : are_ordered runs ≡ true) (within : All (λ (r : ℕ × ℕ). r.1 ≤ length old) runs) where
     pub AreMarked-first_run : is_kept_in_place sos ≡ true → AreMarked runs sos old old sos (start_or runs 0 (length old))
     AreMarked-first_run kept =
@@ -110,43 +110,43 @@ module _ (runs : List (ℕ × ℕ)) (sos : BidiClass) (old : List BidiClass) whe
 
 -- ---- where no class passes a test
 
-in_part : (test : BidiClass → Bool) (units : List BidiClass) (start end u : ℕ) → end ≤ length units → start ≤ u → u < end
-    → list_any test (slice_range units start end) ≡ false → test (class_at units u) ≡ false
-in_part test units start end u fits from below none =
-    grind (arith, list_any_at test (slice_range units start end) (u - start) L, get_or-take, get_or-drop, length-take, length-drop)
+in_part : (test : BidiClass → Bool) (classes : List BidiClass) (start end u : ℕ) → end ≤ length classes → start ≤ u → u < end
+    → list_any test (slice_range classes start end) ≡ false → test (class_at classes u) ≡ false
+in_part test classes start end u fits from below none =
+    grind (arith, list_any_at test (slice_range classes start end) (u - start) L, get_or-take, get_or-drop, length-take, length-drop)
 
 -- none passes in parts of the runs that have all their units
-none_in : (part : List BidiClass → ℕ × ℕ → List BidiClass) (test : BidiClass → Bool) (units : List BidiClass)
-    → ((r : ℕ × ℕ) (u : ℕ) → r.1 ≤ length units → r.0 ≤ u → u < r.1 → list_any test (part units r) ≡ false → test (class_at units u) ≡ false)
-    → (runs : List (Range ℕ)) → All (λ r. r.1 ≤ length units) (map bounds runs) → list_any (λ run. is_any_of test (part units (bounds run))) runs ≡ false → (u : ℕ) → in_runs (map bounds runs) u ≡ true → test (class_at units u) ≡ false
-none_in part test units at [] within none u inside = absurd (both_ways false refl inside)
-none_in part test units at (r ∷ runs) within none u inside =
-    let first = All-head (λ (q : ℕ × ℕ). q.1 ≤ length units) (bounds r) (map bounds runs) within in
-    let others = All-tail (λ (q : ℕ × ℕ). q.1 ≤ length units) (bounds r) (map bounds runs) within in
-    grind (arith, at (bounds r) u first, in_run-true (bounds r) u, fold_any test (part units (bounds r)), none_in part test units at runs others)
+none_in : (part : List BidiClass → ℕ × ℕ → List BidiClass) (test : BidiClass → Bool) (classes : List BidiClass)
+    → ((r : ℕ × ℕ) (u : ℕ) → r.1 ≤ length classes → r.0 ≤ u → u < r.1 → list_any test (part classes r) ≡ false → test (class_at classes u) ≡ false)
+    → (runs : List (Range ℕ)) → All (λ r. r.1 ≤ length classes) (map bounds runs) → list_any (λ run. is_any_of test (part classes (bounds run))) runs ≡ false → (u : ℕ) → in_runs (map bounds runs) u ≡ true → test (class_at classes u) ≡ false
+none_in part test classes at [] within none u inside = absurd (both_ways false refl inside)
+none_in part test classes at (r ∷ runs) within none u inside =
+    let first = All-head (λ (q : ℕ × ℕ). q.1 ≤ length classes) (bounds r) (map bounds runs) within in
+    let others = All-tail (λ (q : ℕ × ℕ). q.1 ≤ length classes) (bounds r) (map bounds runs) within in
+    grind (arith, at (bounds r) u first, in_run-true (bounds r) u, fold_any test (part classes (bounds r)), none_in part test classes at runs others)
 
-pub is_any-none : (test : BidiClass → Bool) (runs : List (Range ℕ)) (units : List BidiClass)
-    → All (λ r. r.1 ≤ length units) (map bounds runs) → is_any test runs units ≡ false → (u : ℕ) → in_runs (map bounds runs) u ≡ true
-    → test (class_at units u) ≡ false
-is_any-none test runs units within none = none_in part_of test units (λ r u fits from below none. grind (arith, in_part)) runs within none
+pub is_any-none : (test : BidiClass → Bool) (runs : List (Range ℕ)) (classes : List BidiClass)
+    → All (λ r. r.1 ≤ length classes) (map bounds runs) → is_any test runs classes ≡ false → (u : ℕ) → in_runs (map bounds runs) u ≡ true
+    → test (class_at classes u) ≡ false
+is_any-none test runs classes within none = none_in part_of test classes (λ r u fits from below none. grind (arith, in_part)) runs within none
 
-pub is_any_wide-none : (test : BidiClass → Bool) (runs : List (Range ℕ)) (units : List BidiClass)
-    → All (λ r. r.1 ≤ length units) (map bounds runs) → is_any_wide test runs units ≡ false → (u : ℕ) → in_runs (map bounds runs) u ≡ true
-    → test (class_at units u) ≡ false
-is_any_wide-none test runs units within none = none_in wide_part_of test units (λ r u fits from below none. grind (arith, in_part)) runs within none
+pub is_any_in_blocks-none : (test : BidiClass → Bool) (runs : List (Range ℕ)) (classes : List BidiClass)
+    → All (λ r. r.1 ≤ length classes) (map bounds runs) → is_any_in_blocks test runs classes ≡ false → (u : ℕ) → in_runs (map bounds runs) u ≡ true
+    → test (class_at classes u) ≡ false
+is_any_in_blocks-none test runs classes within none = none_in blocks_of test classes (λ r u fits from below none. grind (arith, in_part)) runs within none
 
 -- so of the units that are seen
-pub All-seen : (P : ℕ → Type 0) (runs : List (ℕ × ℕ)) (units : List BidiClass) → ((u : ℕ) → in_runs runs u ≡ true → P u) → All P (seen_units runs units)
-All-seen P runs units each = over 0 (length units - 0)
+pub All-seen : (P : ℕ → Type 0) (runs : List (ℕ × ℕ)) (classes : List BidiClass) → ((u : ℕ) → in_runs runs u ≡ true → P u) → All P (seen_units runs classes)
+All-seen P runs classes each = over 0 (length classes - 0)
   where
-    over : (low n : ℕ) → All P (filter (is_seen runs units) (range_with_len low n))
+    over : (low n : ℕ) → All P (filter (is_seen runs classes) (range_with_len low n))
     over low zero = All-nil P
-    over low (suc n) = grind (arith, cases_Bool (is_seen runs units low), All-cons, each low, over (low + 1) n)
+    over low (suc n) = grind (arith, cases_Bool (is_seen runs classes low), All-cons, each low, over (low + 1) n)
 
-after_w1-none : (units : List BidiClass) (us : List ℕ) (mark : BidiClass) → All (λ u. is_nsm (class_at units u) ≡ false) us → after_w1 mark (at_places L units us) ≡ at_places L units us
-after_w1-none units [] mark none = refl
-after_w1-none units (u ∷ us) mark none =
-    grind (arith, All-head (λ u. is_nsm (class_at units u) ≡ false) u us none, after_w1-none units us (carried (class_at units u)) (All-tail (λ u. is_nsm (class_at units u) ≡ false) u us none))
+after_w1-none : (classes : List BidiClass) (us : List ℕ) (mark : BidiClass) → All (λ u. is_nsm (class_at classes u) ≡ false) us → after_w1 mark (at_indexes L classes us) ≡ at_indexes L classes us
+after_w1-none classes [] mark none = refl
+after_w1-none classes (u ∷ us) mark none =
+    grind (arith, All-head (λ u. is_nsm (class_at classes u) ≡ false) u us none, after_w1-none classes us (carried (class_at classes u)) (All-tail (λ u. is_nsm (class_at classes u) ≡ false) u us none))
 
 pub IsMarked-none : (runs : List (Range ℕ)) (sos : BidiClass) (old : List BidiClass)
     → ((u : ℕ) → in_runs (map bounds runs) u ≡ true → is_nsm (class_at old u) ≡ false) → IsMarked (map bounds runs) sos old old

@@ -126,16 +126,16 @@ module _ (sos : BidiClass) (zs : List BidiClass) (next : IsRight sos zs) where
       ap (λ (c : BidiClass). in_context (w7_rule sos) b7 (w6 (in_context w5_rule b5 (c ∷ in_context w4_rule (z ∷ b4) zs)))) (w4-plain b4 z zs (λ e. cc e) (λ e. cc e))
       ∙ ap (λ (cs : List BidiClass). z ∷ cs) (next.ready Other (z ∷ b4) (z ∷ b5) (z ∷ b7) after_l refl (record { number = refl; beside = refl; left = h.left }))
 
-  -- behind what waited, where it is not joined
-  settled-terminators : (n : ℕ) (after_l : Bool) (z : BidiClass) → is_et z ≡ false
+  -- after what waited, where it is not joined
+  waiting_becomes-terminators : (n : ℕ) (after_l : Bool) (z : BidiClass) → is_et z ≡ false
       → replicate (suc n) (w7_by after_l (w6_rule (if is_en z then EN else ET))) ++ after_w7 after_l Other 0 (z ∷ zs) ≡ after_w7 after_l Terminators (suc n) (z ∷ zs)
-  settled-terminators n after_l z h = grind arith
+  waiting_becomes-terminators n after_l z h = grind arith
 
   terminators-other : (z : BidiClass) → is_et z ≡ false → (n : ℕ) (b4 b5 b7 : List BidiClass) (after_l : Bool) → is_european b5 ≡ false → after_l ≡ is_l (nearest is_l_or_r b7 sos)
       → after_all sos b4 b5 b7 (ET ∷ (replicate n ET ++ (z ∷ zs))) ≡ after_w7 after_l Terminators (suc n) (z ∷ zs)
   terminators-other z other n b4 b5 b7 after_l none left =
       terminators-behind sos after_l (z ∷ zs) (is_en z) (λ b. grind arith) _ (λ c4 c5 c7. ready-more z Other c4 c5 c7 after_l refl) n b4 b5 b7 none left
-      ∙ settled-terminators n after_l z other
+      ∙ waiting_becomes-terminators n after_l z other
 
   terminators-more : (z : BidiClass) (n : ℕ) (b4 b5 b7 : List BidiClass) (after_l : Bool) → is_european b5 ≡ false → after_l ≡ is_l (nearest is_l_or_r b7 sos)
       → after_all sos b4 b5 b7 (ET ∷ (replicate n ET ++ (z ∷ zs))) ≡ after_w7 after_l Terminators (suc n) (z ∷ zs)
@@ -160,7 +160,7 @@ is_right : (sos : BidiClass) (zs : List BidiClass) → IsRight sos zs
 is_right sos [] = search (rules, terminators-end)
 is_right sos (z ∷ zs) = right-more sos zs (is_right sos zs) z
 
--- W2 to W7 in one pass, behind W1
+-- W2 to W7 in one pass, after W1
 pub weak_classes-pass : (sos : BidiClass) (xs : List BidiClass) → weak_classes sos xs ≡ after_w7 (is_l sos) Other 0 (after_w3 sos (w1 sos xs))
 unfolding weak_classes
 weak_classes-pass sos xs =

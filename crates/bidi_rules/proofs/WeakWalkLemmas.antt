@@ -1,18 +1,18 @@
 -- The steps of the walk over numbers, by stretches of units.
 use Rattle.bidi_base.proofs.Common.{◌≡◌, ℕ, zero, suc, ◌+◌, ◌-◌, ◌<◌, ◌≤◌, Bool, true, false, List, [], ◌∷◌, ◌++◌, length, get_or, map, take, drop, reverse, replicate, refl, sym, ap, ◌∙◌}
 use Rattle.bidi_base.proofs.Common.{arith, inl, inr, append-nil, append_assoc, length-append, get_or-drop, common_steps, All, range_with_len, cases_Bool, both_ways, and_left, and_right}
-use Rattle.bidi_base.proofs.Common.{map-append, length-range_with_len, Range, is_l, is_strong, is_kept_in_place, at_places, class_at, nearest, are_ordered, bounds, in_runs}
+use Rattle.bidi_base.proofs.Common.{map-append, length-range_with_len, Range, is_l, is_strong, is_kept_in_place, at_indexes, class_at, nearest, are_ordered, bounds, in_runs}
 use Rattle.std.proofs.Math.Numerals.{add-one}
 use Rattle.bidi_base.specs.declared.char_data.BidiClass.{BidiClass}
 use Rattle.bidi_base.specs.declared.char_data.BidiClass.TheVariants.{L, ON}
 use Rattle.bidi_base.proofs.PlacesLemmas.{nearest-more}
-use Rattle.bidi_laws.proofs.StoredLemmas.{at_places-append}
+use Rattle.bidi_laws.proofs.StoredLemmas.{at_indexes-append}
 use Rattle.bidi_rules.specs.declared.weak.w2_w4_w5_w7.Walk.{Walk}
 use Rattle.bidi_rules.specs.declared.weak.before.Before.{Before}
 use Rattle.bidi_rules.specs.declared.weak.before.Before.TheVariants.{Other}
-use Rattle.bidi_rules.specs.WeakPass.{is_asked, is_other, strengthened, strong_up_to, waits, joins, next_before, settled, resolved, w7_by, left_over, is_number, still_to_come, walked}
+use Rattle.bidi_rules.specs.WeakPass.{is_number_or_terminator, is_other, strengthened, strong_up_to, waits, joins, next_before, waiting_becomes, resolved, w7_by, left_over, is_number, still_to_come, walked}
 use Rattle.bidi_rules.specs.WeakWalk.{Pass, seen, units, IsUnderWay, IsStretch, IsWalked}
-use Rattle.bidi_explicit.specs.Written.{is_seen, seen_units, IsWrittenOver}
+use Rattle.bidi_explicit.specs.SequenceUnits.{is_seen, seen_units, IsWrittenOver}
 use Rattle.bidi_explicit.proofs.InRuns.{in_runs-at, in_runs-drop, start_or, start_within, gap_before, gap_after, next_start}
 use Rattle.bidi_explicit.proofs.Marks.{marked-none, marked-parts, marked-empty, marked-full, at_marked-same, at_marked-all}
 use Rattle.bidi_rules.proofs.WeakMarks.{All-seen}
@@ -21,11 +21,8 @@ use Rattle.bidi_rules.proofs.WeakUnits.{walked-plain, row-joins, row-waits, row-
 
 -- ---- what is written is not changed by W3 and W6
 
-settled-stays : (c strong : BidiClass) (b : Bool) (before : Before) → left_over (w7_by b (settled (strengthened strong c) before)) ≡ w7_by b (settled (strengthened strong c) before)
-settled-stays c strong b before = grind arith
-
-pub resolved-stays : (c strong : BidiClass) (b : Bool) (before : Before) → left_over (w7_by b (resolved (strengthened strong c) before)) ≡ w7_by b (resolved (strengthened strong c) before)
-resolved-stays c strong b before = grind arith
+waiting_becomes-stays : (c strong : BidiClass) (b : Bool) (before : Before) → left_over (w7_by b (waiting_becomes (strengthened strong c) before)) ≡ w7_by b (waiting_becomes (strengthened strong c) before)
+waiting_becomes-stays c strong b before = grind arith
 
 stays-row : (n : ℕ) (v : BidiClass) → left_over v ≡ v → map left_over (replicate n v) ≡ replicate n v
 stays-row zero v h = refl
@@ -37,7 +34,7 @@ joins-waits z before h = grind arith
 pub IsUnderWay-start : (p : Pass) → IsUnderWay p p.old (record { strong = p.sos; before = Other; first = 0; first_run = 0 }) 0
 IsUnderWay-start p = grind arith
 
--- the walk behind a stretch of class c
+-- the walk after a stretch of class c
 abbrev pub next_walk : Walk → BidiClass → ℕ → ℕ → Walk
 next_walk w c first first_run = record { strong = strong_up_to w.strong c; before = next_before (strengthened w.strong c) w.before; first = first; first_run = first_run }
 
@@ -58,7 +55,7 @@ module _ (p : Pass) (now : List BidiClass) (w : Walk) (i : ℕ) (h : IsUnderWay 
       let from = h.from in
       let start : from ≤ i = h.order in
       let nothing : units p i j ≡ [] = marked-empty (seen p) i j none in
-      let reads : map left_over (at_places L now (units p 0 from)) ++ rest w.strong w.before (length (units p from i)) j ≡ target = grind (arith, marked-parts (seen p) i j (length p.old)) in
+      let reads : map left_over (at_indexes L now (units p 0 from)) ++ rest w.strong w.before (length (units p from i)) j ≡ target = grind (arith, marked-parts (seen p) i j (length p.old)) in
       elim (cases_Bool (waits w.before)) [
         | inl wait ↦ waits-unseen j order fits none wait
         | inr free ↦
@@ -77,20 +74,20 @@ module _ (p : Pass) (now : List BidiClass) (w : Walk) (i : ℕ) (h : IsUnderWay 
       ]
 
   -- what waits becomes the class v
-  pub IsWrittenOver-settled : (v : BidiClass) (now1 : List BidiClass) → are_ordered p.runs ≡ true
+  pub IsWrittenOver-decided : (v : BidiClass) (now1 : List BidiClass) → are_ordered p.runs ≡ true
       → (waits w.before ≡ true → IsWrittenOver (is_seen (drop w.first_run p.runs) now) v w.first i now now1) → (waits w.before ≡ false → now1 ≡ now)
       → IsWrittenOver (seen p) v h.from i now now1
-  IsWrittenOver-settled v now1 ordered some none = grind (arith, common_steps, in_runs-drop)
+  IsWrittenOver-decided v now1 ordered some none = grind (arith, common_steps, in_runs-drop)
 
   -- the final classes below i, once it has
   front-written : (v : BidiClass) (now1 : List BidiClass) → IsWrittenOver (seen p) v h.from i now now1 → left_over v ≡ v
-      → map left_over (at_places L now1 (units p 0 i)) ≡ map left_over (at_places L now (units p 0 h.from)) ++ replicate (length (units p h.from i)) v
+      → map left_over (at_indexes L now1 (units p 0 i)) ≡ map left_over (at_indexes L now (units p 0 h.from)) ++ replicate (length (units p h.from i)) v
   front-written v now1 s stays =
-      simp (marked-parts (seen p) 0 h.from i (omega arith) h.order, at_places-append, at_marked-same (seen p) now1 now 0 h.from (λ k a b t. s.below k b), at_marked-all (seen p) now1 v h.from i s.inside, map-append, stays-row (length (units p h.from i)) v stays)
+      simp (marked-parts (seen p) 0 h.from i (omega arith) h.order, at_indexes-append, at_marked-same (seen p) now1 now 0 h.from (λ k a b t. s.below k b), at_marked-all (seen p) now1 v h.from i s.inside, map-append, stays-row (length (units p h.from i)) v stays)
 
   -- the end, once what waits is neutral
-  pub IsWalked-settled : (now1 : List BidiClass) → length p.old ≤ i → IsWrittenOver (seen p) ON h.from i now now1 → IsWalked p.len p.runs p.sos p.old now1
-  IsWalked-settled now1 past s =
+  pub IsWalked-decided : (now1 : List BidiClass) → length p.old ≤ i → IsWrittenOver (seen p) ON h.from i now now1 → IsWalked p.len p.runs p.sos p.old now1
+  IsWalked-decided now1 past s =
       let within : i ≤ length p.old = h.inside in
       let top : length p.old ≡ i = omega arith in
       grind (arith, front-written)
@@ -109,7 +106,7 @@ module _ (p : Pass) (now : List BidiClass) (w : Walk) (i : ℕ) (h : IsUnderWay 
     strong = strong_up_to w.strong c
 
     abbrev v : BidiClass
-    v = w7_by (is_l w.strong) (settled z w.before)
+    v = w7_by (is_l w.strong) (waiting_becomes z w.before)
 
     abbrev own : BidiClass
     own = w7_by (is_l w.strong) (resolved z w.before)
@@ -118,9 +115,9 @@ module _ (p : Pass) (now : List BidiClass) (w : Walk) (i : ℕ) (h : IsUnderWay 
     n = length (units p h.from i)
 
     abbrev front : List BidiClass
-    front = map left_over (at_places L now (units p 0 h.from))
+    front = map left_over (at_indexes L now (units p 0 h.from))
 
-    -- how many units come behind the first
+    -- how many units come after the first
     abbrev m : ℕ
     m = j - i - 1
 
@@ -162,7 +159,7 @@ module _ (p : Pass) (now : List BidiClass) (w : Walk) (i : ℕ) (h : IsUnderWay 
       IsUnderWay-waits wait =
           grind (
             arith,
-            front-written v now1 t (settled-stays c w.strong (is_l w.strong) w.before),
+            front-written v now1 t (waiting_becomes-stays c w.strong (is_l w.strong) w.before),
             count-stretch,
             append_assoc,
             s,
@@ -177,9 +174,9 @@ module _ (p : Pass) (now : List BidiClass) (w : Walk) (i : ℕ) (h : IsUnderWay 
           let some = s.some in
           let order = h.order in
           let stays = at_marked-same (seen p) now2 now1 0 i (λ k a b u. below k b) in
-          let settled_is = front-written v now1 t (settled-stays c w.strong (is_l w.strong) w.before) in
-          let up_to : map left_over (at_places L now2 (units p 0 j)) ≡ (front ++ replicate n v) ++ replicate (suc m) own =
-          simp (marked-parts (seen p) 0 i j (omega arith) (omega arith), at_places-append, map-append, stays, settled_is, stretch, row_left (suc m) i (λ k a b. written k a (omega arith))) in
+          let written_is = front-written v now1 t (waiting_becomes-stays c w.strong (is_l w.strong) w.before) in
+          let up_to : map left_over (at_indexes L now2 (units p 0 j)) ≡ (front ++ replicate n v) ++ replicate (suc m) own =
+          simp (marked-parts (seen p) 0 i j (omega arith) (omega arith), at_indexes-append, map-append, stays, written_is, stretch, row_left (suc m) i (λ k a b. written k a (omega arith))) in
           record {
             from = j;
             answers = simp (up_to, marked-none (seen p) j j (omega arith), append_assoc)
@@ -193,7 +190,7 @@ module _ (p : Pass) (now : List BidiClass) (w : Walk) (i : ℕ) (h : IsUnderWay 
             long = long ∙ t.long ∙ h.long;
           }
         where
-          row_left : (l a : ℕ) → ((k : ℕ) → a ≤ k → k < a + l → left_over (class_at now2 k) ≡ own) → map left_over (at_places L now2 (range_with_len a l)) ≡ replicate l own
+          row_left : (l a : ℕ) → ((k : ℕ) → a ≤ k → k < a + l → left_over (class_at now2 k) ≡ own) → map left_over (at_indexes L now2 (range_with_len a l)) ≡ replicate l own
           row_left zero a each = refl
           row_left (suc l) a each = simp (each a (omega arith) (omega arith), row_left l (a + 1) (λ k from below. each k (omega arith) (omega arith)))
 
@@ -206,7 +203,7 @@ record IsPassed (c strong : BidiClass) (before : Before) : Type 0 where
   own : left_over c ≡ w7_by (is_l strong) (resolved (strengthened strong c) before)
   none : (n : ℕ) → still_to_come (next_before (strengthened strong c) before) n ≡ 0
 
-is_passed : (c strong : BidiClass) (before : Before) → is_asked c ≡ false → is_other before ≡ true → IsPassed c strong before
+is_passed : (c strong : BidiClass) (before : Before) → is_number_or_terminator c ≡ false → is_other before ≡ true → IsPassed c strong before
 is_passed c strong before h other = grind arith
 
 pub other-free : (before : Before) → is_other before ≡ true → waits before ≡ false
@@ -217,16 +214,16 @@ removed-weak strong c h = grind arith
 
 pub IsUnderWay-passes : (p : Pass) (now : List BidiClass) (w : Walk) (i run : ℕ) → IsUnderWay p now w i → run < length p.runs
     → (get_or p.runs run (0, 0)).0 ≤ i → i < (get_or p.runs run (0, 0)).1 → i < length p.old
-    → is_other w.before ≡ true → is_asked (class_at now i) ≡ false → IsUnderWay p now (record { strong = strong_up_to w.strong (class_at now i); before = w.before; first = w.first; first_run = w.first_run }) (i + 1)
+    → is_other w.before ≡ true → is_number_or_terminator (class_at now i) ≡ false → IsUnderWay p now (record { strong = strong_up_to w.strong (class_at now i); before = w.before; first = w.first; first_run = w.first_run }) (i + 1)
 IsUnderWay-passes p now w i run h fits starts ends inside other asked =
     let c = class_at p.old i in
     let read : class_at now i ≡ c = h.unwritten i h.order in
-    let q = is_passed c w.strong w.before (ap is_asked (sym read) ∙ asked) other in
+    let q = is_passed c w.strong w.before (ap is_number_or_terminator (sym read) ∙ asked) other in
     let at : h.from ≡ i = h.idle (other-free w.before other) in
     elim (cases_Bool (is_kept_in_place c)) [
       | inl kept ↦
           let s : IsStretch p w p.runs run i (i + 1) = grind (arith, kept, q.none) in
-          let none : IsWrittenOver (seen p) (w7_by (is_l w.strong) (settled (strengthened w.strong c) w.before)) h.from i now now = grind arith in
+          let none : IsWrittenOver (seen p) (w7_by (is_l w.strong) (waiting_becomes (strengthened w.strong c) w.before)) h.from i now now = grind arith in
           simp read (simp q.next at (IsUnderWay-decides p now w i h p.runs run (i + 1) s now none q.apart q.free now
           (λ k from below. let same : k ≡ i = omega arith in simp (same, read) q.own)
           (λ k below. refl) (λ k above. refl) refl w.first w.first_run))
@@ -242,10 +239,10 @@ nearest-unit now i m strong fits =
     let more : reverse (take (suc m) (drop i now)) ≡ get_or (drop i now) m L ∷ reverse (take m (drop i now)) = grind (arith, common_steps) in
     simp (more, get_or-drop) (nearest-more is_strong (class_at now (i + m)) (reverse (take m (drop i now))) strong)
 
--- units that are passed over, one behind another
+-- units that are passed over, one after another
 pub IsUnderWay-passes_all : (p : Pass) (now : List BidiClass) (w : Walk) (i run n : ℕ) → IsUnderWay p now w i → run < length p.runs
     → (get_or p.runs run (0, 0)).0 ≤ i → i + n ≤ (get_or p.runs run (0, 0)).1 → i + n ≤ length now
-    → is_other w.before ≡ true → ((k : ℕ) → i ≤ k → k < i + n → is_asked (class_at now k) ≡ false)
+    → is_other w.before ≡ true → ((k : ℕ) → i ≤ k → k < i + n → is_number_or_terminator (class_at now k) ≡ false)
     → IsUnderWay p now (record { strong = nearest is_strong (reverse (take n (drop i now))) w.strong; before = w.before; first = w.first; first_run = w.first_run }) (i + n)
 IsUnderWay-passes_all p now w i run zero h fits starts ends inside other none = grind arith
 IsUnderWay-passes_all p now w i run (suc m) h fits starts ends inside other none =
@@ -253,7 +250,7 @@ IsUnderWay-passes_all p now w i run (suc m) h fits starts ends inside other none
     let next : i + suc m ≡ i + m + 1 = omega arith in
     simp (nearest-unit now i m w.strong (omega arith), next) (IsUnderWay-passes p now _ (i + m) run so_far fits (omega arith) (omega arith) (omega (arith, so_far.long)) other (none (i + m) (omega arith) (omega arith)))
 
--- ---- over the runs, one behind another
+-- ---- over the runs, one after another
 
 module _ (p : Pass) (ordered : are_ordered p.runs ≡ true) (within : All (λ (r : ℕ × ℕ). r.1 ≤ length p.old) p.runs) where
   pub IsUnderWay-first_run : IsUnderWay p p.old (record { strong = p.sos; before = Other; first = 0; first_run = 0 }) (start_or p.runs 0 (length p.old))

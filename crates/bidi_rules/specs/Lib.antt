@@ -1,5 +1,6 @@
+pub mod InText
 pub mod JoinPass
 pub mod NeutralPass
-pub mod PairWalk
+pub mod PairPass
 pub mod WeakPass
 pub mod WeakWalk

@@ -4,5 +4,5 @@
 mod levels;
 
 pub use crate::neutral::{NeutralResolver, resolve_neutral, resolve_up_to_n1};
-pub use crate::weak::{resolve_weak, resolve_weak_counted, resolve_weak_lent_counted};
+pub use crate::weak::{resolve_weak, resolve_weak_borrowed_counted, resolve_weak_counted};
 pub use levels::resolve_levels;

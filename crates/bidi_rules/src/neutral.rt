@@ -5,13 +5,14 @@
 
 ghost use Rattle.std.specs.Prelude.{◌≡◌, List, ◌∷◌, ◌++◌, [], length, map, OnOk};
 ghost use Rattle.bidi_base.specs.FoundBrackets.{brackets_from};
-ghost use Rattle.bidi_base.specs.InPlace.{AreNeutralsResolved, AreNeutralsResolvedUpToN1, CanResolveNeutrals, IsDoneOrUnchanged};
+ghost use Rattle.bidi_base.specs.InPlace.{IsDoneOrUnchanged};
+ghost use Rattle.bidi_base.specs.Texts.{kept_in_place, text_len, AreLines, AreNeutralsResolved, AreNeutralsResolvedUpToN1, CanResolveNeutrals, IsLine};
 ghost use Rattle.bidi_base.specs.PairSearch.{HasRead};
-ghost use Rattle.bidi_base.specs.Text.{text_len, IsLine};
-ghost use Rattle.bidi_base.specs.Units.{bounds, kept_in_place, AreLines};
+ghost use Rattle.bidi_base.specs.Units.{bounds};
 ghost use Rattle.bidi_base.specs.declared.brackets.Bracket.{Bracket};
-ghost use Rattle.bidi_rules.specs.NeutralPass.{placed_brackets, HasGatheredNothing};
-ghost use Rattle.bidi_explicit.specs.RunSequence.{lent_runs, lent_sos, lent_eos, runs as runs_of, sos as sos_of, eos as eos_of};
+ghost use Rattle.bidi_rules.specs.NeutralPass.{HasGatheredNothing};
+ghost use Rattle.bidi_rules.specs.InText.{placed_brackets};
+ghost use Rattle.bidi_explicit.specs.RunSequence.{borrowed_runs, borrowed_sos, borrowed_eos, runs as runs_of, sos as sos_of, eos as eos_of};
 
 mod class_tests;
 mod directions;
@@ -26,10 +27,10 @@ use bidi_base::data_source::BidiDataSource;
 use bidi_base::level::Level;
 use bidi_base::search::{Among, first_passing};
 use bidi_explicit::leveled_text::LeveledText;
-use bidi_explicit::prepare::{IsolatingRunSequence, LentSequence, LevelRun};
+use bidi_explicit::prepare::{BorrowedSequence, IsolatingRunSequence, LevelRun};
 use bidi_text::text::TextSource;
 use class_tests::OtherNeutral;
-use directions::{Directions, resolve_opposite, settle_rest};
+use directions::{Directions, apply_n2, resolve_opposite};
 use nearest::first_kept;
 use one_direction::stands_alone;
 use pairs::{StoredRuns, resolve_pairs};
@@ -52,7 +53,10 @@ impl NeutralResolver {
         }
     }
 
-    /// Resolves the neutrals of a sequence in place, see [`resolve_neutral`].
+    /// Resolves the neutrals of a sequence in place, as [`resolve_neutral`] does.
+    ///
+    /// Returns an error only if an allocation fails, and all classes are then unchanged. The resolver can be used
+    /// again after an error.
     pub fn resolve<D: BidiDataSource, T: TextSource>(
         &mut self,
         text: T,
@@ -62,15 +66,15 @@ impl NeutralResolver {
         original_classes: &[BidiClass],
         processing_classes: &mut [BidiClass],
     ) -> Result<(), AllocError>
-        requires { CanResolveNeutrals T.units (T.characters text) (map bounds (runs_of sequence.now)) levels.now
+        requires { CanResolveNeutrals (T.text text) (map bounds (runs_of sequence.now)) levels.now
             original_classes.now processing_classes.old }
-        ensures { IsDoneOrUnchanged result (AreNeutralsResolved T.units (T.characters text) (D.source data_source.now)
+        ensures { IsDoneOrUnchanged result (AreNeutralsResolved (T.text text) (D.source data_source.now)
             (map bounds (runs_of sequence.now)) (sos_of sequence.now) (eos_of sequence.now) levels.now
             original_classes.now processing_classes.old processing_classes.new)
             processing_classes.old processing_classes.new }
     {
-        let lent = sequence.lend();
-        let runs = lent.runs();
+        let borrowed = sequence.borrowed();
+        let runs = borrowed.runs();
         let Some(first) = first_kept(runs, processing_classes) else {
             return Ok(());
         };
@@ -80,12 +84,12 @@ impl NeutralResolver {
             original_classes,
             levels,
         };
-        resolve_up_to_n1(self, &leveled, data_source, lent, processing_classes)?;
-        settle_rest(embedding, runs, processing_classes);
+        resolve_up_to_n1(self, &leveled, data_source, borrowed, processing_classes)?;
+        apply_n2(embedding, runs, processing_classes);
         Ok(())
     }
 
-    /// Reads the brackets of a sequence that count, by the indices at which they begin.
+    /// Reads the brackets of a sequence that count, with the indices at which they begin.
     fn gather<D: BidiDataSource, T: TextSource>(
         &mut self,
         text: T,
@@ -93,11 +97,11 @@ impl NeutralResolver {
         runs: &[LevelRun],
         classes: &[BidiClass],
     ) -> Result<(), AllocError>
-        requires lines { AreLines T.units (T.characters text) (map bounds runs.now) }
-        requires long { length classes.now ≡ text_len T.units (T.characters text) }
-        ensures { OnOk result (HasRead self.new.search (placed_brackets T.units (T.characters text)
+        requires are_lines { AreLines (T.text text) (map bounds runs.now) }
+        requires same_len { length classes.now ≡ text_len (T.text text) }
+        ensures { OnOk result (HasRead self.new.search (placed_brackets (T.text text)
             (D.source data_source.now) classes.now
-            (kept_in_place T.units (T.characters text) classes.now (map bounds runs.now)))) }
+            (kept_in_place (T.text text) classes.now (map bounds runs.now)))) }
     {
         self.search.clear();
         for run in runs {
@@ -114,13 +118,13 @@ impl NeutralResolver {
         run: &LevelRun,
         classes: &[BidiClass],
     ) -> Result<(), AllocError>
-        requires line { IsLine T.units (T.characters text) run.now.start run.now.end }
-        requires long { length classes.now ≡ text_len T.units (T.characters text) }
+        requires is_line { IsLine (T.text text) run.now.start run.now.end }
+        requires same_len { length classes.now ≡ text_len (T.text text) }
         requires read { (before : List Bracket) × HasRead self.old.search before }
         ensures { (before : List Bracket) → HasRead self.old.search before
             → OnOk result (HasRead self.new.search (before
-            ++ placed_brackets T.units (T.characters text) (D.source data_source.now) classes.now
-            (kept_in_place T.units (T.characters text) classes.now (bounds run.now ∷ [])))) }
+            ++ placed_brackets (T.text text) (D.source data_source.now) classes.now
+            (kept_in_place (T.text text) classes.now (bounds run.now ∷ [])))) }
     {
         let end = run.end;
         let neutrals = Among {
@@ -171,14 +175,14 @@ pub fn resolve_up_to_n1<D: BidiDataSource, T: TextSource>(
     resolver: &mut NeutralResolver,
     leveled: &LeveledText<'_, T>,
     data_source: &D,
-    sequence: LentSequence<'_>,
+    sequence: BorrowedSequence<'_>,
     processing_classes: &mut [BidiClass],
 ) -> Result<(), AllocError>
-    requires { CanResolveNeutrals T.units (T.characters leveled.now.text) (map bounds (lent_runs sequence))
+    requires { CanResolveNeutrals (T.text leveled.now.text) (map bounds (borrowed_runs sequence))
         leveled.now.levels.now leveled.now.original_classes.now processing_classes.old }
-    ensures { IsDoneOrUnchanged result (AreNeutralsResolvedUpToN1 T.units (T.characters leveled.now.text)
-        (D.source data_source.now) (map bounds (lent_runs sequence.entry)) (lent_sos sequence.entry)
-        (lent_eos sequence.entry) leveled.now.levels.now leveled.now.original_classes.now processing_classes.old
+    ensures { IsDoneOrUnchanged result (AreNeutralsResolvedUpToN1 (T.text leveled.now.text)
+        (D.source data_source.now) (map bounds (borrowed_runs sequence.entry)) (borrowed_sos sequence.entry)
+        (borrowed_eos sequence.entry) leveled.now.levels.now leveled.now.original_classes.now processing_classes.old
         processing_classes.new)
         processing_classes.old processing_classes.new }
 {
@@ -218,14 +222,15 @@ pub fn resolve_up_to_n1<D: BidiDataSource, T: TextSource>(
 /// Each code unit of `processing_classes` has the class of its character. In the sequence this is the class
 /// after W7, or BN if X9 removes the character. `levels` and `original_classes` also have one entry for
 /// each code unit, and `original_classes` has the stored classes. The sequence fits the text. The embedding
-/// direction comes from the level at the sequence's first code unit that is not BN. No other level is read.
+/// direction is that of the level at the sequence's first code unit that is not BN. No other level is read.
 ///
 /// BN stays BN, and code units outside the sequence do not change. Returns an error only if an allocation
 /// fails, and all classes are then unchanged. [`NeutralResolver`] does the same for many sequences with the
 /// same memory.
 ///
-/// The cost is linear in the sequence. If the data source says that brackets themselves are nonspacing
-/// marks, a series of marks is passed over a few times for each of the 63 pairs that can be open at once.
+/// The cost is linear in the sequence, but no clause says so. If the data source says that brackets themselves
+/// are nonspacing marks, a series of marks is passed over a few times for each of the 63 pairs that can be open
+/// at once.
 pub fn resolve_neutral<D: BidiDataSource, T: TextSource>(
     alloc: Global,
     text: T,
@@ -235,9 +240,9 @@ pub fn resolve_neutral<D: BidiDataSource, T: TextSource>(
     original_classes: &[BidiClass],
     processing_classes: &mut [BidiClass],
 ) -> Result<(), AllocError>
-    requires { CanResolveNeutrals T.units (T.characters text) (map bounds (runs_of sequence.now)) levels.now
+    requires { CanResolveNeutrals (T.text text) (map bounds (runs_of sequence.now)) levels.now
         original_classes.now processing_classes.old }
-    ensures { IsDoneOrUnchanged result (AreNeutralsResolved T.units (T.characters text) (D.source data_source.now)
+    ensures { IsDoneOrUnchanged result (AreNeutralsResolved (T.text text) (D.source data_source.now)
         (map bounds (runs_of sequence.now)) (sos_of sequence.now) (eos_of sequence.now) levels.now
         original_classes.now processing_classes.old processing_classes.new)
         processing_classes.old processing_classes.new }

@@ -1,26 +1,21 @@
 -- What is found in lines: line by line, and in lines without controls.
-use Rattle.bidi_base.proofs.Common.{◌==◌, map, length-map, flat_map-map, ◌≡◌, ℕ, ◌+◌, true, false, List, [], ◌∷◌, ◌++◌, Option, None, Some, length, refl, sym, ap, ◌∙◌, arith, append-nil}
-use Rattle.bidi_base.proofs.Common.{append_assoc, All, All-nil, All-cons, All-head, All-tail, All-weaker, onto_first, cases_Bool, inl, inr, nat_tests, flat_map, flat_map-append, nil_from_length}
-use Rattle.bidi_base.proofs.Common.{Source, IsUtf8, chars, cond-true, utf8_valid_len-IsUtf8, option_map, option_or}
-use Rattle.std.proofs.lemmas.Str.{utf8_lossy-IsUtf8}
+use Rattle.bidi_base.proofs.Common.{◌≡◌, ℕ, ◌+◌, false, List, [], ◌∷◌, ◌++◌, Option, None, Some, length, refl, sym, ap, ◌∙◌, arith}
+use Rattle.bidi_base.proofs.Common.{append_assoc, All, All-nil, All-cons, All-head, All-tail, All-weaker, onto_first, cases_Bool, inl, inr, nat_tests}
+use Rattle.bidi_base.proofs.Common.{Source, chars, option_map, option_or}
 use Rattle.std.proofs.Common.{add_assoc}
 use Rattle.bidi_base.specs.declared.char_data.BidiClass.{BidiClass}
 use Rattle.bidi_base.specs.declared.char_data.BidiClass.TheVariants.{LRE, LRO, RLE, RLO, PDF, LRI, RLI, FSI, PDI}
 use Rattle.bidi_unicode.specs.Unicode.{unicode_source}
 use Rattle.bidi_controls.specs.Controls.{mark_of, control_of}
-use Rattle.bidi_controls.specs.Findings.{findings_in_line, findings_from, findings_of}
-use Rattle.bidi_controls.specs.declared.finding.Finding.{Finding}
 use Rattle.bidi_controls.specs.declared.finding.Wanted.{Wanted}
-use Rattle.bidi_controls.specs.Quiet.{AreQuiet}
-use Rattle.bidi_controls.proofs.QuietLines.{findings_in_line-quiet}
+use Rattle.bidi_controls.specs.NoControls.{HaveNoControls}
+use Rattle.bidi_controls.proofs.LinesWithoutControls.{findings_in_line-without_controls}
 use Rattle.bidi_bytes.specs.ControlBytes.{is_control_char, holds_control}
-use Rattle.bidi_bytes.specs.Decoded.{is_utf16, utf8_decoded, utf8_fault, fault_from, first_invalid}
+use Rattle.bidi_bytes.specs.Decoded.{utf8_decoded, utf8_fault, fault_from}
 use Rattle.bidi_bytes.specs.FileLines.{ends_file_line, file_lines_of}
 use Rattle.bidi_bytes.proofs.ControlBytesLemmas.{utf8_decoded-other}
-use Rattle.bidi_bytes.proofs.LossyLemmas.{utf8_decoded-nil}
 use Rattle.bidi_bytes.proofs.ControlChars.{is_control_class, control_class-char}
-use Rattle.bidi_scan.specs.declared.file_search.FoundLine.{FoundLine}
-use Rattle.bidi_scan.specs.FileSearch.{line_of, FoundAt, with_findings, found_in, found_from}
+use Rattle.bidi_scan.specs.FileSearch.{FoundAt, with_findings, found_in, found_from}
 
 -- ---- line by line
 
@@ -33,19 +28,6 @@ found_from-append source wanted number (line ∷ lines) more =
     ap (λ t. found_in source wanted number line ++ t) later
     ∙ sym (append_assoc (found_in source wanted number line) (found_from source wanted (number + 1) lines) (found_from source wanted (number + 1 + length lines) more))
     ∙ ap (λ n. (found_in source wanted number line ++ found_from source wanted (number + 1) lines) ++ found_from source wanted n more) at
-
--- the findings of all lines
-findings_with : (number : ℕ) (chars : List ℕ) (findings : List Finding) → flat_map (λ (line : FoundAt). line.2) (with_findings number chars findings) ≡ findings
-findings_with number chars [] = refl
-findings_with number chars (finding ∷ findings) = append-nil (finding ∷ findings)
-
-pub found_from-findings : (source : Source) (wanted : Wanted) (number : ℕ) (lines : List (List ℕ))
-    → flat_map (λ (line : FoundAt). line.2) (found_from source wanted number lines) ≡ findings_from source wanted number lines
-found_from-findings source wanted number [] = refl
-found_from-findings source wanted number (line ∷ lines) =
-    flat_map-append (λ (line : FoundAt). line.2) (found_in source wanted number line) (found_from source wanted (number + 1) lines)
-    ∙ ap (λ t. t ++ flat_map (λ (line : FoundAt). line.2) (found_from source wanted (number + 1) lines)) (findings_with number line (findings_in_line source wanted number line))
-    ∙ ap (λ t. findings_in_line source wanted number line ++ t) (found_from-findings source wanted (number + 1) lines)
 
 -- ---- lines without controls
 
@@ -70,44 +52,44 @@ IsOther c = is_control_char c ≡ false
 abbrev HasNone : ℕ → Type 0
 HasNone c = control_of (unicode_source.class_of c) c ≡ None
 
-quiet : (bytes : List ℕ) → holds_control bytes ≡ false → AreQuiet unicode_source (utf8_decoded bytes)
-quiet bytes h =
+without_controls : (bytes : List ℕ) → holds_control bytes ≡ false → HaveNoControls unicode_source (utf8_decoded bytes)
+without_controls bytes h =
     All-weaker IsOther HasNone (λ c other. no_control (unicode_source.class_of c) c (control_class-char c other) (no_mark c other)) (utf8_decoded bytes) (utf8_decoded-other bytes h)
 
 -- nothing is found in a line whose bytes hold none
-pub found_in-quiet : (wanted : Wanted) (number : ℕ) (line : List ℕ) → holds_control line ≡ false → found_in unicode_source wanted number (utf8_decoded line) ≡ []
-found_in-quiet wanted number line h =
-    ap (with_findings number (utf8_decoded line)) (findings_in_line-quiet unicode_source wanted number (utf8_decoded line) (quiet line h))
+pub found_in-without_controls : (wanted : Wanted) (number : ℕ) (line : List ℕ) → holds_control line ≡ false → found_in unicode_source wanted number (utf8_decoded line) ≡ []
+found_in-without_controls wanted number line h =
+    ap (with_findings number (utf8_decoded line)) (findings_in_line-without_controls unicode_source wanted number (utf8_decoded line) (without_controls line h))
 
 abbrev Lines : Type 0
 Lines = List (List ℕ)
 
-onto-quiet : (c : ℕ) (lines : Lines) → HasNone c → All (All HasNone) lines → All (All HasNone) (onto_first c lines)
-onto-quiet c [] here all = All-cons (All HasNone) (c ∷ []) [] (All-cons HasNone c [] here (All-nil HasNone)) (All-nil (All HasNone))
-onto-quiet c (line ∷ lines) here all =
+onto-without_controls : (c : ℕ) (lines : Lines) → HasNone c → All (All HasNone) lines → All (All HasNone) (onto_first c lines)
+onto-without_controls c [] here all = All-cons (All HasNone) (c ∷ []) [] (All-cons HasNone c [] here (All-nil HasNone)) (All-nil (All HasNone))
+onto-without_controls c (line ∷ lines) here all =
     All-cons (All HasNone) (c ∷ line) lines (All-cons HasNone c line here (All-head (All HasNone) line lines all)) (All-tail (All HasNone) line lines all)
 
-lines-quiet : (chars : List ℕ) → All HasNone chars → All (All HasNone) (file_lines_of chars)
-lines-quiet [] all = All-nil (All HasNone)
-lines-quiet (c ∷ chars) all =
+lines-without_controls : (chars : List ℕ) → All HasNone chars → All (All HasNone) (file_lines_of chars)
+lines-without_controls [] all = All-nil (All HasNone)
+lines-without_controls (c ∷ chars) all =
     let here = All-head HasNone c chars all in
-    let later = lines-quiet chars (All-tail HasNone c chars all) in
+    let later = lines-without_controls chars (All-tail HasNone c chars all) in
     elim (cases_Bool (ends_file_line c chars)) [
       | inl stop ↦ rw stop (All-cons (All HasNone) (c ∷ []) (file_lines_of chars) (All-cons HasNone c [] here (All-nil HasNone)) later)
-      | inr on ↦ rw on (onto-quiet c (file_lines_of chars) here later)
+      | inr on ↦ rw on (onto-without_controls c (file_lines_of chars) here later)
     ]
 
 found_from-none : (wanted : Wanted) (number : ℕ) (lines : Lines) → All (All HasNone) lines → found_from unicode_source wanted number lines ≡ []
 found_from-none wanted number [] all = refl
 found_from-none wanted number (line ∷ lines) all =
     let one : found_in unicode_source wanted number line ≡ [] =
-    ap (with_findings number line) (findings_in_line-quiet unicode_source wanted number line (All-head (All HasNone) line lines all)) in
+    ap (with_findings number line) (findings_in_line-without_controls unicode_source wanted number line (All-head (All HasNone) line lines all)) in
     ap (λ t. t ++ found_from unicode_source wanted (number + 1) lines) one ∙ found_from-none wanted (number + 1) lines (All-tail (All HasNone) line lines all)
 
 -- nor in the lines of such bytes
-pub found_from-quiet : (wanted : Wanted) (number : ℕ) (bytes : List ℕ) → holds_control bytes ≡ false
+pub found_from-without_controls : (wanted : Wanted) (number : ℕ) (bytes : List ℕ) → holds_control bytes ≡ false
     → found_from unicode_source wanted number (file_lines_of (utf8_decoded bytes)) ≡ []
-found_from-quiet wanted number bytes h = found_from-none wanted number (file_lines_of (utf8_decoded bytes)) (lines-quiet (utf8_decoded bytes) (quiet bytes h))
+found_from-without_controls wanted number bytes h = found_from-none wanted number (file_lines_of (utf8_decoded bytes)) (lines-without_controls (utf8_decoded bytes) (without_controls bytes h))
 
 -- ---- where bytes stop being UTF-8, if they are read in two parts
 
@@ -121,24 +103,19 @@ fault_from-twice (Some before) first offset len rest = refl
 fault_from-twice None (Some first) offset len rest = refl
 fault_from-twice None None offset len rest = mapped_twice offset len (utf8_fault rest)
 
--- ---- the first line, and the lines behind it
+-- ---- the first line, and the lines after it
 
 module _ (wanted : Wanted) (number : ℕ) (rest line after : List ℕ) (first : file_lines_of (utf8_decoded rest) ≡ utf8_decoded line ∷ file_lines_of (utf8_decoded after)) where
-  pub first-quiet : holds_control line ≡ false
+  pub first-without_controls : holds_control line ≡ false
       → found_from unicode_source wanted number (file_lines_of (utf8_decoded rest)) ≡ found_from unicode_source wanted (number + 1) (file_lines_of (utf8_decoded after))
-  first-quiet none =
+  first-without_controls none =
       ap (found_from unicode_source wanted number) first
-      ∙ ap (λ t. t ++ found_from unicode_source wanted (number + 1) (file_lines_of (utf8_decoded after))) (found_in-quiet wanted number line none)
+      ∙ ap (λ t. t ++ found_from unicode_source wanted (number + 1) (file_lines_of (utf8_decoded after))) (found_in-without_controls wanted number line none)
 
   pub first-count : length (file_lines_of (utf8_decoded rest)) ≡ length (file_lines_of (utf8_decoded after)) + 1
   first-count = let e = ap length first in omega arith
 
-pub nothing-left : (wanted : Wanted) (number : ℕ) (bytes : List ℕ) → length bytes ≡ 0 → found_from unicode_source wanted number (file_lines_of (utf8_decoded bytes)) ≡ []
-nothing-left wanted number bytes none =
-    ap (λ t. found_from unicode_source wanted number (file_lines_of (utf8_decoded t))) (nil_from_length bytes none)
-    ∙ ap (λ t. found_from unicode_source wanted number (file_lines_of t)) utf8_decoded-nil
-
--- ---- bytes that are cut behind the end of a line
+-- ---- bytes that are cut after the end of a line
 
 pub joined-found : (wanted : Wanted) (start lines : ℕ) (bytes front rest : List ℕ) (before found : List FoundAt)
     → file_lines_of (utf8_decoded bytes) ≡ file_lines_of (utf8_decoded front) ++ file_lines_of (utf8_decoded rest)
@@ -161,41 +138,3 @@ joined-fault before now offset end len bytes front rest cut is at =
     ap (λ t. fault_from t end rest) is ∙ ap (λ n. fault_from (fault_from before offset front) n rest) at
     ∙ sym (fault_from-twice before (utf8_fault front) offset len rest)
     ∙ ap (λ t. option_or before (option_map (λ at. offset + at) t)) (sym cut)
-
--- ---- UTF-16
-
-pub utf8_decoded-text : (text : List ℕ) → IsUtf8 text → utf8_decoded text ≡ chars text
-utf8_decoded-text text u = ap chars (utf8_lossy-IsUtf8 text u)
-
-pub utf8_fault-text : (text : List ℕ) → IsUtf8 text → utf8_fault text ≡ None
-utf8_fault-text text u = grind (arith, nat_tests, utf8_valid_len-IsUtf8 text u)
-
-pub first_invalid-utf16 : (bytes : List ℕ) → is_utf16 bytes ≡ true → first_invalid bytes ≡ None
-first_invalid-utf16 bytes is = cond-true _ _ _ is
-
--- ---- all findings of a file
-
-some-with : (number : ℕ) (chars : List ℕ) (findings more : List Finding) (lines : List FoundAt) → (length lines == 0) ≡ (length more == 0)
-    → (length (with_findings number chars findings ++ lines) == 0) ≡ (length (findings ++ more) == 0)
-some-with number chars [] more lines h = h
-some-with number chars (finding ∷ findings) more lines h = grind (arith, nat_tests)
-
-found_from-some : (source : Source) (wanted : Wanted) (number : ℕ) (lines : List (List ℕ))
-    → (length (found_from source wanted number lines) == 0) ≡ (length (findings_from source wanted number lines) == 0)
-found_from-some source wanted number [] = refl
-found_from-some source wanted number (line ∷ lines) =
-    some-with number line (findings_in_line source wanted number line) (findings_from source wanted (number + 1) lines) (found_from source wanted (number + 1) lines) (found_from-some source wanted (number + 1) lines)
-
-module _ (wanted : Wanted) (chars : List ℕ) (lines : List FoundLine) (all : map line_of lines ≡ found_from unicode_source wanted 1 (file_lines_of chars)) where
-  -- the findings of the lines are those of the file
-  pub lines-findings : flat_map (λ (line : FoundLine). line.findings.items) lines ≡ findings_of unicode_source wanted chars
-  unfolding findings_of
-  lines-findings =
-      sym (flat_map-map (λ (line : FoundAt). line.2) line_of lines)
-      ∙ ap (flat_map (λ (line : FoundAt). line.2)) all ∙ found_from-findings unicode_source wanted 1 (file_lines_of chars)
-
-  -- there are some if there are lines
-  pub lines-some : (length lines == 0) ≡ (length (findings_of unicode_source wanted chars) == 0)
-  unfolding findings_of
-  lines-some =
-      ap (λ n. n == 0) (sym (length-map lines line_of) ∙ ap length all) ∙ found_from-some unicode_source wanted 1 (file_lines_of chars)

@@ -1,1 +1,1 @@
-pub mod FoundLemmas
+mod FoundLemmas

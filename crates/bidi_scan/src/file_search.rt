@@ -166,7 +166,7 @@ impl FileSearch {
     }
 
     /// Searches the lines that end in the next bytes of the file, and appends those in which something is found. Returns
-    /// how many bytes these lines have. The next call wants the bytes behind them.
+    /// how many bytes these lines have. The next call wants the bytes after them.
     pub fn push_whole_lines(
         &mut self,
         alloc: Global,

@@ -1,4 +1,3 @@
-mod ListsLemmas
 mod PieceLines
 mod ReadLemmas
 mod ShownLemmas

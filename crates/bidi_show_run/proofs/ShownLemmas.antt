@@ -2,13 +2,13 @@
 use Rattle.bidi_base.proofs.Common.{◌≡◌, ℕ, ◌+◌, ◌-◌, ◌<◌, ◌≤◌, List, [], ◌∷◌, ◌++◌, true, false, length, get_or, take, flat_map}
 use Rattle.bidi_base.proofs.Common.{decimal, refl, append_assoc, arith, inl, inr, cases_Bool, common_steps, codes}
 use Rattle.bidi_base.proofs.Common.{slice_range, len_utf8, chars, IsUtf8, take_all, take_more, flat_map_more}
-use Rattle.bidi_base.proofs.Common.{is_paragraph_separator, ends_with_separator, Source, place, text_len, subrange, per_char, IsLine}
-use Rattle.bidi_base.proofs.PlaceLemmas.{line_places, place-slice_range, IsLine-places}
+use Rattle.bidi_base.proofs.Common.{is_paragraph_separator, ends_with_separator, Source, unit_index, text_len, subrange, per_char, IsLine}
+use Rattle.bidi_base.proofs.UnitIndexLemmas.{line_unit_indexes, unit_index-slice_range, IsLine-unit_indexes}
 use Rattle.bidi_base.proofs.TextLemmas.{is_boundary-le}
 use Rattle.bidi_base.proofs.PerUnit.{length-per_char, get_or-per_char}
 use Rattle.bidi_text.proofs.StrLemmas.{has_units, text_len-chars, subrange-from_str}
 use Rattle.bidi_laws.proofs.OrderLemmas.{length-slice_range}
-use Rattle.bidi_show_run.specs.Shown.{own_end}
+use Rattle.bidi_show_run.specs.Printed.{own_end}
 use Rattle.bidi_show_run.specs.Texts.{spaced, levels_line, without_separator}
 
 module _ (start cs levels : List ℕ) where
@@ -17,7 +17,7 @@ module _ (start cs levels : List ℕ) where
   levels_so_far n = (start ++ codes "levels") ++ flat_map spaced (take n (per_char 0 len_utf8 cs levels))
 
   -- one more
-  pub levels_so_far-more : (n at level : ℕ) → n < length cs → at ≡ place len_utf8 cs n → level ≡ get_or levels at 0 → (levels_so_far n ++ codes " ") ++ decimal level ≡ levels_so_far (n + 1)
+  pub levels_so_far-more : (n at level : ℕ) → n < length cs → at ≡ unit_index len_utf8 cs n → level ≡ get_or levels at 0 → (levels_so_far n ++ codes " ") ++ decimal level ≡ levels_so_far (n + 1)
   levels_so_far-more n at level within here is =
       grind (arith, append_assoc, flat_map_more spaced, take_more (per_char 0 len_utf8 cs levels) n 0, length-per_char, get_or-per_char)
 
@@ -55,9 +55,9 @@ without_separator-IsFront source piece = elim (cases_Bool (ends_with_separator s
 pub without_separator-IsLine : (source : Source) (cs : List ℕ) (start end : ℕ) → IsLine len_utf8 cs start end
     → IsLine len_utf8 cs start (start + text_len len_utf8 (without_separator source (subrange len_utf8 cs start end)))
 without_separator-IsLine source cs start end line =
-    let w = line_places len_utf8 has_units cs start end line in
+    let w = line_unit_indexes len_utf8 has_units cs start end line in
     let f = without_separator-IsFront source (subrange len_utf8 cs start end) in
-    grind (arith, w, f, length-slice_range, place-slice_range, IsLine-places)
+    grind (arith, w, f, length-slice_range, unit_index-slice_range, IsLine-unit_indexes)
 
 -- the part of a text that is a paragraph without its separator
 pub record IsOwnPart (source : Source) (bs own : List ℕ) (start end : ℕ) : Type 0 where

@@ -15,18 +15,18 @@ risen flag count same set = ltb-true 0 count (sym same ∙ set)
 pub set_by : (flag : Bool) (count : ℕ) → flag ≡ nat_lt 0 count → 0 < count → flag ≡ true
 set_by flag count same more = same ∙ lt-ltb 0 count more
 
--- what is told exactly where either count rose is told exactly where either flag is set
-pub told_by_either : (P : Type 0) (first second : Bool) (one other : ℕ) → first ≡ nat_lt 0 one → second ≡ nat_lt 0 other
+-- what is reported exactly where either count rose is reported exactly where either flag is set
+pub reported_by_either : (P : Type 0) (first second : Bool) (one other : ℕ) → first ≡ nat_lt 0 one → second ≡ nat_lt 0 other
     → (P ↔ 0 < one + other) → (P ↔ IsTrue (first || second))
-told_by_either P first second one other same same-2 told =
-    ((λ p. let more : 0 < one + other = told.0 p in grind (arith, nat_tests)), λ set. told.1 (grind (arith, nat_tests)))
+reported_by_either P first second one other same same-2 reported =
+    ((λ p. let more : 0 < one + other = reported.0 p in grind (arith, nat_tests)), λ set. reported.1 (grind (arith, nat_tests)))
 
 -- the same of NotUtf8 and the end of the input
-pub told_at_end : (P : Type 0) (Q : List ℕ → Type 0) (known : Option (List ℕ)) (flag : Bool) (count : ℕ) → flag ≡ nat_lt 0 count
+pub reported_at_end : (P : Type 0) (Q : List ℕ → Type 0) (known : Option (List ℕ)) (flag : Bool) (count : ℕ) → flag ≡ nat_lt 0 count
     → IfSome known (λ bytes. P ↔ (0 < count) × Q bytes) → IfSome known (λ bytes. P ↔ IsTrue flag × Q bytes)
-told_at_end P Q None flag count same told = tt
-told_at_end P Q (Some bytes) flag count same told =
-    ((λ p. (set_by flag count same (told.0 p).0, (told.0 p).1)), λ both. told.1 (risen flag count same both.0, both.1))
+reported_at_end P Q None flag count same reported = tt
+reported_at_end P Q (Some bytes) flag count same reported =
+    ((λ p. (set_by flag count same (reported.0 p).0, (reported.0 p).1)), λ both. reported.1 (risen flag count same both.0, both.1))
 
 -- a run that reads to the end, once, leaves its reader there
 pub leaves_at_end : {A : Type 0} (reads : Bool) (result : Result A ShowFault) (flag : Bool) (count : ℕ) (left : Option (List ℕ))

@@ -6,12 +6,12 @@ use Rattle.std.specs.declared.sync.ledger.Blank.{Blank}
 use Rattle.bidi_show_run.specs.declared.fault.ShowFault.{ShowFault}
 use Rattle.bidi_show_run.specs.declared.fault.ShowFault.TheVariants.{Usage, NotUtf8, Memory, Device}
 
--- how many failures this call told
+-- how many failures this call reported
 abbrev pub failures : {A E : Type 0} → Result A E → ℕ
 failures (Ok answer) = 0
 failures (Err fault) = 1
 
--- how many successes this call told
+-- how many successes this call reported
 abbrev pub successes : {A E : Type 0} → Result A E → ℕ
 successes (Ok answer) = 1
 successes (Err fault) = 0
@@ -35,8 +35,8 @@ ReadsToEnd reads (Err Memory) before after left = after ≤ before + 1
 ReadsToEnd reads (Err Device) before after left = after ≤ before + 1
 
 -- NotUtf8 comes exactly where reading came to the end and the bytes, if the end tells them, are not UTF-8
-abbrev pub TellsNotUtf8 : {I A : Type 0} → (I → Option (List ℕ)) → (I → ℕ) → Result A ShowFault → I → I → Type 0
-TellsNotUtf8 left ended_reads result old new =
+abbrev pub ReportsNotUtf8 : {I A : Type 0} → (I → Option (List ℕ)) → (I → ℕ) → Result A ShowFault → I → I → Type 0
+ReportsNotUtf8 left ended_reads result old new =
     IfSome (left old) (λ bytes. IsErrOf result NotUtf8 ↔ (ended_reads old < ended_reads new) × ¬ (IsUtf8 bytes))
 
 -- a ledger of this name and of so many parts can be opened by this blank, which has one part

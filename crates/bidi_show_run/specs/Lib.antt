@@ -3,6 +3,6 @@ pub mod Ends
 pub mod Faults
 pub mod Numbers
 pub mod Runs
-pub mod Shown
+pub mod Printed
 pub mod Streams
 pub mod Texts

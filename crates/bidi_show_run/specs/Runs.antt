@@ -28,7 +28,7 @@ pub record IsRunOf {R W : Type 0} (remaining : R → Option (List ℕ)) (content
   pub device : IsErrOf finished.outcome Device
       ↔ IsTrue (has_read_failed finished.reader || has_write_failed finished.writer)
   -- `NotUtf8` comes exactly where reading came to the end and the bytes, if the reader tells them, are not UTF-8
-  pub utf8 : IfSome (remaining reader) (λ bytes.
+  pub not_utf8 : IfSome (remaining reader) (λ bytes.
       IsErrOf finished.outcome NotUtf8 ↔ IsTrue (has_read_ended finished.reader) × ¬ (IsUtf8 bytes))
   -- an answer to what reads the input, and `NotUtf8`, come at its end
   pub ended : LeavesAtEnd (reads_input (command_of words)) finished.outcome (has_read_ended finished.reader)
@@ -39,6 +39,6 @@ pub record IsRunOf {R W : Type 0} (remaining : R → Option (List ℕ)) (content
       (contents (writer_of finished.writer))))
   -- a fault other than `Device`, and a read that failed, leave the writer as it was, and a form that reads nothing
   -- the reader
-  pub unwritten : IfErr finished.outcome (λ fault. fault ≢ Device → writer_of finished.writer ≡ writer)
-  pub untouched : IsTrue (has_read_failed finished.reader) → writer_of finished.writer ≡ writer
+  pub unchanged : IfErr finished.outcome (λ fault. fault ≢ Device → writer_of finished.writer ≡ writer)
+  pub unchanged_if_read_fails : IsTrue (has_read_failed finished.reader) → writer_of finished.writer ≡ writer
   pub unread : reads_input (command_of words) ≡ false → reader_of finished.reader ≡ reader

@@ -87,15 +87,15 @@ paragraph_text (Lines limit) source start piece level classes levels = layout_li
 
 -- the same for each paragraph of a text, the first of which begins at the byte `start`
 abbrev pub lines_from : View → Source → Option ℕ → ℕ → List (List ℕ) → List ℕ
-lines_from view source base start [] = []
-lines_from view source base start (piece ∷ pieces) =
+lines_from view source base_level start [] = []
+lines_from view source base_level start (piece ∷ pieces) =
     let classes = map source.class_of piece in
-    paragraph_text view source start piece (paragraph_level base classes) (stored_classes classes) (stored_levels source base piece)
-    ++ lines_from view source base (start + text_len len_utf8 piece) pieces
+    paragraph_text view source start piece (paragraph_level base_level classes) (stored_classes classes) (stored_levels source base_level piece)
+    ++ lines_from view source base_level (start + text_len len_utf8 piece) pieces
 
 -- what `show` and `lines` print of a text of UTF-8
 unfoldable pub shown_text : View → Source → Option ℕ → List ℕ → List ℕ
-shown_text view source base text = lines_from view source base 0 (paragraphs_of (each_separator source) (chars text))
+shown_text view source base_level text = lines_from view source base_level 0 (paragraphs_of (each_separator source) (chars text))
 
 -- ---- what the forms print
 

@@ -4,7 +4,7 @@ ghost use Rattle.std.specs.Str.{IsUtf8};
 ghost use Rattle.bidi_base.specs.Order.{visual_order};
 ghost use Rattle.bidi_base.specs.Table.{source_of};
 ghost use Rattle.bidi_show_run.specs.Commands.{reads_input};
-ghost use Rattle.bidi_show_run.specs.Ends.{ReadsToEnd, TellsNotUtf8};
+ghost use Rattle.bidi_show_run.specs.Ends.{ReadsToEnd, ReportsNotUtf8};
 ghost use Rattle.bidi_show_run.specs.Faults.{device_faults, CountsFaults};
 ghost use Rattle.bidi_show_run.specs.Texts.{line_of, sample_source, shown_text, IsAnswer};
 ghost use Rattle.bidi_terminal.specs.Bases.{level_of_base};
@@ -59,7 +59,7 @@ fn sample_table() -> TableBidiData<'static>
 fn answer_show(alloc: Global, base: Base, view: View, bytes: &[u8]) -> Result<String, ShowFault>
     ensures text { IfOk result (λ text. string_bytes text ≡ shown_text view sample_source (level_of_base base) bytes.now) }
     ensures usage { ¬ IsErrOf result Usage }
-    ensures utf8 { IsErrOf result NotUtf8 ↔ ¬ (IsUtf8 bytes.now) }
+    ensures not_utf8 { IsErrOf result NotUtf8 ↔ ¬ (IsUtf8 bytes.now) }
     ensures valid { IsOk result → IsUtf8 bytes.now }
     ensures device { device_faults result ≡ 0 }
 {
@@ -77,7 +77,7 @@ pub fn answer<R: ShowIn>(
 ) -> Result<String, ShowFault>
     ensures text { IfOk result (λ text. IsAnswer command.now (R.left input.old) (R.left input.new) (string_bytes text)) }
     ensures usage { ¬ IsErrOf result Usage }
-    ensures utf8 { TellsNotUtf8 R.left R.ended_reads result input.old input.new }
+    ensures not_utf8 { ReportsNotUtf8 R.left R.ended_reads result input.old input.new }
     ensures ended { ReadsToEnd (reads_input (Some command.now)) result
         (R.ended_reads input.old) (R.ended_reads input.new) (R.left input.new) }
     ensures failed { CountsFaults R.failed_reads result input.old input.new }

@@ -17,7 +17,7 @@ const CHUNK: usize = 8192;
 pub fn read_all<R: ShowIn>(alloc: Global, input: &mut R) -> Result<Vec<u8>, ShowFault>
     ensures read { IfOk result (λ v. ReadsAll (R.left input.old) (R.left input.new) v.items) }
     ensures usage { ¬ IsErrOf result Usage }
-    ensures utf8 { ¬ IsErrOf result NotUtf8 }
+    ensures not_utf8 { ¬ IsErrOf result NotUtf8 }
     ensures failed { CountsFaults R.failed_reads result input.old input.new }
     ensures ended { R.ended_reads input.new ≡ R.ended_reads input.old + successes result }
 {

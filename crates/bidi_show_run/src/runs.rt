@@ -1,7 +1,7 @@
 //! A run of the program.
 ghost use Rattle.std.specs.Prelude.{◌≡◌, ◌≢◌, ◌+◌, ◌<◌, ◌↔◌, false, map, string_bytes, OnOk, IfErr, IfSome, IsNone, IsErrOf};
 ghost use Rattle.bidi_show_run.specs.Commands.{command_of, reads_input};
-ghost use Rattle.bidi_show_run.specs.Ends.{Opens, ReadsToEnd, TellsNotUtf8};
+ghost use Rattle.bidi_show_run.specs.Ends.{Opens, ReadsToEnd, ReportsNotUtf8};
 ghost use Rattle.bidi_show_run.specs.Faults.{device_faults};
 ghost use Rattle.bidi_show_run.specs.Runs.{IsRunOf};
 ghost use Rattle.bidi_show_run.specs.Texts.{WritesAnswer};
@@ -42,7 +42,7 @@ pub fn run<R: ShowIn, W: ShowOut>(
     output: &mut W,
 ) -> Result<(), ShowFault>
     ensures usage { IsErrOf result Usage ↔ IsNone (command_of (map string_bytes words.now)) }
-    ensures utf8 { TellsNotUtf8 R.left R.ended_reads result input.old input.new }
+    ensures not_utf8 { ReportsNotUtf8 R.left R.ended_reads result input.old input.new }
     ensures ended { ReadsToEnd (reads_input (command_of (map string_bytes words.now))) result
         (R.ended_reads input.old) (R.ended_reads input.new) (R.left input.new) }
     ensures device { IsErrOf result Device ↔
@@ -54,9 +54,9 @@ pub fn run<R: ShowIn, W: ShowOut>(
     ensures written { OnOk result (
         IfSome (command_of (map string_bytes words.now)) (λ command.
         WritesAnswer command (R.left input.old) (R.left input.new) (W.written output.old) (W.written output.new))) }
-    ensures unwritten { IfErr result (λ fault. fault ≢ Device → output.new ≡ output.old) }
+    ensures unchanged { IfErr result (λ fault. fault ≢ Device → output.new ≡ output.old) }
     // A read that failed leaves the output too.
-    ensures untouched { R.failed_reads input.old < R.failed_reads input.new → output.new ≡ output.old }
+    ensures unchanged_if_read_fails { R.failed_reads input.old < R.failed_reads input.new → output.new ≡ output.old }
     ensures unread { reads_input (command_of (map string_bytes words.now)) ≡ false → input.new ≡ input.old }
 {
     let Some(command) = Command::parse(words) else {

@@ -4,7 +4,7 @@ ghost use Rattle.std.specs.Char.{len_utf8};
 ghost use Rattle.std.specs.Str.{chars};
 ghost use Rattle.bidi_base.specs.Text.{per_char, IsLine};
 ghost use Rattle.bidi_base.specs.Display.{run_of};
-ghost use Rattle.bidi_show_run.specs.Shown.{layout_in, layout_text, printed_in, own_end as own_end_of, IsParagraphIn};
+ghost use Rattle.bidi_show_run.specs.Printed.{layout_in, layout_text, printed_in, own_end as own_end_of, IsParagraphIn};
 ghost use Rattle.bidi_show_run.specs.Texts.{heading, levels_line, text_line, without_separator as without_separator_of, shown_line, one_column, shown_text};
 ghost use Rattle.bidi_show_run.specs.declared.command.View.TheVariants.{Whole};
 ghost use Rattle.unicode_bidi.specs.BidiInfo.{text as text_of, original_classes, levels as levels_of_info};
@@ -76,7 +76,7 @@ fn own_end<D: BidiDataSource>(
     paragraph: &ParagraphInfo,
 ) -> usize
     requires { IsParagraphIn (text_of info.now) paragraph.now }
-    ensures line { IsLine len_utf8 (chars (text_of info.now)) (range_of paragraph.now).start result }
+    ensures is_line { IsLine len_utf8 (chars (text_of info.now)) (range_of paragraph.now).start result }
     ensures end { result
         ≡ own_end_of (D.source data_source.now) (chars (text_of info.now)) (range_of paragraph.now).start
         (range_of paragraph.now).end }
@@ -147,7 +147,7 @@ fn layout_of<D: BidiDataSource>(
     ensures lines { IfOk result (λ v. map run_of v.items
         ≡ layout_in (D.source data_source.now) limit (chars (text_of info.now)) (range_of paragraph.now).start
         (range_of paragraph.now).end) }
-    ensures each_is_line { IfOk result (λ v. All (λ r. IsLine len_utf8 (chars (text_of info.now)) r.start r.end) v.items) }
+    ensures are_lines { IfOk result (λ v. All (λ r. IsLine len_utf8 (chars (text_of info.now)) r.start r.end) v.items) }
 {
     let start = paragraph.range().start;
     let end = own_end(data_source, info, paragraph);
@@ -241,13 +241,13 @@ pub fn show<D: BidiDataSource>(
     alloc: Global,
     data_source: &D,
     text: &str,
-    base: Option<Level>,
+    base_level: Option<Level>,
     view: View,
 ) -> Result<String, AllocError>
-    requires { IfSome base (λ level. level ≤ 125) }
-    ensures { IfOk result (λ out. string_bytes out ≡ shown_text view (D.source data_source.now) base text.now) }
+    requires { IfSome base_level (λ level. level ≤ 125) }
+    ensures { IfOk result (λ out. string_bytes out ≡ shown_text view (D.source data_source.now) base_level text.now) }
 {
-    let info = BidiInfo::new_with_data_source(alloc, data_source, text, base)?;
+    let info = BidiInfo::new_with_data_source(alloc, data_source, text, base_level)?;
     let mut out = String::new(alloc);
     push_paragraphs(alloc, &mut out, data_source, &info, info.paragraphs(), view)?;
     Ok(out)

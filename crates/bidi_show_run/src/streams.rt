@@ -98,8 +98,8 @@ pub struct StreamIn<R, F: Ledger, E: Ledger> {
     watched: WatchedReader<R>,
     failed: Steps<F>,
     ended: Steps<E>,
-    ghost tells_failed: { watched.has_failed ≡ nat_lt 0 failed },
-    ghost tells_ended: { watched.has_ended ≡ nat_lt 0 ended },
+    ghost reports_failed: { watched.has_failed ≡ nat_lt 0 failed },
+    ghost reports_ended: { watched.has_ended ≡ nat_lt 0 ended },
 }
 
 impl<R: Read, F: Ledger, E: Ledger> StreamIn<R, F, E> {
@@ -158,7 +158,7 @@ impl<R: Read, F: Ledger, E: Ledger> ShowIn for StreamIn<R, F, E> {
 pub struct StreamOut<W, L: Ledger> {
     watched: WatchedWriter<W>,
     failed: Steps<L>,
-    ghost tells_failed: { watched.has_failed ≡ nat_lt 0 failed },
+    ghost reports_failed: { watched.has_failed ≡ nat_lt 0 failed },
 }
 
 impl<W: Write, L: Ledger> StreamOut<W, L> {

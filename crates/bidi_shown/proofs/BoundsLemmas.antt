@@ -1,6 +1,6 @@
 -- Ranges of bytes that cut no character are lines of the text.
 use Rattle.bidi_base.proofs.Common.{◌≡◌, ◌∙◌, ℕ, ◌<◌, ◌++◌, true, List, [], ◌∷◌, length, take, drop, sym, ap, subst, arith, length-take, take-append-drop, chars, len_utf8, text_len, is_boundary}
-use Rattle.bidi_base.proofs.Common.{IsUtf8, IsCharBoundary, IsLine, Range, slice_range, chars-append, IsCharBoundary-start, IsUtf8-between, IsUtf8-take}
+use Rattle.bidi_base.proofs.Common.{IsUtf8, IsCharBoundary, IsLine, Range, chars-append, IsCharBoundary-start, IsUtf8-take}
 use Rattle.bidi_base.proofs.TextLemmas.{is_boundary-append}
 use Rattle.bidi_text.proofs.StrLemmas.{text_len-chars}
 use Rattle.bidi_columns.specs.Bounds.{IsRangeOf}
@@ -26,10 +26,6 @@ IsRangeOf-whole bs utf8 = record {
   end = (omega arith, λ inside _. absurd (omega (arith, inside)));
   ordered = omega arith;
 }
-
--- the bytes of a range are a text
-pub IsUtf8-range : (bs : List ℕ) (r : Range ℕ) → IsUtf8 bs → IsRangeOf bs r → IsUtf8 (slice_range bs r.start r.end)
-IsUtf8-range bs r utf8 range = IsUtf8-between bs r.start r.end utf8 range.ordered range.start range.end
 
 -- a text that has bytes has characters
 some-from_len : (cs : List ℕ) → 0 < text_len len_utf8 cs → 0 < length cs

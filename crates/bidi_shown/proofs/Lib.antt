@@ -1,4 +1,4 @@
-pub mod BoundsLemmas
-pub mod ParagraphLemmas
-pub mod PiecesLemmas
+mod BoundsLemmas
+mod ParagraphLemmas
+mod PiecesLemmas
 mod RecordsAsClauses

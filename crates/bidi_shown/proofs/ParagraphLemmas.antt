@@ -8,7 +8,7 @@ use Rattle.bidi_laws.proofs.OneParagraph.{para_level-one, whole-IsAnalysis}
 use Rattle.bidi_columns.specs.Breaks.{lines_of_text}
 use Rattle.bidi_terminal.specs.Bases.{level_of_base}
 use Rattle.bidi_text.proofs.StrLemmas.{text_len-chars}
-use Rattle.bidi_visual.specs.Shown.{shown_levels, shown_paragraph, shown_range, shown_ranges}
+use Rattle.bidi_visual.specs.Displayed.{shown_levels, shown_paragraph, shown_range, shown_ranges}
 use Rattle.bidi_visual.specs.declared.view.View.{View}
 use Rattle.bidi_paragraphs.specs.ParagraphInfo.{levels_of, ranges_of}
 use Rattle.bidi_paragraphs.specs.declared.paragraph_info.ParagraphInfo.{ParagraphInfo}
@@ -50,10 +50,10 @@ ranges-None source text utf8 = ap (λ n. (0, n) ∷ []) (sym (text_len-chars tex
 
 -- ---- a text that is analysed as one paragraph
 
-pub analysed-whole : (source : Source) (base : Option ℕ) (own : List ℕ) (classes : List BidiClass) (levels : List ℕ) (level : ℕ) (ps : List ParagraphInfo)
-    → IsAnalysis source base None (analysed own classes levels) (ranges_of ps) (levels_of ps) → level ≡ get_or (levels_of ps) 0 0
-    → IsAnalysis source base None (analysed own classes levels) ((0, text_len len_utf8 own) ∷ []) (level ∷ [])
-analysed-whole source base own classes levels level ps h is =
-    let one = para_level-one source base (analysed own classes levels) (ranges_of ps) (levels_of ps) h in
-    whole-IsAnalysis source base (analysed own classes levels) (ranges_of ps) (levels_of ps) h level
+pub analysed-whole : (source : Source) (base_level : Option ℕ) (own : List ℕ) (classes : List BidiClass) (levels : List ℕ) (level : ℕ) (ps : List ParagraphInfo)
+    → IsAnalysis source base_level None (analysed own classes levels) (ranges_of ps) (levels_of ps) → level ≡ get_or (levels_of ps) 0 0
+    → IsAnalysis source base_level None (analysed own classes levels) ((0, text_len len_utf8 own) ∷ []) (level ∷ [])
+analysed-whole source base_level own classes levels level ps h is =
+    let one = para_level-one source base_level (analysed own classes levels) (ranges_of ps) (levels_of ps) h in
+    whole-IsAnalysis source base_level (analysed own classes levels) (ranges_of ps) (levels_of ps) h level
     (one ∙ ap (λ l. l ∷ []) (sym (is ∙ ap (λ ls. get_or ls 0 0) one)))

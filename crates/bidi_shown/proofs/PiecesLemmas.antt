@@ -5,9 +5,10 @@ use Rattle.bidi_base.proofs.Common.{drop-append_seam, flat_map-append, length-ap
 use Rattle.bidi_base.proofs.Common.{is_paragraph_separator, cr_lf_together, onto_first, chars-append, chars_past_char, encode_ascii, IsCharBoundary-before_ascii, IsUtf8-append, IsUtf8-drop}
 use Rattle.bidi_base.proofs.Common.{IsCharBoundary-after_ascii, IsUtf8-take}
 use Rattle.bidi_unicode.specs.Unicode.{unicode_source}
-use Rattle.bidi_visual.specs.Shown.{own_chars, paragraphs_in, shown_paragraph, shown_text}
+use Rattle.bidi_base.specs.Paragraphs.{own_chars, paragraphs_in}
+use Rattle.bidi_visual.specs.Displayed.{shown_paragraph, shown_text}
 use Rattle.bidi_visual.specs.declared.view.View.{View}
-use Rattle.bidi_visual.proofs.QuietLemmas.{feed-separates}
+use Rattle.bidi_visual.proofs.PrintableLemmas.{feed-separates}
 use Rattle.bidi_shown.specs.Streams.{whole_lines, shown_bytes, shown_now, pending_after, IsShownTo}
 
 -- ---- the paragraphs of a text that has a line feed
@@ -53,11 +54,6 @@ unfolding shown_text
 shown_text-append view cs ds =
     let shown = λ (p : List ℕ). shown_paragraph unicode_source view (own_chars unicode_source p) in
     ap (flat_map shown) (paragraphs-append unicode_source feed-separates cs ds) ∙ flat_map-append shown (paragraphs_in unicode_source (cs ++ 0x0A ∷ [])) (paragraphs_in unicode_source ds)
-
--- of no text nothing
-pub nothing-shown : (view : View) → shown_text unicode_source view (chars []) ≡ []
-unfolding shown_text
-nothing-shown view = simp chars-nil
 
 -- ---- the same of bytes
 
@@ -116,43 +112,43 @@ ends_line (b ∷ bs) some = elim (cases_Bool (nat_lt 0 (whole_lines bs))) [
 ]
 
 -- One more piece came.
-pub IsShownTo-more : (view : View) (kept piece came shown : List ℕ) → (0 < whole_lines piece → IsUtf8 (kept ++ take (whole_lines piece) piece))
-    → IsShownTo view kept came shown → IsShownTo view (pending_after kept piece) (came ++ piece) (shown ++ shown_now view kept piece)
-IsShownTo-more view kept piece came shown lines_utf8 was = elim (cases_Bool (whole_lines piece == 0)) [
+pub IsShownTo-more : (view : View) (held piece came shown : List ℕ) → (0 < whole_lines piece → IsUtf8 (held ++ take (whole_lines piece) piece))
+    → IsShownTo view held came shown → IsShownTo view (pending_after held piece) (came ++ piece) (shown ++ shown_now view held piece)
+IsShownTo-more view held piece came shown lines_utf8 was = elim (cases_Bool (whole_lines piece == 0)) [
   | inl none ↦ simp none (λ rest utf8.
-      let same : kept ++ (piece ++ rest) ≡ (kept ++ piece) ++ rest = sym (append_assoc kept piece rest) in
+      let same : held ++ (piece ++ rest) ≡ (held ++ piece) ++ rest = sym (append_assoc held piece rest) in
       let now = was (piece ++ rest) (subst IsUtf8 (sym same) utf8) in
       simp (append_assoc, append-nil) now)
   | inr some ↦
       let end = ends_line piece (grind (arith, nat_tests, some)) in
       let after : List ℕ = drop (whole_lines piece) piece in
-      let front : List ℕ = kept ++ end.front in
-      let lines : kept ++ take (whole_lines piece) piece ≡ front ++ 0x0A ∷ [] = ap (λ l. kept ++ l) end.is ∙ sym (append_assoc kept end.front (0x0A ∷ [])) in
+      let front : List ℕ = held ++ end.front in
+      let lines : held ++ take (whole_lines piece) piece ≡ front ++ 0x0A ∷ [] = ap (λ l. held ++ l) end.is ∙ sym (append_assoc held end.front (0x0A ∷ [])) in
       let lines_valid : IsUtf8 (front ++ 0x0A ∷ []) = subst IsUtf8 lines (lines_utf8 (grind (arith, nat_tests, some))) in
       let cut : piece ≡ (end.front ++ 0x0A ∷ []) ++ after = sym (take-append-drop (whole_lines piece) piece) ∙ ap (λ l. l ++ after) end.is in
       simp some (λ rest utf8.
-      let whole : kept ++ (piece ++ rest) ≡ front ++ 0x0A ∷ (after ++ rest) = ap (λ l. kept ++ (l ++ rest)) cut ∙ simp append_assoc in
+      let whole : held ++ (piece ++ rest) ≡ front ++ 0x0A ∷ (after ++ rest) = ap (λ l. held ++ (l ++ rest)) cut ∙ simp append_assoc in
       let valid : IsUtf8 (front ++ 0x0A ∷ (after ++ rest)) = subst IsUtf8 (append_assoc front (0x0A ∷ []) (after ++ rest)) (IsUtf8-append (front ++ 0x0A ∷ []) (after ++ rest) lines_valid utf8) in
       let now = was (piece ++ rest) (subst IsUtf8 (sym whole) valid) in
       let all : came ++ (piece ++ rest) ≡ (came ++ piece) ++ rest = sym (append_assoc came piece rest) in
-      let both : shown_bytes view (kept ++ take (whole_lines piece) piece) ++ shown_bytes view (after ++ rest) ≡ shown_bytes view (kept ++ (piece ++ rest)) =
+      let both : shown_bytes view (held ++ take (whole_lines piece) piece) ++ shown_bytes view (after ++ rest) ≡ shown_bytes view (held ++ (piece ++ rest)) =
       ap (λ l. shown_bytes view l ++ shown_bytes view (after ++ rest)) lines ∙ sym (shown_bytes-append view front (after ++ rest) valid) ∙ ap (shown_bytes view) (sym whole) in (
         subst IsUtf8 all now.0,
-        append_assoc shown (shown_bytes view (kept ++ take (whole_lines piece) piece)) (shown_bytes view (after ++ rest)) ∙ ap (λ l. shown ++ l) both ∙ now.1 ∙ ap (shown_bytes view) all,
+        append_assoc shown (shown_bytes view (held ++ take (whole_lines piece) piece)) (shown_bytes view (after ++ rest)) ∙ ap (λ l. shown ++ l) both ∙ now.1 ∙ ap (shown_bytes view) all,
       ))
 ]
 
--- The same, where what is shown stands behind something.
-pub IsShownTo-pushed : (view : View) (kept piece came before out out' kept' : List ℕ) → (0 < whole_lines piece → IsUtf8 (kept ++ take (whole_lines piece) piece))
-    → out' ≡ out ++ shown_now view kept piece → kept' ≡ pending_after kept piece → IsShownTo view kept came (before ++ out) → IsShownTo view kept' (came ++ piece) (before ++ out')
-IsShownTo-pushed view kept piece came before out out' kept' lines_utf8 out_is kept_is was =
-    let now = IsShownTo-more view kept piece came (before ++ out) lines_utf8 was in
-    rw (kept_is, out_is, sym (append_assoc before out (shown_now view kept piece))) now
+-- The same, where what is shown stands after something.
+pub IsShownTo-pushed : (view : View) (held piece came before out out' held' : List ℕ) → (0 < whole_lines piece → IsUtf8 (held ++ take (whole_lines piece) piece))
+    → out' ≡ out ++ shown_now view held piece → held' ≡ pending_after held piece → IsShownTo view held came (before ++ out) → IsShownTo view held' (came ++ piece) (before ++ out')
+IsShownTo-pushed view held piece came before out out' held' lines_utf8 out_is held_is was =
+    let now = IsShownTo-more view held piece came (before ++ out) lines_utf8 was in
+    rw (held_is, out_is, sym (append_assoc before out (shown_now view held piece))) now
 
 -- No more comes.
-pub IsShownTo-end : (view : View) (kept came shown : List ℕ) → IsUtf8 kept → IsShownTo view kept came shown → IsUtf8 came × (shown ++ shown_bytes view kept ≡ shown_bytes view came)
-IsShownTo-end view kept came shown utf8 was =
-    let now = was [] (subst IsUtf8 (sym (append-nil kept)) utf8) in
+pub IsShownTo-end : (view : View) (held came shown : List ℕ) → IsUtf8 held → IsShownTo view held came shown → IsUtf8 came × (shown ++ shown_bytes view held ≡ shown_bytes view came)
+IsShownTo-end view held came shown utf8 was =
+    let now = was [] (subst IsUtf8 (sym (append-nil held)) utf8) in
     simp append-nil at now
 
 -- ---- the whole lines, read from the end

@@ -6,15 +6,15 @@ use Rattle.bidi_shown.specs.declared.stream.StreamFault.{StreamFault}
 use Rattle.bidi_shown.specs.declared.stream.StreamFault.TheVariants.{NotUtf8, Memory}
 
 -- if the fault is `NotUtf8`, it has the index at which these bytes stop being UTF-8; `Memory` may come with any bytes
-abbrev pub TellsBytes : List ℕ → StreamFault → Type 0
-TellsBytes bytes (NotUtf8 at) = (at ≡ utf8_valid_len bytes) × (IsUtf8 bytes → ⊥)
-TellsBytes bytes Memory = ⊤
+abbrev pub ReportsBytes : List ℕ → StreamFault → Type 0
+ReportsBytes bytes (NotUtf8 at) = (at ≡ utf8_valid_len bytes) × (IsUtf8 bytes → ⊥)
+ReportsBytes bytes Memory = ⊤
 
 -- the index in a text of a byte that has so many others before it, or the greatest `usize` if that is less
 abbrev pub index_after : ℕ → ℕ → ℕ
 index_after before at = min (before + at) (2 ^ 64 - 1)
 
--- like `TellsBytes`, for bytes of a text that has `before` other bytes before them: the index counts those too
-abbrev pub TellsBytesAfter : ℕ → List ℕ → StreamFault → Type 0
-TellsBytesAfter before bytes (NotUtf8 at) = (at ≡ index_after before (utf8_valid_len bytes)) × (IsUtf8 bytes → ⊥)
-TellsBytesAfter before bytes Memory = ⊤
+-- like `ReportsBytes`, for bytes of a text that has `before` other bytes before them: the index counts those too
+abbrev pub ReportsBytesAfter : ℕ → List ℕ → StreamFault → Type 0
+ReportsBytesAfter before bytes (NotUtf8 at) = (at ≡ index_after before (utf8_valid_len bytes)) × (IsUtf8 bytes → ⊥)
+ReportsBytesAfter before bytes Memory = ⊤

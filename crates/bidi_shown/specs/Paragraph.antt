@@ -3,12 +3,12 @@ use Rattle.std.specs.Prelude.{ℕ, Bool, List, ◌++◌, codes}
 use Rattle.std.specs.Char.{len_utf8}
 use Rattle.std.specs.Str.{chars}
 use Rattle.std.specs.declared.ops.Range.{Range}
-use Rattle.bidi_base.specs.Analysed.{AnalysedText, line_levels_per_char}
+use Rattle.bidi_base.specs.AnalysedText.{AnalysedText, line_levels_per_char}
 use Rattle.bidi_base.specs.Display.{Run}
 use Rattle.bidi_base.specs.Source.{Source}
 use Rattle.bidi_base.specs.Text.{subrange}
 use Rattle.bidi_base.specs.declared.char_data.BidiClass.{BidiClass}
-use Rattle.bidi_visual.specs.Shown.{tabbed_line}
+use Rattle.bidi_visual.specs.Displayed.{tabbed_line}
 use Rattle.bidi_shown.specs.declared.paragraph.AnalysedParagraph.{AnalysedParagraph}
 use Rattle.bidi_shown.specs.declared.paragraph.Memory.{Memory}
 

@@ -3,9 +3,9 @@ use Rattle.std.specs.Prelude.{◌≡◌, ℕ, ◌+◌, ◌==◌, nat_lt, if◌th
 use Rattle.std.specs.Str.{chars, IsUtf8}
 use Rattle.std.specs.declared.string.String.{String}
 use Rattle.bidi_unicode.specs.Unicode.{unicode_source}
-use Rattle.bidi_visual.specs.Shown.{shown_text}
+use Rattle.bidi_visual.specs.Displayed.{shown_text}
 use Rattle.bidi_visual.specs.declared.view.View.{View}
-use Rattle.bidi_shown.specs.Faults.{TellsBytesAfter, index_after}
+use Rattle.bidi_shown.specs.Faults.{ReportsBytesAfter, index_after}
 use Rattle.bidi_shown.specs.declared.stream.Stream.{Stream}
 use Rattle.bidi_shown.specs.declared.stream.StreamFault.{StreamFault}
 
@@ -36,8 +36,8 @@ pub record HasShownPending (old new : Stream) : Type 0 where
   pub counted : shown_len new ≡ index_after (shown_len old) (length (pending old))
 
 -- if the fault is `NotUtf8`, it has the index in the text at which the bytes that a stream keeps stop being UTF-8
-abbrev pub TellsPending : Stream → StreamFault → Type 0
-TellsPending stream = TellsBytesAfter (shown_len stream) (pending stream)
+abbrev pub ReportsPending : Stream → StreamFault → Type 0
+ReportsPending stream = ReportsBytesAfter (shown_len stream) (pending stream)
 
 -- the bytes that a stream shows when a piece comes: none, if the piece has no line feed
 abbrev pub lines_with : Stream → List ℕ → List ℕ
@@ -50,16 +50,16 @@ shown_len_after stream piece =
 
 -- what is shown when a piece comes after bytes that are kept: the lines up to its last line feed, if it has one
 abbrev pub shown_now : View → List ℕ → List ℕ → List ℕ
-shown_now view kept piece =
-    if whole_lines piece == 0 then [] else shown_bytes view (kept ++ take (whole_lines piece) piece)
+shown_now view held piece =
+    if whole_lines piece == 0 then [] else shown_bytes view (held ++ take (whole_lines piece) piece)
 
 -- what is kept then
 abbrev pub pending_after : List ℕ → List ℕ → List ℕ
-pending_after kept piece = if whole_lines piece == 0 then kept ++ piece else drop (whole_lines piece) piece
+pending_after held piece = if whole_lines piece == 0 then held ++ piece else drop (whole_lines piece) piece
 
--- The bytes `came`, those of `kept` last; the others were shown, as `shown`. For any bytes `rest` after them: if `kept` and
--- `rest` together are UTF-8, then so are all bytes, and `shown` and what `kept` and `rest` show are what all bytes show.
+-- The bytes `came`, those of `held` last; the others were shown, as `shown`. For any bytes `rest` after them: if `held` and
+-- `rest` together are UTF-8, then so are all bytes, and `shown` and what `held` and `rest` show are what all bytes show.
 abbrev pub IsShownTo : View → List ℕ → List ℕ → List ℕ → Type 0
-IsShownTo view kept came shown =
-    (rest : List ℕ) → IsUtf8 (kept ++ rest) → IsUtf8 (came ++ rest)
-    × (shown ++ shown_bytes view (kept ++ rest) ≡ shown_bytes view (came ++ rest))
+IsShownTo view held came shown =
+    (rest : List ℕ) → IsUtf8 (held ++ rest) → IsUtf8 (came ++ rest)
+    × (shown ++ shown_bytes view (held ++ rest) ≡ shown_bytes view (came ++ rest))

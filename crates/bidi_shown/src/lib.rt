@@ -1,6 +1,6 @@
-//! Paragraphs and texts as a terminal displays them that does not know the algorithm.
+//! The output of `bidi show`: paragraphs and texts, for a terminal without bidirectional support.
 #![tactic(auto)]
 
-pub mod paragraph;
+mod paragraph;
 pub mod stream;
-pub mod text;
+mod text;

@@ -2,12 +2,12 @@
 ghost use Rattle.std.specs.Prelude.{◌≡◌, ◌<◌, None, [], ◌∷◌, ◌++◌, length, get_or, flat_map, map, All, IfOk, OnOk, string_bytes};
 ghost use Rattle.std.specs.Char.{len_utf8};
 ghost use Rattle.std.specs.Str.{chars, IsUtf8};
-ghost use Rattle.bidi_base.specs.Analysed.{IsAnalysis, IsPerCharText};
+ghost use Rattle.bidi_base.specs.AnalysedText.{IsAnalysis, IsPerCharText};
 ghost use Rattle.bidi_base.specs.Display.{run_of};
 ghost use Rattle.bidi_base.specs.Text.{text_len};
 ghost use Rattle.bidi_columns.specs.Bounds.{IsRangeOf};
 ghost use Rattle.bidi_terminal.specs.Bases.{level_of_base};
-ghost use Rattle.bidi_visual.specs.Shown.{shown_paragraph, shown_ranges};
+ghost use Rattle.bidi_visual.specs.Displayed.{shown_paragraph, shown_ranges};
 ghost use Rattle.bidi_paragraphs.specs.ParagraphInfo.{levels_of};
 ghost use Rattle.bidi_shown.specs.Paragraph.{analysed, shown_in, text_of};
 
@@ -15,7 +15,7 @@ use bidi_base::char_data::BidiClass;
 use bidi_base::data_source::BidiDataSource;
 use bidi_base::level::{LTR_LEVEL, Level};
 use bidi_columns::breaks::lines;
-use bidi_lines::shown_levels::ShownLevels;
+use bidi_lines::reused_levels::LineLevels;
 use bidi_terminal::Base;
 use bidi_text::text::{StrText, TextSource};
 use bidi_visual::line::push_text;
@@ -112,7 +112,7 @@ fn push_line<D: BidiDataSource>(
     let part = &paragraph.text[start..end];
     let classes = &memory.classes.as_slice()[start..end];
     let levels = &memory.levels.as_slice()[start..end];
-    let mut shown = ShownLevels::new(alloc);
+    let mut shown = LineLevels::new(alloc);
     shown.show(memory.level, classes, levels)?;
     shown.keep_first_units(StrText::new(part));
     push_text(alloc, out, data_source, plain, part, shown.as_slice())?;

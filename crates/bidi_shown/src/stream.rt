@@ -3,8 +3,8 @@ ghost use Rattle.std.specs.Prelude.{◌≡◌, ℕ, ◌++◌, ◌≤◌, List, [
 ghost use Rattle.std.specs.Str.{chars, IsUtf8};
 ghost use Rattle.bidi_unicode.specs.Unicode.{unicode_source};
 ghost use Rattle.bidi_visual.specs.declared.view.View.{View};
-ghost use Rattle.bidi_visual.specs.Shown.{shown_text};
-ghost use Rattle.bidi_shown.specs.Faults.{TellsBytes};
+ghost use Rattle.bidi_visual.specs.Displayed.{shown_text};
+ghost use Rattle.bidi_shown.specs.Faults.{ReportsBytes};
 ghost use Rattle.bidi_shown.specs.Streams.{whole_lines as whole_lines_of};
 
 use crate::paragraph::Memory;
@@ -33,11 +33,11 @@ impl From<AllocError> for StreamFault {
 }
 
 impl StreamFault {
-    ghost use Rattle.bidi_shown.specs.Faults.{TellsBytesAfter};
+    ghost use Rattle.bidi_shown.specs.Faults.{ReportsBytesAfter};
 
     // Returns the fault of a text that has so many bytes before those in which it was found.
     fn after(self, before: usize) -> StreamFault
-        ensures { (bytes : List ℕ) → TellsBytes bytes self → TellsBytesAfter before bytes result }
+        ensures { (bytes : List ℕ) → ReportsBytes bytes self → ReportsBytesAfter before bytes result }
     {
         match self {
             StreamFault::NotUtf8(at) => StreamFault::NotUtf8(before.saturating_add(at)),
@@ -83,7 +83,7 @@ fn show_bytes(
 ) -> Result<(), StreamFault>
     ensures utf8 { OnOk result (IsUtf8 bytes.now) }
     ensures shown { OnOk result (string_bytes out.new ≡ string_bytes out.old ++ shown_text unicode_source view (chars bytes.now)) }
-    ensures fault { IfErr result (TellsBytes bytes.now) }
+    ensures fault { IfErr result (ReportsBytes bytes.now) }
 {
     match str::from_utf8(bytes) {
         Ok(text) => {
@@ -101,8 +101,8 @@ fn show_bytes(
 }
 
 impl Stream {
-    ghost use Rattle.bidi_shown.specs.Faults.{TellsBytesAfter};
-    ghost use Rattle.bidi_shown.specs.Streams.{pending as pending_of, shown_len as shown_len_of, shown_now, pending_after, lines_with, shown_len_after, HasShownPending, IsShownTo, ShowsPending, TellsPending};
+    ghost use Rattle.bidi_shown.specs.Faults.{ReportsBytesAfter};
+    ghost use Rattle.bidi_shown.specs.Streams.{pending as pending_of, shown_len as shown_len_of, shown_now, pending_after, lines_with, shown_len_after, HasShownPending, IsShownTo, ShowsPending, ReportsPending};
 
     /// Returns a text of which nothing has come. Does not allocate.
     pub fn new(alloc: Global) -> Stream
@@ -133,7 +133,7 @@ impl Stream {
         ensures pending { OnOk result (pending_of self.new ≡ pending_after (pending_of self.old) piece.now) }
         ensures shown_len { OnOk result (shown_len_of self.new ≡ shown_len_after self.old piece.now) }
         ensures utf8 { OnOk result (IsUtf8 (lines_with self.old piece.now)) }
-        ensures fault { IfErr result (TellsBytesAfter (shown_len_of self.old) (lines_with self.old piece.now)) }
+        ensures fault { IfErr result (ReportsBytesAfter (shown_len_of self.old) (lines_with self.old piece.now)) }
         // `taken` is what the caller took out of `out` before.
         ensures whole { (came taken : List ℕ)
             → IsShownTo view (pending_of self.old) came (taken ++ string_bytes out.old)
@@ -156,7 +156,7 @@ impl Stream {
         ensures utf8 { OnOk result (IsUtf8 (pending_of self.old)) }
         ensures shown { OnOk result (ShowsPending view self.old out.old out.new) }
         ensures ended { OnOk result (HasShownPending self.old self.new) }
-        ensures fault { IfErr result (TellsPending self.old) }
+        ensures fault { IfErr result (ReportsPending self.old) }
         ensures whole { (came taken : List ℕ)
             → IsShownTo view (pending_of self.old) came (taken ++ string_bytes out.old)
             → OnOk result (IsUtf8 came × (taken ++ string_bytes out.new ≡ shown_text unicode_source view (chars came))) }
@@ -175,7 +175,7 @@ impl Stream {
         ensures utf8 { OnOk result (IsUtf8 (pending_of self.old)) }
         ensures shown { OnOk result (ShowsPending view self.old out.old out.new) }
         ensures ended { OnOk result (HasShownPending self.old self.new) }
-        ensures fault { IfErr result (TellsPending self.old) }
+        ensures fault { IfErr result (ReportsPending self.old) }
     {
         let bytes = self.pending.as_slice();
         let len = bytes.len();

@@ -2,12 +2,12 @@
 ghost use Rattle.std.specs.Prelude.{◌≡◌, ◌++◌, ◌<◌, length, IfOk, OnOk, string_bytes};
 ghost use Rattle.std.specs.Str.{chars, IsUtf8};
 ghost use Rattle.bidi_unicode.specs.Unicode.{unicode_source};
-ghost use Rattle.bidi_visual.specs.Shown.{shown_text};
+ghost use Rattle.bidi_visual.specs.Displayed.{shown_text};
 
 use crate::paragraph::{Memory, push_paragraph};
 use bidi_unicode::UnicodeData;
 use bidi_visual::first::first_paragraph;
-use bidi_visual::quiet::quiet_len;
+use bidi_visual::printable::printable_len;
 use bidi_visual::view::View;
 use std::alloc::{AllocError, Global};
 
@@ -26,9 +26,9 @@ fn push_first<'t>(
     ensures shorter { IfOk result (λ rest. length rest.now < length text.now) }
     ensures utf8 { IfOk result (λ rest. IsUtf8 rest.now) }
 {
-    let quiet = quiet_len(view, text);
-    if quiet > 0 {
-        let (lines, rest) = text.split_at(quiet);
+    let printable = printable_len(view, text);
+    if printable > 0 {
+        let (lines, rest) = text.split_at(printable);
         out.push_str(lines)?;
         return Ok(rest);
     }

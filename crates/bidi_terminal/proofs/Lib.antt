@@ -1,1 +1,1 @@
-pub mod NumbersLemmas
+mod NumbersLemmas

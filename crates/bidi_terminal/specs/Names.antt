@@ -53,7 +53,3 @@ quoted_char c =
     if c == 9 then codes " "
     else if is_hidden c then codes "<U+" ++ (four_hex_digits c ++ codes ">")
     else encode_utf8 c
-
--- a line, from its characters
-abbrev pub quoted_line : List ℕ → List ℕ
-quoted_line chars = flat_map quoted_char chars

@@ -1,5 +1,5 @@
 //! Strings of JSON.
-ghost use Rattle.std.specs.Prelude.{◌≡◌, ◌++◌, flat_map, encode_utf8, IfOk, OnOk, string_bytes};
+ghost use Rattle.std.specs.Prelude.{◌≡◌, ◌++◌, flat_map, IfOk, OnOk, string_bytes};
 ghost use Rattle.json.specs.Print.{quoted};
 ghost use Rattle.bidi_terminal.specs.Json.{json_char, json_string};
 

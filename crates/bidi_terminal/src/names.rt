@@ -1,7 +1,7 @@
 //! How names, other arguments and lines are written in a report.
 ghost use Rattle.std.specs.Prelude.{◌≡◌, ◌++◌, IfOk, OnOk, string_bytes};
 ghost use Rattle.std.specs.Str.{chars};
-ghost use Rattle.bidi_terminal.specs.Names.{is_hidden, four_hex_digits, code_escape, byte_escape, shown_char, shown_name as shown_name_of, shown_byte, shown_bytes as shown_bytes_of, quoted_char, quoted_line};
+ghost use Rattle.bidi_terminal.specs.Names.{is_hidden, four_hex_digits, code_escape, byte_escape, shown_char, shown_name as shown_name_of, shown_byte, shown_bytes as shown_bytes_of, quoted_char};
 
 use crate::push_hex_digit;
 use std::alloc::{AllocError, Global};
@@ -134,14 +134,4 @@ pub fn push_quoted(out: &mut String, c: char) -> Result<(), AllocError>
     out.push_str("<U+")?;
     push_hex(out, c)?;
     out.push_str(">")
-}
-
-/// Appends characters of a line, each as [`push_quoted`] does.
-pub fn push_quoted_line(out: &mut String, chars: &[char]) -> Result<(), AllocError>
-    ensures { OnOk result (string_bytes out.new ≡ string_bytes out.old ++ quoted_line chars.now) }
-{
-    for c in chars {
-        push_quoted(out, *c)?;
-    }
-    Ok(())
 }

@@ -6,7 +6,7 @@ use percent_encoding::{AsciiSet, NON_ALPHANUMERIC, ascii_set, percent_encode};
 use std::alloc::AllocError;
 
 /// The ASCII characters that a path has to escape in a URI: all but letters, digits, `-`, `.`, `_`, `~` and `/`.
-pub const NOT_IN_PATHS: AsciiSet = ascii_set!(
+const NOT_IN_PATHS: AsciiSet = ascii_set!(
     NON_ALPHANUMERIC
         .remove(b'-')
         .remove(b'.')

@@ -1,6 +1,6 @@
-pub mod BlockLemmas
+mod BlockLemmas
 pub mod CharsLemmas
 pub mod PerCharTests
 pub mod StrLemmas
-pub mod Utf16Ends
+mod Utf16Ends
 pub mod Utf16Lemmas

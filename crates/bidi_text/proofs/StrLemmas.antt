@@ -48,7 +48,7 @@ IsCharBoundary-from_is_boundary bs i u e =
     let back : IsUtf8 (encode_utf8_all w.back) = (w.back, (scalars_back w.front w.back (sym (ap all_scalars w.joined) ∙ scalars-chars bs u), refl)) in
     subst (λ n. IsCharBoundary bs n) (sym (text_len-encodes w.front) ∙ w.long) (IsCharBoundary-at_seam bs (encode_utf8_all w.front) (encode_utf8_all w.back) joined back)
 
--- what stands at a boundary begins what follows it
+-- what is at a boundary begins what follows it
 pub char_at-from_str : (bs : List ℕ) (i : ℕ) → IsUtf8 bs → IsCharBoundary bs i → char_at len_utf8 (chars bs) i ≡ char_at len_utf8 (chars (drop i bs)) 0
 char_at-from_str bs i u b = cc (chars_cut bs i u b, text_len-front bs i u b, char_at-append len_utf8 has_units (chars (take i bs)) (chars (drop i bs)))
 
@@ -269,9 +269,6 @@ module _ (bs : List ℕ) (i : ℕ) (u : IsUtf8 bs) (begins : is_boundary len_utf
 
 abbrev pub lengths_left : CharIndices → List (ℕ × ℕ)
 lengths_left s = indices_lengths_from len_utf8 (char_indices_offset s) (chars (char_indices_rest s))
-
-pub lengths_end : (s : CharIndices) → length (char_indices_rest s) ≡ 0 → lengths_left s ≡ []
-lengths_end s e = grind (arith, common_steps, chars-nil)
 
 pub lengths_step : (s t : CharIndices) (p : ℕ × ℕ) → IsUtf8 (char_indices_rest s) → char_indices_steps s (Some p) t → lengths_left s ≡ (p.0, len_utf8 p.1) ∷ lengths_left t
 lengths_step s t p u h = grind (arith, chars_past_char, length-encode)

@@ -51,7 +51,7 @@ utf16_text-cut (u ∷ v ∷ us) (suc (suc n)) h = elim (cases_Bool (is_pair u v)
 text_len-front : (us : List ℕ) (i : ℕ) → i ≤ length us → text_len utf16_len (utf16_text (take i us)) ≡ i
 text_len-front us i le = omega (arith, text_len-utf16 (take i us), length-take i us)
 
--- what stands there begins what follows
+-- what is there begins what follows
 pub char_at-cut : (us : List ℕ) (i : ℕ) → i ≤ length us → NoPairAt us i → char_at utf16_len (utf16_text us) i ≡ char_at utf16_len (utf16_text (drop i us)) 0
 char_at-cut us i le n = cc (utf16_text-cut us i n, text_len-front us i le, char_at-append utf16_len has_units (utf16_text (take i us)) (utf16_text (drop i us)))
 
@@ -106,7 +106,7 @@ pub record PairAt (us : List ℕ) (i : ℕ) : Type 0 where
 pub pair_at : (us : List ℕ) (i : ℕ) → splits_pair us i ≡ true → PairAt us i
 pair_at us i e = grind arith
 
--- what stands at a place before the last unit
+-- what is at a place before the last unit
 first_two : (u v : ℕ) (us : List ℕ) → char_at utf16_len (utf16_text (u ∷ v ∷ us)) 0 ≡ (if is_pair u v then Some (pair_char u v, 2) else Some (lone_char u, 1))
 first_two u v us = grind (arith, text_pair u v us, text_lone u v us, utf16_len-pair u v, utf16_len-lone u)
 

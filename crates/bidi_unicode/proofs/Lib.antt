@@ -1,4 +1,4 @@
-pub mod LowClasses
-pub mod PlaneClasses
-pub mod RowsLemmas
-pub mod TableLaws
+mod LowClasses
+mod PlaneClasses
+mod RowsLemmas
+mod TableLaws

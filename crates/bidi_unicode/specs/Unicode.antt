@@ -1,4 +1,4 @@
--- Unicode's data as the algorithm asks for it.
+-- Unicode's data as a data source.
 use Rattle.std.specs.Prelude.{ℕ, Bool, true, false, not, ◌&&◌, ◌==◌, Option, Some, None, option_map, if◌then◌else◌}
 use Rattle.ucd_bidi.specs.BidiClass.{bidi_class}
 use Rattle.ucd_bidi.specs.declared.BidiClass as Property
@@ -14,7 +14,7 @@ use Rattle.bidi_unicode.specs.declared.tables.Side.TheVariants.{Open, Close}
 use Rattle.bidi_unicode.specs.declared.tables.TheConstants.{BRACKETS, MIRRORED}
 use Rattle.bidi_unicode.specs.Rows.{row_value}
 
--- the class that a value of the property Bidi_Class stands for
+-- the class for a value of the property Bidi_Class
 abbrev pub class_named : Property.BidiClass → BidiClass
 class_named Property.BidiClass.ArabicLetter = AL
 class_named Property.BidiClass.ArabicNumber = AN
@@ -44,7 +44,7 @@ class_named Property.BidiClass.WhiteSpace = WS
 abbrev pub normal_form : ℕ → ℕ
 normal_form opening = if opening == 0x2329 then 0x3008 else opening
 
--- the bracket that a character is, by the other bracket of its pair and its own side
+-- the bracket that a character is, from the other bracket of its pair and its own side
 abbrev pub bracket_in : ℕ → ℕ → Side → BidiMatchedOpeningBracket
 bracket_in c partner Open = record { opening = normal_form c; is_open = true }
 bracket_in c partner Close = record { opening = normal_form partner; is_open = false }

@@ -4,11 +4,11 @@
 
 use bidi_base::char_data::BidiClass::{self, AL, AN, B, BN, CS, EN, ES, ET, L, NSM, ON, R, S, WS};
 
-/// How many characters the table has.
+/// The number of characters in the table.
 pub(crate) const LOW: usize = 0x800;
 
-/// The class of each character below `LOW`, sixteen a line. They are proved to be the values of the
-/// property Bidi_Class.
+/// The class of each character below `LOW`, sixteen in each line. They are proved to be the values of the property
+/// Bidi_Class.
 #[rattlefmt::skip]
 pub(crate) static LOW_CLASSES: [BidiClass; LOW] = [
     BN, BN, BN, BN, BN, BN, BN, BN, BN, S, B, S, WS, B, BN, BN,

@@ -16,7 +16,7 @@ const BLOCKS: usize = 2048;
 
 const DIFFERENT: usize = 186;
 
-/// For each block of characters, the number of its block in `BLOCK_CLASSES`, sixteen a line.
+/// For each block of characters, the number of its block in `BLOCK_CLASSES`, sixteen in each line.
 #[rattlefmt::skip]
 pub(crate) static BLOCK_OF: [u8; BLOCKS] = [
     0, 1, 2, 3, 4, 5, 6, 6, 7, 7, 7, 7, 7, 7, 7, 7,
@@ -149,8 +149,8 @@ pub(crate) static BLOCK_OF: [u8; BLOCKS] = [
     178, 179, 180, 181, 21, 21, 21, 182, 183, 2, 2, 184, 7, 7, 7, 185,
 ];
 
-/// The classes of the different blocks, one block after another, sixteen a line. They are proved to be the
-/// values of the property Bidi_Class.
+/// The classes of the different blocks, one block after another, sixteen in each line. They are proved to be the values
+/// of the property Bidi_Class.
 #[rattlefmt::skip]
 pub(crate) static BLOCK_CLASSES: [BidiClass; DIFFERENT * BLOCK] = [
     BN, BN, BN, BN, BN, BN, BN, BN, BN, S, B, S, WS, B, BN, BN,

@@ -16,8 +16,9 @@ use ucd_bidi::BidiClass as Property;
 
 /// The data source over Unicode's own data.
 ///
-/// It has the Bidi_Class of every character, unassigned ones included, and Unicode's bracket pairs. U+2329
-/// and U+232A count as U+3008 and U+3009, their canonical equivalents (BD16).
+/// It has the Bidi_Class of every character, assigned or not, and Unicode's bracket pairs. U+2329 and U+232A count as
+/// U+3008 and U+3009, their canonical equivalents (BD16). The class of a character up to U+FFFF is an array look-up,
+/// and any other is looked up in the kit's table. A bracket from U+0F3A on takes a binary search.
 #[derive(Clone, Copy, Debug, Default)]
 pub struct UnicodeData;
 
@@ -53,7 +54,8 @@ impl BidiDataSource for UnicodeData {
 
 /// Returns the mirrored partner of a character (L4), which is displayed instead of it at an odd level.
 ///
-/// Returns `None` if the table has no partner. Some characters that Unicode calls mirrored have none.
+/// Returns `None` if the table has no partner. Some characters that Unicode calls mirrored have none. Uses a binary
+/// search.
 ///
 /// The table has the partners of Unicode 15.0, and the pair of brackets U+2E62 and U+2E63. The other
 /// characters that have become mirrored since then, up to `UNICODE_VERSION`, have no partner here: U+226D,
@@ -84,7 +86,7 @@ fn class_beyond(c: char) -> BidiClass
     class_named(Property::for_char(c))
 }
 
-/// Looks up a character in the table of brackets.
+/// Returns the bracket that a character is, or `None` if it is none.
 fn bracket_of(c: char) -> Option<BidiMatchedOpeningBracket>
     ensures { result ≡ bracket_of c }
 {
@@ -97,8 +99,8 @@ fn bracket_of(c: char) -> Option<BidiMatchedOpeningBracket>
     Some(bracket_in(c, partner, side))
 }
 
-/// Returns the index in the table of brackets of a character below U+0F3A. All brackets in that range are
-/// ASCII.
+/// Returns the index in the table of brackets of a character below U+0F3A, or `None` if it is no bracket. All brackets
+/// in that range are ASCII.
 fn early_row(c: char) -> Option<usize>
     requires { c < 0x0F3A }
     ensures found { IfSome result (IsRowOf BRACKETS c) }
@@ -115,7 +117,7 @@ fn early_row(c: char) -> Option<usize>
     }
 }
 
-/// Returns the class for a value of the property.
+/// Returns the class for a value of the property Bidi_Class.
 fn class_named(value: Property) -> BidiClass
     ensures { result ≡ class_named value }
 {

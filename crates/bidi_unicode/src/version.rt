@@ -1,5 +1,4 @@
 //! The version of Unicode's data.
-ghost use Rattle.std.specs.Prelude.{◌≡◌};
 
 /// The version of Unicode from which `UnicodeData` takes its classes and brackets: the major, minor and
 /// update number.

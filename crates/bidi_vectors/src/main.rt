@@ -4,11 +4,17 @@
 //! how many rows it was compared with. `data/README.md` describes the files.
 #![tactic(auto)]
 
+mod characters;
 mod directions;
 mod layouts;
+mod levels;
+mod lines;
 mod orders;
 mod rows;
+mod searches;
 mod tables;
+mod texts;
+mod units;
 
 use bidi_vectors_format::fault::RowFault;
 use bidi_vectors_format::tally::Tally;

@@ -1,5 +1,5 @@
-//! Tests that are not test vectors, of `unicode_bidi` and of a line as it is displayed: equality, what is printed,
-//! accessors, the flags of paragraphs, shown lines, and a custom `CharWidth`.
+//! Tests that are not test vectors: of `unicode_bidi` and of what it is built on, of a line as it is displayed, and of
+//! `bidi_show` over readers and writers in memory.
 #![tactic(auto)]
 
 #[cfg(test)]
@@ -11,9 +11,27 @@ mod displayed;
 #[cfg(test)]
 mod equality;
 #[cfg(test)]
+mod explicit_levels;
+#[cfg(test)]
+mod iterators;
+#[cfg(test)]
 mod layout;
 #[cfg(test)]
+mod levels;
+#[cfg(test)]
+mod pairs;
+#[cfg(test)]
 mod printed;
+#[cfg(test)]
+mod show_failing;
+#[cfg(test)]
+mod show_holding;
+#[cfg(test)]
+mod show_run;
+#[cfg(test)]
+mod show_worked;
+#[cfg(test)]
+mod shown_chars;
 #[cfg(test)]
 mod shown_line;
 #[cfg(test)]

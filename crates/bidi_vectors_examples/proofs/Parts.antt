@@ -1,6 +1,6 @@
 -- Each run of a line is a part of the line.
 use Rattle.bidi_base.proofs.Common.{◌≡◌, ◌<◌, ℕ, List, All, map, run_of, Range, arith, subst, sym, get_or, get_or-map, length, length-map, AnalysedText}
-use Rattle.bidi_base.specs.Analysed.{IsPartOfLine}
+use Rattle.bidi_base.specs.AnalysedText.{IsPartOfLine}
 
 -- the run at an index of a slice of them
 pub part_at : (a : AnalysedText) (line : Range ℕ) (runs slice : List (Range ℕ)) (k : ℕ) → All (IsPartOfLine a line) (map run_of runs)

@@ -2,7 +2,7 @@
 ghost use Rattle.std.specs.Prelude.{◌≡◌, ◌++◌, IfOk, OnOk, None, flat_map, map, string_bytes};
 ghost use Rattle.std.specs.Cow.{cow_str_bytes};
 ghost use Rattle.std.specs.Str.{chars};
-ghost use Rattle.bidi_base.specs.Analysed.{IsLineOf};
+ghost use Rattle.bidi_base.specs.AnalysedText.{IsLineOf};
 ghost use Rattle.bidi_base.specs.Isolates.{paragraph_level};
 ghost use Rattle.bidi_base.specs.Levels.{is_odd};
 ghost use Rattle.bidi_base.specs.Order.{IsVisualOrder};
@@ -52,7 +52,7 @@ pub fn visual_runs<'t>(
         IfOk result (λ shown. map (λ run. (run.0.now, run.1)) shown.items ≡ runs) }
 {
     let text = info.text();
-    let levels = info.line_levels(alloc, paragraph, line.start..line.end)?;
+    let levels = info.levels_of_line(alloc, paragraph, line.start..line.end)?;
     let mut runs = Vec::new(alloc);
     for run in &info.line_runs(alloc, paragraph, line.start..line.end)? {
         let level = levels[run.start - line.start].number();

@@ -9,7 +9,7 @@ pub fn print_runs(rt: &(impl Print + AllocGlobal), text: &str) -> io::Result<()>
     let info = BidiInfo::new_with_data_source(rt.alloc(), &UnicodeData, text, None)?;
     for paragraph in info.paragraphs() {
         let line = paragraph.range();
-        let levels = info.line_levels(rt.alloc(), paragraph, line.start..line.end)?;
+        let levels = info.levels_of_line(rt.alloc(), paragraph, line.start..line.end)?;
         for run in &info.line_runs(rt.alloc(), paragraph, line.start..line.end)? {
             // `levels` begins at the line's start, and `run` counts from the text's start.
             let level = levels[run.start - line.start];

@@ -3,14 +3,14 @@
 ghost use Rattle.std.specs.Prelude.{◌≤◌, IfOk};
 
 use crate::conditions::{are_kept, is_side};
+use crate::fault::{RowFault, Why};
 use bidi_base::char_data::BidiClass::{self, B, FSI, L, LRI, RLI};
-use bidi_base::classes::{is_initiator, is_pdi, is_removed, is_strong};
+use bidi_base::classes::{is_isolate_initiator, is_pdi, is_removed, is_strong};
 use bidi_base::data_source::{BidiDataSource, BidiMatchedOpeningBracket, TableBidiData};
 use bidi_base::level::Level;
 use bidi_plain::plain::{
     Explicit, PlainSequence, explicit_levels, implicit, neutral, sequences, weak,
 };
-use crate::fault::{RowFault, Why};
 use std::alloc::Global;
 
 // A condition of the rules over lists does not hold. No row breaks one.
@@ -20,7 +20,7 @@ const NO_SEQUENCE: RowFault = RowFault::Line(0, Why::RulesOverLists);
 fn matching_pdi(classes: &[BidiClass], initiator: usize) -> usize {
     let mut depth = 0usize;
     for (index, class) in classes.iter().enumerate().skip(initiator) {
-        if is_initiator(*class) {
+        if is_isolate_initiator(*class) {
             depth = depth.saturating_add(1);
         } else if is_pdi(*class) {
             depth = depth.saturating_sub(1);
@@ -40,7 +40,7 @@ fn deciding_class(classes: &[BidiClass], from: usize, to: usize) -> Option<BidiC
             if is_strong(*class) {
                 return Some(*class);
             }
-            if is_initiator(*class) {
+            if is_isolate_initiator(*class) {
                 isolate_end = matching_pdi(classes, index);
             }
         }
@@ -71,8 +71,8 @@ fn explicit(number: u8) -> Result<Level, RowFault>
 }
 
 // Returns the level of a paragraph (P2, P3).
-fn paragraph_level(classes: &[BidiClass], base: Option<u8>) -> Result<Level, RowFault> {
-    match base {
+fn paragraph_level(classes: &[BidiClass], base_level: Option<u8>) -> Result<Level, RowFault> {
+    match base_level {
         Some(number) => explicit(number),
         None => match deciding_class(classes, 0, classes.len()) {
             None | Some(L) => Ok(Level::ltr()),
@@ -244,8 +244,8 @@ impl Paragraph<'_> {
     }
 
     // Returns the stored levels.
-    fn resolved(&self, alloc: Global, base: Option<u8>) -> Result<Vec<Level>, RowFault> {
-        let para_level = explicit(paragraph_level(self.classes, base)?.number())?;
+    fn resolved(&self, alloc: Global, base_level: Option<u8>) -> Result<Vec<Level>, RowFault> {
+        let para_level = explicit(paragraph_level(self.classes, base_level)?.number())?;
         let levels = self.levels(alloc, para_level)?;
         with_removed(alloc, para_level, self.classes, levels.as_slice())
     }
@@ -290,7 +290,7 @@ impl Resolved {
         alloc: Global,
         source: &TableBidiData,
         text: &[char],
-        base: Option<u8>,
+        base_level: Option<u8>,
     ) -> Result<(), RowFault> {
         let classes = classes_of(alloc, source, text)?;
         let classes = classes.as_slice();
@@ -299,7 +299,7 @@ impl Resolved {
             text,
             classes,
         };
-        let levels = paragraph.resolved(alloc, base)?;
+        let levels = paragraph.resolved(alloc, base_level)?;
         self.extend(classes, levels.as_slice())
     }
 }
@@ -309,7 +309,7 @@ pub fn resolve(
     alloc: Global,
     source: &TableBidiData,
     text: &[char],
-    base: Option<u8>,
+    base_level: Option<u8>,
     is_cut: bool,
 ) -> Result<(Vec<BidiClass>, Vec<Level>), RowFault> {
     let mut resolved = Resolved {
@@ -321,7 +321,7 @@ pub fn resolve(
     for (index, c) in text.iter().copied().enumerate() {
         paragraph.push(c)?;
         if index.saturating_add(1) == count || (is_cut && source.bidi_class(c) == B) {
-            resolved.push(alloc, source, paragraph.as_slice(), base)?;
+            resolved.push(alloc, source, paragraph.as_slice(), base_level)?;
             paragraph.clear();
         }
     }

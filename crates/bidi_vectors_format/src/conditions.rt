@@ -2,15 +2,15 @@
 
 ghost use Rattle.std.specs.Prelude.{◌≡◌, ◌≤◌, not, ◌||◌, IfOk};
 ghost use Rattle.std.specs.List.{list_all, list_any};
-ghost use Rattle.bidi_base.specs.Classes.{is_initiator as is_initiator_of, is_kept, is_l_or_r, is_kept_in_place, is_weak_resolved, has_direction};
+ghost use Rattle.bidi_base.specs.Classes.{is_isolate_initiator as is_isolate_initiator_of, is_kept, is_l_or_r, is_kept_in_place, is_weak_resolved, has_direction};
 
-use bidi_base::char_data::BidiClass::{self, AN, B, BN, EN, FSI, L, LRI, ON, PDI, R, RLI, S, WS};
-use bidi_base::classes::is_initiator;
-use bidi_base::level::Level;
-use bidi_rules::prepare::not_removed_by_x9;
 use crate::fault::{RowFault, Why};
 use crate::item::level_of;
 use crate::row::Row;
+use bidi_base::char_data::BidiClass::{self, AN, B, BN, EN, FSI, L, LRI, ON, PDI, R, RLI, S, WS};
+use bidi_base::classes::is_isolate_initiator;
+use bidi_base::level::Level;
+use bidi_rules::prepare::not_removed_by_x9;
 
 /// Returns whether a class may be sos or eos.
 pub fn is_side(class: BidiClass) -> bool
@@ -58,24 +58,24 @@ pub fn are_left_or_removed(classes: &[BidiClass]) -> bool
 }
 
 // Returns whether a class may remain after the neutrals.
-fn is_directed(class: BidiClass) -> bool
+fn has_direction(class: BidiClass) -> bool
     ensures { result ≡ has_direction class }
 {
     matches!(class, L | R | EN | AN)
 }
 
 /// Returns whether all the classes may remain after the neutrals.
-pub fn are_directed(classes: &[BidiClass]) -> bool
+pub fn have_directions(classes: &[BidiClass]) -> bool
     ensures { result ≡ list_all has_direction classes.now }
 {
-    classes.iter().all(|class| is_directed(*class))
+    classes.iter().all(|class| has_direction(*class))
 }
 
 /// Returns whether some class is an isolate initiator.
 pub fn has_initiator(classes: &[BidiClass]) -> bool
-    ensures { result ≡ list_any is_initiator_of classes.now }
+    ensures { result ≡ list_any is_isolate_initiator_of classes.now }
 {
-    classes.iter().any(|class| is_initiator(*class))
+    classes.iter().any(|class| is_isolate_initiator(*class))
 }
 
 /// Returns the level in a field of a row, which must be an explicit level.

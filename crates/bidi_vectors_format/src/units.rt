@@ -1,7 +1,7 @@
 //! Lists over the code units of a text.
 
-use bidi_text::text::TextSource;
 use crate::fault::RowFault;
+use bidi_text::text::TextSource;
 use std::alloc::Global;
 
 /// Returns one entry for each code unit of a text, given one for each character.

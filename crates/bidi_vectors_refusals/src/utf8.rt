@@ -1,15 +1,14 @@
 //! The calls over texts of UTF-8.
 
 ghost use Rattle.std.specs.Prelude.{◌<◌};
-ghost use Rattle.bidi_base.specs.Analysed.{IsLineOf};
+ghost use Rattle.bidi_base.specs.AnalysedText.{IsLineOf};
 ghost use Rattle.unicode_bidi.specs.BidiInfo.{analysed as analysed_of};
 ghost use Rattle.unicode_bidi.specs.ParagraphBidiInfo.{analysed as whole_of};
 
+use crate::texts::TEXT;
+use crate::trial::{Fault, tried};
 use bidi_base::data_source::TableBidiData;
 use bidi_text::text::{StrText, is_line};
-use bidi_vectors_trials::texts::TEXT;
-use bidi_vectors_trials::trial::Fault;
-use bidi_vectors_trials::tried;
 use std::ops::Range;
 use unicode_bidi::layout::{CharWidth, LineMap, lines};
 use unicode_bidi::{BidiInfo, InitialInfo, ParagraphBidiInfo, ParagraphInfo, SplitRule};
@@ -21,7 +20,7 @@ fn try_levels(
     para: &ParagraphInfo,
     line: &Range<usize>,
 ) -> Result<(), Fault>
-    requires line { IsLineOf (analysed_of info.now) line.now }
+    requires is_line { IsLineOf (analysed_of info.now) line.now }
 {
     let alloc = rt.alloc();
     tried!(
@@ -44,7 +43,7 @@ fn try_order(
     para: &ParagraphInfo,
     line: &Range<usize>,
 ) -> Result<(), Fault>
-    requires line { IsLineOf (analysed_of info.now) line.now }
+    requires is_line { IsLineOf (analysed_of info.now) line.now }
     requires not_empty { line.now.start < line.now.end }
 {
     let alloc = rt.alloc();
@@ -68,14 +67,14 @@ fn try_line_alone(
     para: &ParagraphInfo,
     line: &Range<usize>,
 ) -> Result<(), Fault>
-    requires line { IsLineOf (analysed_of info.now) line.now }
+    requires is_line { IsLineOf (analysed_of info.now) line.now }
     requires not_empty { line.now.start < line.now.end }
 {
     let alloc = rt.alloc();
     tried!(
         rt,
         "BidiInfo::line_levels",
-        info.line_levels(alloc, para, line.start..line.end)
+        info.levels_of_line(alloc, para, line.start..line.end)
     );
     tried!(
         rt,
@@ -139,7 +138,7 @@ fn try_whole_levels(
     info: &ParagraphBidiInfo<'_>,
     line: &Range<usize>,
 ) -> Result<(), Fault>
-    requires line { IsLineOf (whole_of info.now) line.now }
+    requires is_line { IsLineOf (whole_of info.now) line.now }
 {
     let alloc = rt.alloc();
     tried!(
@@ -161,7 +160,7 @@ fn try_whole_order(
     info: &ParagraphBidiInfo<'_>,
     line: &Range<usize>,
 ) -> Result<(), Fault>
-    requires line { IsLineOf (whole_of info.now) line.now }
+    requires is_line { IsLineOf (whole_of info.now) line.now }
     requires not_empty { line.now.start < line.now.end }
 {
     let alloc = rt.alloc();
@@ -184,14 +183,14 @@ fn try_whole_line_alone(
     info: &ParagraphBidiInfo<'_>,
     line: &Range<usize>,
 ) -> Result<(), Fault>
-    requires line { IsLineOf (whole_of info.now) line.now }
+    requires is_line { IsLineOf (whole_of info.now) line.now }
     requires not_empty { line.now.start < line.now.end }
 {
     let alloc = rt.alloc();
     tried!(
         rt,
         "ParagraphBidiInfo::line_levels",
-        info.line_levels(alloc, line.start..line.end)
+        info.levels_of_line(alloc, line.start..line.end)
     );
     tried!(
         rt,

@@ -5,12 +5,12 @@ use bidi_base::data_source::{BidiDataSource, BidiMatchedOpeningBracket, TableBid
 use bidi_plain::plain::pairs;
 use bidi_vectors_format::answer::range_words;
 use bidi_vectors_format::class::classes_of;
+use bidi_vectors_format::conditions::are_left;
 use bidi_vectors_format::fault::{RowFault, Why};
 use bidi_vectors_format::row::Row;
 use bidi_vectors_format::source::Tables;
 use bidi_vectors_format::tally::Tally;
 use bidi_vectors_format::text::RowText;
-use bidi_vectors_format::conditions::are_left;
 use std::alloc::Global;
 
 /// Returns the bracket of each character of a text, if it is one.

@@ -8,10 +8,10 @@ use bidi_plain::plain::implicit;
 use bidi_rules::implicit::resolve_levels;
 use bidi_vectors_format::answer::{level_words, number_words};
 use bidi_vectors_format::class::classes_of;
+use bidi_vectors_format::conditions::{explicit_level, have_directions};
 use bidi_vectors_format::fault::RowFault;
 use bidi_vectors_format::row::Row;
 use bidi_vectors_format::tally::Tally;
-use bidi_vectors_format::conditions::{are_directed, explicit_level};
 use std::alloc::Global;
 
 // Resolves one level for each class in place, and returns the levels and their maximum.
@@ -33,7 +33,7 @@ pub fn run(alloc: Global, row: &Row<'_>, tally: &mut Tally) -> Result<(), RowFau
     let level = explicit_level(row, "level")?;
     let classes = classes_of(alloc, row.field("classes")?)?;
     let classes = classes.as_slice();
-    if are_directed(classes) {
+    if have_directions(classes) {
         let answer = implicit(alloc, level, classes)?;
         let words = level_words(alloc, answer.as_slice());
         tally.agree(row, "levels", "plain::implicit", words);

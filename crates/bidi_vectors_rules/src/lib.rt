@@ -1,13 +1,17 @@
-//! Rows of the weak types, the neutrals, the implicit levels and the sequences, over lists and in place: makes the calls of
-//! each row, and compares their results.
+//! Rows of the explicit levels, the sequences, the weak types, the neutrals and the implicit levels (X1 to I2), over lists
+//! and in place: makes the calls of each row, and compares their results.
 #![tactic(auto)]
 
 mod bracket_pairs;
-mod counted;
+mod counted_explicit;
+mod counted_weak;
+mod explicit_levels;
+mod explicit_pass;
+mod explicit_units;
 mod implicit_levels;
 mod neutrals;
 mod run_sequences;
-mod units;
+mod unit_sequences;
 mod weak_types;
 
 use bidi_vectors_format::fault::RowFault;
@@ -24,6 +28,8 @@ pub fn run(
     tally: &mut Tally,
 ) -> Result<bool, RowFault> {
     match row.kind {
+        "explicit levels" => explicit_levels::run_list(alloc, row, tally)?,
+        "explicit levels in place" => explicit_levels::run_units(alloc, row, tally)?,
         "weak types" => weak_types::run_list(alloc, row, tally)?,
         "weak types in place" => weak_types::run_units(alloc, row, tally)?,
         "pairs" => bracket_pairs::run_pairs(alloc, tables, row, tally)?,

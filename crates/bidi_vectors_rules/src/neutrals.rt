@@ -7,7 +7,7 @@ ghost use Rattle.bidi_base.specs.InPlace.{CanResolveNeutrals};
 ghost use Rattle.bidi_base.specs.Units.{bounds};
 
 use crate::bracket_pairs::brackets_of;
-use crate::units::{Sequence, sequences_of_field, whole_sequence_of};
+use crate::unit_sequences::{Sequence, sequences_of_field, whole_sequence_of};
 use crate::weak_types::class_field;
 use bidi_base::char_data::BidiClass;
 use bidi_base::data_source::{BidiMatchedOpeningBracket, TableBidiData};
@@ -19,15 +19,15 @@ use bidi_rules::prepare::IsolatingRunSequence;
 use bidi_text::text::{StrText, is_per_char};
 use bidi_vectors_format::answer::{class_words, classes_in, level_words};
 use bidi_vectors_format::class::classes_of;
+use bidi_vectors_format::conditions::{
+    are_kept, are_left, are_left_or_removed, explicit_level, have_directions, is_side,
+};
 use bidi_vectors_format::fault::{RowFault, Why};
 use bidi_vectors_format::item::levels;
 use bidi_vectors_format::row::Row;
 use bidi_vectors_format::source::Tables;
 use bidi_vectors_format::tally::Tally;
 use bidi_vectors_format::text::RowText;
-use bidi_vectors_format::conditions::{
-    are_directed, are_kept, are_left, are_left_or_removed, explicit_level, is_side,
-};
 use bidi_vectors_format::units::per_unit;
 use std::alloc::Global;
 
@@ -152,13 +152,13 @@ impl Neutrals<'_> {
         classes: &mut [BidiClass],
     ) -> Result<(), RowFault> {
         self.check(classes)?;
-        let lent = self.sequence.lend();
+        let borrowed = self.sequence.borrowed();
         let leveled = LeveledText {
             text: self.text,
             original_classes: self.original,
             levels: self.levels,
         };
-        resolve_up_to_n1(resolver, &leveled, self.source, lent, classes)?;
+        resolve_up_to_n1(resolver, &leveled, self.source, borrowed, classes)?;
         Ok(())
     }
 }
@@ -413,7 +413,7 @@ fn listed_weak(
 
 // Returns the implicit levels of classes at a level, as text.
 fn listed_levels(alloc: Global, level: Level, classes: &[BidiClass]) -> Result<String, RowFault> {
-    if level.number() > 125 || !are_directed(classes) {
+    if level.number() > 125 || !have_directions(classes) {
         return Err(RowFault::Line(0, Why::Classes));
     }
     let levels = implicit(alloc, level, classes)?;

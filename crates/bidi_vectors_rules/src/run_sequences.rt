@@ -1,6 +1,6 @@
 //! Rows of isolating run sequences, and of the walks over their code units. Runs are ranges of code units here.
 
-use crate::units::{sequence_of, whole_sequence_of};
+use crate::unit_sequences::{sequence_of, whole_sequence_of};
 use crate::weak_types::class_field;
 use bidi_base::char_data::BidiClass::{L, R};
 use bidi_rules::prepare::IsolatingRunSequence;

@@ -1,18 +1,18 @@
 //! Rows of the weak types (W1 to W7), over lists and in place.
 
-use crate::counted;
-use crate::units::{resolve_weak_units, runs_of_field, whole_sequence_of};
+use crate::counted_weak;
+use crate::unit_sequences::{resolve_weak_units, runs_of_field, whole_sequence_of};
 use bidi_base::char_data::BidiClass::{self, BN, L};
 use bidi_plain::plain::weak;
 use bidi_rules::prepare::IsolatingRunSequence;
 use bidi_text::text::StrText;
 use bidi_vectors_format::answer::{class_words, per_char};
 use bidi_vectors_format::class::{class_of, classes_of};
+use bidi_vectors_format::conditions::{are_kept, is_side};
 use bidi_vectors_format::fault::{RowFault, Why};
 use bidi_vectors_format::row::Row;
 use bidi_vectors_format::tally::Tally;
 use bidi_vectors_format::text::RowText;
-use bidi_vectors_format::conditions::{are_kept, is_side};
 use bidi_vectors_format::units::per_unit;
 use std::alloc::Global;
 
@@ -80,7 +80,7 @@ impl Form {
     ) -> Result<(), RowFault> {
         match self {
             Form::Plain => resolve_weak_units(text, sequence, classes),
-            Form::Counted => counted::resolve_weak(text, sequence, classes),
+            Form::Counted => counted_weak::resolve_weak(text, sequence, classes),
         }
     }
 }

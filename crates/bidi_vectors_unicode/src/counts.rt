@@ -7,7 +7,7 @@ use crate::forms::{FORMS, Form, ask};
 use std::alloc::Global;
 
 /// The maximum number of failures that are printed.
-const TOLD: usize = 10;
+const REPORTED: usize = 10;
 
 /// How many cases passed in one form, and how many failed.
 #[derive(Clone, Copy, Debug, PartialEq)]
@@ -26,7 +26,7 @@ pub struct Counts {
     /// The outcome in each form.
     pub outcomes: [Outcome; 5],
     /// The first failures, one line each.
-    pub told: Vec<String>,
+    pub reported: Vec<String>,
 }
 
 impl Counts {
@@ -39,7 +39,7 @@ impl Counts {
             lines: 0,
             cases: 0,
             outcomes: [none; 5],
-            told: Vec::new(alloc),
+            reported: Vec::new(alloc),
         }
     }
 
@@ -56,10 +56,10 @@ impl Counts {
         case: &Case<'_>,
         found: &Difference,
     ) -> Result<(), Fault> {
-        if self.told.len() < TOLD {
+        if self.reported.len() < REPORTED {
             let (line, form, base, part) = (case.line, form.name(), case.base.name(), found.part);
             let (wanted, came) = (found.wanted.as_str(), found.came.as_str());
-            self.told.push(format!(in alloc;
+            self.reported.push(format!(in alloc;
                 "{line}: {form}, base {base}: {part}: wanted '{wanted}', came '{came}'"
             )?)?;
         }

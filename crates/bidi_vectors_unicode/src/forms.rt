@@ -68,7 +68,7 @@ fn of_info(alloc: Global, info: &BidiInfo<'_>) -> Result<Answer, Fault> {
     }
     Ok(Answer {
         paragraph: para.level(),
-        levels: info.line_levels(alloc, para, 0..end)?,
+        levels: info.levels_of_line(alloc, para, 0..end)?,
         runs: info.line_runs(alloc, para, 0..end)?,
     })
 }
@@ -89,7 +89,7 @@ fn of_info16(alloc: Global, info: &utf16::BidiInfo<'_>) -> Result<Answer, Fault>
     }
     Ok(Answer {
         paragraph: para.level(),
-        levels: info.line_levels(alloc, para, 0..end)?,
+        levels: info.levels_of_line(alloc, para, 0..end)?,
         runs: info.line_runs(alloc, para, 0..end)?,
     })
 }
@@ -104,7 +104,7 @@ pub fn by_paragraph(alloc: Global, text: &str, base: Base) -> Result<Answer, Fau
     }
     Ok(Answer {
         paragraph: info.paragraph_level(),
-        levels: info.line_levels(alloc, 0..end)?,
+        levels: info.levels_of_line(alloc, 0..end)?,
         runs: info.line_runs(alloc, 0..end)?,
     })
 }
@@ -119,7 +119,7 @@ pub fn by_paragraph16(alloc: Global, text: &[u16], base: Base) -> Result<Answer,
     }
     Ok(Answer {
         paragraph: info.paragraph_level(),
-        levels: info.line_levels(alloc, 0..end)?,
+        levels: info.levels_of_line(alloc, 0..end)?,
         runs: info.line_runs(alloc, 0..end)?,
     })
 }

@@ -83,7 +83,7 @@ fn print_counts(rt: &impl Print, name: &str, counts: &Counts) -> io::Result<End>
         let (form, passed, failed) = (form.name(), outcome.passed, outcome.failed);
         println!(rt; "{passed} passed, {failed} failed: {form}")?;
     }
-    for failure in &counts.told {
+    for failure in &counts.reported {
         let failure = failure.as_str();
         println!(rt; "{name}:{failure}")?;
     }

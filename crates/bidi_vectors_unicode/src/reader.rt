@@ -202,14 +202,14 @@ impl Reader {
 
     // Compares the number of lines that a file states with the number that was read.
     fn check_count(&self, line: usize, words: &str) -> Result<(), Fault> {
-        let (told, read) = match words.strip_prefix("#Total Count:") {
+        let (reported, read) = match words.strip_prefix("#Total Count:") {
             Some(count) => (count, self.counts.lines),
             None => match words.strip_prefix("#Count:") {
                 Some(count) => (count, self.group),
                 None => return Ok(()),
             },
         };
-        if told.trim().parse::<usize>() == Ok(read) {
+        if reported.trim().parse::<usize>() == Ok(read) {
             Ok(())
         } else {
             Err(Fault::Line(line, Why::Count))

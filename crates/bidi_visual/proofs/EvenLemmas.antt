@@ -5,7 +5,7 @@ use Rattle.bidi_lines.proofs.Ordered.{none_odd}
 use Rattle.bidi_lines.proofs.RunsLemmas.{Follow, level_runs-follow, level_runs-each}
 use Rattle.bidi_lines.proofs.FoundRuns.{visual_runs-still}
 use Rattle.bidi_lines.proofs.RunText.{flat_map-same_on}
-use Rattle.bidi_visual.specs.Shown.{run_at, shown_line, tabbed_line}
+use Rattle.bidi_visual.specs.Displayed.{run_at, shown_line, tabbed_line}
 use Rattle.bidi_visual.proofs.TabLemmas.{spread-none, spread_values-none}
 use Rattle.bidi_lines.proofs.StillLine.{follow-up, slice_range-joined}
 

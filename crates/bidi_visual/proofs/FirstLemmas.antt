@@ -4,7 +4,8 @@ use Rattle.bidi_base.proofs.Common.{drop-append_seam, take-append_seam, append_a
 use Rattle.bidi_base.proofs.Common.{refl, sym, ap, ◌∙◌, arith, cases_Bool, inl, inr, Source, cr_lf_together, is_paragraph_separator, and_parts, cond, take_while-cons}
 use Rattle.std.proofs.lemmas.Str.{IsCharBoundary-past_char}
 use Rattle.bidi_text.proofs.StrLemmas.{chars-push}
-use Rattle.bidi_visual.specs.Shown.{own_chars, after_first, paragraphs_in, shown_paragraph, shown_text}
+use Rattle.bidi_base.specs.Paragraphs.{own_chars, paragraphs_in}
+use Rattle.bidi_visual.specs.Displayed.{after_first, shown_paragraph, shown_text}
 use Rattle.bidi_visual.specs.declared.view.View.{View}
 
 -- the first paragraph, which has the same own characters as the text

@@ -1,6 +1,5 @@
-pub mod EvenLemmas
+mod EvenLemmas
 pub mod FirstLemmas
-pub mod QuietLemmas
-pub mod ShownLemmas
-pub mod TabLemmas
-pub mod TurnedLemmas
+pub mod PrintableLemmas
+mod TabLemmas
+mod ReversedLemmas

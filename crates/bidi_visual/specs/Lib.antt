@@ -1,3 +1,3 @@
-pub mod Quiet
-pub mod Shown
+pub mod PrintableLines
+pub mod Displayed
 pub mod Views

@@ -2,8 +2,8 @@
 ghost use Rattle.std.specs.Prelude.{◌≡◌, ◌≤◌, ◌<◌, [], if◌then◌else◌, length, take, drop};
 ghost use Rattle.std.specs.Str.{chars, IsCharBoundary};
 ghost use Rattle.bidi_base.specs.Classes.{is_paragraph_separator};
-ghost use Rattle.bidi_base.specs.Paragraphs.{begins_with_line_feed};
-ghost use Rattle.bidi_visual.specs.Shown.{own_chars, after_first};
+ghost use Rattle.bidi_base.specs.Paragraphs.{begins_with_line_feed, own_chars};
+ghost use Rattle.bidi_visual.specs.Displayed.{after_first};
 
 use bidi_base::classes::is_paragraph_separator;
 use bidi_base::data_source::BidiDataSource;
@@ -44,7 +44,7 @@ fn own_len<D: BidiDataSource>(data_source: &D, text: &str) -> usize
 fn after_line_feed<'t, D: BidiDataSource>(data_source: &D, text: &'t str) -> &'t str
     ensures text { chars result.now ≡ (if begins_with_line_feed (D.source data_source.now) (chars text.now)
         then drop 1 (chars text.now) else chars text.now) }
-    ensures len { length result.now ≤ length text.now }
+    ensures within { length result.now ≤ length text.now }
 {
     let mut chars = text.chars();
     match chars.next() {

@@ -1,9 +1,9 @@
-//! Lines as a terminal displays them that does not know the algorithm: each character from left to right.
+//! Lines for a terminal without bidirectional support: each character from left to right.
 #![tactic(auto)]
 
 mod characters;
 pub mod first;
 pub mod line;
-pub mod quiet;
+pub mod printable;
 mod show;
 pub mod view;

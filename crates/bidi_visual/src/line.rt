@@ -2,7 +2,7 @@
 ghost use Rattle.std.specs.Prelude.{◌≡◌, ◌++◌, ◌==◌, length, OnOk, string_bytes};
 ghost use Rattle.std.specs.List.{list_any};
 ghost use Rattle.std.specs.Str.{chars};
-ghost use Rattle.bidi_visual.specs.Shown.{tabbed_line};
+ghost use Rattle.bidi_visual.specs.Displayed.{tabbed_line};
 
 use crate::characters::chars_of;
 use crate::show::push_line;

@@ -1,6 +1,6 @@
 //! A line as a terminal that does not know the algorithm has to be given it.
 ghost use Rattle.std.specs.Prelude.{◌≡◌, ◌++◌, flat_map, reverse, encode_utf8, length, All, OnOk, string_bytes};
-ghost use Rattle.bidi_visual.specs.Shown.{mirror as mirror_of, turned, shown_run, run_at, shown_line};
+ghost use Rattle.bidi_visual.specs.Displayed.{mirror as mirror_of, reversed_with_marks, shown_run, run_at, shown_line};
 ghost use Rattle.bidi_base.specs.Display.{IsLevelRun, run_of};
 
 use crate::characters::push_chars;
@@ -43,15 +43,15 @@ fn push_reversed(out: &mut String, chars: &[char]) -> Result<(), AllocError>
     Ok(())
 }
 
-/// Appends the characters of a run of an odd level: last first, each with the marks behind it (L3),
+/// Appends the characters of a run of an odd level: last first, each with the marks after it (L3),
 /// and mirrored (L4).
-fn push_turned<D: BidiDataSource>(
+fn push_reversed_run<D: BidiDataSource>(
     out: &mut String,
     data_source: &D,
     chars: &[char],
 ) -> Result<(), AllocError>
     ensures { OnOk result (string_bytes out.new ≡ string_bytes out.old
-        ++ flat_map (λ c. encode_utf8 (mirror_of c)) (turned (D.source data_source.now) chars.now)) }
+        ++ flat_map (λ c. encode_utf8 (mirror_of c)) (reversed_with_marks (D.source data_source.now) chars.now)) }
 {
     let mut start = chars.len();
     let mut end = start;
@@ -81,7 +81,7 @@ fn push_run<D: BidiDataSource>(
     } else if plain {
         push_reversed(out, chars)
     } else {
-        push_turned(out, data_source, chars)
+        push_reversed_run(out, data_source, chars)
     }
 }
 
@@ -124,7 +124,7 @@ fn push_runs<D: BidiDataSource>(
 }
 
 /// Appends a line, from its characters and their levels after L1. At odd levels characters are
-/// mirrored (L4), and nonspacing marks stand behind their letters (L3), unless it is to be `plain`.
+/// mirrored (L4), and nonspacing marks stand after their letters (L3), unless it is to be `plain`.
 pub fn push_line<D: BidiDataSource>(
     alloc: Global,
     out: &mut String,

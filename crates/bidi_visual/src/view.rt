@@ -8,7 +8,7 @@ pub struct View {
     pub base: Base,
     /// At most how many columns of a terminal a line takes: longer ones are cut.
     pub width: Option<u16>,
-    /// Whether characters are neither mirrored (L4) nor marks put behind their letters (L3).
+    /// Whether characters are neither mirrored (L4) nor marks put after their letters (L3).
     pub plain: bool,
 }
 
@@ -16,7 +16,7 @@ impl Default for View {
     ghost use Rattle.std.specs.Prelude.{◌≡◌};
     ghost use Rattle.bidi_visual.specs.Views.{first_view};
 
-    /// Lines of any length, mirrored and with marks behind their letters, each of which finds its own
+    /// Lines of any length, mirrored and with marks after their letters, each of which finds its own
     /// base level.
     fn default() -> View
         ensures { result ≡ first_view }

@@ -1,6 +1,6 @@
 //! The jobs, each through the public calls.
 ghost use Rattle.std.specs.Prelude.{◌≤◌, IfSome};
-ghost use Rattle.bidi_base.specs.Analysed.{IsLineOf};
+ghost use Rattle.bidi_base.specs.AnalysedText.{IsLineOf};
 ghost use Rattle.unicode_bidi.specs.BidiInfo.{analysed as analysed_of};
 
 use crate::digest::Digest;
@@ -162,7 +162,7 @@ fn lay_out_text(
     for paragraph in info.paragraphs() {
         for line in lines(alloc, &info, paragraph, &One, length)? {
             let range = line.start..line.end;
-            let levels = info.line_levels(alloc, paragraph, line.start..line.end)?;
+            let levels = info.levels_of_line(alloc, paragraph, line.start..line.end)?;
             digest.add_levels(levels.as_slice());
             let order = BidiInfo::reorder_visual(alloc, levels.as_slice())?;
             digest.add_places(order.as_slice());
@@ -200,12 +200,12 @@ fn lay_out(
 fn show_paragraph(
     alloc: Global,
     text: &str,
-    base: Option<Level>,
+    base_level: Option<Level>,
     digest: &mut Digest,
 ) -> Result<(), AllocError>
-    requires { IfSome base (λ level. level ≤ 125) }
+    requires { IfSome base_level (λ level. level ≤ 125) }
 {
-    let info = ParagraphBidiInfo::new_with_data_source(alloc, &UnicodeData, text, base)?;
+    let info = ParagraphBidiInfo::new_with_data_source(alloc, &UnicodeData, text, base_level)?;
     digest.add(u64::from(info.paragraph_level().number()));
     let line = 0..text.len();
     if is_line(StrText::new(info.text()), &line) {
@@ -219,12 +219,12 @@ fn show_paragraph(
 fn show_text(
     alloc: Global,
     text: &str,
-    base: Option<Level>,
+    base_level: Option<Level>,
     digest: &mut Digest,
 ) -> Result<(), AllocError>
-    requires { IfSome base (λ level. level ≤ 125) }
+    requires { IfSome base_level (λ level. level ≤ 125) }
 {
-    let info = BidiInfo::new_with_data_source(alloc, &UnicodeData, text, base)?;
+    let info = BidiInfo::new_with_data_source(alloc, &UnicodeData, text, base_level)?;
     for paragraph in info.paragraphs() {
         digest.add(u64::from(paragraph.level().number()));
         let shown = info.reorder_line(alloc, paragraph, paragraph.range())?;
@@ -298,8 +298,8 @@ fn sources(
         let file = texts::source_file(alloc, random, lines)?;
         let any = index % 2 == 1;
         let found = findings_in(alloc, &UnicodeData, any, file.as_slice())?;
-        let told = report(alloc, "source", found.as_slice())?;
-        digest.add_bytes(told.as_str().as_bytes());
+        let reported = report(alloc, "source", found.as_slice())?;
+        digest.add_bytes(reported.as_str().as_bytes());
     }
     Ok(())
 }
@@ -362,7 +362,7 @@ fn draw_line(
 ) -> Result<(), AllocError>
     requires { IsLineOf (analysed_of info.now) line }
 {
-    let levels = info.line_levels(alloc, paragraph, line.start..line.end)?;
+    let levels = info.levels_of_line(alloc, paragraph, line.start..line.end)?;
     digest.add_levels(levels.as_slice());
     for run in info.line_runs(alloc, paragraph, line.start..line.end)? {
         digest.add_range(&run);
@@ -420,12 +420,12 @@ fn show_list(
 fn show_in_columns(
     alloc: Global,
     text: &str,
-    base: Option<Level>,
+    base_level: Option<Level>,
     digest: &mut Digest,
 ) -> Result<(), AllocError>
-    requires { IfSome base (λ level. level ≤ 125) }
+    requires { IfSome base_level (λ level. level ≤ 125) }
 {
-    let info = BidiInfo::new_with_data_source(alloc, &UnicodeData, text, base)?;
+    let info = BidiInfo::new_with_data_source(alloc, &UnicodeData, text, base_level)?;
     for width in COLUMN_WIDTHS {
         for paragraph in info.paragraphs() {
             for line in lines(alloc, &info, paragraph, &One, width)? {

@@ -4,9 +4,9 @@
 pub struct Language {
     /// The words, in the forms in which they stand in a sentence.
     pub words: &'static [&'static str],
-    /// What stands among them: names in other letters, numbers, brackets, quotations.
+    /// What is among them: names in other letters, numbers, brackets, quotations.
     pub inserts: &'static [&'static str],
-    /// What stands between two words.
+    /// What is between two words.
     pub gap: &'static str,
     /// What ends a sentence.
     pub stop: &'static str,
@@ -461,7 +461,7 @@ pub fn of_messages() -> [&'static Language; 6] {
     [&CHAT, &ENGLISH, &HEBREW, &ARABIC, &CHAT, &THAI]
 }
 
-/// Lines of sources without what stands in front of them.
+/// Lines of sources without what is in front of them.
 pub static CODE: [&str; 24] = [
     "let mut total = 0;",
     "for item in items.iter() {",

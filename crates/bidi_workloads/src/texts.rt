@@ -59,7 +59,7 @@ fn push_sentence(
     text.push_str(language.stop)
 }
 
-// Appends a word, or now and then what stands among words.
+// Appends a word, or now and then what is among words.
 fn push_word(
     text: &mut String,
     random: &mut Random,
@@ -138,7 +138,7 @@ pub fn write_message(
     Ok(())
 }
 
-// What stands in front of a piece that a program puts in, and behind it.
+// What is in front of a piece that a program puts in, and after it.
 static AROUND: [(&str, &str); 6] = [
     ("\u{2068}", "\u{2069}"),
     ("\u{2068}", "\u{2069}"),
@@ -148,7 +148,7 @@ static AROUND: [(&str, &str); 6] = [
     ("[\u{2066}", "\u{2069}]"),
 ];
 
-// Appends a piece of one language among text of another, with what stands around it.
+// Appends a piece of one language among text of another, with what is around it.
 fn push_inserted(
     text: &mut String,
     random: &mut Random,

@@ -1,5 +1,5 @@
-pub mod FoundLaws
-pub mod KeptOrder
-pub mod ParagraphUnits
+mod FoundLaws
+mod StoredOrder
+mod ParagraphUnits
 pub mod SearchLemmas
 pub mod WholeText

@@ -7,7 +7,7 @@ use Rattle.bidi_lines.proofs.RunText.{flat_map-same_on}
 use Rattle.bidi_base.specs.declared.char_data.BidiClass.{BidiClass}
 use Rattle.bidi_laws.proofs.LevelLaws.{paragraph_level-few, length-stored_levels, stored_levels-AreLevelsFrom, All-per_unit}
 use Rattle.bidi_laws.proofs.StoredSteps.{length-stored_classes}
-use Rattle.bidi_base.proofs.PlaceLemmas.{text_len-subrange}
+use Rattle.bidi_base.proofs.UnitIndexLemmas.{text_len-subrange}
 use Rattle.bidi_base.proofs.PerUnit.{length-per_unit}
 use Rattle.bidi_base.proofs.TextLemmas.{HasUnits, is_boundary-le, subrange-middle}
 use Rattle.bidi_laws.proofs.ParagraphsLemmas.{ranges-lines, joined}
@@ -85,9 +85,9 @@ ranges-chars len_of units front [] = refl
 ranges-chars len_of units front (piece ∷ pieces) = grind (arith, append_assoc, sum_by-append, subrange-middle, ranges-chars len_of units (front ++ piece) pieces)
 
 -- what the walk over the paragraphs of a text is given, and what it leaves
-module _ (source : Source) (base : Option ℕ) (len_of : ℕ → ℕ) (units : HasUnits len_of) (chars : List ℕ) (pieces : List (List ℕ))
+module _ (source : Source) (base_level : Option ℕ) (len_of : ℕ → ℕ) (units : HasUnits len_of) (chars : List ℕ) (pieces : List (List ℕ))
     (whole : joined pieces ≡ chars) (ps : List ParagraphInfo) (ranges : ranges_of ps ≡ ranges_from len_of 0 pieces)
-    (levels : levels_of ps ≡ paragraph_levels source base pieces) where
+    (levels : levels_of ps ≡ paragraph_levels source base_level pieces) where
   pub paragraphs-Follow : Follow 0 (text_len len_of chars) ps
   paragraphs-Follow = ranges-Follow len_of 0 (text_len len_of chars) ps pieces ranges (simp (whole, zero-add))
 
@@ -95,49 +95,49 @@ module _ (source : Source) (base : Option ℕ) (len_of : ℕ → ℕ) (units : H
   paragraphs-chars = simp (whole, ← ranges, map-map) at (ranges-chars len_of units [] pieces)
 
   -- the level of each paragraph is that of its characters
-  paragraphs-level : All (λ p. p.level ≡ paragraph_level base (map source.class_of (chars_of len_of chars p))) ps
+  paragraphs-level : All (λ p. p.level ≡ paragraph_level base_level (map source.class_of (chars_of len_of chars p))) ps
   unfolding paragraph_levels
   paragraphs-level k d within =
-      let own : ParagraphInfo → ℕ = λ p. paragraph_level base (map source.class_of (chars_of len_of chars p)) in
+      let own : ParagraphInfo → ℕ = λ p. paragraph_level base_level (map source.class_of (chars_of len_of chars p)) in
       cc (simp (← paragraphs-chars, map-map) at levels, get_or-map level_of ps k d 0 within, get_or-map own ps k d 0 within)
 
-  pub paragraphs-levels : flat_map (unit_levels source len_of chars) ps ≡ per_unit len_of chars (text_levels source base pieces)
+  pub paragraphs-levels : flat_map (unit_levels source len_of chars) ps ≡ per_unit len_of chars (text_levels source base_level pieces)
   unfolding unit_levels stored_levels text_levels
   paragraphs-levels =
-      let own : List ℕ → List ℕ = λ piece. per_unit len_of piece (stored_levels source base piece) in
+      let own : List ℕ → List ℕ = λ piece. per_unit len_of piece (stored_levels source base_level piece) in
       let own_levels = flat_map-same_on (unit_levels source len_of chars) (λ p. own (chars_of len_of chars p)) ps (λ k d within. simp (paragraphs-level k d within)) in
-      cc (own_levels, per_unit-pieces (stored_levels source base) (length-stored_levels source base) len_of pieces, flat_map-map own (chars_of len_of chars) ps, paragraphs-chars)
+      cc (own_levels, per_unit-pieces (stored_levels source base_level) (length-stored_levels source base_level) len_of pieces, flat_map-map own (chars_of len_of chars) ps, paragraphs-chars)
 
   pub paragraphs-flags : paragraph_flags source pieces ≡ map (own_flags source len_of chars) ps
   unfolding paragraph_flags
   paragraphs-flags = simp (← paragraphs-chars, map-map)
 
   pub paragraphs-CanWrite : (classes : List BidiClass) → classes ≡ per_unit len_of chars (text_classes source pieces)
-      → IfSome base (λ level. level ≤ 125) → All (CanWrite source len_of chars classes) ps
+      → IfSome base_level (λ level. level ≤ 125) → All (CanWrite source len_of chars classes) ps
   unfolding text_classes
   paragraphs-CanWrite classes e few k d within =
       let stored : List ℕ → List BidiClass = λ piece. stored_classes (map source.class_of piece) in
       let one_each : (piece : List ℕ) → length (stored piece) ≡ length piece = λ piece. length-stored_classes (map source.class_of piece) ∙ length-map piece source.class_of in
       record {
         line = of_ranges (λ r. IsLine len_of chars r.0 r.1) ps (simp (whole, ← ranges) at (ranges-lines len_of units [] pieces)) k d within;
-        level = rw (paragraphs-level k d within) (paragraph_level-few base (map source.class_of (chars_of len_of chars (get_or ps k d))) few);
+        level = rw (paragraphs-level k d within) (paragraph_level-few base_level (map source.class_of (chars_of len_of chars (get_or ps k d))) few);
         classes = of_ranges (HasOwnUnits len_of stored chars classes) ps (rw (ranges, e) (HasOwnUnits-pieces stored one_each len_of units chars pieces whole)) k d within;
       }
 
   -- each paragraph has the levels that its characters have by themselves
-  pub paragraphs-HasOwnUnits : All (HasOwnUnits len_of (stored_levels source base) chars (per_unit len_of chars (text_levels source base pieces))) (ranges_of ps)
+  pub paragraphs-HasOwnUnits : All (HasOwnUnits len_of (stored_levels source base_level) chars (per_unit len_of chars (text_levels source base_level pieces))) (ranges_of ps)
   unfolding text_levels
-  paragraphs-HasOwnUnits = rw ranges (HasOwnUnits-pieces (stored_levels source base) (length-stored_levels source base) len_of units chars pieces whole)
+  paragraphs-HasOwnUnits = rw ranges (HasOwnUnits-pieces (stored_levels source base_level) (length-stored_levels source base_level) len_of units chars pieces whole)
 
   -- its levels are at least its own, and at most the greatest
-  pub paragraphs-AreLevelsFrom : IfSome base (λ level. level ≤ 125)
-      → All (λ p. AreLevelsFrom p.level (slice_range (per_unit len_of chars (text_levels source base pieces)) p.range.start p.range.end)) ps
+  pub paragraphs-AreLevelsFrom : IfSome base_level (λ level. level ≤ 125)
+      → All (λ p. AreLevelsFrom p.level (slice_range (per_unit len_of chars (text_levels source base_level pieces)) p.range.start p.range.end)) ps
   paragraphs-AreLevelsFrom few k d within =
       let piece : List ℕ = chars_of len_of chars (get_or ps k d) in
-      let own = of_ranges (HasOwnUnits len_of (stored_levels source base) chars (per_unit len_of chars (text_levels source base pieces))) ps paragraphs-HasOwnUnits k d within in
+      let own = of_ranges (HasOwnUnits len_of (stored_levels source base_level) chars (per_unit len_of chars (text_levels source base_level pieces))) ps paragraphs-HasOwnUnits k d within in
       rw (paragraphs-level k d within, own)
-      (All-per_unit (λ level. (paragraph_level base (map source.class_of piece) ≤ level) × (level ≤ 126)) len_of piece (stored_levels source base piece)
-      (stored_levels-AreLevelsFrom source base piece few))
+      (All-per_unit (λ level. (paragraph_level base_level (map source.class_of piece) ≤ level) × (level ≤ 126)) len_of piece (stored_levels source base_level piece)
+      (stored_levels-AreLevelsFrom source base_level piece few))
 
 -- ---- a text of one paragraph
 

@@ -1,28 +1,24 @@
 -- The search for a base direction, step by step, finds what the walk over a whole text finds.
-use Rattle.bidi_base.proofs.Common.{◌≡◌, ◌∙◌, ap, sym, ℕ, zero, suc, ◌+◌, ◌-◌, ◌≤◌, replicate, indexes, class_at, None, Bool, true, false, not, ◌&&◌, ◌||◌, ◌==◌, if◌then◌else◌, List, [], ◌∷◌, ◌++◌, length, map, list_any, refl}
-use Rattle.bidi_base.proofs.Common.{◌<◌, get_or_default, same_lists, length-map, append-nil, Some, direction_by, arith, cases_Bool, is_strong, is_initiator, is_pdi, is_paragraph_separator, ne_eqb, base_direction, paragraphs_of}
+use Rattle.bidi_base.proofs.Common.{◌≡◌, ◌∙◌, ap, sym, ℕ, zero, suc, ◌+◌, ◌≤◌, replicate, Bool, true, false, not, ◌&&◌, ◌||◌, ◌==◌, if◌then◌else◌, List, [], ◌∷◌, ◌++◌, length, map, list_any, refl}
+use Rattle.bidi_base.proofs.Common.{◌<◌, append-nil, Some, direction_by, arith, cases_Bool, is_strong, is_isolate_initiator, is_pdi, is_paragraph_separator, ne_eqb, base_direction, paragraphs_of}
 use Rattle.bidi_base.proofs.Common.{each_separator, Source, full_base_direction}
 use Rattle.bidi_base.specs.declared.char_data.BidiClass.{BidiClass}
 use Rattle.bidi_base.specs.declared.char_data.BidiClass.TheVariants.{R, L, LRI, PDI}
 use Rattle.bidi_base.specs.declared.char_data.Direction.{Direction}
 use Rattle.bidi_base.specs.declared.char_data.Direction.TheVariants.{Mixed}
-use Rattle.std.proofs.lemmas.List.FromFn.{get_or-map-range_with_len, length-range_with_len}
-use Rattle.bidi_laws.proofs.DirectionWalk.{direction_from, direction_from-is}
+use Rattle.bidi_laws.proofs.DirectionWalk.{direction_from, direction_from-classes, direction_from-is}
 use Rattle.bidi_laws.proofs.IsolateWalk.{is_zero, depth_by, kind_of, initiator-kind, pdi-kind}
-use Rattle.unicode_bidi.specs.DirectionSearch.{class_paragraphs, direction_after, direction_with, IsSearched, direction_found}
+use Rattle.bidi_paragraphs.specs.FirstPass.{depth_after}
+use Rattle.unicode_bidi.specs.DirectionSearch.{direction_after, direction_with, IsSearched, direction_found}
 use Rattle.unicode_bidi.specs.declared.direction_search.DirectionSearch.{DirectionSearch}
 use Rattle.unicode_bidi.specs.declared.direction_search.DirectionSearch.TheVariants.{Found, Open}
-
--- how many isolates are open after a character
-abbrev pub depth_after : ℕ → BidiClass → ℕ
-depth_after depth c = if is_initiator c then depth + 1 else if is_pdi c then depth - 1 else depth
 
 -- a strong character outside isolates decides; a separator ends the search, or with `full` every open isolate
 abbrev pub search_step : Bool → ℕ → BidiClass → DirectionSearch
 search_step full depth c =
     if is_strong c && depth == 0 then Found (direction_by (Some c))
     else if is_paragraph_separator c then (if full then Open 0 else Found Mixed)
-    else Open (depth_after depth c)
+    else Open (depth_after c depth)
 
 -- a search that is not over goes on
 abbrev pub search_on : (ℕ → DirectionSearch) → DirectionSearch → DirectionSearch
@@ -47,19 +43,10 @@ zero_test : (d : ℕ) → (d == 0) ≡ is_zero d
 zero_test zero = refl
 zero_test (suc d) = ne_eqb (suc d) 0 (omega arith)
 
-counted : (d : ℕ) (c : BidiClass) → depth_after d c ≡ depth_by (kind_of c) d
+counted : (d : ℕ) (c : BidiClass) → depth_after c d ≡ depth_by (kind_of c) d
 counted d c = grind (arith, initiator-kind c, pdi-kind c)
 
 -- ---- the direction after open isolates
-
-class_paragraphs-map : (source : Source) (chars : List ℕ) → map (map source.class_of) (paragraphs_of (each_separator source) chars) ≡ class_paragraphs (map source.class_of chars)
-class_paragraphs-map source [] = refl
-class_paragraphs-map source (c ∷ cs) = grind (arith, class_paragraphs-map source cs)
-
-map-class_at : (cs : List BidiClass) → map (class_at cs) (indexes cs) ≡ cs
-map-class_at cs =
-    let long = length-map (indexes cs) (class_at cs) ∙ length-range_with_len 0 (length cs) in
-    same_lists (map (class_at cs) (indexes cs)) cs long (λ k d below. get_or-map-range_with_len (class_at cs) 0 (length cs) k k d (omega (arith, below, long)) (omega arith) ∙ get_or_default cs k L d (omega (arith, below, long)))
 
 opened : (full : Bool) (d n : ℕ) (cs : List BidiClass) → direction_from full n (replicate d LRI ++ cs) ≡ direction_from full (d + n) cs
 unfolding kind_of
@@ -68,11 +55,7 @@ opened full (suc d) n cs = opened full d (suc n) cs ∙ ap (λ m. direction_from
 
 -- it is what the walk finds
 pub direction_after-from : (full : Bool) (d : ℕ) (cs : List BidiClass) → direction_after full d cs ≡ direction_from full d cs
-direction_after-from full d cs =
-    let all = replicate d LRI ++ cs in
-    let source : Source = record { class_of = class_at all; bracket_of = λ c. None } in
-    let walked = direction_from-is source (indexes all) full in
-    sym (rw (map-class_at all) at (rw (class_paragraphs-map source (indexes all)) at walked)) ∙ opened full d 0 cs ∙ ap (λ m. direction_from full m cs) (omega arith)
+direction_after-from full d cs = sym (direction_from-classes full (replicate d LRI ++ cs)) ∙ opened full d 0 cs ∙ ap (λ m. direction_from full m cs) (omega arith)
 
 -- ---- the search step by step
 
@@ -120,7 +103,7 @@ unclosed full (suc n) (suc d) fewer = unclosed full n d (omega arith)
 
 no_fewer : (full : Bool) (d e : ℕ) → ((more : List BidiClass) → direction_from full d more ≡ direction_from full e more) → d < e → ⊥
 no_fewer full d e same fewer =
-    let told = sym (closed full d d R refl (omega arith)) ∙ same (replicate d PDI ++ R ∷ []) ∙ unclosed full d e fewer in cc told
+    let reported = sym (closed full d d R refl (omega arith)) ∙ same (replicate d PDI ++ R ∷ []) ∙ unclosed full d e fewer in cc reported
 
 not_open : (full : Bool) (direction : Direction) (d : ℕ) → ((more : List BidiClass) → direction ≡ direction_from full d more) → ⊥
 not_open full direction d same =
@@ -179,8 +162,8 @@ search_in-over full d (c ∷ cs) =
     grind (arith, zero_test d, counted d c, decided c, cases_Bool full, cases_Bool (is_strong c), cases_Bool (is_zero d), cases_Bool (is_paragraph_separator c), search_in-over full 0 cs, search_in-over full (depth_by (kind_of c) d) cs)
 
 -- no more isolates are open than characters were read
-pub depth_after-le : (d : ℕ) (c : BidiClass) → depth_after d c ≤ d + 1
-depth_after-le d c = grind (arith, cases_Bool (is_initiator c), cases_Bool (is_pdi c))
+pub depth_after-le : (d : ℕ) (c : BidiClass) → depth_after c d ≤ d + 1
+depth_after-le d c = grind (arith, cases_Bool (is_isolate_initiator c), cases_Bool (is_pdi c))
 
 pub step-le : (full : Bool) (d : ℕ) (c : BidiClass) (e : ℕ) → search_step full d c ≡ Open e → e ≤ d + 1
 step-le full d c e is = grind (arith, depth_after-le d c)

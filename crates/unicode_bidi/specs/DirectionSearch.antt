@@ -1,7 +1,6 @@
 -- The search for a base direction (P2, P3) in a text, or in its pieces one after another.
-use Rattle.std.specs.Prelude.{◌≡◌, ℕ, Bool, if◌then◌else◌, List, [], ◌∷◌, ◌++◌, replicate}
-use Rattle.std.specs.List.{onto_first}
-use Rattle.bidi_base.specs.Classes.{is_paragraph_separator}
+use Rattle.std.specs.Prelude.{◌≡◌, ℕ, Bool, if◌then◌else◌, List, ◌++◌, replicate}
+use Rattle.bidi_base.specs.ClassParagraphs.{class_paragraphs}
 use Rattle.bidi_base.specs.Direction.{base_direction, full_base_direction}
 use Rattle.bidi_base.specs.declared.char_data.BidiClass.{BidiClass}
 use Rattle.bidi_base.specs.declared.char_data.BidiClass.TheVariants.{LRI}
@@ -10,14 +9,8 @@ use Rattle.bidi_base.specs.declared.char_data.Direction.TheVariants.{Mixed}
 use Rattle.unicode_bidi.specs.declared.direction_search.DirectionSearch.{DirectionSearch}
 use Rattle.unicode_bidi.specs.declared.direction_search.DirectionSearch.TheVariants.{Found, Open}
 
--- the paragraphs of a text (P1), by the classes of its characters
-abbrev pub class_paragraphs : List BidiClass → List (List BidiClass)
-class_paragraphs [] = []
-class_paragraphs (c ∷ cs) =
-    if is_paragraph_separator c then (c ∷ []) ∷ class_paragraphs cs else onto_first c (class_paragraphs cs)
-
--- the base direction of characters that follow `depth` open isolates: that of the text that begins with as many
--- isolate initiators
+-- the base direction of characters that follow `depth` open isolates: that of a text with as many isolate initiators
+-- before them
 abbrev pub direction_after : Bool → ℕ → List BidiClass → Direction
 direction_after full depth classes =
     let paragraphs = class_paragraphs (replicate depth LRI ++ classes) in
@@ -34,7 +27,7 @@ abbrev pub IsSearched : Bool → ℕ → List BidiClass → DirectionSearch → 
 IsSearched full depth classes search =
     (more : List BidiClass) → direction_after full depth (classes ++ more) ≡ direction_with full search more
 
--- the direction that a search has found, mixed while it goes on
+-- the direction that a search has found, or mixed while the search goes on
 abbrev pub direction_found : DirectionSearch → Direction
 direction_found (Found direction) = direction
 direction_found (Open depth) = Mixed

@@ -1,11 +1,12 @@
--- What an analysis holds, and what the walk over the paragraphs of a text asks and leaves.
+-- What an analysis has, and what the calls for each paragraph of a text require and write.
 use Rattle.std.specs.Prelude.{◌≡◌, ℕ, ◌≤◌, List, [], ◌∷◌, map, slice_range}
-use Rattle.bidi_base.specs.Analysed.{AnalysedText}
+use Rattle.bidi_base.specs.AnalysedText.{AnalysedText}
 use Rattle.bidi_base.specs.declared.char_data.BidiClass.{BidiClass}
 use Rattle.bidi_base.specs.Isolates.{stored_classes}
 use Rattle.bidi_base.specs.Source.{Source}
 use Rattle.bidi_base.specs.Stored.{levels_in}
 use Rattle.bidi_base.specs.Text.{subrange, per_unit, IsLine}
+use Rattle.bidi_base.specs.Texts.{Encoding, Text}
 use Rattle.bidi_lines.specs.Analysed.{with_lists}
 use Rattle.bidi_paragraphs.specs.ParagraphFlags.{flags_of}
 use Rattle.unicode_bidi.specs.declared.engine.Analyser.{Analyser}
@@ -23,7 +24,7 @@ levels a = a.levels.items
 abbrev pub paragraphs : Analysis → List ParagraphInfo
 paragraphs a = a.paragraphs.items
 
--- what later steps ask of each paragraph
+-- the flags of each paragraph
 abbrev pub flags : Analysis → List ParagraphFlags
 flags a = a.flags.items
 
@@ -35,26 +36,26 @@ found_paragraphs a = a.found.paragraphs.items
 abbrev pub found_flags : Analyser → List ParagraphFlags
 found_flags a = a.found.flags.items
 
--- a text of these characters, with what was found
-abbrev pub with_analysis : (ℕ → ℕ) → List ℕ → Analysis → AnalysedText
-with_analysis len_of chars a = with_lists len_of chars (original_classes a) (levels a)
+-- a text with the stored classes and levels of an analysis
+abbrev pub with_analysis : {e : Encoding} → Text e → Analysis → AnalysedText
+with_analysis text a = with_lists text (original_classes a) (levels a)
 
 -- the characters of a paragraph
 abbrev pub chars_of : (ℕ → ℕ) → List ℕ → ParagraphInfo → List ℕ
 chars_of len_of chars p = subrange len_of chars p.range.start p.range.end
 
--- the stored levels of its units, from its level
+-- the stored levels of a paragraph's code units, from its level
 unfoldable pub unit_levels : Source → (ℕ → ℕ) → List ℕ → ParagraphInfo → List ℕ
 unit_levels source len_of chars p =
     let piece = chars_of len_of chars p in
     per_unit len_of piece (levels_in p.level (map source.class_of piece) (map source.bracket_of piece))
 
--- its flags
+-- the flags of a paragraph
 abbrev pub own_flags : Source → (ℕ → ℕ) → List ℕ → ParagraphInfo → ParagraphFlags
 own_flags source len_of chars p = flags_of (map source.class_of (chars_of len_of chars p))
 
--- a paragraph of whole characters, with a level that the rules take, and with its stored classes in its part of
--- the text's
+-- a paragraph that cuts no character, with a level up to 125 and with its stored classes in its range of those of the
+-- text
 pub record CanWrite (source : Source) (len_of : ℕ → ℕ) (chars : List ℕ) (units : List BidiClass) (p : ParagraphInfo) : Type 0 where
   pub line : IsLine len_of chars p.range.start p.range.end
   pub level : p.level ≤ 125

@@ -1,4 +1,4 @@
--- What the accessors of `InitialInfo` show.
+-- What the accessors of `InitialInfo` return.
 use Rattle.std.specs.Prelude.{ℕ, List}
 use Rattle.bidi_base.specs.declared.char_data.BidiClass.{BidiClass}
 use Rattle.bidi_text.specs.declared.text.str_text.StrText.{StrText}
@@ -17,10 +17,10 @@ units i = i.text.units.now
 module _ {T C I L : Type 0} {t : _} {c : _} {i : _} {l : _} (info : InitialInfo T C I L t c i l) where
   -- the lengths of the text's characters, and the characters
   abbrev pub len_of : ℕ → ℕ
-  len_of = t.units
+  len_of = t.encoding.len_of
 
   abbrev pub chars_of : List ℕ
-  chars_of = t.characters info.text
+  chars_of = (t.text info.text).chars
 
   -- `i.original_classes()` and `i.paragraphs()`
   abbrev pub original_classes : List BidiClass

@@ -1,13 +1,11 @@
-pub mod Analysed
+pub mod Analysis
 pub mod BidiInfo
 pub mod DirectionSearch
 pub mod Engine
 pub mod InitialInfo
-pub mod KeptOrder
+pub mod StoredOrder
 pub mod LineMap
-pub mod LineOrder
 pub mod Paragraph
 pub mod ParagraphBidiInfo
 pub mod ParagraphInfo
-pub mod ShownLine
 pub mod SplitRule

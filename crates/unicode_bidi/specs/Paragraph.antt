@@ -1,4 +1,4 @@
--- What the accessors of `Paragraph` show.
+-- What the accessors of `Paragraph` return.
 use Rattle.unicode_bidi.specs.declared.info.BidiInfo.{BidiInfo}
 use Rattle.unicode_bidi.specs.declared.paragraph.Paragraph.{Paragraph}
 use Rattle.bidi_paragraphs.specs.declared.paragraph_info.ParagraphInfo.{ParagraphInfo}

@@ -1,6 +1,6 @@
--- What the accessors of `ParagraphBidiInfo` show.
+-- What the accessors of `ParagraphBidiInfo` return.
 use Rattle.std.specs.Prelude.{ℕ, Bool, List}
-use Rattle.bidi_base.specs.Analysed.{AnalysedText}
+use Rattle.bidi_base.specs.AnalysedText.{AnalysedText}
 use Rattle.bidi_base.specs.declared.char_data.BidiClass.{BidiClass}
 use Rattle.bidi_text.specs.declared.text.str_text.StrText.{StrText}
 use Rattle.bidi_text.specs.declared.text.utf16_text.Utf16Text.{Utf16Text}

@@ -10,8 +10,8 @@ use std::ops::Range;
 
 /// Returns the level runs of a line (BD7) from left to right (L2), as ranges of code units of the text.
 ///
-/// `levels` has one level for each code unit of the text. The line is a range of them that is not empty. The
-/// levels are used unchanged, without L1: `visual_runs` of `BidiInfo` applies L1.
+/// `levels` has one level for each code unit of the text. The line is a range of code units that is not empty. This
+/// does not apply L1 to the levels: `visual_runs` of `BidiInfo` does. Takes time linear in the line.
 pub fn visual_runs(
     alloc: Global,
     line: Range<usize>,

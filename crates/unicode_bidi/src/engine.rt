@@ -2,12 +2,11 @@
 
 ghost use Rattle.std.specs.Prelude.{◌≡◌, [], ◌≤◌, ◌++◌, length, map, take, drop, flat_map, All, OnOk, OnErr, IfOk, IfSome};
 ghost use Rattle.std.specs.Bool.{then_some};
-ghost use Rattle.bidi_base.specs.Analysed.{IsAnalysis, AreLevelsWithLine};
+ghost use Rattle.bidi_base.specs.AnalysedText.{IsAnalysis, AreLevelsWithLine};
 ghost use Rattle.bidi_base.specs.Line.{levels_with_line as levels_with_line_of};
 ghost use Rattle.bidi_base.specs.Paragraphs.{pieces_by};
-ghost use Rattle.bidi_base.specs.PerChar.{HaveClass, HaveLevel};
+ghost use Rattle.bidi_base.specs.Texts.{char_index, per_char, text_len, HaveClass, HaveLevel, IsLine};
 ghost use Rattle.bidi_base.specs.declared.char_data.BidiClass.TheVariants.{L};
-ghost use Rattle.bidi_base.specs.Text.{text_len, is_per_char, per_char, char_index, IsLine};
 ghost use Rattle.bidi_lines.specs.Analysed.{with_lists};
 ghost use Rattle.unicode_bidi.specs.Engine.{with_analysis, found_paragraphs, found_flags, original_classes as original_classes_of, levels as stored_levels_of, paragraphs as paragraphs_of_analysis, flags as flags_of_analysis, unit_levels, own_flags, CanWrite, Follow};
 ghost use Rattle.bidi_paragraphs.specs.ParagraphFlags.{paragraph_flags};
@@ -18,7 +17,7 @@ use bidi_base::data_source::BidiDataSource;
 use bidi_base::level::{LTR_LEVEL, Level};
 use bidi_base::split_rule::SplitRule;
 use bidi_lines::line_levels::levels_with_line;
-use bidi_paragraphs::first_walk::{self, FoundParagraphs};
+use bidi_paragraphs::first_pass::{self, FoundParagraphs};
 pub use bidi_paragraphs::paragraph_flags::ParagraphFlags;
 use bidi_paragraphs::paragraph_info::ParagraphInfo;
 use bidi_paragraphs::paragraph_levels::{ClassifiedParagraph, LevelResolver};
@@ -41,7 +40,7 @@ pub struct Analysis {
 impl Analysis {
     /// Returns the class of each code unit's character.
     ///
-    /// An FSI whose isolate has a deciding character is RLI or LRI here (X5c).
+    /// An FSI is RLI or LRI here if a character decides its direction (X5c).
     pub fn original_classes(&self) -> &[BidiClass]
         ensures { result.now ≡ original_classes_of self.now }
     {
@@ -73,7 +72,7 @@ struct ClassifiedText<'a, D: BidiDataSource, T: TextSource> {
     text: T,
     // One for each code unit.
     original_classes: &'a [BidiClass],
-    ghost long: { length original_classes.now ≡ text_len T.units (T.characters text) },
+    ghost long: { length original_classes.now ≡ text_len (T.text text) },
 }
 
 // Writes the stored levels of one paragraph. `levels` has those of the whole text.
@@ -84,13 +83,13 @@ fn write_paragraph<D: BidiDataSource, T: TextSource>(
     flags: ParagraphFlags,
     levels: &mut [Level],
 ) -> Result<(), AllocError>
-    requires paragraph { CanWrite (D.source text.now.data_source.now) T.units (T.characters text.now.text)
+    requires paragraph { CanWrite (D.source text.now.data_source.now) T.encoding.len_of (T.text text.now.text).chars
         text.now.original_classes.now paragraph.now }
-    requires flags { flags ≡ own_flags (D.source text.now.data_source.now) T.units (T.characters text.now.text) paragraph.now }
-    requires levels { length levels.old ≡ text_len T.units (T.characters text.now.text) }
+    requires flags { flags ≡ own_flags (D.source text.now.data_source.now) T.encoding.len_of (T.text text.now.text).chars paragraph.now }
+    requires same_len { length levels.old ≡ text_len (T.text text.now.text) }
     ensures { OnOk result (levels.new
         ≡ take paragraph.now.range.start levels.old
-        ++ (unit_levels (D.source text.now.data_source.now) T.units (T.characters text.now.text) paragraph.now
+        ++ (unit_levels (D.source text.now.data_source.now) T.encoding.len_of (T.text text.now.text).chars paragraph.now
         ++ drop paragraph.now.range.end levels.old)) }
 {
     let units = paragraph.range();
@@ -114,15 +113,15 @@ fn write_paragraphs<D: BidiDataSource, T: TextSource>(
     levels: &mut [Level],
 ) -> Result<(), AllocError>
     requires paragraphs { All
-        (CanWrite (D.source text.now.data_source.now) T.units (T.characters text.now.text)
+        (CanWrite (D.source text.now.data_source.now) T.encoding.len_of (T.text text.now.text).chars
         text.now.original_classes.now)
         paragraphs.now }
     requires flags { flags.now
-        ≡ map (own_flags (D.source text.now.data_source.now) T.units (T.characters text.now.text)) paragraphs.now }
-    requires follow { Follow 0 (text_len T.units (T.characters text.now.text)) paragraphs.now }
-    requires levels { length levels.old ≡ text_len T.units (T.characters text.now.text) }
+        ≡ map (own_flags (D.source text.now.data_source.now) T.encoding.len_of (T.text text.now.text).chars) paragraphs.now }
+    requires follow { Follow 0 (text_len (T.text text.now.text)) paragraphs.now }
+    requires same_len { length levels.old ≡ text_len (T.text text.now.text) }
     ensures { OnOk result (levels.new
-        ≡ flat_map (unit_levels (D.source text.now.data_source.now) T.units (T.characters text.now.text))
+        ≡ flat_map (unit_levels (D.source text.now.data_source.now) T.encoding.len_of (T.text text.now.text).chars)
         paragraphs.now) }
 {
     for (index, paragraph) in paragraphs.iter().enumerate() {
@@ -133,8 +132,8 @@ fn write_paragraphs<D: BidiDataSource, T: TextSource>(
 
 /// Analyses one text after another, and reuses the memory of its lists.
 ///
-/// The caller provides the lists of classes and levels. A text of up to 256 code units that is one paragraph allocates
-/// nothing if no character opens an embedding or an isolate, and none is a bracket.
+/// The caller provides the lists of classes and levels. A text of up to 256 code units that is one paragraph needs no
+/// allocation if no character opens an embedding or an isolate, and none is a bracket.
 #[derive(Drop)]
 pub struct Analyser {
     found: FoundParagraphs,
@@ -142,7 +141,7 @@ pub struct Analyser {
 }
 
 impl Analyser {
-    /// Returns an analyser that has read no text. Allocates nothing.
+    /// Returns an analyser that has read no text. Does not allocate.
     pub fn new(alloc: Global) -> Analyser
         ensures paragraphs { found_paragraphs result ≡ [] }
         ensures flags { found_flags result ≡ [] }
@@ -153,54 +152,56 @@ impl Analyser {
         }
     }
 
-    /// Returns the paragraphs of the text that was analysed last, in order. Together they are the whole text.
+    /// Returns the paragraphs of the text that was analysed last, in order. Together they are the whole text. There are
+    /// none before the first text, and after a failed allocation.
     pub fn paragraphs(&self) -> &[ParagraphInfo]
         ensures { result.now ≡ found_paragraphs self.now }
     {
         self.found.paragraphs.as_slice()
     }
 
-    /// Returns which classes are in each of these paragraphs, as the data source gives them.
+    /// Returns one value for each of these paragraphs, with the source classes of its characters that later steps tell
+    /// apart.
     ///
-    /// The flags of a paragraph tell, without another pass over it, whether it is left to right throughout, or has an
-    /// isolate, an embedding or a character that X9 removes.
+    /// [`ParagraphFlags::is_pure_ltr`] reads the value, without another pass over the paragraph.
     pub fn flags(&self) -> &[ParagraphFlags]
         ensures { result.now ≡ found_flags self.now }
     {
         self.found.flags.as_slice()
     }
 
-    /// Finds the paragraphs of a text, and the class and the level of each character (P1 to I2), in the caller's
-    /// lists.
+    /// Finds the paragraphs of a text, and the class and the level of each character (P1 to I2), and writes the two to
+    /// the caller's lists.
     ///
-    /// `base` is the level of every paragraph, at most 125. If it is `None`, each paragraph gets its level from its
-    /// characters (P2, P3). `rule` says where paragraphs end. Without a rule the whole text is one paragraph.
-    /// Writes the class of each code unit to `classes` and its level to `levels`, which both have one entry a
-    /// code unit. [`Analyser::paragraphs`] then returns the paragraphs, and [`Analyser::flags`] their classes. If an
-    /// allocation fails, the two lists hold anything, and there are no paragraphs.
+    /// `base_level` is the level of every paragraph, at most 125. If it is `None`, each paragraph gets its level from
+    /// its characters (P2, P3). `rule` says where paragraphs end. Without a rule the whole text is one paragraph.
+    /// Writes the stored class of each code unit to `classes` and its stored level to `levels`, which both have one
+    /// entry for each code unit. [`Analyser::paragraphs`] then returns the paragraphs, and [`Analyser::flags`] their
+    /// classes. Reads the text a few times. If an allocation fails, the two lists hold anything, and there are no
+    /// paragraphs.
     pub fn analyse<D: BidiDataSource, T: TextSource>(
         &mut self,
         alloc: Global,
         data_source: &D,
         text: T,
-        base: Option<Level>,
+        base_level: Option<Level>,
         rule: Option<SplitRule>,
         classes: &mut [BidiClass],
         levels: &mut [Level],
     ) -> Result<(), AllocError>
-        requires low { IfSome base (λ level. level ≤ 125) }
-        requires class_room { length classes.old ≡ text_len T.units (T.characters text) }
-        requires level_room { length levels.old ≡ text_len T.units (T.characters text) }
-        ensures analysis { OnOk result (IsAnalysis (D.source data_source.now) base rule
-            (with_lists T.units (T.characters text) classes.new levels.new) (ranges_of (found_paragraphs self.new))
+        requires low { IfSome base_level (λ level. level ≤ 125) }
+        requires class_room { length classes.old ≡ text_len (T.text text) }
+        requires level_room { length levels.old ≡ text_len (T.text text) }
+        ensures analysis { OnOk result (IsAnalysis (D.source data_source.now) base_level rule
+            (with_lists (T.text text) classes.new levels.new) (ranges_of (found_paragraphs self.new))
             (levels_of (found_paragraphs self.new))) }
-        ensures flags { let pieces = pieces_by rule (D.source data_source.now) (T.characters text) in
+        ensures flags { let pieces = pieces_by rule (D.source data_source.now) (T.text text).chars in
             OnOk result (found_flags self.new ≡ paragraph_flags (D.source data_source.now) pieces) }
-        ensures none { OnErr result (found_paragraphs self.new ≡ []) }
+        ensures emptied { OnErr result (found_paragraphs self.new ≡ []) }
         ensures no_flags { OnErr result (found_flags self.new ≡ []) }
     {
         let memory = mem::replace(&mut self.found, FoundParagraphs::new(alloc));
-        let found = first_walk::walk(data_source, text, base, rule, classes, memory)?;
+        let found = first_pass::walk(data_source, text, base_level, rule, classes, memory)?;
         let classified = ClassifiedText {
             data_source,
             text,
@@ -224,14 +225,14 @@ pub(crate) fn analyse_by<D: BidiDataSource, T: TextSource>(
     alloc: Global,
     data_source: &D,
     text: T,
-    base: Option<Level>,
+    base_level: Option<Level>,
     rule: Option<SplitRule>,
 ) -> Result<Analysis, AllocError>
-    requires { IfSome base (λ level. level ≤ 125) }
-    ensures analysis { IfOk result (λ a. IsAnalysis (D.source data_source.now) base rule
-        (with_analysis T.units (T.characters text) a) (ranges_of (paragraphs_of_analysis a))
+    requires { IfSome base_level (λ level. level ≤ 125) }
+    ensures analysis { IfOk result (λ a. IsAnalysis (D.source data_source.now) base_level rule
+        (with_analysis (T.text text) a) (ranges_of (paragraphs_of_analysis a))
         (levels_of (paragraphs_of_analysis a))) }
-    ensures flags { let pieces = pieces_by rule (D.source data_source.now) (T.characters text) in
+    ensures flags { let pieces = pieces_by rule (D.source data_source.now) (T.text text).chars in
         IfOk result (λ a. flags_of_analysis a ≡ paragraph_flags (D.source data_source.now) pieces) }
 {
     let mut original_classes = vec![in alloc; BidiClass::L; text.len()]?;
@@ -241,7 +242,7 @@ pub(crate) fn analyse_by<D: BidiDataSource, T: TextSource>(
         alloc,
         data_source,
         text,
-        base,
+        base_level,
         rule,
         original_classes.as_mut_slice(),
         levels.as_mut_slice(),
@@ -257,50 +258,52 @@ pub(crate) fn analyse_by<D: BidiDataSource, T: TextSource>(
 
 /// Finds the paragraphs of a text, and the class and the level of each character (P1 to I2).
 ///
-/// `base` is the level of every paragraph, at most 125. If it is `None`, each paragraph gets its level from its
-/// characters (P2, P3). Each FSI is resolved (X5c). With `split` false the whole text is one paragraph, even an
-/// empty text.
+/// `base_level` is the level of every paragraph, at most 125. If it is `None`, each paragraph gets its level from its
+/// characters (P2, P3). Each FSI is resolved (X5c). With `split`, each paragraph separator ends a paragraph (P1).
+/// Without it, the whole text is one paragraph, even an empty text. Reads the text a few times. The result has two
+/// bytes for each code unit: its class and its level.
 pub fn analyse<D: BidiDataSource, T: TextSource>(
     alloc: Global,
     data_source: &D,
     text: T,
-    base: Option<Level>,
+    base_level: Option<Level>,
     split: bool,
 ) -> Result<Analysis, AllocError>
-    requires { IfSome base (λ level. level ≤ 125) }
-    ensures { IfOk result (λ a. IsAnalysis (D.source data_source.now) base (then_some split SplitRule.EachSeparator)
-        (with_analysis T.units (T.characters text) a) (ranges_of (paragraphs_of_analysis a))
+    requires { IfSome base_level (λ level. level ≤ 125) }
+    ensures { IfOk result (λ a. IsAnalysis (D.source data_source.now) base_level (then_some split SplitRule.EachSeparator)
+        (with_analysis (T.text text) a) (ranges_of (paragraphs_of_analysis a))
         (levels_of (paragraphs_of_analysis a))) }
 {
     let rule = split.then_some(SplitRule::EachSeparator);
-    analyse_with_rule(alloc, data_source, text, base, rule)
+    analyse_by(alloc, data_source, text, base_level, rule)
 }
 
 /// Finds the paragraphs of a text, which end where `rule` says, and the class and the level of each character (P1 to
 /// I2).
 ///
-/// `base` is the level of every paragraph, at most 125. If it is `None`, each paragraph gets its level from its
-/// characters (P2, P3). Each FSI is resolved (X5c). Without a rule the whole text is one paragraph, even an empty
-/// text.
+/// `base_level` is the level of every paragraph, at most 125. If it is `None`, each paragraph gets its level from its
+/// characters (P2, P3). Each FSI is resolved (X5c). Without a rule the whole text is one paragraph, even an empty text.
+/// Reads the text a few times. The result has two bytes for each code unit: its class and its level.
 pub fn analyse_with_rule<D: BidiDataSource, T: TextSource>(
     alloc: Global,
     data_source: &D,
     text: T,
-    base: Option<Level>,
+    base_level: Option<Level>,
     rule: Option<SplitRule>,
 ) -> Result<Analysis, AllocError>
-    requires { IfSome base (λ level. level ≤ 125) }
-    ensures { IfOk result (λ a. IsAnalysis (D.source data_source.now) base rule
-        (with_analysis T.units (T.characters text) a) (ranges_of (paragraphs_of_analysis a))
+    requires { IfSome base_level (λ level. level ≤ 125) }
+    ensures { IfOk result (λ a. IsAnalysis (D.source data_source.now) base_level rule
+        (with_analysis (T.text text) a) (ranges_of (paragraphs_of_analysis a))
         (levels_of (paragraphs_of_analysis a))) }
 {
-    analyse_by(alloc, data_source, text, base, rule)
+    analyse_by(alloc, data_source, text, base_level, rule)
 }
 
-/// Returns the level of each code unit of a text: after L1 in the line, and as analysed outside it.
+/// Returns the level of each code unit of a text: after L1 in the line, and as stored in the analysis outside it.
 ///
-/// The line is a range of code units that cuts no character (see `is_line`). `level` is the level of its
-/// paragraph. The analysis must be of this text (see `is_per_char`).
+/// The line is a range of code units that cuts no character (see `is_line`). `level` is the level of its paragraph. The
+/// analysis must have one class and one level for each code unit of the text, equal within each character (see
+/// `is_per_char`). Takes time linear in the text.
 pub fn line_levels<T: TextSource>(
     alloc: Global,
     text: T,
@@ -308,20 +311,19 @@ pub fn line_levels<T: TextSource>(
     level: Level,
     line: Range<usize>,
 ) -> Result<Vec<Level>, AllocError>
-    requires is_line { IsLine T.units (T.characters text) line.start line.end }
-    requires classes { HaveClass T.units (T.characters text) (original_classes_of analysis.now) }
-    requires levels { HaveLevel T.units (T.characters text) (stored_levels_of analysis.now) }
-    ensures levels { IfOk result (λ v. AreLevelsWithLine (with_analysis T.units (T.characters text) analysis.now)
+    requires is_line { IsLine (T.text text) line.start line.end }
+    requires classes { HaveClass (T.text text) (original_classes_of analysis.now) }
+    requires levels { HaveLevel (T.text text) (stored_levels_of analysis.now) }
+    ensures levels { IfOk result (λ v. AreLevelsWithLine (with_analysis (T.text text) analysis.now)
         level line v.items) }
 
     // The levels of the characters depend only on the classes and levels of the characters, on `level`, and on the line
     // counted in characters. So corresponding lines of two texts with the same characters have the same levels for each
     // character, and the same order.
-    ensures by_characters { let chars = T.characters text in
-        IfOk result (λ v. per_char 0 T.units chars v.items
-        ≡ levels_with_line_of level (per_char L T.units chars (original_classes_of analysis.now))
-        (per_char 0 T.units chars (stored_levels_of analysis.now)) (char_index T.units chars line.start)
-        (char_index T.units chars line.end)) }
+    ensures by_characters { IfOk result (λ v. per_char 0 (T.text text) v.items
+        ≡ levels_with_line_of level (per_char L (T.text text) (original_classes_of analysis.now))
+        (per_char 0 (T.text text) (stored_levels_of analysis.now)) (char_index (T.text text) line.start)
+        (char_index (T.text text) line.end)) }
 {
     levels_with_line(
         alloc,

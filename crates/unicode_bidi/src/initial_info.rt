@@ -1,6 +1,6 @@
 // The paragraphs and the stored classes of a text.
 ghost use Rattle.std.specs.Prelude.{◌≡◌, IfOk, Some};
-ghost use Rattle.bidi_base.specs.Analysed.{AreParagraphs};
+ghost use Rattle.bidi_base.specs.AnalysedText.{AreParagraphs};
 ghost use Rattle.bidi_base.specs.PerChar.{HaveClass};
 ghost use Rattle.bidi_paragraphs.specs.ParagraphInfo.{ranges_of, levels_of};
 
@@ -8,7 +8,7 @@ use bidi_base::char_data::BidiClass;
 use bidi_base::data_source::BidiDataSource;
 use bidi_base::level::Level;
 use bidi_base::split_rule::SplitRule;
-use bidi_paragraphs::first_walk::{FoundParagraphs, walk};
+use bidi_paragraphs::first_pass::{FoundParagraphs, walk};
 use bidi_paragraphs::paragraph_info::ParagraphInfo;
 use bidi_text::text::TextSource;
 use smallvec::SmallVec;
@@ -20,7 +20,7 @@ pub struct InitialInfo<T: TextSource> {
     pub(crate) text: T,
     original_classes: Vec<BidiClass>,
     paragraphs: SmallVec<ParagraphInfo, 1>,
-    ghost classes_per_char: { HaveClass T.units (T.characters text) original_classes.items },
+    ghost classes_per_char: { HaveClass T.encoding.len_of (T.text text).chars original_classes.items },
 }
 
 impl<T: TextSource> InitialInfo<T> {
@@ -52,7 +52,7 @@ impl<T: TextSource> InitialInfo<T> {
 
     /// Returns the class of each code unit's character.
     ///
-    /// An FSI whose isolate has a deciding character is RLI or LRI here (X5c).
+    /// An FSI is RLI or LRI here if a character decides its direction (X5c).
     pub fn original_classes(&self) -> &[BidiClass]
         ensures classes { result.now ≡ original_classes self.now }
         ensures per_char { HaveClass (len_of self.now) (chars_of self.now) result.now }

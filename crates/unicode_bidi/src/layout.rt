@@ -2,21 +2,21 @@
 
 ghost use Rattle.std.specs.Prelude.{◌≡◌, ◌≢◌, ℕ, ◌<◌, true, false, map, length, slice_get, IfOk, IfSome, All, Some};
 ghost use Rattle.std.specs.List.{range_with_len};
-ghost use Rattle.bidi_base.specs.Analysed.{IsLineOf, line_levels_per_char};
+ghost use Rattle.bidi_base.specs.AnalysedText.{IsLineOf, line_levels_per_char};
 ghost use Rattle.bidi_base.specs.Display.{run_of};
-ghost use Rattle.bidi_base.specs.Layout.{line_length, line_ranges, visual_places, AreInverse};
+ghost use Rattle.bidi_base.specs.Layout.{line_length, line_ranges, visual_indexes, AreInverse};
 ghost use Rattle.bidi_base.specs.Order.{visual_order};
-ghost use Rattle.bidi_base.specs.Places.{indexes};
+ghost use Rattle.bidi_base.specs.Indexes.{indexes};
 ghost use Rattle.bidi_base.specs.Paragraphs.{IsPartition};
-ghost use Rattle.bidi_base.specs.Text.{place, per_char, text_len, IsLine};
-ghost use Rattle.bidi_lines.specs.ShownLevels.{levels as kept_levels};
+ghost use Rattle.bidi_base.specs.Texts.{unit_index, IsLine};
+ghost use Rattle.bidi_lines.specs.LineLevels.{levels as kept_levels};
 ghost use Rattle.unicode_bidi.specs.BidiInfo.{analysed as analysed_of};
-ghost use Rattle.unicode_bidi.specs.KeptOrder.{entries};
+ghost use Rattle.unicode_bidi.specs.StoredOrder.{entries};
 ghost use Rattle.bidi_paragraphs.specs.ParagraphInfo.{level_of, range_of};
 
 use crate::utf8::BidiInfo;
 use bidi_base::level::{Level, has_rtl};
-use bidi_lines::shown_levels::ShownLevels;
+use bidi_lines::reused_levels::LineLevels;
 use bidi_lines::visual_order::inverse;
 use bidi_paragraphs::paragraph_info::ParagraphInfo;
 use bidi_rules::prepare::LevelRun;
@@ -26,7 +26,7 @@ use std::ops::Range;
 
 /// The width of each character on the display.
 pub trait CharWidth {
-    /// The widths, as a function.
+    /// The width of each character, as a function.
     ghost width_of: { Self → ℕ → ℕ };
 
     /// Returns the width of a character, each time the same.
@@ -36,8 +36,7 @@ pub trait CharWidth {
 
 // Returns how many code units the first line of a text takes: as many characters as fit, and at least one.
 fn first_line_len<T: TextSource, W: CharWidth>(text: T, widths: &W, limit: usize) -> usize
-    ensures { let chars = T.characters text in
-        result ≡ place T.units chars (line_length (W.width_of widths.now) limit chars) }
+    ensures { result ≡ unit_index (T.text text) (line_length (W.width_of widths.now) limit (T.text text).chars) }
 {
     let mut left = limit;
     for (at, c) in text.char_indices() {
@@ -58,11 +57,11 @@ fn lines_of<T: TextSource, W: CharWidth>(
     widths: &W,
     limit: usize,
 ) -> Result<Vec<LevelRun>, AllocError>
-    requires { IsLine T.units (T.characters text) range.start range.end }
+    requires { IsLine (T.text text) range.start range.end }
     ensures lines { IfOk result (λ v. map run_of v.items
-        ≡ line_ranges T.units (T.characters text) (W.width_of widths.now) limit range.start range.end) }
-    ensures parted { IfOk result (λ v. IsPartition range.start range.end (map run_of v.items)) }
-    ensures each_is_line { IfOk result (λ v. All (λ r. IsLine T.units (T.characters text) r.start r.end) v.items) }
+        ≡ line_ranges T.encoding.len_of (T.text text).chars (W.width_of widths.now) limit range.start range.end) }
+    ensures partition { IfOk result (λ v. IsPartition range.start range.end (map run_of v.items)) }
+    ensures are_lines { IfOk result (λ v. All (λ r. IsLine (T.text text) r.start r.end) v.items) }
 {
     let mut lines = Vec::new(alloc);
     let mut start = range.start;
@@ -77,9 +76,10 @@ fn lines_of<T: TextSource, W: CharWidth>(
 
 /// Returns the lines of a paragraph, as ranges of bytes of the text.
 ///
-/// Each line takes as many characters as fit in `limit` columns, and at least one. A character of width 0 stays
-/// in the line before it, unless that line is one character that is too wide. The paragraph's range must cut no
-/// character (see `is_line`). Each line can be passed to `reorder_line` without a test.
+/// Each line takes as many characters as fit in `limit` columns, and at least one. A character of width 0 stays in the
+/// line before it, unless that line is one character that is too wide. The paragraph's range must cut no character (see
+/// `is_line`). Each line can be passed to `reorder_line` without a test. Takes time linear in the paragraph, and calls
+/// `width` at most twice for each character.
 pub fn lines<W: CharWidth>(
     alloc: Global,
     info: &BidiInfo<'_>,
@@ -92,8 +92,8 @@ pub fn lines<W: CharWidth>(
         ≡ line_ranges a.len_of a.chars (W.width_of widths.now) limit (range_of para.now).start (range_of para.now).end) }
 
     // No line is empty, and together they take the paragraph's range, in order.
-    ensures parted { IfOk result (λ v. IsPartition (range_of para.now).start (range_of para.now).end (map run_of v.items)) }
-    ensures each_is_line { IfOk result (λ v. All (IsLineOf (analysed_of info.now)) v.items) }
+    ensures partition { IfOk result (λ v. IsPartition (range_of para.now).start (range_of para.now).end (map run_of v.items)) }
+    ensures are_lines { IfOk result (λ v. All (IsLineOf (analysed_of info.now)) v.items) }
 {
     lines_of(
         alloc,
@@ -110,19 +110,19 @@ fn char_levels(
     info: &BidiInfo<'_>,
     para: &ParagraphInfo,
     line: Range<usize>,
-) -> Result<ShownLevels, AllocError>
+) -> Result<LineLevels, AllocError>
     requires { IsLineOf (analysed_of info.now) line }
     ensures { IfOk result (λ s. kept_levels s ≡ line_levels_per_char (analysed_of info.now) (level_of para.now) line) }
 {
     let text = StrText::new(info.text()).subrange(line.start..line.end);
     let classes = &info.original_classes()[line.start..line.end];
-    let mut shown = ShownLevels::new(alloc);
-    shown.show(para.level(), classes, &info.levels()[line.start..line.end])?;
-    shown.keep_first_units(text);
-    Ok(shown)
+    let mut after_l1 = LineLevels::new(alloc);
+    after_l1.show(para.level(), classes, &info.levels()[line.start..line.end])?;
+    after_l1.keep_first_units(text);
+    Ok(after_l1)
 }
 
-// Returns whether each index is at its own place.
+// Returns whether each entry is its own index.
 fn is_in_order(order: &[usize]) -> bool
     ensures ordered { result ≡ true → order.now ≡ indexes order.now }
     ensures other { result ≡ false → order.now ≢ indexes order.now }
@@ -135,7 +135,7 @@ fn is_in_order(order: &[usize]) -> bool
     true
 }
 
-// Returns the entry of a list at an index, or `None` from `len` on. An empty list stands for the indexes up to `len`.
+// Returns the entry of a list at an index, or `None` from `len` on. An empty list stands for the indexes below `len`.
 fn entry_at(list: &[usize], len: usize, index: usize) -> Option<usize>
     ensures { result ≡ slice_get (entries list.now len) index }
 {
@@ -148,9 +148,9 @@ fn entry_at(list: &[usize], len: usize, index: usize) -> Option<usize>
     }
 }
 
-/// Where each character of a line is displayed, and which character is displayed at each place (L2).
+/// The visual index of each character of a line, and the character at each visual index (L2).
 ///
-/// Characters and visual places are counted from 0, visual places from the left.
+/// Characters are counted from the line's start, and visual indexes from its left, both from 0.
 #[derive(PartialEq, Debug, Drop)]
 pub struct LineMap {
     len: usize,
@@ -180,7 +180,7 @@ impl LineMap {
     // Returns the map of a line, given the levels of its characters after L1.
     fn of_levels(alloc: Global, levels: &[Level]) -> Result<LineMap, AllocError>
         ensures order { IfOk result (λ m. order_of m ≡ visual_order levels.now) }
-        ensures places { IfOk result (λ m. places_of m ≡ visual_places levels.now) }
+        ensures places { IfOk result (λ m. places_of m ≡ visual_indexes levels.now) }
     {
         let len = levels.len();
         if !has_rtl(levels) {
@@ -196,9 +196,9 @@ impl LineMap {
 
     /// Returns the map of a line.
     ///
-    /// The line is a range of bytes of the text that cuts no character (see `is_line`). Its levels are those
-    /// after L1 with the level of `para`. Takes time linear in the line. A line of up to 256 bytes allocates
-    /// only the two lists of the map, and neither if its characters stay in order.
+    /// The line is a range of bytes of the text that cuts no character (see `is_line`). Its levels are those after L1,
+    /// by the level of `para`. Takes time linear in the line. A line of up to 256 bytes allocates only the two lists of
+    /// the map, and neither if its characters stay in order.
     pub fn new(
         alloc: Global,
         info: &BidiInfo<'_>,
@@ -209,13 +209,13 @@ impl LineMap {
         ensures order { IfOk result (λ m. order_of m
             ≡ visual_order (line_levels_per_char (analysed_of info.now) (level_of para.now) line)) }
         ensures places { IfOk result (λ m. places_of m
-            ≡ visual_places (line_levels_per_char (analysed_of info.now) (level_of para.now) line)) }
+            ≡ visual_indexes (line_levels_per_char (analysed_of info.now) (level_of para.now) line)) }
     {
         let levels = char_levels(alloc, info, para, line)?;
         LineMap::of_levels(alloc, levels.as_slice())
     }
 
-    /// Returns the number of characters, which is the number of visual places.
+    /// Returns the number of characters, which is the number of visual indexes.
     pub fn len(&self) -> usize
         ensures order { result ≡ length (order_of self.now) }
         ensures places { result ≡ length (places_of self.now) }
@@ -223,7 +223,7 @@ impl LineMap {
         self.len
     }
 
-    /// Returns the character at a visual place, or `None` from `len()` on.
+    /// Returns the index of the character at a visual index, or `None` from `len()` on.
     pub fn visual_to_logical(&self, visual: usize) -> Option<usize>
         ensures found { result ≡ slice_get (order_of self.now) visual }
         ensures back { IfSome result (λ logical. slice_get (places_of self.now) logical ≡ Some visual) }
@@ -231,7 +231,7 @@ impl LineMap {
         entry_at(self.order.as_slice(), self.len, visual)
     }
 
-    /// Returns the visual place of a character, or `None` from `len()` on.
+    /// Returns the visual index of a character, or `None` from `len()` on.
     pub fn logical_to_visual(&self, logical: usize) -> Option<usize>
         ensures found { result ≡ slice_get (places_of self.now) logical }
         ensures back { IfSome result (λ visual. slice_get (order_of self.now) visual ≡ Some logical) }

@@ -10,9 +10,8 @@
 //! BidiInfo::reorder_visual(alloc, levels)?;   // of levels 1 3 3 2 1: 4 2 1 3 0
 //! ```
 //!
-//! Texts of UTF-16 have the same calls in `utf16`, and any other text goes through `engine`.
-//! `CALLING.md` in this crate's folder has callers with contracts, the clauses that callers use most,
-//! and what each call costs.
+//! Texts of UTF-16 have the same calls in `utf16`. For any other text, use `engine`. `CALLING.md` in this crate's
+//! folder has callers with contracts, the clauses that callers use most, and what each call costs.
 #![tactic(auto)]
 
 mod base_direction;
@@ -23,11 +22,11 @@ pub mod explicit;
 pub mod implicit;
 mod info;
 mod initial_info;
-pub mod kept_line;
 pub mod layout;
 mod paragraph;
 mod paragraph_bidi_info;
 pub mod prepare;
+pub mod stored_line;
 pub mod utf16;
 mod utf8;
 mod version;

@@ -7,9 +7,9 @@ ghost use Rattle.bidi_paragraphs.specs.ParagraphInfo.{range_of};
 use crate::info::BidiInfo;
 use bidi_base::char_data::Direction;
 use bidi_base::level::Level;
+use bidi_lines::level_direction::direction_of;
 use bidi_paragraphs::paragraph_info::ParagraphInfo;
 use bidi_text::text::TextSource;
-use bidi_lines::level_direction::direction_of;
 
 /// A paragraph, and the result of the algorithm for its text.
 #[derive(Debug, Drop)]
@@ -45,8 +45,8 @@ impl<'a, T: TextSource> Paragraph<'a, T> {
 
     /// Returns the direction of the paragraph's levels.
     ///
-    /// It is left-to-right if there are levels and all are even, right-to-left if none is even, and mixed
-    /// otherwise. The range must be inside the text.
+    /// It is left-to-right if there are levels and all are even, right-to-left if none is even, and mixed otherwise.
+    /// The paragraph's range must be inside the text. Takes time linear in the range.
     pub fn direction(&self) -> Direction
         requires { (range_of (para_of self.now)).end ≤ length (levels_of_info (info_of self.now)) }
         ensures { let range = range_of (para_of self.now) in
@@ -58,7 +58,7 @@ impl<'a, T: TextSource> Paragraph<'a, T> {
 
     /// Returns the level of the character at a code unit, counted from the paragraph's start.
     ///
-    /// The code unit must be inside the text.
+    /// The code unit must be inside the text, but may be outside the paragraph.
     pub fn level_at(&self, pos: usize) -> Level
         requires { (range_of (para_of self.now)).start + pos < length (levels_of_info (info_of self.now)) }
         ensures { result ≡ slice_index (levels_of_info (info_of self.now)) ((range_of (para_of self.now)).start + pos) }

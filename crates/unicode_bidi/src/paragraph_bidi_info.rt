@@ -1,13 +1,13 @@
 // The result of the algorithm for a text that is one paragraph.
 ghost use Rattle.std.specs.Prelude.{◌≡◌, ◌<◌, ◌≤◌, IfOk, IfSome, None, [], ◌∷◌, OnOk, OnErr, map};
-ghost use Rattle.bidi_base.specs.Analysed.{IsAnalysis, IsLineOf, AreLevelsWithLine, AreLevelsOfLine, AreRunsOfLine, levels_with_line_per_char};
+ghost use Rattle.bidi_base.specs.AnalysedText.{IsAnalysis, IsLineOf, AreLevelsWithLine, AreLevelsOfLine, AreRunsOfLine, levels_with_line_per_char};
 ghost use Rattle.bidi_base.specs.Direction.{direction_of_levels, is_pure_ltr as is_pure_ltr_of};
 ghost use Rattle.bidi_base.specs.Display.{run_of};
 ghost use Rattle.bidi_base.specs.Levels.{has_rtl as has_rtl_of};
 ghost use Rattle.bidi_lines.specs.LineOrder.{IsLineOrder};
 ghost use Rattle.bidi_base.specs.PerChar.{HaveClass, HaveLevel};
 ghost use Rattle.bidi_base.specs.Text.{text_len};
-ghost use Rattle.unicode_bidi.specs.Analysed.{ObeysLaws};
+ghost use Rattle.unicode_bidi.specs.Analysis.{ObeysLaws};
 
 use crate::engine;
 use bidi_base::char_data::{BidiClass, Direction};
@@ -78,7 +78,7 @@ impl<T: TextSource> ParagraphBidiInfo<T> {
 
     /// Returns the class of each code unit's character.
     ///
-    /// An FSI whose isolate has a deciding character is RLI or LRI here (X5c).
+    /// An FSI is RLI or LRI here if a character decides its direction (X5c).
     pub fn original_classes(&self) -> &[BidiClass]
         ensures classes { result.now ≡ original_classes self.now }
         ensures per_char { let a = analysed_of self.now in HaveClass a.len_of a.chars result.now }
@@ -113,7 +113,7 @@ impl<T: TextSource> ParagraphBidiInfo<T> {
         self.is_pure_ltr
     }
 
-    /// Returns whether some level is odd, and so right-to-left.
+    /// Returns whether some level is odd, and so right-to-left. Takes time linear in the text.
     pub fn has_rtl(&self) -> bool
         ensures { result ≡ has_rtl_of (levels_of_info self.now) }
     {
@@ -122,15 +122,17 @@ impl<T: TextSource> ParagraphBidiInfo<T> {
 
     /// Returns the direction of the levels.
     ///
-    /// It is left-to-right if there are levels and all are even, right-to-left if none is even, and mixed
-    /// otherwise.
+    /// It is left-to-right if there are levels and all are even, right-to-left if none is even, and mixed otherwise.
+    /// Takes time linear in the text.
     pub fn direction(&self) -> Direction
         ensures { result ≡ direction_of_levels (levels_of_info self.now) }
     {
         self.paragraph.direction()
     }
 
-    /// Returns the level of each code unit of the whole text: after L1 in the line, and before L1 outside it.
+    /// Returns the level of each code unit of the whole text: after L1 in the line, and as stored outside it.
+    ///
+    /// Takes time linear in the text. `levels_of_line` takes time linear in the line.
     pub fn reordered_levels(
         &self,
         alloc: Global,
@@ -143,7 +145,9 @@ impl<T: TextSource> ParagraphBidiInfo<T> {
             .reordered_levels(alloc, self.paragraph_level, line)
     }
 
-    /// Returns the level of each character of the whole text: after L1 in the line, and before L1 outside it.
+    /// Returns the level of each character of the whole text: after L1 in the line, and as stored outside it.
+    ///
+    /// Takes time linear in the text.
     pub fn reordered_levels_per_char(
         &self,
         alloc: Global,
@@ -158,7 +162,8 @@ impl<T: TextSource> ParagraphBidiInfo<T> {
 
     /// Returns the levels of `reordered_levels`, and the level runs (BD7) of the line from left to right (L2).
     ///
-    /// Runs are ranges of code units of the text. The line must not be empty.
+    /// Runs are ranges of code units of the text. The line must not be empty. Takes time linear in the text.
+    /// `line_runs` takes time linear in the line.
     pub fn visual_runs(
         &self,
         alloc: Global,
@@ -176,19 +181,23 @@ impl<T: TextSource> ParagraphBidiInfo<T> {
 
     /// Returns the level of each code unit of the line after L1, that of `line.start` first.
     ///
-    /// Takes time linear in the line. `reordered_levels` takes time linear in the text.
-    pub fn line_levels(&self, alloc: Global, line: Range<usize>) -> Result<Vec<Level>, AllocError>
+    /// Takes time linear in the line.
+    pub fn levels_of_line(
+        &self,
+        alloc: Global,
+        line: Range<usize>,
+    ) -> Result<Vec<Level>, AllocError>
         requires { IsLineOf (analysed_of self.now) line }
         ensures { IfOk result (λ v. AreLevelsOfLine (analysed_of self.now) (paragraph_level self.now) line v.items) }
     {
         self.paragraph
-            .line_levels(alloc, self.paragraph_level, line)
+            .levels_of_line(alloc, self.paragraph_level, line)
     }
 
     /// Returns the level runs (BD7) of the line after L1, from left to right (L2).
     ///
-    /// Runs are ranges of code units of the text. An empty line has none. `line_levels` has the level of each.
-    /// Takes time linear in the line. `visual_runs` takes time linear in the text.
+    /// Runs are ranges of code units of the text. An empty line has none. `levels_of_line` has the level of each. Takes
+    /// time linear in the line.
     pub fn line_runs(
         &self,
         alloc: Global,
@@ -202,24 +211,23 @@ impl<T: TextSource> ParagraphBidiInfo<T> {
 
     /// Shows a line of the text in a value that keeps its memory for the next line.
     ///
-    /// `shown` then has the line's levels after L1, its visual runs (L2), the order of its characters, and
-    /// its text from left to right. A line of up to 256 code units with up to 16 runs allocates nothing.
-    /// Takes time linear in the line. If an allocation fails, `shown` shows the empty line at the start of
-    /// the text.
+    /// `shown` then has the line's levels after L1, its visual runs (L2), the order of its characters, and its text
+    /// from left to right. To show a line of up to 256 code units with up to 16 runs, it does not allocate. Takes time
+    /// linear in the line. If an allocation fails, `shown` shows the empty line at the start of the text.
     pub fn show_line(&self, shown: &mut ShownLine<T>, line: Range<usize>) -> Result<(), AllocError>
         requires { IsLineOf (analysed_of self.now) line }
         ensures text { shown_text shown.new ≡ analysed_text self.now.paragraph }
         ensures shows { OnOk result (Shows shown.new (analysed_of self.now) (paragraph_level self.now) line) }
-        ensures empty { OnErr result (Shows shown.new (analysed_of self.now) (paragraph_level self.now)
+        ensures emptied { OnErr result (Shows shown.new (analysed_of self.now) (paragraph_level self.now)
             (record { start = 0; end = 0 })) }
     {
         shown.show(&self.paragraph, self.paragraph_level, line)
     }
 
-    /// Returns the visual order of a line's items (L2): for each place from the left, the index of the item
-    /// there.
+    /// Returns the visual order of a line's items (L2): for each visual index, the index of the item there.
     ///
-    /// `levels` has the level of each item after L1. An item may be a code unit, a character or a run.
+    /// `levels` has the level of each item after L1. An item may be a code unit, a character or a run. The cost is the
+    /// list, times the nesting depth of its reversed ranges.
     pub fn reorder_visual(alloc: Global, levels: &[Level]) -> Result<Vec<usize>, AllocError>
         ensures { IfOk result (λ v. IsLineOrder levels.now v.items) }
     {

@@ -6,11 +6,11 @@
 ghost use Rattle.std.specs.Prelude.{◌≡◌, ◌≤◌, ◌↔◌, IfOk, IfSome, Some, None, [], ◌∷◌, map};
 ghost use Rattle.std.specs.Char.Escape.{encode_utf16};
 ghost use Rattle.std.specs.Cow.{cow_slice_items, IsBorrowedSlice};
-ghost use Rattle.bidi_base.specs.Analysed.{AreParagraphs, IsAnalysis, IsLineOf, IsTextOfLine, StaysInOrder};
+ghost use Rattle.bidi_base.specs.AnalysedText.{AreParagraphs, IsAnalysis, IsLineOf, IsTextOfLine, StaysInOrder};
 ghost use Rattle.bidi_base.specs.Direction.{is_pure_ltr as is_pure_ltr_of};
 ghost use Rattle.bidi_paragraphs.specs.ParagraphInfo.{level_of, ranges_of, levels_of};
 ghost use Rattle.bidi_base.specs.Text.{text_len};
-ghost use Rattle.unicode_bidi.specs.Analysed.{Constructs};
+ghost use Rattle.unicode_bidi.specs.Analysis.{Constructs};
 
 use crate::{info, initial_info, paragraph, paragraph_bidi_info};
 use bidi_base::data_source::BidiDataSource;
@@ -41,7 +41,7 @@ pub type InitialInfo<'t> = initial_info::InitialInfo<Utf16Text<'t>>;
 /// A paragraph, and the result of the algorithm for its text.
 pub type Paragraph<'a, 't> = paragraph::Paragraph<'a, Utf16Text<'t>>;
 
-/// A line as it is shown: its levels after L1, its visual runs (L2), the order of its characters, and its text.
+/// A line as it is displayed: its levels after L1, its visual runs (L2), the order of its characters, and its text.
 ///
 /// Shows one line after another (see `show_line` of the info types), and reuses its memory. Runs are ranges of
 /// code units.
@@ -52,8 +52,9 @@ impl<'t> info::BidiInfo<Utf16Text<'t>> {
 
     /// Finds the paragraphs of a text, and the class and the level of each character (P1 to I2).
     ///
-    /// A base level, at most 125, is the level of every paragraph. Without one, each paragraph gets its level
-    /// from its characters (P2, P3). Each FSI is resolved (X5c).
+    /// A base level, at most 125, is the level of every paragraph. Without one, each paragraph gets its level from its
+    /// characters (P2, P3). Each FSI is resolved (X5c). Reads the text a few times. The result has two bytes for each
+    /// code unit: its class and its level.
     pub fn new_with_data_source<D: BidiDataSource>(
         alloc: Global,
         data_source: &D,
@@ -72,8 +73,9 @@ impl<'t> info::BidiInfo<Utf16Text<'t>> {
     /// Finds the paragraphs of a text, which end where `rule` says, and the class and the level of each character
     /// (P1 to I2).
     ///
-    /// A base level, at most 125, is the level of every paragraph. Without one, each paragraph gets its level
-    /// from its characters (P2, P3). Each FSI is resolved (X5c).
+    /// A base level, at most 125, is the level of every paragraph. Without one, each paragraph gets its level from its
+    /// characters (P2, P3). Each FSI is resolved (X5c). Reads the text a few times. The result has two bytes for each
+    /// code unit: its class and its level.
     ///
     /// With `CrLfTogether`, a U+000D of class B directly before a U+000A of class B stays with it. The U+000D
     /// has the paragraph level, and closes nothing.
@@ -103,9 +105,9 @@ impl<'t> info::BidiInfo<Utf16Text<'t>> {
     /// Returns the text of the line from left to right: its characters in the order of L2, by their levels
     /// after L1.
     ///
-    /// An unpaired surrogate is 0xFFFD at an odd level, and unchanged at an even level. Combining marks (L3)
-    /// are not moved, and characters are not mirrored (L4). The text is borrowed, and nothing is allocated for
-    /// it, exactly if no level of the line is odd after L1.
+    /// An unpaired surrogate is 0xFFFD at an odd level, and unchanged at an even level. Combining marks (L3) are not
+    /// moved, and characters are not mirrored (L4). The text is borrowed, and nothing is allocated for it, exactly if
+    /// no level of the line is odd after L1. Takes time linear in the line.
     pub fn reorder_line(
         &self,
         alloc: Global,
@@ -127,8 +129,9 @@ impl<'t> paragraph_bidi_info::ParagraphBidiInfo<Utf16Text<'t>> {
     /// Finds the level of a text that is one paragraph, and the class and the level of each character (P2 to
     /// I2).
     ///
-    /// A base level, at most 125, is the level of the paragraph. Without one, the characters decide (P2, P3).
-    /// Each FSI is resolved (X5c).
+    /// A base level, at most 125, is the level of the paragraph. Without one, the characters decide (P2, P3). Each FSI
+    /// is resolved (X5c). Reads the text a few times. The result has two bytes for each code unit: its class and its
+    /// level.
     pub fn new_with_data_source<D: BidiDataSource>(
         alloc: Global,
         data_source: &D,
@@ -161,9 +164,9 @@ impl<'t> paragraph_bidi_info::ParagraphBidiInfo<Utf16Text<'t>> {
     /// Returns the text of the line from left to right: its characters in the order of L2, by their levels
     /// after L1.
     ///
-    /// An unpaired surrogate is 0xFFFD at an odd level, and unchanged at an even level. Combining marks (L3)
-    /// are not moved, and characters are not mirrored (L4). The text is borrowed, and nothing is allocated for
-    /// it, exactly if no level of the line is odd after L1.
+    /// An unpaired surrogate is 0xFFFD at an odd level, and unchanged at an even level. Combining marks (L3) are not
+    /// moved, and characters are not mirrored (L4). The text is borrowed, and nothing is allocated for it, exactly if
+    /// no level of the line is odd after L1. Takes time linear in the line.
     pub fn reorder_line(
         &self,
         alloc: Global,
@@ -185,7 +188,9 @@ impl<'t> initial_info::InitialInfo<Utf16Text<'t>> {
 
     /// Finds the paragraphs of a text with their levels (P1 to P3), and the class of each character.
     ///
-    /// A base level, which may be any, is the level of every paragraph. Each FSI is resolved (X5c).
+    /// A base level, which may be any level, is the level of every paragraph. Without one, each paragraph gets its
+    /// level from its characters (P2, P3). Each FSI is resolved (X5c). Takes time linear in the text. The result has
+    /// one byte for each code unit: its class.
     pub fn new_with_data_source<D: BidiDataSource>(
         alloc: Global,
         data_source: &D,

@@ -4,14 +4,14 @@ ghost use Rattle.std.specs.Prelude.{◌≡◌, ◌+◌, ◌-◌, ◌≤◌, leng
 ghost use Rattle.bidi_explicit.specs.ExplicitStretches.{put_over, IsOverridden, IsUnread};
 
 use super::stretches::{KeptInPlace, Paragraph};
-use super::{Stride, write_class};
+use super::{StepUnit, write_class};
 use crate::prepare::Steps;
 use bidi_base::char_data::BidiClass;
 use bidi_base::search::ClassTest;
 use bidi_text::text::TextSource;
 use std::sync::ledger::Ledger;
 
-// The class that an override puts in place of another, which is no control's (X6). BN stays.
+// Returns the class that an override puts in place of another, which is no control's (X6). BN stays.
 fn put_over(put: BidiClass, class: BidiClass) -> BidiClass
     ensures { result ≡ put_over put class }
 {
@@ -54,7 +54,7 @@ impl<T: TextSource> Paragraph<'_, T> {
         put: BidiClass,
         steps: &mut Steps<S>,
     )
-        requires classes { length classes.old ≡ length self.now.original_classes.now }
+        requires same_len { length classes.old ≡ length self.now.original_classes.now }
         requires begins { IsStart self.now from }
         requires ends { IsStart self.now to }
         requires ordered { from ≤ to }
@@ -84,20 +84,20 @@ impl<T: TextSource> Paragraph<'_, T> {
         override_class: Option<BidiClass>,
         steps: &mut Steps<S>,
     )
-        requires classes { length classes.old ≡ length self.now.original_classes.now }
+        requires same_len { length classes.old ≡ length self.now.original_classes.now }
         requires begins { IsStart self.now from }
         requires ends { IsStart self.now to }
         requires ordered { from ≤ to }
         requires within { to ≤ length self.now.original_classes.now }
         requires unread { IsUnread self.now.original_classes.now classes.old from }
         ensures put { IsOverridden override_class from to classes.old classes.new }
-        ensures at_least { steps.old ≤ steps.new }
-        ensures at_most { steps.new ≤ steps.old + (counted_to self.now to - counted_to self.now from) }
+        ensures steps_at_least { steps.old ≤ steps.new }
+        ensures steps_at_most { steps.new ≤ steps.old + (counted_to self.now to - counted_to self.now from) }
     {
         if let Some(put) = override_class {
-            match self.stride {
-                Stride::CodeUnit => put_override(classes, from, to, put, steps),
-                Stride::Character => self.put_on_characters(classes, from, to, put, steps),
+            match self.step_unit {
+                StepUnit::CodeUnit => put_override(classes, from, to, put, steps),
+                StepUnit::Character => self.put_on_characters(classes, from, to, put, steps),
             }
         }
     }

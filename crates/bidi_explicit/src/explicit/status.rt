@@ -3,8 +3,8 @@
 ghost use Rattle.std.specs.Prelude.{◌≡◌, ℕ, ◌<◌, ◌≤◌, ◌+◌, ◌^◌, [], ◌∷◌, true, false, length, map, reverse, Some, None, unwrap_or, if◌then◌else◌};
 ghost use Rattle.std.specs.Result.{OkIff};
 ghost use Rattle.bidi_base.specs.declared.char_data.BidiClass.TheVariants.{BN};
-ghost use Rattle.bidi_base.specs.Classes.{is_initiator, is_kept, is_removed};
-ghost use Rattle.bidi_base.specs.Explicit.{asked_level, override_of};
+ghost use Rattle.bidi_base.specs.Classes.{is_isolate_initiator, is_kept, is_removed};
+ghost use Rattle.bidi_base.specs.Explicit.{next_level, override_of};
 ghost use Rattle.bidi_base.specs.StatusMachine.{State, start, answer_class, answer_level, entered, closed, step, fits_in, close_isolate, close_embedding, drop_isolate, counted, IsWithinDepth, IsPoppable};
 ghost use Rattle.bidi_explicit.specs.Control.{is_control};
 ghost use Rattle.bidi_explicit.specs.Status.{below_last, entry_count, seen, state_by, IsLast};
@@ -16,11 +16,14 @@ use bidi_base::level::{Error, LTR_LEVEL, Level};
 use std::marker::Model;
 use std::sync::ledger::Ledger;
 
-/// An entry of the directional status stack: the status of the paragraph, or inside an initiator that did not overflow.
+/// An entry of the directional status stack: the status of the paragraph, or inside an opener that did not overflow.
 #[derive(Clone, Copy)]
 pub struct StatusEntry {
+    /// The embedding level.
     pub level: Level,
+    /// The class that an override gives to characters, L or R, if there is an override.
     pub override_class: Option<BidiClass>,
+    /// Whether the opener is an isolate initiator.
     pub is_isolate: bool,
 }
 
@@ -37,13 +40,16 @@ impl Default for StatusEntry {
 /// What the pass writes for a control, and whether X9 keeps it.
 #[derive(Clone, Copy)]
 pub struct Answer {
+    /// Its explicit level.
     pub level: Level,
+    /// Its processing class: BN if X9 removes it.
     pub class: BidiClass,
+    /// Whether X9 keeps it.
     pub is_kept: bool,
 }
 
 impl StatusEntry {
-    // The answer for an isolate control, which takes the override (X5a to X6a).
+    // Returns what is written for an isolate control, which takes the override (X5a to X6a).
     fn answer_kept(self, class: BidiClass) -> Answer
         ensures level { result.level ≡ self.level }
         ensures class { result.class ≡ unwrap_or self.override_class class }
@@ -56,7 +62,7 @@ impl StatusEntry {
         }
     }
 
-    // The answer for a control that X9 removes.
+    // Returns what is written for a control that X9 removes.
     fn answer_removed(self) -> Answer
         ensures level { result.level ≡ self.level }
         ensures class { result.class ≡ BN }
@@ -91,7 +97,7 @@ impl Model for StatusStack {
     ghost invariant = { λ s. IsLast s.top s.entries.items };
 }
 
-// The class that an initiator gives to the characters inside it, if it is an override.
+// Returns the class that an opener gives to the characters inside it, if it is an override.
 fn override_class(class: BidiClass) -> Option<BidiClass>
     ensures { result ≡ override_of class }
 {
@@ -102,9 +108,9 @@ fn override_class(class: BidiClass) -> Option<BidiClass>
     }
 }
 
-// The level inside an initiator, or an error exactly if it would be above 125.
-fn asked(class: BidiClass, level: Level) -> Result<Level, Error>
-    ensures { OkIff result (asked_level class level ≤ 125) (asked_level class level) }
+// Returns the level inside an opener, or an error exactly if it would be above 125.
+fn next_level(class: BidiClass, level: Level) -> Result<Level, Error>
+    ensures { OkIff result (next_level class level ≤ 125) (next_level class level) }
 {
     if is_rtl(class) {
         level.new_explicit_next_rtl()
@@ -116,7 +122,7 @@ fn asked(class: BidiClass, level: Level) -> Result<Level, Error>
 // Pops the entries above the innermost isolate, and the isolate itself. Counts one step for each entry.
 fn pop_isolate<S: Ledger>(entries: &mut ArrayVec<StatusEntry, 126>, steps: &mut Steps<S>)
     ensures stack { drop_isolate (map seen (reverse entries.old.items)) ≡ map seen (reverse entries.new.items) }
-    ensures at_least { steps.old ≤ steps.new }
+    ensures steps_at_least { steps.old ≤ steps.new }
     ensures popped { steps.new + length entries.new.items ≡ steps.old + length entries.old.items }
 {
     while let Some(entry) = entries.pop() {
@@ -127,7 +133,7 @@ fn pop_isolate<S: Ledger>(entries: &mut ArrayVec<StatusEntry, 126>, steps: &mut 
     }
 }
 
-// The entries of a stack that has only this one.
+// Returns the entries of a stack that has only this one.
 fn only(entry: StatusEntry) -> ArrayVec<StatusEntry, 126>
     ensures { result.items ≡ entry ∷ [] }
 {
@@ -136,7 +142,7 @@ fn only(entry: StatusEntry) -> ArrayVec<StatusEntry, 126>
     entries
 }
 
-// The last entry.
+// Returns the last entry.
 fn last(entries: &ArrayVec<StatusEntry, 126>) -> StatusEntry
     requires { 0 < length entries.now.items }
     ensures { IsLast result entries.now.items }
@@ -145,7 +151,7 @@ fn last(entries: &ArrayVec<StatusEntry, 126>) -> StatusEntry
 }
 
 impl StatusStack {
-    /// The stack of a paragraph, before its first character (X1).
+    /// Returns the stack of a paragraph, before its first character (X1).
     pub fn new(paragraph: Level) -> Self
         ensures { result ≡ start paragraph }
     {
@@ -163,8 +169,8 @@ impl StatusStack {
         }
     }
 
-    /// Reads a control: closes what it closes, answers by the status at it, and opens what it opens. The steps that
-    /// pop the stack are charged to the popped entries.
+    /// Reads a control: closes what it closes, returns what is written for it by the status then, and opens what it
+    /// opens. The steps that pop the stack are charged to the popped entries.
     ///
     /// One `match` on the class chooses all of that.
     #[inline(always)]
@@ -183,8 +189,8 @@ impl StatusStack {
         ensures class { result.class ≡ (if is_removed class then BN else answer_class class self.old) }
         ensures is_kept { result.is_kept ≡ is_kept class }
         ensures state { self.new ≡ step class self.old }
-        ensures at_least { steps.old ≤ steps.new }
-        ensures at_most { steps.new + entry_count self.new ≤ steps.old + entry_count self.old + 1 }
+        ensures steps_at_least { steps.old ≤ steps.new }
+        ensures steps_at_most { steps.new + entry_count self.new ≤ steps.old + entry_count self.old + 1 }
     {
         match class {
             BidiClass::LRI | BidiClass::RLI | BidiClass::FSI => {
@@ -226,8 +232,8 @@ impl StatusStack {
     fn close_isolate<S: Ledger>(&mut self, steps: &mut Steps<S>)
         requires { IsPoppable self.old }
         ensures state { self.new ≡ close_isolate self.old }
-        ensures at_least { steps.old ≤ steps.new }
-        ensures at_most { steps.new + entry_count self.new ≤ steps.old + entry_count self.old }
+        ensures steps_at_least { steps.old ≤ steps.new }
+        ensures steps_at_most { steps.new + entry_count self.new ≤ steps.old + entry_count self.old }
     {
         if self.overflow_isolates > 0 {
             self.overflow_isolates -= 1;
@@ -261,23 +267,23 @@ impl StatusStack {
         }
     }
 
-    // The level inside an initiator. `None` if it would be above 125, or if an open initiator has
+    // Returns the level inside an opener, or `None` if it would be above 125 or if an open opener has
     // overflowed.
     fn taken_level(&self, class: BidiClass) -> Option<Level>
-        ensures { result ≡ (if fits_in class self.now then Some (asked_level class self.now.top.status.level) else None) }
+        ensures { result ≡ (if fits_in class self.now then Some (next_level class self.now.top.status.level) else None) }
     {
         if self.overflow_isolates == 0 && self.overflow_embeddings == 0 {
-            asked(class, self.top.level).ok()
+            next_level(class, self.top.level).ok()
         } else {
             None
         }
     }
 
-    // Pushes an initiator's entry, or counts its overflow.
+    // Pushes an opener's entry, or counts its overflow.
     fn enter(&mut self, class: BidiClass, is_isolate: bool)
         requires depth { (paragraph : ℕ) × IsWithinDepth paragraph self.old }
         requires counts { counted self.old + 1 < 2 ^ 64 }
-        requires isolate { is_isolate ≡ is_initiator class }
+        requires isolate { is_isolate ≡ is_isolate_initiator class }
         ensures { self.new ≡ entered class self.old }
     {
         if let Some(level) = self.taken_level(class) {

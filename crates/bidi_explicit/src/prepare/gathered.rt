@@ -3,9 +3,9 @@
 ghost use Rattle.std.specs.Prelude.{◌≡◌, ◌≤◌, length, IsTrue};
 ghost use Rattle.bidi_base.specs.Units.{is_run_sequence};
 ghost use Rattle.bidi_explicit.specs.Gathered.{gathered_in};
-ghost use Rattle.bidi_explicit.specs.RunSequence.{lent_joined};
+ghost use Rattle.bidi_explicit.specs.RunSequence.{borrowed_joined};
 
-use super::{LentSequence, LevelRun};
+use super::{BorrowedSequence, LevelRun};
 use bidi_base::char_data::BidiClass;
 
 /// Where the level runs of a sequence are in a list of runs, and the classes at both ends.
@@ -35,12 +35,12 @@ impl GatheredSequence {
     /// Borrows the sequence's runs. `runs` must be the list that was passed to
     /// [`RunLinks::gather`](super::RunLinks::gather). If the sequence has several runs, the next call of `gather`
     /// overwrites them.
-    pub fn lend(self, runs: &[LevelRun]) -> LentSequence<'_>
+    pub fn borrowed(self, runs: &[LevelRun]) -> BorrowedSequence<'_>
         requires ordered { self.start ≤ self.end }
         requires inside { self.end ≤ length runs.now }
         requires well_formed { let s = gathered_in self runs.now in IsTrue (is_run_sequence s.runs s.sos s.eos) }
-        ensures { lent_joined result ≡ gathered_in self runs.now }
+        ensures { borrowed_joined result ≡ gathered_in self runs.now }
     {
-        LentSequence::new(&runs[self.start..self.end], self.sos, self.eos)
+        BorrowedSequence::new(&runs[self.start..self.end], self.sos, self.eos)
     }
 }

@@ -2,14 +2,13 @@
 
 ghost use Rattle.std.specs.Prelude.{◌≡◌, ℕ, ◌<◌, [], ◌∷◌, ◌++◌, length, map, drop, flat_map, get_or, All, IsPermutation, IsTrue, OnOk, IfOk, IfSome, is_some, if◌then◌else◌};
 ghost use Rattle.std.specs.declared.ops.Range.{Range};
-ghost use Rattle.bidi_base.specs.PerChar.{HaveClass, HaveLevel};
-ghost use Rattle.bidi_base.specs.declared.char_data.BidiClass.TheVariants.{L};
+ghost use Rattle.bidi_base.specs.Texts.{IsLine, is_boundary, HaveClass, AreLines};
 ghost use Rattle.bidi_base.specs.Explicit.{explicit_levels};
-ghost use Rattle.bidi_base.specs.Places.{last_or};
+ghost use Rattle.bidi_base.specs.Indexes.{last_or};
 ghost use Rattle.bidi_base.specs.Sequences.{sequences, HasExplicitLevels, FlagsInitiators};
-ghost use Rattle.bidi_base.specs.Text.{IsLine, is_boundary, per_char};
-ghost use Rattle.bidi_base.specs.Units.{bounds, level_run_ranges, AreLines};
-ghost use Rattle.bidi_explicit.specs.Joining.{read_units};
+ghost use Rattle.bidi_base.specs.Units.{bounds};
+ghost use Rattle.bidi_explicit.specs.InText.{read_units, sequences_of};
+ghost use Rattle.bidi_explicit.specs.LeveledText.{text_of, classes_of, levels_of, IsLeveled, AreLevelRuns};
 
 use super::joining::{kept_end, level_after, read_run, side};
 use super::waiting::Waiting;
@@ -45,8 +44,9 @@ pub struct RunLinks {
 }
 
 impl RunLinks {
+    ghost use Rattle.bidi_explicit.specs.LeveledText.{text_of, classes_of, levels_of, IsLeveled, AreLevelRuns};
     ghost use Rattle.bidi_explicit.specs.Gathered.{IsGatheredIn};
-    ghost use Rattle.bidi_explicit.specs.Links.{with_link, with_sides, begins, next_run, run_chain, sequence_at, linked_runs, linked_sequences, sequences_of, AreLinked, KeepsLinked};
+    ghost use Rattle.bidi_explicit.specs.Links.{with_link, with_sides, begins, next_run, run_chain, sequence_at, linked_runs, linked_sequences, AreLinked, KeepsLinked};
 
     /// Creates links between no runs. Does not allocate.
     pub fn new(alloc: Global) -> RunLinks {
@@ -57,7 +57,7 @@ impl RunLinks {
         }
     }
 
-    /// Removes all links, and makes room for as many runs.
+    /// Removes all links, and makes room for this number of runs.
     fn restart(&mut self, runs: usize) -> Result<(), AllocError>
         ensures next { OnOk result (self.new.next.items ≡ []) }
         ensures sides { OnOk result (self.new.sides.items ≡ []) }
@@ -80,13 +80,13 @@ impl RunLinks {
         kept_end: usize,
         has_isolate_controls: bool,
     ) -> Result<(), AllocError>
-        requires per_char { HaveClass T.units (T.characters text) classes.now }
-        requires line { IsLine T.units (T.characters text) run.now.start run.now.end }
-        requires kept_end { IsTrue (is_boundary T.units (T.characters text) kept_end) }
+        requires per_char { HaveClass (T.text text) classes.now }
+        requires is_line { IsLine (T.text text) run.now.start run.now.end }
+        requires kept_end { IsTrue (is_boundary (T.text text) kept_end) }
         ensures next { self.new.next.items ≡ self.old.next.items }
         ensures sides { self.new.sides.items ≡ self.old.sides.items }
         ensures waiting { OnOk result (self.new.waiting ≡ (if has_isolate_controls
-            then read_units T.units (T.characters text) classes.now kept_end (length self.old.next.items)
+            then read_units (T.text text) classes.now kept_end (length self.old.next.items)
             run.now.start run.now.end self.old.waiting
             else self.old.waiting)) }
     {
@@ -119,11 +119,12 @@ impl RunLinks {
         Ok(())
     }
 
-    /// Links the level runs of a paragraph to its isolating run sequences (BD13, X10).
+    /// Links the level runs of a paragraph into its isolating run sequences (BD13, X10).
     ///
     /// The arguments, and the fields of `leveled`, are the arguments of
-    /// [`isolating_run_sequences`](super::isolating_run_sequences). If an allocation fails, returns an error, and the
-    /// links are those of no paragraph.
+    /// [`isolating_run_sequences`](super::isolating_run_sequences). The links of an earlier paragraph are replaced.
+    /// Returns an error only if an allocation fails. The links may then hold anything, and `gather` must not be called
+    /// before another call of `link` succeeds.
     pub fn link<T: TextSource>(
         &mut self,
         leveled: &LeveledText<'_, T>,
@@ -131,28 +132,21 @@ impl RunLinks {
         runs: &[LevelRun],
         has_isolate_controls: bool,
     ) -> Result<(), AllocError>
-        requires original { HaveClass T.units (T.characters leveled.now.text) leveled.now.original_classes.now }
-        requires levels { HaveLevel T.units (T.characters leveled.now.text) leveled.now.levels.now }
-        requires runs { let stored = per_char L T.units (T.characters leveled.now.text) leveled.now.original_classes.now in
-            map bounds runs.now
-            ≡ level_run_ranges T.units (T.characters leveled.now.text) stored
-            (per_char 0 T.units (T.characters leveled.now.text) leveled.now.levels.now) }
+        requires leveled { IsLeveled leveled.now }
+        requires runs { AreLevelRuns leveled.now (map bounds runs.now) }
         requires isolates { FlagsInitiators leveled.now.original_classes.now has_isolate_controls }
-        ensures sequences { let stored = per_char L T.units (T.characters leveled.now.text) leveled.now.original_classes.now in
-            OnOk result (sequences_of T.units (T.characters leveled.now.text) stored
-            (linked_sequences self.new (map bounds runs.now))
-            ≡ sequences para_level stored (per_char 0 T.units (T.characters leveled.now.text) leveled.now.levels.now)) }
+        ensures sequences { let stored = classes_of leveled.now in
+            OnOk result (sequences_of (text_of leveled.now) stored (linked_sequences self.new (map bounds runs.now))
+            ≡ sequences para_level stored (levels_of leveled.now)) }
         // Only the levels of characters that X9 keeps need be the explicit ones.
-        ensures explicit { let stored = per_char L T.units (T.characters leveled.now.text) leveled.now.original_classes.now in
-            OnOk result (HasExplicitLevels para_level stored
-            (per_char 0 T.units (T.characters leveled.now.text) leveled.now.levels.now)
-            → sequences_of T.units (T.characters leveled.now.text) stored (linked_sequences self.new (map bounds runs.now))
+        ensures explicit { let stored = classes_of leveled.now in
+            OnOk result (HasExplicitLevels para_level stored (levels_of leveled.now)
+            → sequences_of (text_of leveled.now) stored (linked_sequences self.new (map bounds runs.now))
             ≡ sequences para_level stored (explicit_levels para_level stored)) }
         ensures runs { OnOk result
             (IsPermutation (map bounds runs.now) (flat_map (λ s. s.runs) (linked_sequences self.new (map bounds runs.now)))) }
-        ensures fits { OnOk result
-            (All (λ s. AreLines T.units (T.characters leveled.now.text) s.runs)
-            (linked_sequences self.new (map bounds runs.now))) }
+        ensures are_lines { OnOk result
+            (All (λ s. AreLines (text_of leveled.now) s.runs) (linked_sequences self.new (map bounds runs.now))) }
         ensures linked { OnOk result (AreLinked self.new (map bounds runs.now)) }
     {
         let LeveledText {
@@ -182,7 +176,7 @@ impl RunLinks {
         Ok(())
     }
 
-    /// The run that continues the sequence after a run.
+    /// Returns the run that continues the sequence after a run, if one does.
     fn next_run(&self, run: usize) -> Option<usize>
         requires { run < length self.now.next.items }
         ensures { result ≡ next_run self.now.next.items run }
@@ -193,7 +187,7 @@ impl RunLinks {
         }
     }
 
-    /// Returns the number of level runs that were linked.
+    /// Returns the number of level runs that were linked, if the last call of `link` succeeded.
     pub fn run_count(&self) -> usize
         ensures { result ≡ length self.now.next.items }
     {
@@ -205,7 +199,7 @@ impl RunLinks {
     fn copy_chain(&self, runs: &mut LevelRunVec, first: usize) -> Result<usize, AllocError>
         requires linked { AreLinked self.now (linked_runs self.now runs.old.items) }
         requires first { first < length self.now.next.items }
-        ensures kept { OnOk result (KeepsLinked self.now runs.old runs.new) }
+        ensures outside { OnOk result (KeepsLinked self.now runs.old runs.new) }
         ensures runs { OnOk result (map bounds (drop (length self.now.next.items) runs.new.items)
             ≡ map (λ r. get_or (linked_runs self.now runs.old.items) r (0, 0)) (run_chain self.now first)) }
         ensures last { IfOk result (λ last. last ≡ last_or first (run_chain self.now first)) }
@@ -235,7 +229,7 @@ impl RunLinks {
     ) -> Result<Option<GatheredSequence>, AllocError>
         requires linked { AreLinked self.now (linked_runs self.now runs.old.items) }
         requires first { first < length self.now.next.items }
-        ensures kept { OnOk result (KeepsLinked self.now runs.old runs.new) }
+        ensures outside { OnOk result (KeepsLinked self.now runs.old runs.new) }
         ensures begins { IfOk result (λ found. is_some found ≡ begins self.now first) }
         ensures sequence { IfOk result (λ found. IfSome found
             (λ s. IsGatheredIn s runs.new.items (sequence_at self.now (linked_runs self.now runs.old.items) first))) }

@@ -1,10 +1,10 @@
 //! Isolating run sequences as lists of level runs, and iterators over their code units.
 
-ghost use Rattle.std.specs.Prelude.{◌≡◌, ◌≤◌, ◌<◌, ◌↔◌, IsTrue, IfSome, IfOk, OnOk, All, [], ◌∷◌, ◌++◌, map, length, get_or, is_some};
+ghost use Rattle.std.specs.Prelude.{◌≡◌, ◌≤◌, ◌<◌, ◌↔◌, IsTrue, IfSome, IfOk, map, length, get_or, is_some};
 ghost use Rattle.bidi_base.specs.Classes.{is_l_or_r};
 ghost use Rattle.bidi_base.specs.Units.{bounds, are_ordered, is_run_sequence};
 
-use super::{LentSequence, LevelRun};
+use super::{BorrowedSequence, LevelRun};
 use bidi_base::char_data::BidiClass;
 use bidi_text::text::{TextSource, is_line};
 use smallvec::SmallVec;
@@ -22,15 +22,16 @@ pub struct IsolatingRunSequence {
 }
 
 impl IsolatingRunSequence {
-    ghost use Rattle.bidi_explicit.specs.RunSequence.{runs as runs_of, run_bounds, joined, lent_joined, sos as sos_of, eos as eos_of, forwards_left, backwards_left};
-    ghost use Rattle.bidi_base.specs.Units.{AreLines, units_from, units_below};
+    ghost use Rattle.bidi_explicit.specs.RunSequence.{runs as runs_of, joined, borrowed_joined, sos as sos_of, eos as eos_of, forwards_left, backwards_left};
+    ghost use Rattle.bidi_base.specs.Texts.{AreLines};
+    ghost use Rattle.bidi_base.specs.Units.{units_from, units_below};
 
     /// Creates a sequence of these runs.
     ///
     /// Returns `None` unless there is a run, each run is non-empty and ends at or before the start of the
     /// next, and `sos` and `eos` are each L or R.
     pub fn new(runs: Vec<LevelRun>, sos: BidiClass, eos: BidiClass) -> Option<IsolatingRunSequence>
-        ensures accepted { is_some result ≡ is_run_sequence (map bounds runs.items) sos eos }
+        ensures succeeds { is_some result ≡ is_run_sequence (map bounds runs.items) sos eos }
         ensures runs { IfSome result (λ s. runs_of s ≡ runs.items) }
         ensures sos { IfSome result (λ s. sos_of s ≡ sos) }
         ensures eos { IfSome result (λ s. eos_of s ≡ eos) }
@@ -48,9 +49,9 @@ impl IsolatingRunSequence {
     /// Copies the runs of a sequence that borrows them.
     pub(super) fn copied(
         alloc: Global,
-        sequence: LentSequence<'_>,
+        sequence: BorrowedSequence<'_>,
     ) -> Result<IsolatingRunSequence, AllocError>
-        ensures { IfOk result (λ s. joined s ≡ lent_joined sequence.entry) }
+        ensures { IfOk result (λ s. joined s ≡ borrowed_joined sequence.entry) }
     {
         let mut runs = SmallVec::new(alloc);
         for run in sequence.runs() {
@@ -60,21 +61,21 @@ impl IsolatingRunSequence {
         Ok(IsolatingRunSequence { runs, sos, eos })
     }
 
-    /// The level runs, in text order.
+    /// Returns the level runs, in text order.
     pub fn runs(&self) -> &[LevelRun]
         ensures { result.now ≡ runs_of self.now }
     {
         self.runs.as_slice()
     }
 
-    /// The class before the first character.
+    /// Returns the class before the first character.
     pub fn sos(&self) -> BidiClass
         ensures { result ≡ sos_of self.now }
     {
         self.sos
     }
 
-    /// The class after the last character.
+    /// Returns the class after the last character.
     pub fn eos(&self) -> BidiClass
         ensures { result ≡ eos_of self.now }
     {
@@ -83,7 +84,7 @@ impl IsolatingRunSequence {
 
     /// Returns whether each run is in the text and splits no character, see [`is_line`].
     pub fn fits<T: TextSource>(&self, text: T) -> bool
-        ensures { IsTrue result ↔ AreLines T.units (T.characters text) (map bounds (runs_of self.now)) }
+        ensures { IsTrue result ↔ AreLines (T.text text) (map bounds (runs_of self.now)) }
     {
         for run in self.runs() {
             if !is_line(text, run) {
@@ -94,7 +95,7 @@ impl IsolatingRunSequence {
     }
 
     /// Iterates over the code units from `pos` to the end of the run at the index `run`, then over those of
-    /// each later run, upwards. `pos` is in that run or at its end.
+    /// each later run, upwards. `pos` must be in that run or at its end.
     pub fn iter_forwards_from(&self, pos: usize, run: usize) -> ForwardsFrom<'_>
         requires run { run < length (runs_of self.now) }
         requires from { (get_or (map bounds (runs_of self.now)) run (0, 0)).0 ≤ pos }
@@ -110,7 +111,7 @@ impl IsolatingRunSequence {
     }
 
     /// Iterates over the code units below `pos` down to the start of the run at the index `run`. Then come
-    /// those of each earlier run, nearest run first, each downwards. `pos` is in that run or at its end.
+    /// those of each earlier run, nearest run first, each downwards. `pos` must be in that run or at its end.
     pub fn iter_backwards_from(&self, pos: usize, run: usize) -> BackwardsFrom<'_>
         requires run { run < length (runs_of self.now) }
         requires from { (get_or (map bounds (runs_of self.now)) run (0, 0)).0 ≤ pos }
@@ -192,7 +193,7 @@ impl<'s> Iterator for BackwardsFrom<'s> {
     }
 }
 
-// Whether each run is non-empty and ends at or before the start of the next.
+// Returns whether each run is non-empty and ends at or before the start of the next.
 fn are_in_order(runs: &[LevelRun]) -> bool
     ensures { result ≡ are_ordered (map bounds runs.now) }
 {
@@ -206,7 +207,7 @@ fn are_in_order(runs: &[LevelRun]) -> bool
     true
 }
 
-// Whether a class may be at an end of a sequence.
+// Returns whether a class may be at an end of a sequence: L or R.
 fn is_side(class: BidiClass) -> bool
     ensures { result ≡ is_l_or_r class }
 {

@@ -8,18 +8,18 @@ use bidi_base::char_data::BidiClass;
 use std::alloc::{AllocError, Global};
 use std::marker::Model;
 
-/// Open isolates that come one after another, and for whose PDIs the same waits.
+/// Open isolates directly inside one another, with PDIs that continue the same run, or none.
 #[derive(Clone, Copy, Debug)]
 pub struct Alike {
     /// The run that the PDI of each continues, if one does.
     wait: Option<usize>,
-    /// How many they are.
+    /// The number of isolates.
     times: usize,
 }
 
 /// For each open isolate, the run that its PDI continues, outermost first.
 ///
-/// There is none if the level run goes on after the initiator, as it does at the deepest level. Such isolates are
+/// There is none if the level run continues after the initiator, as it does at the deepest level. Such isolates are
 /// counted, and not stored one by one. So deeply nested isolates take no more memory than those that raise a level.
 #[derive(Drop)]
 pub struct Waiting {
@@ -39,10 +39,10 @@ impl Model for Waiting {
 
 impl Waiting {
     ghost use Rattle.std.specs.Prelude.{◌-◌, ◌∷◌, ◌++◌, length, take};
-    ghost use Rattle.bidi_base.specs.Places.{last_or};
+    ghost use Rattle.bidi_base.specs.Indexes.{last_or};
     ghost use Rattle.std.specs.Prelude.{Some, None, replicate};
 
-    /// No isolate is open. Does not allocate.
+    /// Returns a list without open isolates. Does not allocate.
     pub fn new(alloc: Global) -> Waiting
         ensures { result ≡ [] }
     {
@@ -58,7 +58,8 @@ impl Waiting {
         self.rows.clear();
     }
 
-    /// Opens an isolate whose PDI continues a run. If an allocation fails, returns an error.
+    /// Opens an isolate with a PDI that continues a run. Returns an error only if an allocation fails. The list may
+    /// then hold anything.
     pub fn push(&mut self, run: usize) -> Result<(), AllocError>
         ensures { OnOk result (self.new ≡ self.old ++ Some run ∷ []) }
     {
@@ -69,7 +70,8 @@ impl Waiting {
         Ok(())
     }
 
-    /// Opens as many isolates for whose PDIs nothing waits. If an allocation fails, returns an error.
+    /// Opens this number of isolates with PDIs that continue no run. Returns an error only if an allocation fails. The
+    /// list may then hold anything.
     pub fn push_unwaited(&mut self, times: usize) -> Result<(), AllocError>
         ensures { OnOk result (self.new ≡ self.old ++ replicate times None) }
     {
@@ -98,7 +100,7 @@ impl Waiting {
         }
     }
 
-    /// What waits for the PDI of the innermost isolate.
+    /// Returns the run that the PDI of the innermost isolate continues, if it continues one.
     fn last(&self) -> Option<usize>
         ensures { result ≡ last_or None self.now }
     {

@@ -2,10 +2,10 @@
 ghost use Rattle.std.specs.Prelude.{◌≡◌, length, reverse, flat_map, IfOk, ◌↔◌, encode_utf8};
 ghost use Rattle.std.specs.Cow.{cow_str_bytes, IsBorrowedStr};
 ghost use Rattle.std.specs.Str.{chars};
-ghost use Rattle.bidi_base.specs.Analysed.{IsLineOf, IsTextOfLine, StaysInOrder};
+ghost use Rattle.bidi_base.specs.AnalysedText.{IsLineOf, IsTextOfLine, StaysInOrder};
 
 use super::LineText;
-use super::turned::{are_short, turn_round};
+use super::reversed_utf8::{are_short, turn_round};
 use crate::analysed::Analysed;
 use bidi_base::level::Level;
 use bidi_text::text::{StrText, TextSource};
@@ -52,23 +52,24 @@ impl<'t> LineText for StrText<'t> {
 impl<'t> Analysed<StrText<'t>> {
     ghost use Rattle.bidi_lines.specs.Analysed.{analysed, text_of};
 
-    /// Returns the text of a line of UTF-8 from left to right (L2).
+    /// Returns the text of a line of UTF-8 from left to right: its characters in the order of L2, by their levels after
+    /// L1.
     ///
-    /// The result is borrowed exactly if no level of the line is odd after L1.
+    /// The result is borrowed exactly if no level of the line is odd after L1. Takes time linear in the line.
     pub fn reorder_line(
         &self,
         alloc: Global,
-        level: Level,
+        para_level: Level,
         line: Range<usize>,
     ) -> Result<CowStr<'t>, AllocError>
         requires { IsLineOf (analysed self.now) line }
         ensures text { IfOk result (λ c. IsTextOfLine encode_utf8 (text_of self.now).text.now (analysed self.now)
-            level line (cow_str_bytes c)) }
-        ensures borrowed { IfOk result (λ c. IsBorrowedStr c ↔ StaysInOrder (analysed self.now) level line) }
+            para_level line (cow_str_bytes c)) }
+        ensures borrowed { IfOk result (λ c. IsBorrowedStr c ↔ StaysInOrder (analysed self.now) para_level line) }
     {
         let text = self.text().as_str();
         let units = line.start..line.end;
-        match self.turned_line(alloc, level, units, 0)? {
+        match self.reversed_line(alloc, para_level, units, 0)? {
             // This skips the test for UTF-8: the proof shows that the bytes are UTF-8.
             Some(turned) => Ok(CowStr::Owned(unsafe { String::from_utf8_unchecked(turned) })),
             None => Ok(CowStr::Borrowed(&text[line])),

@@ -1,7 +1,7 @@
 // The text of a shown line of a list of characters.
 ghost use Rattle.std.specs.Prelude.{◌≡◌, ℕ, ◌∷◌, [], OnOk, OnErr};
 ghost use Rattle.std.specs.declared.ops.Range.{Range as RangeOf};
-ghost use Rattle.bidi_base.specs.Analysed.{AnalysedText};
+ghost use Rattle.bidi_base.specs.AnalysedText.{AnalysedText};
 ghost use Rattle.bidi_base.specs.Text.{one_unit};
 
 use super::ShownLine;

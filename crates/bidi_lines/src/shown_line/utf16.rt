@@ -2,7 +2,7 @@
 ghost use Rattle.std.specs.Prelude.{◌≡◌, ℕ, [], OnOk, OnErr};
 ghost use Rattle.std.specs.Char.Escape.{encode_utf16};
 ghost use Rattle.std.specs.declared.ops.Range.{Range as RangeOf};
-ghost use Rattle.bidi_base.specs.Analysed.{AnalysedText};
+ghost use Rattle.bidi_base.specs.AnalysedText.{AnalysedText};
 ghost use Rattle.bidi_base.specs.Utf16.{utf16_len};
 
 use super::ShownLine;

@@ -2,7 +2,7 @@
 ghost use Rattle.std.specs.Prelude.{◌≡◌, ℕ, [], OnOk, OnErr, encode_utf8, string_bytes};
 ghost use Rattle.std.specs.Char.{len_utf8};
 ghost use Rattle.std.specs.declared.ops.Range.{Range as RangeOf};
-ghost use Rattle.bidi_base.specs.Analysed.{AnalysedText};
+ghost use Rattle.bidi_base.specs.AnalysedText.{AnalysedText};
 
 use super::ShownLine;
 use bidi_text::text::StrText;

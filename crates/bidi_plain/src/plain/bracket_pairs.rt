@@ -14,14 +14,15 @@ use std::alloc::{AllocError, Global};
 /// Returns the bracket pairs of a sequence, as indices of opening and closing bracket, in the order of the
 /// opening brackets.
 ///
-/// Reads the classes after W7 and the brackets that the data source gives. The search ends at the first
-/// opening bracket that finds 63 others open. It keeps the pairs found so far.
+/// `classes` has the classes after W7, and `brackets` the brackets of the data source. Both have one entry
+/// for each character of the sequence. The search ends at the first opening bracket that finds 63 others on
+/// the stack (BD16). It keeps the pairs found so far. Returns an error only if an allocation fails.
 pub fn pairs(
     alloc: Global,
     classes: &[BidiClass],
     brackets: &[Option<BidiMatchedOpeningBracket>],
 ) -> Result<Vec<(usize, usize)>, AllocError>
-    requires lengths { length brackets.now ≡ length classes.now }
+    requires same_len { length brackets.now ≡ length classes.now }
     requires classes { IsTrue (list_all is_weak_resolved classes.now) }
     ensures pairs { IfOk result (λ v. v.items ≡ bracket_pairs classes.now brackets.now) }
     ensures within { IfOk result (λ v. ArePairsWithin (length classes.now) v.items) }
@@ -32,7 +33,7 @@ pub fn pairs(
     Ok(pairs)
 }
 
-/// The bracket of a character, if it counts. It counts if its class is ON (BD14, BD15).
+/// Returns the bracket of a character, if it counts: its class must be ON (BD14, BD15).
 fn counted_bracket(
     class: BidiClass,
     bracket: Option<BidiMatchedOpeningBracket>,
@@ -45,7 +46,7 @@ fn counted_bracket(
     }
 }
 
-/// The brackets that count.
+/// Returns the brackets that count, each with its index.
 fn counted_brackets(
     alloc: Global,
     classes: &[BidiClass],

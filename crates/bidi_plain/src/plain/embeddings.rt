@@ -3,11 +3,11 @@
 ghost use Rattle.std.specs.Prelude.{◌≡◌, ◌≤◌, ◌||◌, if◌then◌else◌, [], length, reverse, unwrap_or, IfOk};
 ghost use Rattle.std.specs.Result.{OkIff};
 ghost use Rattle.bidi_base.specs.Classes.{is_paragraph_separator, is_removed};
-ghost use Rattle.bidi_base.specs.Explicit.{asked_level, override_of, status_inside, explicit_levels, explicit_classes};
+ghost use Rattle.bidi_base.specs.Explicit.{next_level, override_of, status_inside, explicit_levels, explicit_classes};
 ghost use Rattle.bidi_base.specs.Openers.{outside_isolate, left_open, then_open};
 
 use bidi_base::char_data::{BidiClass, is_rtl};
-use bidi_base::classes::{is_embedding, is_initiator, is_removed};
+use bidi_base::classes::{is_embedding_initiator, is_isolate_initiator, is_removed};
 use bidi_base::level::{Error, Level};
 use std::alloc::{AllocError, Global};
 use std::marker::Model;
@@ -43,7 +43,7 @@ impl Explicit {
     }
 }
 
-/// The status inside open initiators: a level, and the class that an override gives to characters.
+/// The status inside open openers: a level, and the class that an override gives to characters.
 #[derive(Drop)]
 struct Status {
     level: Level,
@@ -58,10 +58,10 @@ impl Model for Status {
     ghost view = { λ s. record { level = s.level; override = s.override_class } };
 }
 
-/// The initiators that are open at a character. In clauses they are a list, the innermost first.
+/// The openers that are open at a character. In clauses they are a list, innermost first.
 #[derive(Drop)]
 struct Openers {
-    /// The outermost first.
+    /// Their classes, outermost first.
     classes: Vec<BidiClass>,
     /// How many of them are isolate initiators.
     isolates: usize,
@@ -70,19 +70,19 @@ struct Openers {
 impl Model for Openers {
     ghost use Rattle.std.specs.Prelude.{◌≡◌, List, reverse, count_by};
     ghost use Rattle.bidi_base.specs.declared.char_data.BidiClass.{BidiClass};
-    ghost use Rattle.bidi_base.specs.Classes.{is_initiator};
+    ghost use Rattle.bidi_base.specs.Classes.{is_isolate_initiator};
 
     ghost Value = { List BidiClass };
 
     ghost view = { λ o. reverse o.classes.items };
 
-    ghost invariant = { λ o. o.isolates ≡ count_by is_initiator (reverse o.classes.items) };
+    ghost invariant = { λ o. o.isolates ≡ count_by is_isolate_initiator (reverse o.classes.items) };
 }
 
-/// The level inside an initiator, if `level` is the one before it. Returns an error exactly if it would be
-/// above 125.
-fn asked_level(opener: BidiClass, level: Level) -> Result<Level, Error>
-    ensures { OkIff result (asked_level opener level ≤ 125) (asked_level opener level) }
+/// Returns the level inside an opener, if `level` is the one around it. Returns an error exactly if it would
+/// be above 125.
+fn next_level(opener: BidiClass, level: Level) -> Result<Level, Error>
+    ensures { OkIff result (next_level opener level ≤ 125) (next_level opener level) }
 {
     if is_rtl(opener) {
         level.new_explicit_next_rtl()
@@ -91,7 +91,7 @@ fn asked_level(opener: BidiClass, level: Level) -> Result<Level, Error>
     }
 }
 
-/// The class that an initiator gives to characters, if it is an override.
+/// Returns the class that an opener gives to characters, if it is an override.
 fn override_of(opener: BidiClass) -> Option<BidiClass>
     ensures { result ≡ override_of opener }
 {
@@ -102,14 +102,14 @@ fn override_of(opener: BidiClass) -> Option<BidiClass>
     }
 }
 
-/// The status inside open initiators, which are listed with the outermost first. Each sets its level, up to
-/// the first whose level would be above 125 (X1 to X5c).
+/// Returns the status inside open openers, which are listed outermost first. Each sets its level, up to the
+/// first one that would set a level above 125 (X1 to X5c).
 fn status_inside(status: Status, openers: &[BidiClass]) -> Status
     ensures { result ≡ status_inside status openers.now }
 {
     match openers {
         [] => status,
-        [opener, inner @ ..] => match asked_level(*opener, status.level) {
+        [opener, inner @ ..] => match next_level(*opener, status.level) {
             Ok(level) => status_inside(
                 Status {
                     level,
@@ -127,7 +127,7 @@ fn close_isolate(classes: &mut Vec<BidiClass>)
     ensures { reverse classes.new.items ≡ outside_isolate (reverse classes.old.items) }
 {
     while let Some(opener) = classes.pop() {
-        if is_initiator(opener) {
+        if is_isolate_initiator(opener) {
             break;
         }
     }
@@ -157,7 +157,7 @@ impl Openers {
             }
             BidiClass::PDF => {
                 if let Some(opener) = self.classes.last()
-                    && !is_initiator(*opener)
+                    && !is_isolate_initiator(*opener)
                 {
                     self.classes.pop();
                 }
@@ -170,16 +170,16 @@ impl Openers {
     fn open(&mut self, class: BidiClass) -> Result<(), AllocError>
         ensures { IfOk result (λ _. self.new ≡ then_open class self.old) }
     {
-        if is_initiator(class) {
+        if is_isolate_initiator(class) {
             self.classes.push(class)?;
             self.isolates += 1;
-        } else if is_embedding(class) {
+        } else if is_embedding_initiator(class) {
             self.classes.push(class)?;
         }
         Ok(())
     }
 
-    /// The status inside the open initiators.
+    /// Returns the status inside the open openers.
     fn status(&self, para_level: Level) -> Status
         ensures { result
             ≡ status_inside (record { level = para_level; override = None }) (reverse self.now) }
@@ -194,7 +194,7 @@ impl Openers {
     }
 }
 
-/// The level of a character: the paragraph level for a separator, otherwise `level` (X8).
+/// Returns the level of a character: the paragraph level for a paragraph separator, otherwise `level` (X8).
 fn level_of(class: BidiClass, para_level: Level, level: Level) -> Level
     ensures { result ≡ (if is_paragraph_separator class then para_level else level) }
 {
@@ -205,7 +205,8 @@ fn level_of(class: BidiClass, para_level: Level, level: Level) -> Level
     }
 }
 
-/// The class of a character under an override (X6). Separators and characters that X9 removes keep theirs.
+/// Returns the class of a character under an override (X6). Paragraph separators and characters that X9
+/// removes keep theirs.
 fn class_of(class: BidiClass, override_class: Option<BidiClass>) -> BidiClass
     ensures { result
         ≡ (if is_paragraph_separator class || is_removed class
@@ -221,9 +222,9 @@ fn class_of(class: BidiClass, override_class: Option<BidiClass>) -> BidiClass
 
 /// Returns the explicit levels of a paragraph, and its classes under overrides (X1 to X8).
 ///
-/// Takes the paragraph level (0 to 125) and the stored classes. A paragraph separator gets the paragraph
-/// level and closes nothing. Characters that X9 removes get the level that is current there. Returns an
-/// error only if an allocation fails.
+/// Takes the paragraph level, which must be at most 125, and the stored classes. A paragraph separator gets
+/// the paragraph level and closes nothing. Characters that X9 removes get the level that is current there.
+/// Returns an error only if an allocation fails.
 pub fn explicit_levels(
     alloc: Global,
     para_level: Level,
@@ -232,7 +233,7 @@ pub fn explicit_levels(
     requires { para_level ≤ 125 }
     ensures levels { IfOk result (λ e. e.levels ≡ explicit_levels para_level classes.now) }
     ensures classes { IfOk result (λ e. e.classes ≡ explicit_classes para_level classes.now) }
-    ensures lengths { IfOk result (λ e.
+    ensures same_len { IfOk result (λ e.
         (length e.levels ≡ length classes.now) × (length e.classes ≡ length classes.now)) }
 {
     let mut openers = Openers::new(alloc);

@@ -11,7 +11,8 @@ use std::alloc::{AllocError, Global};
 
 /// Returns the implicit levels of a sequence (I1, I2).
 ///
-/// Takes its explicit level, which must be at most 125, and its classes after N2: L, R, EN and AN.
+/// Takes its explicit level, which must be at most 125, and its classes after N2: L, R, EN and AN. Returns
+/// an error only if an allocation fails.
 pub fn implicit(
     alloc: Global,
     level: Level,
@@ -20,7 +21,7 @@ pub fn implicit(
     requires level { level ≤ 125 }
     requires classes { IsTrue (list_all has_direction classes.now) }
     ensures levels { IfOk result (λ v. v.items ≡ implicit_levels level classes.now) }
-    ensures len { IfOk result (λ v. vec_len v ≡ length classes.now) }
+    ensures same_len { IfOk result (λ v. vec_len v ≡ length classes.now) }
 {
     classes
         .iter()
@@ -43,7 +44,7 @@ fn implicit_level(level: Level, class: BidiClass) -> Level
 /// I1: R goes up one level, AN and EN two.
 fn added_at_even_level(class: BidiClass) -> u8
     ensures added { result ≡ added_at_even class }
-    ensures few { result ≤ 2 }
+    ensures within { result ≤ 2 }
 {
     match class {
         R => 1,
@@ -55,7 +56,7 @@ fn added_at_even_level(class: BidiClass) -> u8
 /// I2: L, EN and AN go up one level.
 fn added_at_odd_level(class: BidiClass) -> u8
     ensures added { result ≡ added_at_odd class }
-    ensures few { result ≤ 1 }
+    ensures within { result ≤ 1 }
 {
     match class {
         L | EN | AN => 1,

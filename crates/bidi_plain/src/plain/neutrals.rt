@@ -1,15 +1,15 @@
-//! The neutrals of an isolating run sequence (N0 to N2). A class stands for a direction if it is L, R
-//! or a number, and numbers stand for R.
+//! The neutrals of an isolating run sequence (N0 to N2). A class counts as a direction if it is L, R or a
+//! number, and numbers count as R.
 
 ghost use Rattle.std.specs.Prelude.{◌≡◌, ◌<◌, ◌≤◌, length, vec_len, slice_index_or, IsTrue, IfOk, unwrap_or};
 ghost use Rattle.std.specs.List.{list_all, prefix_len};
-ghost use Rattle.bidi_base.specs.Classes.{as_direction, has_direction, is_kept, is_l_or_r, is_neutral, is_weak_resolved};
+ghost use Rattle.bidi_base.specs.Classes.{as_direction, has_direction, is_kept, is_l_or_r, is_ni, is_weak_resolved};
 ghost use Rattle.bidi_base.specs.Brackets.{ArePairsWithin};
 ghost use Rattle.bidi_base.specs.Neutral.{n0, n1_n2, neutral_classes, pair_direction};
 
 use super::bracket_pairs::pairs;
 use bidi_base::char_data::BidiClass;
-use bidi_base::classes::{as_direction, is_neutral};
+use bidi_base::classes::{as_direction, is_ni};
 use bidi_base::data_source::BidiMatchedOpeningBracket;
 use bidi_base::level::Level;
 use bidi_base::neutrals::{
@@ -19,8 +19,10 @@ use std::alloc::{AllocError, Global};
 
 /// Returns the classes of a sequence after N0 to N2, each of them L, R, EN or AN.
 ///
-/// `level` is the explicit level of the sequence, at most 125. `sos` and `eos` are L or R. `source` has the
-/// classes that the data source gives, and `classes` those after W7.
+/// `level` must be the explicit level of the sequence, at most 125. `sos` and `eos` must be L or R. The lists
+/// have one entry for each character of the sequence: `source` has the source classes, `brackets` the
+/// brackets of the data source, and `classes` the classes after W7. X9 removes none of the characters.
+/// Returns an error only if an allocation fails.
 #[tactic(auto, unfolding(bidi_base::specs::Neutral::neutral_classes))]
 pub fn neutral(
     alloc: Global,
@@ -41,7 +43,7 @@ pub fn neutral(
     ensures classes { IfOk result (λ v. v.items
         ≡ neutral_classes level sos eos source.now brackets.now classes.now) }
     ensures directed { IfOk result (λ v. IsTrue (list_all has_direction v.items)) }
-    ensures len { IfOk result (λ v. vec_len v ≡ length classes.now) }
+    ensures same_len { IfOk result (λ v. vec_len v ≡ length classes.now) }
 {
     let pairs = pairs(alloc, classes, brackets)?;
     let mut resolved = Vec::from_slice(alloc, classes)?;
@@ -66,7 +68,7 @@ fn apply_n0_to_n2(
 )
     requires embedding_direction { IsTrue (is_l_or_r embedding_direction) }
     requires sos { IsTrue (is_l_or_r sos) }
-    requires lengths { length source.now ≡ length classes.old }
+    requires same_len { length source.now ≡ length classes.old }
     requires within { ArePairsWithin (length classes.old) pairs.now }
     requires classes { IsTrue (list_all is_weak_resolved classes.old) }
     ensures classes { classes.new
@@ -85,7 +87,7 @@ fn apply_n0(
     pairs: &[(usize, usize)],
     classes: &mut [BidiClass],
 )
-    requires lengths { length source.now ≡ length classes.old }
+    requires same_len { length source.now ≡ length classes.old }
     requires within { ArePairsWithin (length classes.old) pairs.now }
     ensures { classes.new ≡ n0 embedding_direction sos source.now pairs.now classes.old }
 {
@@ -97,7 +99,7 @@ fn apply_n0(
     }
 }
 
-/// The direction that a pair of brackets takes. This is the embedding direction if it is inside (N0 b).
+/// Returns the direction that a bracket pair takes. This is the embedding direction if it is inside (N0 b).
 /// Otherwise, if the opposite one is inside, it is that of the context before the pair (N0 c). If neither
 /// is inside, it is `None` (N0 d).
 fn pair_direction(
@@ -119,8 +121,8 @@ fn pair_direction(
     }
 }
 
-/// Applies N1 and N2. A sequence of neutrals takes the direction that is on both its sides, where sos and
-/// eos count at the ends. If the two sides differ, it takes the embedding direction.
+/// Applies N1 and N2. Neutrals in a row take the direction that is on both their sides: sos counts before the
+/// first character, and eos after the last. If the two sides differ, they take the embedding direction.
 fn apply_n1_n2(
     embedding_direction: BidiClass,
     sos: BidiClass,
@@ -141,18 +143,16 @@ fn apply_n1_n2(
     }
 }
 
-/// The number of neutrals at the start of the list.
+/// Returns the number of neutrals at the start of the list.
 fn neutrals(classes: &[BidiClass]) -> usize
-    ensures count { result ≡ prefix_len is_neutral classes.now }
+    ensures count { result ≡ prefix_len is_ni classes.now }
     ensures within { result ≤ length classes.now }
 {
-    classes
-        .iter()
-        .take_while(|class| is_neutral(**class))
-        .count()
+    classes.iter().take_while(|class| is_ni(**class)).count()
 }
 
-/// The direction at an index, or eos past the end.
+/// Returns the direction of the class at an index. Returns eos past the end, or if the class counts as no
+/// direction.
 fn direction_at(classes: &[BidiClass], place: usize, eos: BidiClass) -> BidiClass
     ensures { result
         ≡ unwrap_or (as_direction (slice_index_or classes.now place BidiClass.ON)) eos }

@@ -6,7 +6,7 @@ ghost use Rattle.bidi_base.specs.Sequences.{level_or, kept_before, next_kept, st
 ghost use Rattle.bidi_base.specs.SequencePass.{waits_before, choice_at, with_entry, index_of, ArePlaces};
 
 use bidi_base::char_data::BidiClass;
-use bidi_base::classes::{is_initiator, is_removed};
+use bidi_base::classes::{is_isolate_initiator, is_removed};
 use bidi_base::isolates::{WaitingSequences, read_class, waiting_for};
 use bidi_base::level::Level;
 use std::alloc::{AllocError, Global};
@@ -62,7 +62,7 @@ fn go_on(
     last: Option<(usize, usize)>,
     place: usize,
 ) -> Result<Option<usize>, AllocError>
-    requires lengths { length levels.now ≡ length classes.now }
+    requires same_len { length levels.now ≡ length classes.now }
     requires last { IfSome last (λ e. e.0 < length classes.now) }
     requires place { place < length classes.now }
     ensures read { IfOk result (λ _.
@@ -110,7 +110,7 @@ fn put(
     }
 }
 
-/// The character indices of each sequence, in the order of the first characters.
+/// Returns the character indices of each sequence, in the order of the first characters.
 fn sequence_places(
     alloc: Global,
     classes: &[BidiClass],
@@ -135,11 +135,11 @@ fn sequence_places(
     Ok(sequences)
 }
 
-/// The kept character before an index, if there is one.
+/// Returns the nearest kept character before an index, if there is one.
 fn kept_before(classes: &[BidiClass], place: usize) -> Option<usize>
     requires { place ≤ length classes.now }
     ensures kept { result ≡ kept_before classes.now place }
-    ensures before { IfSome result (λ p. p < place) }
+    ensures within { IfSome result (λ p. p < place) }
 {
     for p in (0..place).rev() {
         if !is_removed(classes[p]) {
@@ -149,7 +149,7 @@ fn kept_before(classes: &[BidiClass], place: usize) -> Option<usize>
     None
 }
 
-/// The kept character after an index, if there is one.
+/// Returns the nearest kept character after an index, if there is one.
 fn next_kept(classes: &[BidiClass], place: usize) -> Option<usize>
     requires { place < length classes.now }
     ensures kept { result ≡ next_kept classes.now place }
@@ -163,7 +163,7 @@ fn next_kept(classes: &[BidiClass], place: usize) -> Option<usize>
     None
 }
 
-/// The level of a neighbor, or the paragraph level if there is none.
+/// Returns the level of a neighbor, or the paragraph level if there is none.
 fn level_or(para_level: Level, levels: &[Level], neighbor: Option<usize>) -> Level
     requires { IfSome neighbor (λ p. p < length levels.now) }
     ensures { result ≡ level_or para_level levels.now neighbor }
@@ -174,7 +174,7 @@ fn level_or(para_level: Level, levels: &[Level], neighbor: Option<usize>) -> Lev
     }
 }
 
-/// The class before the first character of a sequence (X10).
+/// Returns the class before the first character of a sequence (X10).
 #[tactic(auto, unfolding(bidi_base::specs::Sequences::start_class))]
 fn start_class(
     para_level: Level,
@@ -182,7 +182,7 @@ fn start_class(
     levels: &[Level],
     first: usize,
 ) -> BidiClass
-    requires lengths { length levels.now ≡ length classes.now }
+    requires same_len { length levels.now ≡ length classes.now }
     requires first { first < length classes.now }
     ensures { result ≡ start_class para_level classes.now levels.now first }
 {
@@ -190,15 +190,15 @@ fn start_class(
     levels[first].max(before).bidi_class()
 }
 
-/// The class after the last character of a sequence (X10). After an isolate initiator the paragraph level
-/// counts.
+/// Returns the class after the last character of a sequence (X10). After an isolate initiator the paragraph
+/// level counts.
 #[tactic(auto, unfolding(bidi_base::specs::Sequences::end_class))]
 fn end_class(para_level: Level, classes: &[BidiClass], levels: &[Level], last: usize) -> BidiClass
-    requires lengths { length levels.now ≡ length classes.now }
+    requires same_len { length levels.now ≡ length classes.now }
     requires last { last < length classes.now }
     ensures { result ≡ end_class para_level classes.now levels.now last }
 {
-    let neighbor = if is_initiator(classes[last]) {
+    let neighbor = if is_isolate_initiator(classes[last]) {
         None
     } else {
         next_kept(classes, last)
@@ -207,14 +207,14 @@ fn end_class(para_level: Level, classes: &[BidiClass], levels: &[Level], last: u
     levels[last].max(after).bidi_class()
 }
 
-/// The sequence of the characters at these indices.
+/// Returns the sequence of the characters at these indices.
 fn with_ends(
     para_level: Level,
     classes: &[BidiClass],
     levels: &[Level],
     places: Vec<usize>,
 ) -> PlainSequence
-    requires lengths { length levels.now ≡ length classes.now }
+    requires same_len { length levels.now ≡ length classes.now }
     requires places { ArePlaces (length classes.now) places.items }
     ensures { result ≡ with_ends para_level classes.now levels.now places.items }
 {
@@ -225,8 +225,8 @@ fn with_ends(
 
 /// Returns the isolating run sequences of a paragraph, in the order of their first characters (BD13, X10).
 ///
-/// Takes the paragraph level (0 to 125), the stored classes and their explicit levels. Levels of characters
-/// that X9 removes are not read. Returns an error only if an allocation fails.
+/// Takes the paragraph level, the stored classes and the explicit levels. Both lists must have the same
+/// length. Levels of characters that X9 removes are not read. Returns an error only if an allocation fails.
 pub fn sequences(
     alloc: Global,
     para_level: Level,

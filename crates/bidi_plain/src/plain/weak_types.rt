@@ -4,7 +4,7 @@
 ghost use Rattle.std.specs.Prelude.{◌≡◌, ◌≤◌, [], ◌∷◌, length, vec_len, IsTrue, IfOk};
 ghost use Rattle.std.specs.List.{list_all, prefix_len};
 ghost use Rattle.bidi_base.specs.Classes.{is_en, is_et, is_kept, is_l_or_r, is_weak_resolved};
-ghost use Rattle.bidi_base.specs.Places.{class_at};
+ghost use Rattle.bidi_base.specs.Indexes.{class_at};
 ghost use Rattle.bidi_base.specs.Weak.{carried, w1, w2, w3, w4, w4_rule, w5, w6, w7, weak_classes};
 
 use bidi_base::char_data::BidiClass::{
@@ -12,7 +12,9 @@ use bidi_base::char_data::BidiClass::{
 };
 use std::alloc::{AllocError, Global};
 
-/// Returns the classes of a sequence after W1 to W7. `sos` is L or R, and no class is one that X9 removes.
+/// Returns the classes of a sequence after W1 to W7.
+///
+/// `sos` must be L or R, and X9 must keep each class. Returns an error only if an allocation fails.
 pub fn weak(
     alloc: Global,
     sos: BidiClass,
@@ -22,7 +24,7 @@ pub fn weak(
     requires kept { IsTrue (list_all is_kept classes.now) }
     ensures classes { IfOk result (λ v. v.items ≡ weak_classes sos classes.now) }
     ensures resolved { IfOk result (λ v. IsTrue (list_all is_weak_resolved v.items)) }
-    ensures len { IfOk result (λ v. vec_len v ≡ length classes.now) }
+    ensures same_len { IfOk result (λ v. vec_len v ≡ length classes.now) }
 {
     let mut resolved = Vec::from_slice(alloc, classes)?;
     apply_w1_to_w7(sos, resolved.as_mut_slice());
@@ -59,7 +61,7 @@ fn apply_w1(sos: BidiClass, classes: &mut [BidiClass])
     }
 }
 
-/// The class that a nonspacing mark takes from the character before it.
+/// Returns the class that a nonspacing mark takes from the character before it.
 fn mark_class(previous: BidiClass) -> BidiClass
     ensures { result ≡ carried previous }
 {
@@ -110,7 +112,7 @@ fn apply_w4(classes: &mut [BidiClass])
     }
 }
 
-/// What a class becomes between two others.
+/// Returns the class after W4 of a class between two others.
 fn separator_class(before: BidiClass, class: BidiClass, after: BidiClass) -> BidiClass
     ensures { result ≡ w4_rule (before ∷ []) class (after ∷ []) }
 {
@@ -138,7 +140,7 @@ fn apply_w5(classes: &mut [BidiClass])
     }
 }
 
-/// The number of European terminators at the start of the list.
+/// Returns the number of European terminators at the start of the list.
 fn terminators(classes: &[BidiClass]) -> usize
     ensures count { result ≡ prefix_len is_et classes.now }
     ensures within { result ≤ length classes.now }
@@ -146,7 +148,7 @@ fn terminators(classes: &[BidiClass]) -> usize
     classes.iter().take_while(|class| **class == ET).count()
 }
 
-/// Whether a European number is at the index. False past the end.
+/// Returns whether a European number is at the index: false past the end.
 fn is_european_number(classes: &[BidiClass], place: usize) -> bool
     ensures { result ≡ is_en (class_at classes.now place) }
 {

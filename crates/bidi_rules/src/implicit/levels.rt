@@ -10,10 +10,10 @@ use bidi_base::level::Level;
 /// Writes the implicit level of each code unit (I1, I2), and returns the maximum level, or 0 if there is no
 /// code unit.
 ///
-/// The level comes from the class and the explicit level, which must be at most 125. Classes other than L,
-/// R, EN and AN add nothing. Does not allocate.
+/// `levels` has the explicit levels, which must be at most 125, and `processing_classes` must have the same
+/// length. Classes other than L, R, EN and AN add nothing. Does not allocate.
 pub fn resolve_levels(processing_classes: &[BidiClass], levels: &mut [Level]) -> Level
-    requires lengths { length levels.old ≡ length processing_classes.now }
+    requires same_len { length levels.old ≡ length processing_classes.now }
     requires explicit { All (λ level. level ≤ 125) levels.old }
     ensures levels { levels.new ≡ map (λ e. implicit_level e.0 e.1) (zip levels.old processing_classes.now) }
     ensures greatest { result ≡ fold max 0 levels.new }
@@ -27,7 +27,8 @@ pub fn resolve_levels(processing_classes: &[BidiClass], levels: &mut [Level]) ->
     Level::new(greatest).unwrap()
 }
 
-// Sums instead of branches, and no early return, so that a loop over it works on many code units at once.
+// Returns the implicit level of a code unit. It has sums instead of branches, and no early return, so that a
+// loop over it works on many code units at once.
 fn implicit_level(level: Level, class: BidiClass) -> Level
     requires { level ≤ 125 }
     ensures { result ≡ implicit_level level class }

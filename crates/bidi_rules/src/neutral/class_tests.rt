@@ -22,7 +22,7 @@ impl ClassTest for OtherNeutral {
     }
 }
 
-/// Classes that stand for a direction.
+/// Classes that count as a direction.
 #[derive(Clone, Copy, Debug)]
 pub struct AnyDirection;
 
@@ -34,7 +34,7 @@ impl ClassTest for AnyDirection {
     }
 }
 
-/// Whether a class stands for a direction.
+/// Returns whether a class counts as this direction.
 fn is_for(direction: BidiClass, class: BidiClass) -> bool
     ensures { result ≡ stands_for direction class }
 {
@@ -43,7 +43,7 @@ fn is_for(direction: BidiClass, class: BidiClass) -> bool
     (is_l & (direction == L)) | (is_r & (direction == R))
 }
 
-/// Classes that stand for this direction.
+/// Classes that count as this direction.
 #[derive(Clone, Copy, Debug)]
 pub struct For(pub BidiClass);
 
@@ -55,7 +55,7 @@ impl ClassTest for For {
     }
 }
 
-/// Classes that stand for L.
+/// Classes that count as L.
 #[derive(Clone, Copy, Debug)]
 struct ForL;
 
@@ -69,7 +69,7 @@ impl ClassTest for ForL {
     }
 }
 
-/// Classes that stand for R.
+/// Classes that count as R.
 #[derive(Clone, Copy, Debug)]
 struct ForR;
 
@@ -83,7 +83,7 @@ impl ClassTest for ForR {
     }
 }
 
-/// Returns the first index in `from..to` with a class that stands for a direction, or else `to`. Tests the first
+/// Returns the first index in `from..to` with a class that counts as a direction, or else `to`. Tests the first
 /// `singly` classes one by one. A search for known classes is shorter, so there is a test for each direction.
 pub fn first_standing_for(
     direction: BidiClass,
@@ -122,7 +122,7 @@ pub fn first_standing_for(
     }
 }
 
-/// Classes other than BN that do not stand for this direction. BN does not end a stretch of the direction.
+/// Classes other than BN that do not count as this direction. BN does not end a stretch of the direction.
 #[derive(Clone, Copy, Debug)]
 pub struct KeptNotFor(pub BidiClass);
 

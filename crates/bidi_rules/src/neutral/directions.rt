@@ -3,17 +3,17 @@
 ghost use Rattle.std.specs.Prelude.{◌≡◌, ◌⊎◌, ℕ, ◌<◌, ◌≤◌, true, false, length, map, get_or, drop, All, IsTrue};
 ghost use Rattle.bidi_base.specs.Classes.{is_l_or_r, is_weak_resolved, stands_for};
 ghost use Rattle.bidi_base.specs.Neutral.{n1_n2, n2_rule};
-ghost use Rattle.bidi_base.specs.Places.{at_places, class_at};
+ghost use Rattle.bidi_base.specs.Indexes.{at_indexes, class_at};
 ghost use Rattle.bidi_base.specs.Search.{IsFirst, passing};
 ghost use Rattle.bidi_base.specs.declared.char_data.BidiClass.TheVariants.{L};
 ghost use Rattle.bidi_base.specs.Units.{bounds, are_ordered, in_runs};
 ghost use Rattle.bidi_rules.specs.JoinPass.{IsAtOpposite, IsJoined, IsUnderWay, Unjoined};
-ghost use Rattle.bidi_rules.specs.PairWalk.{opposite_of};
-ghost use Rattle.bidi_explicit.specs.Written.{is_seen, seen_units, IsWrittenOver, KeepsAround, KeepsOutside};
+ghost use Rattle.bidi_rules.specs.PairPass.{opposite_of};
+ghost use Rattle.bidi_explicit.specs.SequenceUnits.{is_seen, seen_units, IsWrittenOver, KeepsAround, KeepsOutside};
 
 use super::class_tests::{AnyDirection, For, KeptNotFor, first_standing_for};
 use bidi_base::char_data::BidiClass::{self, L, R};
-use bidi_base::classes::{is_neutral, stands_for};
+use bidi_base::classes::{is_ni, stands_for};
 use bidi_base::search::{Among, first_passing};
 use bidi_explicit::prepare::LevelRun;
 use bidi_explicit::written::write_over_runs;
@@ -53,9 +53,9 @@ pub fn resolve_opposite(directions: Directions, runs: &[LevelRun], classes: &mut
     requires resolved { (u : ℕ) → is_seen (map bounds runs.now) classes.old u ≡ true
         → is_weak_resolved (class_at classes.old u) ≡ true }
     ensures kept { let units = seen_units (map bounds runs.now) classes.old in
-        map (n2_rule directions.embedding) (at_places L classes.new units)
-        ≡ n1_n2 directions.embedding directions.sos directions.eos (at_places L classes.old units) }
-    ensures others { (u : ℕ) → is_seen (map bounds runs.now) classes.old u ≡ false
+        map (n2_rule directions.embedding) (at_indexes L classes.new units)
+        ≡ n1_n2 directions.embedding directions.sos directions.eos (at_indexes L classes.old units) }
+    ensures outside { (u : ℕ) → is_seen (map bounds runs.now) classes.old u ≡ false
         → class_at classes.new u ≡ class_at classes.old u }
     ensures own { (u : ℕ)
         → (class_at classes.new u ≡ class_at classes.old u)
@@ -73,18 +73,18 @@ pub fn resolve_opposite(directions: Directions, runs: &[LevelRun], classes: &mut
     }
     if stands_for(directions.eos, opposite) {
         let end = classes.len();
-        join.settle(runs, classes, end);
+        join.write_waiting(runs, classes, end);
     }
 }
 
-/// What the pass for N1 knows of the code units that it has read.
+/// The state of the pass for N1 after the code units that it has read.
 #[derive(Clone, Copy, Debug)]
 struct Join {
     /// The direction opposite to the embedding direction.
     opposite: BidiClass,
     /// Whether only neutrals came since this direction.
     waits: bool,
-    /// The code unit where these neutrals begin, if so.
+    /// The code unit at which these neutrals begin, if so.
     first: usize,
     /// The index of that code unit's run.
     first_run: usize,
@@ -92,7 +92,7 @@ struct Join {
 
 // If the next code unit of the opposite direction is likely near, this many code units are tested one by one: a letter
 // and a control have at most seven in UTF-8.
-const IF_CLOSE: usize = 8;
+const TESTED_SINGLY: usize = 8;
 
 impl Join {
     /// Reads the code units of the run at the index `run`.
@@ -117,8 +117,8 @@ impl Join {
         }
     }
 
-    /// Goes on to the next code unit of the opposite direction, and settles the neutrals that wait for it.
-    /// Returns its index, or `end` if there is none.
+    /// Finds the next code unit of the opposite direction, and writes over the neutrals that wait for it. Returns
+    /// its index, or `end` if there is none.
     fn next_opposite(
         &mut self,
         runs: &[LevelRun],
@@ -131,7 +131,7 @@ impl Join {
         requires some { at < end }
         requires inside { end ≤ length classes.old }
         ensures begins { at ≤ result }
-        ensures ends { result ≤ end }
+        ensures within { result ≤ end }
         ensures first_run { self.new.first_run ≤ length runs.now }
         ensures opposite { self.new.opposite ≡ self.old.opposite }
         ensures there { result < end → stands_for self.old.opposite (class_at classes.new result) ≡ true }
@@ -151,7 +151,7 @@ impl Join {
                 return end;
             }
             if stands_for(classes[next], self.opposite) {
-                self.settle(runs, classes, next);
+                self.write_waiting(runs, classes, next);
                 return next;
             }
             self.waits = false;
@@ -174,7 +174,7 @@ impl Join {
         requires inside { end ≤ length classes.now }
         ensures { IsFirst (passing (stands_for self.now.opposite) classes.now) from end result }
     {
-        let singly = if is_close { IF_CLOSE } else { 1 };
+        let singly = if is_close { TESTED_SINGLY } else { 1 };
         first_standing_for(self.opposite, singly, classes, from, end)
     }
 
@@ -185,8 +185,8 @@ impl Join {
         requires some { at < end }
         requires inside { end ≤ length classes.now }
         requires there { stands_for self.old.opposite (class_at classes.now at) ≡ true }
-        ensures some { at < result }
-        ensures ends { result ≤ end }
+        ensures advances { at < result }
+        ensures within { result ≤ end }
         ensures first_run { self.new.first_run ≡ run }
         ensures opposite { self.new.opposite ≡ self.old.opposite }
         ensures reads { (s : Unjoined) → opposite_of s.e ≡ self.old.opposite → run < length s.runs
@@ -205,14 +205,14 @@ impl Join {
     }
 
     /// Gives the opposite direction to the neutrals that wait, if there are any. They are before `to`.
-    fn settle(&self, runs: &[LevelRun], classes: &mut [BidiClass], to: usize)
+    fn write_waiting(&self, runs: &[LevelRun], classes: &mut [BidiClass], to: usize)
         requires ordered { IsTrue (are_ordered (map bounds runs.now)) }
         requires first_run { self.now.first_run ≤ length runs.now }
         requires inside { to ≤ length classes.old }
         ensures held { self.now.waits ≡ true
             → IsWrittenOver (is_seen (drop self.now.first_run (map bounds runs.now)) classes.old) self.now.opposite
             self.now.first to classes.old classes.new }
-        ensures idle { self.now.waits ≡ false → classes.new ≡ classes.old }
+        ensures unchanged { self.now.waits ≡ false → classes.new ≡ classes.old }
     {
         if self.waits && self.first < to {
             write_over_runs(
@@ -227,33 +227,33 @@ impl Join {
 }
 
 /// N2: the neutrals of some runs take the embedding direction.
-pub fn settle_rest(embedding: BidiClass, runs: &[LevelRun], classes: &mut [BidiClass])
+pub fn apply_n2(embedding: BidiClass, runs: &[LevelRun], classes: &mut [BidiClass])
     requires { All (λ r. r.1 ≤ length classes.old) (map bounds runs.now) }
     ensures changed { (u : ℕ) → in_runs (map bounds runs.now) u ≡ true
         → class_at classes.new u ≡ n2_rule embedding (class_at classes.old u) }
-    ensures same { KeepsOutside runs.now classes.old classes.new }
-    ensures long { length classes.new ≡ length classes.old }
+    ensures outside { KeepsOutside runs.now classes.old classes.new }
+    ensures same_len { length classes.new ≡ length classes.old }
 {
     for run in runs {
-        settle_run(embedding, run, classes);
+        apply_n2_in_run(embedding, run, classes);
     }
 }
 
 /// N2: the neutrals of one run take the embedding direction.
-fn settle_run(embedding: BidiClass, run: &LevelRun, classes: &mut [BidiClass])
+fn apply_n2_in_run(embedding: BidiClass, run: &LevelRun, classes: &mut [BidiClass])
     requires { run.now.end ≤ length classes.old }
     ensures changed { (u : ℕ) → run.now.start ≤ u → u < run.now.end
         → class_at classes.new u ≡ n2_rule embedding (class_at classes.old u) }
     ensures around { KeepsAround run.now classes.old classes.new }
 {
     for unit in run.start..run.end {
-        classes[unit] = settled(embedding, classes[unit]);
+        classes[unit] = n2_class(embedding, classes[unit]);
     }
 }
 
-/// What N2 makes of a class that N1 left.
-fn settled(embedding: BidiClass, class: BidiClass) -> BidiClass
+/// Returns a class after N2.
+fn n2_class(embedding: BidiClass, class: BidiClass) -> BidiClass
     ensures { result ≡ n2_rule embedding class }
 {
-    if is_neutral(class) { embedding } else { class }
+    if is_ni(class) { embedding } else { class }
 }

@@ -1,10 +1,10 @@
 //! The nonspacing marks after a bracket.
 
-ghost use Rattle.std.specs.Prelude.{◌≡◌, ◌&&◌, not, ℕ, ◌<◌, ◌≤◌, ◌+◌, length, map, IsTrue};
+ghost use Rattle.std.specs.Prelude.{◌≡◌, ◌&&◌, not, ◌<◌, length, map, IsTrue};
 ghost use Rattle.bidi_base.specs.Classes.{is_kept_in_place, is_nsm};
-ghost use Rattle.bidi_base.specs.Text.{is_boundary, place, text_len};
-ghost use Rattle.bidi_base.specs.Units.{bounds, are_ordered, AreLines};
-ghost use Rattle.bidi_rules.specs.PairWalk.{IsMarksEnd};
+ghost use Rattle.bidi_base.specs.Texts.{is_boundary, text_len, AreLines};
+ghost use Rattle.bidi_base.specs.Units.{bounds, are_ordered};
+ghost use Rattle.bidi_rules.specs.InText.{IsMarksEnd};
 
 use bidi_base::char_data::BidiClass::{self, NSM};
 use bidi_explicit::characters::end_of;
@@ -12,7 +12,7 @@ use bidi_explicit::prepare::LevelRun;
 use bidi_explicit::written::is_kept_in_place;
 use bidi_text::text::TextSource;
 
-/// Whether a character with these classes is neither BN nor a nonspacing mark by its original class.
+/// Returns whether a character with these classes is neither BN nor a nonspacing mark by its stored class.
 pub fn ends_marks(class: BidiClass, original: BidiClass) -> bool
     ensures { result ≡ (is_kept_in_place class && not (is_nsm original)) }
 {
@@ -28,12 +28,12 @@ pub fn marks_end<T: TextSource>(
     classes: &[BidiClass],
     from: usize,
 ) -> usize
-    requires lines { AreLines T.units (T.characters text) (map bounds runs.now) }
+    requires are_lines { AreLines (T.text text) (map bounds runs.now) }
     requires ordered { IsTrue (are_ordered (map bounds runs.now)) }
-    requires long { length classes.now ≡ text_len T.units (T.characters text) }
+    requires same_len { length classes.now ≡ text_len (T.text text) }
     requires original { length original_classes.now ≡ length classes.now }
-    requires begins { IsTrue (is_boundary T.units (T.characters text) from) }
-    ensures { IsMarksEnd T.units (T.characters text) (map bounds runs.now) original_classes.now classes.now from result }
+    requires begins { IsTrue (is_boundary (T.text text) from) }
+    ensures { IsMarksEnd (T.text text) (map bounds runs.now) original_classes.now classes.now from result }
 {
     for run in runs {
         let mut at = run.start.max(from);

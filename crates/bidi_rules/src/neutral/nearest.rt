@@ -2,9 +2,9 @@
 
 ghost use Rattle.std.specs.Prelude.{◌≡◌, ◌≤◌, length, map, find, All, IsTrue};
 ghost use Rattle.bidi_base.specs.Classes.{is_kept_in_place};
-ghost use Rattle.bidi_base.specs.Places.{class_at};
+ghost use Rattle.bidi_base.specs.Indexes.{class_at};
 ghost use Rattle.bidi_base.specs.Units.{bounds, are_ordered, units_in_runs};
-ghost use Rattle.bidi_rules.specs.PairWalk.{IsFirstFor, IsNearestBefore, IsRunOf};
+ghost use Rattle.bidi_rules.specs.PairPass.{IsFirstFor, IsNearestBefore, IsRunOf};
 
 use super::class_tests::first_standing_for;
 use bidi_base::char_data::BidiClass;
@@ -39,7 +39,7 @@ pub fn run_near(runs: &[LevelRun], near: usize, unit: usize) -> usize
     run_of(runs, unit)
 }
 
-/// Returns the index of the first of some runs that ends after `unit`, or the number of runs.
+/// Returns the index of the run of a code unit: the first run that ends after it, or else the number of runs.
 fn run_of(runs: &[LevelRun], unit: usize) -> usize
     requires { IsTrue (are_ordered (map bounds runs.now)) }
     ensures { IsRunOf (map bounds runs.now) unit result }
@@ -57,7 +57,7 @@ fn run_of(runs: &[LevelRun], unit: usize) -> usize
     low
 }
 
-/// Returns the first code unit of some runs, from `from` on and before `to`, whose class stands for a
+/// Returns the first code unit of some runs, from `from` on and before `to`, with a class that counts as a
 /// direction. Returns `to` if there is none.
 pub fn first_for(
     direction: BidiClass,

@@ -1,16 +1,17 @@
 //! Sequences with a single direction: N0 to N2 give it to each character that is not BN.
 
-ghost use Rattle.std.specs.Prelude.{◌≡◌, ℕ, ◌<◌, ◌≤◌, true, false, length, map, All, IsTrue};
-ghost use Rattle.bidi_base.specs.Places.{class_at};
+ghost use Rattle.std.specs.Prelude.{◌≡◌, ℕ, ◌≤◌, true, false, length, map, All, IsTrue};
+ghost use Rattle.bidi_base.specs.Indexes.{class_at};
 ghost use Rattle.bidi_base.specs.Units.{bounds, in_runs};
 ghost use Rattle.bidi_rules.specs.NeutralPass.{turns_from};
 
 use super::directions::Directions;
 use bidi_base::char_data::BidiClass::{self, AN, EN, L, R};
-use bidi_base::search::{Among, ClassTest, first_passing};
+use bidi_base::search::ClassTest;
 use bidi_explicit::prepare::LevelRun;
+use bidi_explicit::run_search::none_passes;
 
-/// Returns whether sos and eos are the embedding direction, and no class in the runs is a number or the
+/// Returns true only if sos and eos are the embedding direction, and no class in the runs is a number or the
 /// other direction.
 pub fn stands_alone(directions: Directions, runs: &[LevelRun], classes: &[BidiClass]) -> bool
     requires { All (λ r. r.1 ≤ length classes.now) (map bounds runs.now) }
@@ -24,36 +25,7 @@ pub fn stands_alone(directions: Directions, runs: &[LevelRun], classes: &[BidiCl
         sos,
         eos,
     } = directions;
-    sos == embedding && eos == embedding && keep_to(embedding, runs, classes)
-}
-
-/// Whether no class in the runs is a number or the direction other than `direction`.
-fn keep_to(direction: BidiClass, runs: &[LevelRun], classes: &[BidiClass]) -> bool
-    requires { All (λ r. r.1 ≤ length classes.now) (map bounds runs.now) }
-    ensures { IsTrue result → (u : ℕ) → in_runs (map bounds runs.now) u ≡ true
-        → turns_from direction (class_at classes.now u) ≡ false }
-{
-    for run in runs {
-        if has_turn(direction, run, classes) {
-            return false;
-        }
-    }
-    true
-}
-
-/// Whether a class in the run is a number or the direction other than `direction`.
-fn has_turn(direction: BidiClass, run: &LevelRun, classes: &[BidiClass]) -> bool
-    requires { run.now.end ≤ length classes.now }
-    ensures { result ≡ false → (u : ℕ) → run.now.start ≤ u → u < run.now.end
-        → turns_from direction (class_at classes.now u) ≡ false }
-{
-    let end = run.end;
-    let start = run.start.min(end);
-    let turning = Among {
-        test: TurningFrom(direction),
-        classes,
-    };
-    first_passing(turning, 1, start, end) < end
+    sos == embedding && eos == embedding && none_passes(TurningFrom(embedding), runs, classes)
 }
 
 /// Numbers, and the direction other than this one. The test has no branch, so that many code units are

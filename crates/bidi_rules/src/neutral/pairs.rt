@@ -3,14 +3,14 @@
 ghost use Rattle.std.specs.Prelude.{◌≡◌, ℕ, ◌+◌, ◌<◌, ◌≤◌, List, length, map, All, IsTrue};
 ghost use Rattle.bidi_base.specs.Brackets.{AreNestedPairs};
 ghost use Rattle.bidi_base.specs.Classes.{is_kept_in_place, is_l_or_r};
-ghost use Rattle.bidi_base.specs.Places.{class_at};
-ghost use Rattle.bidi_base.specs.Text.{is_boundary, place, text_len};
-ghost use Rattle.bidi_base.specs.Units.{bounds, are_ordered, kept_in_place, AreLines};
-ghost use Rattle.bidi_rules.specs.NeutralPass.{IsPaired, IsReady};
-ghost use Rattle.bidi_rules.specs.PairWalk.{at_spots, opposite_of, IsAsked, IsBracket, IsBracketAfter, IsMarksEnd};
-ghost use Rattle.bidi_rules.specs.PairWalk.{IsPlace, IsRow, IsRunOf, IsSet};
-ghost use Rattle.bidi_rules.specs.PairWalk.{IsSetUpTo, IsTaken, IsUnmarked};
-ghost use Rattle.bidi_explicit.specs.Written.{is_seen, IsWrittenOver};
+ghost use Rattle.bidi_base.specs.Indexes.{class_at};
+ghost use Rattle.bidi_base.specs.Texts.{is_boundary, kept_in_place, unit_index, text_len, AreLines};
+ghost use Rattle.bidi_base.specs.Units.{bounds, are_ordered};
+ghost use Rattle.bidi_rules.specs.InText.{at_unit_indexes, IsBracket, IsBracketAfter, IsMarksEnd, IsPaired, IsPlace, IsReady, IsRow, IsSet, IsSetUpTo};
+ghost use Rattle.bidi_rules.specs.PairPass.{opposite_of, IsSearched};
+ghost use Rattle.bidi_rules.specs.PairPass.{IsRunOf};
+ghost use Rattle.bidi_rules.specs.PairPass.{IsTaken, IsUnmarked};
+ghost use Rattle.bidi_explicit.specs.SequenceUnits.{is_seen, IsWrittenOver};
 
 use super::directions::{Directions, opposite_of};
 use super::marks::{ends_marks, marks_end};
@@ -25,7 +25,9 @@ use bidi_text::text::TextSource;
 /// The runs of a sequence, and the stored class of each code unit of their text.
 #[derive(Clone, Copy, Debug)]
 pub struct StoredRuns<'a> {
+    /// The level runs of the sequence, in text order.
     pub runs: &'a [LevelRun],
+    /// The stored class of each code unit of the text.
     pub original_classes: &'a [BidiClass],
 }
 
@@ -35,9 +37,9 @@ pub struct StoredRuns<'a> {
 ///
 /// The context of a pair is searched backwards from its opening bracket, and only if the opposite direction
 /// is inside. The opening bracket then takes a direction, and no later search goes past it. Two positions
-/// that only move forwards tell which directions are inside. The exception is a pair whose opening bracket
-/// is a nonspacing mark by its original class: it may be among the marks that another pair changed, so the
-/// pair is searched by itself. Brackets among marks that already have their direction are not written
+/// that only move forwards tell which directions are inside. There is one exception: if the opening bracket of
+/// a pair is a nonspacing mark by its stored class, it may be among the marks that another pair changed. Such
+/// a pair is searched by itself. Brackets among marks that already have their direction are not written
 /// again. So a series of marks is not passed over for each bracket in it.
 pub fn resolve_pairs<T: TextSource>(
     text: T,
@@ -46,30 +48,30 @@ pub fn resolve_pairs<T: TextSource>(
     pairs: &[(usize, usize)],
     classes: &mut [BidiClass],
 )
-    requires ready { IsReady T.units (T.characters text) sequence.runs.now directions.sos classes.old }
+    requires ready { IsReady (T.text text) sequence.runs.now directions.sos classes.old }
     requires side { IsTrue (is_l_or_r directions.embedding) }
-    requires long { length classes.old ≡ text_len T.units (T.characters text) }
+    requires same_len { length classes.old ≡ text_len (T.text text) }
     requires original { length sequence.original_classes.now ≡ length classes.old }
     requires pairs { (found : List (ℕ × ℕ))
         × AreNestedPairs
-        (length (kept_in_place T.units (T.characters text) classes.old (map bounds sequence.runs.now))) found
+        (length (kept_in_place (T.text text) classes.old (map bounds sequence.runs.now))) found
         × (pairs.now
-        ≡ at_spots T.units (T.characters text)
-        (kept_in_place T.units (T.characters text) classes.old (map bounds sequence.runs.now)) found) }
+        ≡ at_unit_indexes (T.text text)
+        (kept_in_place (T.text text) classes.old (map bounds sequence.runs.now)) found) }
     ensures { (found : List (ℕ × ℕ))
         → AreNestedPairs
-        (length (kept_in_place T.units (T.characters text) classes.old (map bounds sequence.entry.runs.now))) found
+        (length (kept_in_place (T.text text) classes.old (map bounds sequence.entry.runs.now))) found
         → pairs.now
-        ≡ at_spots T.units (T.characters text)
-        (kept_in_place T.units (T.characters text) classes.old (map bounds sequence.entry.runs.now)) found
-        → IsPaired T.units (T.characters text) sequence.entry.original_classes.now classes.old classes.new
+        ≡ at_unit_indexes (T.text text)
+        (kept_in_place (T.text text) classes.old (map bounds sequence.entry.runs.now)) found
+        → IsPaired (T.text text) sequence.entry.original_classes.now classes.old classes.new
         sequence.entry.runs.now directions.embedding directions.sos found }
 {
     let StoredRuns {
         runs,
         original_classes,
     } = sequence;
-    let mut walk = PairWalk::new(directions.embedding);
+    let mut walk = PairPass::new(directions.embedding);
     let mut row = Row::new(directions.embedding);
     // A bracket is mostly in the run of the opening bracket before it.
     let mut near = 0;
@@ -106,11 +108,11 @@ struct Place {
 /// Returns the place of the bracket that begins at `unit`, which is likely in the run at the index `near`.
 fn place_of<T: TextSource>(text: T, runs: &[LevelRun], near: usize, unit: usize) -> Place
     requires ordered { IsTrue (are_ordered (map bounds runs.now)) }
-    requires begins { IsTrue (is_boundary T.units (T.characters text) unit) }
-    requires inside { unit < text_len T.units (T.characters text) }
-    requires fits { text_len T.units (T.characters text) ≤ usize.MAX }
+    requires begins { IsTrue (is_boundary (T.text text) unit) }
+    requires inside { unit < text_len (T.text text) }
+    requires fits { text_len (T.text text) ≤ usize.MAX }
     ensures unit { result.unit ≡ unit }
-    ensures is { IsPlace T.units (T.characters text) (map bounds runs.now) result }
+    ensures is { IsPlace (T.text text) (map bounds runs.now) result }
 {
     Place {
         unit,
@@ -126,7 +128,7 @@ struct Pair {
     /// The index after the opening bracket.
     inside: usize,
     closing: usize,
-    /// Whether the opening bracket is a nonspacing mark by its original class.
+    /// Whether the opening bracket is a nonspacing mark by its stored class.
     is_marked: bool,
 }
 
@@ -134,19 +136,19 @@ struct Pair {
 #[derive(Clone, Copy, Debug)]
 struct Next {
     direction: BidiClass,
-    /// The first code unit whose class stands for the direction, not before the opening bracket asked for
-    /// last.
+    /// The first code unit with a class that counts as the direction, not before the opening bracket of the
+    /// last pair.
     unit: usize,
 }
 
 impl Next {
-    /// Whether the direction is between the brackets of a pair. Opening brackets come in order. A pair that
-    /// opens at a mark is searched by itself.
+    /// Returns whether the direction is between the brackets of a pair. Opening brackets come in order. A pair
+    /// that opens at a mark is searched by itself.
     fn is_inside(&mut self, runs: &[LevelRun], classes: &[BidiClass], pair: Pair) -> bool
         requires ordered { IsTrue (are_ordered (map bounds runs.now)) }
         requires closing { pair.closing ≤ length classes.now }
         ensures direction { self.new.direction ≡ self.old.direction }
-        ensures asked { IsAsked self.old.direction (map bounds runs.now) classes.now pair self.old.unit self.new.unit result }
+        ensures asked { IsSearched self.old.direction (map bounds runs.now) classes.now pair self.old.unit self.new.unit result }
     {
         if pair.is_marked {
             let found = first_for(self.direction, runs, classes, pair.inside, pair.closing);
@@ -161,21 +163,21 @@ impl Next {
 
 /// The next code units of both directions, while the pass goes over the pairs.
 #[derive(Clone, Copy, Debug)]
-struct PairWalk {
+struct PairPass {
     embedding: Next,
     opposite: Next,
 }
 
-impl PairWalk {
-    /// Before the first pair.
-    fn new(embedding: BidiClass) -> PairWalk
+impl PairPass {
+    /// Returns the state before the first pair.
+    fn new(embedding: BidiClass) -> PairPass
         ensures { result
             ≡ record {
               embedding = record { direction = embedding; unit = 0 };
               opposite = record { direction = opposite_of embedding; unit = 0 };
             } }
     {
-        PairWalk {
+        PairPass {
             embedding: Next {
                 direction: embedding,
                 unit: 0,
@@ -230,7 +232,7 @@ struct Row {
 }
 
 impl Row {
-    /// No bracket written yet.
+    /// Returns the state before the first bracket is written.
     fn new(direction: BidiClass) -> Row
         ensures { result ≡ record { from = 0; end = 0; direction = direction } }
     {
@@ -241,8 +243,8 @@ impl Row {
         }
     }
 
-    /// Gives a direction to a bracket, and to the nonspacing marks directly after it by their original
-    /// classes. Does nothing if the last write did that already.
+    /// Gives a direction to a bracket, and to the characters directly after it that are nonspacing marks by
+    /// their stored classes. Does nothing if the last write did that already.
     #[inline(always)]
     fn set_direction<T: TextSource>(
         &mut self,
@@ -252,12 +254,12 @@ impl Row {
         bracket: Place,
         direction: BidiClass,
     )
-        requires { IsBracketAfter T.units (T.characters text) (map bounds sequence.runs.now) sequence.original_classes.now
+        requires { IsBracketAfter (T.text text) (map bounds sequence.runs.now) sequence.original_classes.now
             classes.old self.old bracket }
-        ensures set { (k : ℕ) → k < length (T.characters text) → bracket.unit ≡ place T.units (T.characters text) k
-            → IsSet T.units (T.characters text) (map bounds sequence.entry.runs.now)
+        ensures set { (k : ℕ) → k < length (T.text text).chars → bracket.unit ≡ unit_index (T.text text) k
+            → IsSet (T.text text) (map bounds sequence.entry.runs.now)
             sequence.entry.original_classes.now direction bracket.unit (k + 1) classes.old classes.new }
-        ensures row { IsRow T.units (T.characters text) (map bounds sequence.entry.runs.now)
+        ensures row { IsRow (T.text text) (map bounds sequence.entry.runs.now)
             sequence.entry.original_classes.now classes.new self.new }
     {
         if self.from <= bracket.unit && bracket.unit < self.end && self.direction == direction {
@@ -272,8 +274,9 @@ impl Row {
     }
 }
 
-/// Gives a direction to a bracket, and to the nonspacing marks directly after it by their original classes.
-/// Returns where the marks end. Most brackets have no marks, and are then written without a search.
+/// Gives a direction to a bracket, and to the characters directly after it that are nonspacing marks by their
+/// stored classes. Returns where the marks end. Most brackets have no marks, and are then written without a
+/// search.
 #[inline(always)]
 fn set_direction<T: TextSource>(
     text: T,
@@ -282,10 +285,10 @@ fn set_direction<T: TextSource>(
     bracket: Place,
     direction: BidiClass,
 ) -> usize
-    requires { IsBracket T.units (T.characters text) (map bounds sequence.runs.now) sequence.original_classes.now
+    requires { IsBracket (T.text text) (map bounds sequence.runs.now) sequence.original_classes.now
         classes.old bracket }
-    ensures { (k : ℕ) → k < length (T.characters text) → bracket.unit ≡ place T.units (T.characters text) k
-        → IsSetUpTo T.units (T.characters text) (map bounds sequence.entry.runs.now)
+    ensures { (k : ℕ) → k < length (T.text text).chars → bracket.unit ≡ unit_index (T.text text) k
+        → IsSetUpTo (T.text text) (map bounds sequence.entry.runs.now)
         sequence.entry.original_classes.now direction bracket.unit (k + 1) result classes.old classes.new }
 {
     let StoredRuns {
@@ -300,8 +303,8 @@ fn set_direction<T: TextSource>(
     set_with_marks(text, later, original_classes, classes, bracket, direction)
 }
 
-/// Whether the first of some runs has the whole bracket and the character after it, and that character is
-/// neither BN nor a nonspacing mark by its original class.
+/// Returns true only if the first of some runs has the whole bracket and the character after it, and that
+/// character is neither BN nor a nonspacing mark by its stored class.
 fn no_mark_follows(
     runs: &[LevelRun],
     original_classes: &[BidiClass],
@@ -331,8 +334,8 @@ fn write_bracket(classes: &mut [BidiClass], bracket: Place, direction: BidiClass
     }
 }
 
-/// Gives a direction to a bracket in some runs, and to the nonspacing marks directly after it by their
-/// original classes. Returns where the marks end.
+/// Gives a direction to a bracket in some runs, and to the characters directly after it that are nonspacing
+/// marks by their stored classes. Returns where the marks end.
 #[inline(never)]
 fn set_with_marks<T: TextSource>(
     text: T,
@@ -342,12 +345,12 @@ fn set_with_marks<T: TextSource>(
     bracket: Place,
     direction: BidiClass,
 ) -> usize
-    requires lines { AreLines T.units (T.characters text) (map bounds runs.now) }
+    requires are_lines { AreLines (T.text text) (map bounds runs.now) }
     requires ordered { IsTrue (are_ordered (map bounds runs.now)) }
-    requires long { length classes.old ≡ text_len T.units (T.characters text) }
+    requires same_len { length classes.old ≡ text_len (T.text text) }
     requires original { length original_classes.now ≡ length classes.old }
-    requires ends { IsTrue (is_boundary T.units (T.characters text) bracket.end) }
-    ensures marks { IsMarksEnd T.units (T.characters text) (map bounds runs.now) original_classes.now classes.old
+    requires ends { IsTrue (is_boundary (T.text text) bracket.end) }
+    ensures marks { IsMarksEnd (T.text text) (map bounds runs.now) original_classes.now classes.old
         bracket.end result }
     ensures written { IsWrittenOver (is_seen (map bounds runs.now) classes.old) direction bracket.unit result classes.old
         classes.new }

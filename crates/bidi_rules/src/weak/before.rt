@@ -2,7 +2,7 @@
 
 ghost use Rattle.std.specs.Prelude.{◌≡◌};
 ghost use Rattle.bidi_base.specs.Classes.{is_l};
-ghost use Rattle.bidi_rules.specs.WeakPass.{strengthened, strong_up_to, w7_by, waits, is_separator, joins, next_before, settled, resolved};
+ghost use Rattle.bidi_rules.specs.WeakPass.{strengthened, strong_up_to, w7_by, waits, is_separator, joins, next_before, waiting_becomes, resolved};
 
 use bidi_base::char_data::BidiClass::{self, AL, AN, CS, EN, ES, ET, L, ON, R};
 
@@ -78,8 +78,8 @@ impl Before {
     }
 
     /// Returns the class of the characters that wait, if one of this class follows (W4 to W6).
-    pub fn settled(self, class: BidiClass) -> BidiClass
-        ensures { result ≡ settled class self }
+    pub fn waiting_becomes(self, class: BidiClass) -> BidiClass
+        ensures { result ≡ waiting_becomes class self }
     {
         match class {
             EN => match self {

@@ -23,8 +23,8 @@ pub fn resolve_marks<S: Ledger>(
     requires within { All (λ r. r.1 ≤ length classes.old) (map bounds runs.now) }
     requires sos { IsTrue (is_l_or_r sos) }
     ensures marked { IsMarked (map bounds runs.now) (carried sos) classes.old classes.new }
-    ensures at_least { steps.old ≤ steps.new }
-    ensures at_most { steps.new ≤ steps.old + two_a_unit runs.now }
+    ensures steps_at_least { steps.old ≤ steps.new }
+    ensures steps_at_most { steps.new ≤ steps.old + two_a_unit runs.now }
 {
     let mut last = sos;
     for run in runs {
@@ -47,8 +47,8 @@ fn resolve_marks_in<S: Ledger>(
     requires ordered { run.now.start ≤ run.now.end }
     requires within { run.now.end ≤ length classes.old }
     ensures marked { Marks run.now.start run.now.end before result classes.old classes.new }
-    ensures at_least { steps.old ≤ steps.new }
-    ensures at_most { 16 * steps.new ≤ 16 * steps.old + 17 * (run.now.end - run.now.start) }
+    ensures steps_at_least { steps.old ≤ steps.new }
+    ensures steps_at_most { 16 * steps.new ≤ 16 * steps.old + 17 * (run.now.end - run.now.start) }
 {
     let end = run.end;
     let mut last = before;
@@ -66,7 +66,7 @@ fn resolve_marks_in<S: Ledger>(
     resolve_each_mark(at, end, last, classes, steps)
 }
 
-/// Whether one of the classes is NSM. Tests all of them at once.
+/// Returns whether one of the classes is NSM. Tests all of them at once.
 fn is_mark_in(classes: &[BidiClass]) -> bool
     ensures { result ≡ is_any_of is_nsm classes.now }
 {
@@ -103,7 +103,7 @@ fn resolve_each_mark<S: Ledger>(
     last
 }
 
-/// The last class in the slice that is not BN.
+/// Returns the last class in the slice that is not BN.
 fn last_kept(classes: &[BidiClass]) -> Option<BidiClass>
     ensures { result ≡ find is_kept_in_place (reverse classes.now) }
 {
@@ -114,7 +114,7 @@ fn last_kept(classes: &[BidiClass]) -> Option<BidiClass>
         .find(|class| is_kept_in_place(*class))
 }
 
-/// The class that a nonspacing mark takes from the character before it.
+/// Returns the class that a nonspacing mark takes from the character before it.
 fn carried(class: BidiClass) -> BidiClass
     ensures { result ≡ carried class }
 {

@@ -4,14 +4,15 @@
 
 ghost use Rattle.std.specs.Prelude.{◌≡◌, ℕ, ◌+◌, ◌-◌, ◌*◌, ◌<◌, ◌≤◌, true, false, not, ◌&&◌, length, map, min, drop, find, get_or, reverse, slice_range, IsTrue};
 ghost use Rattle.bidi_base.specs.Classes.{is_strong};
-ghost use Rattle.bidi_base.specs.Places.{class_at};
-ghost use Rattle.bidi_base.specs.Text.{text_len, IsPerChar};
-ghost use Rattle.bidi_base.specs.Units.{bounds, are_ordered, units_in_runs, AreLines};
-ghost use Rattle.bidi_explicit.specs.ExplicitPass.{filled};
-ghost use Rattle.bidi_rules.specs.WeakPass.{is_asked, is_number, is_other, next_before, still_to_come, strengthened, waits};
-ghost use Rattle.bidi_rules.specs.WeakWalk.{is_any, is_any_of, len_at, settled_to, AreAlike, IsWalked, IsWhole};
+ghost use Rattle.bidi_base.specs.Indexes.{class_at};
+ghost use Rattle.bidi_base.specs.Texts.{AreLines, IsPerChar};
+ghost use Rattle.bidi_base.specs.Units.{bounds, are_ordered, units_in_runs};
+ghost use Rattle.bidi_explicit.specs.RunCutting.{filled};
+ghost use Rattle.bidi_rules.specs.WeakPass.{is_number_or_terminator, is_number, is_other, next_before, still_to_come, strengthened, waits};
+ghost use Rattle.bidi_rules.specs.WeakWalk.{is_any, is_any_of, resolved_to, AreAlike, IsWalked, IsWhole};
+ghost use Rattle.bidi_rules.specs.InText.{len_at};
 ghost use Rattle.bidi_rules.specs.WeakWalk.{Passes, Reads, ReadsTo, WaitsBelow};
-ghost use Rattle.bidi_explicit.specs.Written.{count_below, is_seen, IsWrittenOver};
+ghost use Rattle.bidi_explicit.specs.SequenceUnits.{count_below, is_seen, IsWrittenOver};
 
 use super::before::{Before, numbered, strengthened, strong_up_to};
 use super::part_of;
@@ -27,14 +28,14 @@ use std::sync::ledger::Ledger;
 /// What a search looks for is mostly among this many code units. They are tested one by one.
 const TESTED_SINGLY: usize = 4;
 
-/// The level runs of a sequence, and the text that they are of.
+/// The level runs of a sequence, and their text.
 #[derive(Drop)]
 struct TextRuns<'r, T: TextSource> {
     text: T,
     runs: &'r [LevelRun],
 }
 
-/// What a pass over a sequence knows of the code units that it has read.
+/// The state of the pass after the code units that it has read.
 #[derive(Clone, Copy, Debug)]
 struct Walk {
     /// The nearest L, R or AL before, or else sos.
@@ -57,11 +58,11 @@ pub fn resolve_numbers<T: TextSource, S: Ledger>(
     steps: &mut Steps<S>,
 )
     requires ordered { IsTrue (are_ordered (map bounds runs.now)) }
-    requires lines { AreLines T.units (T.characters text) (map bounds runs.now) }
-    requires per_char { IsPerChar T.units (T.characters text) classes.old }
-    ensures walked { IsWalked (len_at T.units (T.characters text)) (map bounds runs.now) sos classes.old classes.new }
-    ensures at_least { steps.old ≤ steps.new }
-    ensures at_most { steps.new ≤ steps.old + 4 * length (units_in_runs (map bounds runs.now)) }
+    requires are_lines { AreLines (T.text text) (map bounds runs.now) }
+    requires per_char { IsPerChar (T.text text) classes.old }
+    ensures walked { IsWalked (len_at (T.text text)) (map bounds runs.now) sos classes.old classes.new }
+    ensures steps_at_least { steps.old ≤ steps.new }
+    ensures steps_at_most { steps.new ≤ steps.old + 4 * length (units_in_runs (map bounds runs.now)) }
 {
     if !has_numbers(runs, classes) {
         return;
@@ -78,18 +79,18 @@ pub fn resolve_numbers<T: TextSource, S: Ledger>(
         walk.read_run(&sequence, run, classes, steps);
     }
     let end = classes.len();
-    walk.settle(runs, classes, end, ON, steps);
+    walk.write_waiting(runs, classes, end, ON, steps);
 }
 
-/// Whether the runs have a number.
+/// Returns whether the runs have a number.
 fn has_numbers(runs: &[LevelRun], classes: &[BidiClass]) -> bool
     ensures { result ≡ is_any is_number runs.now classes.now }
 {
     runs.iter().any(|run| is_number_in(part_of(classes, run)))
 }
 
-/// Whether one of the classes is a number. Tests all of them, many at once. The compiler vectorizes the
-/// loop only in a function of its own.
+/// Returns whether one of the classes is a number. Tests all of them, many at once. The compiler vectorizes
+/// the loop only in a function of its own.
 #[inline(never)]
 fn is_number_in(classes: &[BidiClass]) -> bool
     ensures { result ≡ is_any_of is_number classes.now }
@@ -120,15 +121,15 @@ impl Walk {
         requires run { run < length sequence.now.runs.now }
         requires inside { (get_or (map bounds sequence.now.runs.now) run (0, 0)).1 ≤ length classes.old }
         requires whole { let r = get_or (map bounds sequence.now.runs.now) run (0, 0) in
-            (u : ℕ) → r.0 ≤ u → u < r.1 → IsWhole (len_at T.units (T.characters sequence.now.text)) classes.old r.1 u }
+            (u : ℕ) → r.0 ≤ u → u < r.1 → IsWhole (len_at (T.text sequence.now.text)) classes.old r.1 u }
         ensures waiting { WaitsBelow (map bounds sequence.now.runs.now) self.new (get_or (map bounds sequence.now.runs.now) run (0, 0)).1 }
         ensures reads { let r = get_or (map bounds sequence.now.runs.now) run (0, 0) in
-            ReadsTo (len_at T.units (T.characters sequence.now.text)) (map bounds sequence.now.runs.now) r.0 r.1 self.old self.new classes.old
+            ReadsTo (len_at (T.text sequence.now.text)) (map bounds sequence.now.runs.now) r.0 r.1 self.old self.new classes.old
             classes.new }
-        ensures at_least { steps.old ≤ steps.new }
-        ensures at_most { let r = get_or (map bounds sequence.now.runs.now) run (0, 0) in
-            steps.new + 1 + 2 * count_below (map bounds sequence.now.runs.now) (settled_to self.old r.0)
-            ≤ steps.old + 2 * (r.1 - r.0) + 2 * count_below (map bounds sequence.now.runs.now) (settled_to self.new r.1) }
+        ensures steps_at_least { steps.old ≤ steps.new }
+        ensures steps_at_most { let r = get_or (map bounds sequence.now.runs.now) run (0, 0) in
+            steps.new + 1 + 2 * count_below (map bounds sequence.now.runs.now) (resolved_to self.old r.0)
+            ≤ steps.old + 2 * (r.1 - r.0) + 2 * count_below (map bounds sequence.now.runs.now) (resolved_to self.new r.1) }
     {
         let TextRuns { text, runs } = *sequence;
         let end = runs[run].end;
@@ -147,16 +148,16 @@ impl Walk {
         }
     }
 
-    /// Whether a code unit of this class can be passed over: it does not matter to numbers (see
-    /// `is_asked`), and nothing that matters to them is before it.
+    /// Returns whether a code unit of this class can be passed over: it is no number or terminator, and nothing
+    /// that matters to them is directly before it.
     fn passes_over(&self, class: BidiClass) -> bool
-        ensures { result ≡ (is_other self.now.before && not (is_asked class)) }
+        ensures { result ≡ (is_other self.now.before && not (is_number_or_terminator class)) }
     {
-        matches!(self.before, Before::Other) && !is_asked(class)
+        matches!(self.before, Before::Other) && !is_number_or_terminator(class)
     }
 
-    /// Passes over the code unit at `at` and those after it whose class does not matter (see `is_asked`),
-    /// before `end`. Returns where they end.
+    /// Passes over the code unit at `at` and those after it, up to the next number or terminator. Returns its index,
+    /// or `end` if there is none before `end`.
     fn pass_over<S: Ledger>(
         &mut self,
         classes: &[BidiClass],
@@ -165,29 +166,29 @@ impl Walk {
         steps: &mut Steps<S>,
     ) -> usize
         requires other { is_other self.old.before ≡ true }
-        requires first { is_asked (class_at classes.now at) ≡ false }
+        requires first { is_number_or_terminator (class_at classes.now at) ≡ false }
         requires some { at < end }
         requires inside { end ≤ length classes.now }
-        ensures some { at < result }
+        ensures advances { at < result }
         ensures within { result ≤ end }
         ensures other { is_other self.new.before ≡ true }
         ensures first_run { self.new.first_run ≡ self.old.first_run }
         ensures passes { Passes at result end self.old self.new classes.now }
-        ensures asked { result < end → is_asked (class_at classes.now result) ≡ true }
-        ensures at_least { steps.old ≤ steps.new }
-        ensures at_most { steps.new + (at + 1) + at ≤ steps.old + min (result + 1) end + result }
+        ensures asked { result < end → is_number_or_terminator (class_at classes.now result) ≡ true }
+        ensures steps_at_least { steps.old ≤ steps.new }
+        ensures steps_at_most { steps.new + (at + 1) + at ≤ steps.old + min (result + 1) end + result }
     {
-        let asked = Among {
-            test: Asked,
+        let sought = Among {
+            test: NumberOrTerminator,
             classes,
         };
-        let next = first_passing_counted(asked, TESTED_SINGLY, at + 1, end, steps);
+        let next = first_passing_counted(sought, TESTED_SINGLY, at + 1, end, steps);
         self.strong = last_strong(classes, at, next, steps).unwrap_or(self.strong);
         next
     }
 
-    /// The end of the stretch that begins at `at`: code units of one class, before `end`. A separator that
-    /// can be between numbers is a stretch of one character.
+    /// Returns the end of the stretch that begins at `at`: code units of one class, before `end`. A separator
+    /// that can be between numbers is a stretch of one character.
     fn stretch_end<T: TextSource, S: Ledger>(
         &self,
         text: T,
@@ -198,15 +199,15 @@ impl Walk {
     ) -> usize
         requires some { at < end }
         requires inside { end ≤ length classes.now }
-        requires whole { IsWhole (len_at T.units (T.characters text)) classes.now end at }
-        ensures some { at < result }
+        requires whole { IsWhole (len_at (T.text text)) classes.now end at }
+        ensures advances { at < result }
         ensures within { result ≤ end }
         ensures alike { AreAlike classes.now at result }
         ensures single { let next = next_before (strengthened self.now.strong (class_at classes.now at))
             self.now.before in
-            still_to_come next (len_at T.units (T.characters text) at) ≡ still_to_come next (result - at) }
-        ensures at_least { steps.old ≤ steps.new }
-        ensures at_most { steps.new ≤ steps.old + min (result - at) (end - (at + 1)) }
+            still_to_come next (len_at (T.text text) at) ≡ still_to_come next (result - at) }
+        ensures steps_at_least { steps.old ≤ steps.new }
+        ensures steps_at_most { steps.new ≤ steps.old + min (result - at) (end - (at + 1)) }
     {
         let next = self.before.after(strengthened(self.strong, classes[at]));
         if next.is_separator() {
@@ -233,21 +234,21 @@ impl Walk {
         ensures waiting { WaitsBelow (map bounds runs.now) self.new stretch.end }
         ensures before { self.new.before
             ≡ next_before (strengthened self.old.strong (class_at classes.old stretch.start)) self.old.before }
-        ensures rest { (k : ℕ) → stretch.end ≤ k → class_at classes.new k ≡ class_at classes.old k }
-        ensures long { length classes.new ≡ length classes.old }
+        ensures outside { (k : ℕ) → stretch.end ≤ k → class_at classes.new k ≡ class_at classes.old k }
+        ensures same_len { length classes.new ≡ length classes.old }
         ensures reads { Reads (map bounds runs.now) run stretch.start stretch.end self.old self.new classes.old
             classes.new }
-        ensures at_least { steps.old ≤ steps.new }
-        ensures at_most { steps.new + 2 * count_below (map bounds runs.now) (settled_to self.old stretch.start)
-            ≤ steps.old + 2 * count_below (map bounds runs.now) (settled_to self.new stretch.end) }
+        ensures steps_at_least { steps.old ≤ steps.new }
+        ensures steps_at_most { steps.new + 2 * count_below (map bounds runs.now) (resolved_to self.old stretch.start)
+            ≤ steps.old + 2 * count_below (map bounds runs.now) (resolved_to self.new stretch.end) }
     {
         let Range { start, end } = stretch;
         let class = classes[start];
         let strong = strengthened(self.strong, class);
         let next = self.before.after(strong);
         if !self.before.is_joined_by(strong) {
-            let held = numbered(self.strong, self.before.settled(strong));
-            self.settle(runs, classes, start, held, steps);
+            let held = numbered(self.strong, self.before.waiting_becomes(strong));
+            self.write_waiting(runs, classes, start, held, steps);
             if next.waits() {
                 self.first = start;
                 self.first_run = run;
@@ -263,7 +264,7 @@ impl Walk {
     }
 
     /// Writes the class to the code units that wait, if some do. They are before `to`.
-    fn settle<S: Ledger>(
+    fn write_waiting<S: Ledger>(
         &self,
         runs: &[LevelRun],
         classes: &mut [BidiClass],
@@ -277,9 +278,9 @@ impl Walk {
         ensures held { waits self.now.before ≡ true
             → IsWrittenOver (is_seen (drop self.now.first_run (map bounds runs.now)) classes.old) class self.now.first
             to classes.old classes.new }
-        ensures idle { waits self.now.before ≡ false → classes.new ≡ classes.old }
-        ensures at_least { steps.old ≤ steps.new }
-        ensures at_most { steps.new + 2 * count_below (map bounds runs.now) (settled_to self.now to)
+        ensures unchanged { waits self.now.before ≡ false → classes.new ≡ classes.old }
+        ensures steps_at_least { steps.old ≤ steps.new }
+        ensures steps_at_most { steps.new + 2 * count_below (map bounds runs.now) (resolved_to self.now to)
             ≤ steps.old + 2 * count_below (map bounds runs.now) to }
     {
         if self.before.waits() {
@@ -304,25 +305,25 @@ fn fill(classes: &mut [BidiClass], start: usize, end: usize, class: BidiClass)
     classes[start..end].fill(class);
 }
 
-/// Whether a class depends on its neighbors, or its neighbors on it, even if nothing that matters is
+/// Returns whether a class depends on its neighbors, or its neighbors on it, even if nothing that matters is
 /// directly before it. These are numbers and ET.
-fn is_asked(class: BidiClass) -> bool
-    ensures { result ≡ is_asked class }
+fn is_number_or_terminator(class: BidiClass) -> bool
+    ensures { result ≡ is_number_or_terminator class }
 {
     is_number(class) | (class == ET)
 }
 
-/// The classes for which `is_asked` holds.
+/// The classes for which `is_number_or_terminator` holds.
 #[derive(Clone, Copy, Debug)]
-struct Asked;
+struct NumberOrTerminator;
 
-impl ClassTest for Asked {
-    ghost use Rattle.bidi_rules.specs.WeakPass.{is_asked};
+impl ClassTest for NumberOrTerminator {
+    ghost use Rattle.bidi_rules.specs.WeakPass.{is_number_or_terminator};
 
-    ghost test = { λ _. is_asked };
+    ghost test = { λ _. is_number_or_terminator };
 
     fn passes(self, class: BidiClass) -> bool {
-        is_asked(class)
+        is_number_or_terminator(class)
     }
 }
 
@@ -340,7 +341,7 @@ impl ClassTest for Strong {
     }
 }
 
-/// The last strong class of the code units from `from` up to `to`.
+/// Returns the last strong class of the code units from `from` up to `to`, if there is one.
 fn last_strong<S: Ledger>(
     classes: &[BidiClass],
     from: usize,
@@ -365,11 +366,11 @@ fn last_strong<S: Ledger>(
     }
 }
 
-/// The end of the code units from `at` on that have the class of the first, at most `end`.
+/// Returns the end of a series of code units that begins at `at` and has the class there, at most `end`.
 fn alike_end<S: Ledger>(classes: &[BidiClass], at: usize, end: usize, steps: &mut Steps<S>) -> usize
     requires some { at < end }
     requires inside { end ≤ length classes.now }
-    ensures some { at < result }
+    ensures advances { at < result }
     ensures within { result ≤ end }
     ensures alike { AreAlike classes.now at result }
     ensures steps { steps.new ≡ steps.old + min (result - at) (end - (at + 1)) }
@@ -384,9 +385,9 @@ fn alike_end<S: Ledger>(classes: &[BidiClass], at: usize, end: usize, steps: &mu
     end
 }
 
-/// The length of the character that begins at a code unit, or 1 if none begins there.
+/// Returns the length of the character that begins at a code unit, or 1 if none begins there.
 fn len_at<T: TextSource>(text: T, unit: usize) -> usize
-    ensures { result ≡ len_at T.units (T.characters text) unit }
+    ensures { result ≡ len_at (T.text text) unit }
 {
     match text.char_at(unit) {
         Some((_, len)) => len,

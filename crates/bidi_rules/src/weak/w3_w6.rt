@@ -1,9 +1,9 @@
 //! W3 and W6, which are left once W1, W2, W4, W5 and W7 are done. They change each class by itself.
 
-ghost use Rattle.std.specs.Prelude.{◌≡◌, ◌≢◌, ℕ, ◌+◌, ◌-◌, ◌<◌, ◌≤◌, true, length, map, All, IsTrue};
-ghost use Rattle.bidi_base.specs.Places.{class_at};
+ghost use Rattle.std.specs.Prelude.{◌≡◌, ◌≢◌, ℕ, ◌+◌, ◌<◌, ◌≤◌, true, length, map, All, IsTrue};
+ghost use Rattle.bidi_base.specs.Indexes.{class_at};
 ghost use Rattle.bidi_base.specs.Units.{bounds, are_ordered, in_runs, units_in_runs};
-ghost use Rattle.bidi_explicit.specs.Written.{KeepsOutside};
+ghost use Rattle.bidi_explicit.specs.SequenceUnits.{KeepsOutside};
 ghost use Rattle.bidi_rules.specs.WeakPass.{left_over};
 ghost use Rattle.bidi_rules.specs.WeakWalk.{two_a_unit, AreChangedAndCounted};
 
@@ -19,10 +19,10 @@ pub fn resolve_w3_w6<S: Ledger>(runs: &[LevelRun], classes: &mut [BidiClass], st
     requires within { All (λ r. r.1 ≤ length classes.old) (map bounds runs.now) }
     ensures changed { (u : ℕ) → in_runs (map bounds runs.now) u ≡ true
         → class_at classes.new u ≡ left_over (class_at classes.old u) }
-    ensures same { KeepsOutside runs.now classes.old classes.new }
-    ensures long { length classes.new ≡ length classes.old }
-    ensures at_least { steps.old + length (units_in_runs (map bounds runs.now)) ≤ steps.new }
-    ensures at_most { steps.new ≤ steps.old + two_a_unit runs.now }
+    ensures outside { KeepsOutside runs.now classes.old classes.new }
+    ensures same_len { length classes.new ≡ length classes.old }
+    ensures steps_at_least { steps.old + length (units_in_runs (map bounds runs.now)) ≤ steps.new }
+    ensures steps_at_most { steps.new ≤ steps.old + two_a_unit runs.now }
 {
     for run in runs {
         steps.tick();
@@ -68,22 +68,21 @@ fn change_many<S: Ledger>(start: usize, end: usize, classes: &mut [BidiClass], s
 fn change_at(classes: &mut [BidiClass], unit: usize)
     requires { unit < length classes.old }
     ensures changed { class_at classes.new unit ≡ left_over (class_at classes.old unit) }
-    ensures others { (u : ℕ) → u ≢ unit → class_at classes.new u ≡ class_at classes.old u }
+    ensures outside { (u : ℕ) → u ≢ unit → class_at classes.new u ≡ class_at classes.old u }
 {
     if !stays(classes[unit]) {
         classes[unit] = left_over(classes[unit]);
     }
 }
 
-/// Whether W3 and W6 leave a class unchanged.
+/// Returns true only if W3 and W6 leave a class unchanged.
 fn stays(class: BidiClass) -> bool
     ensures { IsTrue result → left_over class ≡ class }
 {
     !matches!(class, ES | ET | CS | AL)
 }
 
-/// Returns what W3 and W6 make of a class. It has no branch, so that a loop changes many code units at
-/// once.
+/// Returns a class after W3 and W6. It has no branch, so that a loop changes many code units at once.
 pub fn left_over(class: BidiClass) -> BidiClass
     ensures { result ≡ left_over class }
 {

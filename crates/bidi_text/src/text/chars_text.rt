@@ -1,7 +1,8 @@
 //! Lists of characters as texts. A code unit is a character.
 
-ghost use Rattle.std.specs.Prelude.{◌≡◌, ℕ, ◌+◌, ◌<◌, ◌≤◌, ◌^◌, length};
+ghost use Rattle.std.specs.Prelude.{◌≡◌, ◌+◌, ◌<◌, ◌^◌, length};
 ghost use Rattle.std.specs.Iterator.{YieldsFirst, item_count};
+ghost use Rattle.bidi_base.specs.Texts.{one_each};
 ghost use Rattle.bidi_base.specs.Text.{char_indices_from, indices_lengths_from, one_unit};
 
 use super::TextSource;
@@ -147,9 +148,9 @@ impl<'t> TextSource for CharsText<'t> {
 
     const READS_IN_PLACE: bool = true;
 
-    ghost characters = { λ t. t.list.now };
+    ghost encoding = { one_each };
 
-    ghost units = { one_unit };
+    ghost text = { λ t. record { chars = t.list.now } };
 
     fn len(&self) -> usize {
         self.list.len()
@@ -193,8 +194,4 @@ impl<'t> TextSource for CharsText<'t> {
     {
         1
     }
-
-    ghost use Rattle.std.proofs.Common.{arith};
-
-    ghost has_units = { λ c. Prim.omega arith };
 }

@@ -5,6 +5,7 @@ ghost use Rattle.std.specs.Char.{len_utf8};
 ghost use Rattle.std.specs.Str.{chars, IsUtf8};
 ghost use Rattle.std.specs.Str.Iter.{char_indices_rest, char_indices_offset};
 ghost use Rattle.std.specs.Iterator.{YieldsFirst, item_count};
+ghost use Rattle.bidi_base.specs.Texts.{utf8};
 ghost use Rattle.bidi_base.specs.Text.{indices_lengths_from};
 ghost use lib.Utf8.{scalar};
 
@@ -86,11 +87,11 @@ impl<'t> Iterator for Utf8IndexLenIter<'t> {
     }
 }
 
-// How many bytes a character has, by the upper four bits of its first byte.
+// The number of bytes of a character, by the upper four bits of its first byte.
 const LENGTHS: [u8; 16] = [1, 1, 1, 1, 1, 1, 1, 1, 1, 1, 1, 1, 2, 2, 3, 4];
 
-// The number of bytes of a character whose first byte this is. The compiler makes of tests a longer row of
-// instructions than of a table.
+// Returns the number of bytes of a character, from its first byte. A table takes fewer instructions than
+// tests.
 fn len_of_first(first: u8) -> usize
     ensures { result ≡ (if nat_lt first 192 then 1 else if nat_lt first 224 then 2 else if nat_lt first 240 then 3 else 4) }
 {
@@ -124,7 +125,7 @@ fn char_of_four(first: u8, second: u8, third: u8, fourth: u8) -> char
     char_of_code(high + low)
 }
 
-// Whether all sixteen bytes are ASCII.
+// Returns true only if all sixteen bytes are ASCII.
 fn is_ascii(block: u8x16) -> bool
     requires { length block ≡ 16 }
     ensures { result ≡ true → (k : ℕ) → k < 16 → get_or block k 0 < 128 }
@@ -142,9 +143,9 @@ impl<'t> TextSource for StrText<'t> {
 
     const READS_IN_PLACE: bool = true;
 
-    ghost characters = { λ t. chars t.text.now };
+    ghost encoding = { utf8 };
 
-    ghost units = { len_utf8 };
+    ghost text = { λ t. record { chars = chars t.text.now } };
 
     fn len(&self) -> usize {
         self.as_str().len()
@@ -194,8 +195,8 @@ impl<'t> TextSource for StrText<'t> {
 
     fn next_at(&self, index: usize) -> (char, usize) {
         let bytes = self.as_str().as_bytes();
-        // Branches find the length, since a processor predicts most of them and goes on. It would have to
-        // wait for a length that is computed.
+        // Branches find the length: a processor predicts most of them, but would have to wait for a computed
+        // length.
         let first = bytes[index];
         if first < 0xC0 {
             return (char::from(first), 1);
@@ -237,8 +238,4 @@ impl<'t> TextSource for StrText<'t> {
     {
         c.len_utf8()
     }
-
-    ghost use Rattle.std.proofs.lemmas.Str.{len_utf8_bounds};
-
-    ghost has_units = { λ c. (len_utf8_bounds c).0 };
 }

@@ -3,6 +3,7 @@
 ghost use Rattle.std.specs.Prelude.{◌≡◌, ℕ, ◌+◌, ◌-◌, ◌<◌, ◌≤◌, ◌^◌, length, get_or, [], true, IsTrue, ◌↔◌, MatchOption, IfSome};
 ghost use Rattle.std.specs.List.{list_all};
 ghost use Rattle.std.specs.Iterator.{YieldsFirst, YieldsLast, item_count};
+ghost use Rattle.bidi_base.specs.Texts.{utf16};
 ghost use Rattle.bidi_base.specs.Text.{char_indices_from, indices_lengths_from};
 ghost use Rattle.bidi_base.specs.Utf16.{is_character, is_pair as is_pair_of, splits_pair as splits_pair_of, pair_char, lone_char, utf16_text, utf16_len, IsFirst, IsLast};
 
@@ -43,7 +44,7 @@ impl<'t> Utf16Text<'t> {
     }
 }
 
-// Whether a code unit is a surrogate.
+// Returns whether a code unit is a surrogate.
 fn is_surrogate(unit: u16) -> bool
     ensures { IsTrue result ↔ ((0xD800 ≤ unit) × (unit < 0xE000)) }
 {
@@ -65,14 +66,14 @@ pub fn are_characters(units: &[u16]) -> bool
     least >= 0x800
 }
 
-// Whether two code units are a high surrogate and a low one.
+// Returns whether two code units are a high surrogate and a low one.
 fn is_pair(high: u16, low: u16) -> bool
     ensures { result ≡ is_pair_of high low }
 {
     (0xD800 <= high && high < 0xDC00) && (0xDC00 <= low && low < 0xE000)
 }
 
-// Whether an index is between the two code units of a pair.
+// Returns whether an index is between the two code units of a pair.
 fn splits_pair(units: &[u16], index: usize) -> bool
     requires { index < length units.now }
     ensures { result ≡ splits_pair_of units.now index }
@@ -258,9 +259,9 @@ impl<'t> TextSource for Utf16Text<'t> {
 
     const READS_IN_PLACE: bool = true;
 
-    ghost characters = { λ t. utf16_text t.units.now };
+    ghost encoding = { utf16 };
 
-    ghost units = { utf16_len };
+    ghost text = { λ t. record { chars = utf16_text t.units.now } };
 
     fn len(&self) -> usize {
         self.units.len()
@@ -325,9 +326,4 @@ impl<'t> TextSource for Utf16Text<'t> {
     {
         c.len_utf16()
     }
-
-    ghost use Rattle.std.proofs.Common.{arith};
-    ghost use Rattle.std.proofs.lemmas.Bool.Decides.{nat_tests};
-
-    ghost has_units = { λ c. Prim.grind (arith, nat_tests) };
 }

@@ -1,5 +1,5 @@
-use Rattle.bidi_base.proofs.Common.{◌≡◌, ◌∙◌, ◌+◌, ◌-◌, ◌≤◌, drop, length-take, length-drop, ◌++◌, ◌∷◌, [], ℕ, List, length, take, sym, ap, arith, rules, length_push, place, take_all}
-use Rattle.bidi_base.proofs.PlaceLemmas.{CharTurn, char_turn, char_end, place-end}
+use Rattle.bidi_base.proofs.Common.{◌≡◌, ◌∙◌, ◌+◌, ◌-◌, ◌≤◌, drop, length-take, length-drop, ◌++◌, ◌∷◌, [], ℕ, List, length, take, sym, ap, arith, rules, length_push, unit_index, take_all}
+use Rattle.bidi_base.proofs.UnitIndexLemmas.{CharTurn, char_turn, char_end, unit_index-end}
 use Rattle.bidi_calls.specs.Characters.{numbers_of}
 use Rattle.bidi_calls.proofs.CharacterLemmas.{written_more}
 use Rattle.bidi_calls.proofs.characters.write_each.Given.{Over}
@@ -8,7 +8,7 @@ use Rattle.bidi_calls.proofs.characters.write_each.Goals.{In-Some}
 
 -- the character that comes
 turn_of : (g : Over) (c : In-Some g)
-    → CharTurn g.T.TextSource.units (g.T.TextSource.characters c.args.text) (length c.loop-c.yielded) (place g.T.TextSource.units (g.T.TextSource.characters c.args.text) (length c.loop-c.yielded)) c.in-Some.c
+    → CharTurn g.T.TextSource.encoding.len_of (g.T.TextSource.text c.args.text).chars (length c.loop-c.yielded) (unit_index g.T.TextSource.encoding.len_of (g.T.TextSource.text c.args.text).chars (length c.loop-c.yielded)) c.in-Some.c
 turn_of g c = search (rules, char_turn)
 
 pub overflow_add-end : goal.overflow_add-end
@@ -24,8 +24,8 @@ slice_bounds-fill-end g c =
 
 pub loop-c-preserved : goal.loop-c-preserved
 loop-c-preserved g c =
-    let chars : List ℕ = g.T.TextSource.characters c.args.text in
-    let len_of = g.T.TextSource.units in
+    let chars : List ℕ = (g.T.TextSource.text c.args.text).chars in
+    let len_of = g.T.TextSource.encoding.len_of in
     let number = g.N.Numbering.number (g.D.BidiDataSource.source c.args.data_source.now) in
     let n : ℕ = length c.loop-c.yielded in
     let w = turn_of g (goal.at.loop-c-preserved g c).In-Some in
@@ -45,10 +45,10 @@ loop-c-preserved g c =
 
 pub returns : goal.returns
 returns g c =
-    let chars : List ℕ = g.T.TextSource.characters c.args.text in
+    let chars : List ℕ = (g.T.TextSource.text c.args.text).chars in
     let n : ℕ = length c.loop-c.yielded in
     let all : n ≡ length chars = char_end chars c.chars-c-items.ensures c.into_iter-c-iterator.ensures.into_iter_gives c.loop-c.yielded _ c.loop-c.yielded_by _ _ c.in-None.is c.next.ensures.steps in
     let whole : take n chars ≡ chars = take_all n chars (omega (arith, all)) in
-    let ends : length c.loop-c.out ≤ c.loop-c.at = omega (arith, c.loop-c.invariant.2, place-end g.T.TextSource.units chars n (omega (arith, all)), c.requires, c.loop-c.auto.out) in
+    let ends : length c.loop-c.out ≤ c.loop-c.at = omega (arith, c.loop-c.invariant.2, unit_index-end g.T.TextSource.encoding.len_of chars n (omega (arith, all)), c.requires, c.loop-c.auto.out) in
     let number = g.N.Numbering.number (g.D.BidiDataSource.source c.args.data_source.now) in
-    sym (take_all c.loop-c.at c.loop-c.out ends) ∙ c.loop-c.invariant.3 ∙ ap (numbers_of number g.T.TextSource.units) whole
+    sym (take_all c.loop-c.at c.loop-c.out ends) ∙ c.loop-c.invariant.3 ∙ ap (numbers_of number g.T.TextSource.encoding.len_of) whole

@@ -1,7 +1,7 @@
 use Rattle.bidi_base.proofs.Common.{arith, ap}
 use Rattle.std.specs.List.{count_by}
 use Rattle.bidi_calls.proofs.CountLemmas.{count-utf8}
-use Rattle.bidi_calls.specs.Everything.{begins_character}
+use Rattle.bidi_calls.specs.LineParts.{begins_character}
 use Rattle.bidi_calls.proofs.counted.count_utf8.Goals as goal
 
 pub returns : goal.returns

@@ -1,6 +1,6 @@
 use Rattle.bidi_base.proofs.Common.{◌≡◌, ◌+◌, ◌≤◌, length}
 use Rattle.std.specs.List.{count_by}
-use Rattle.bidi_calls.specs.Everything.{begins_character}
+use Rattle.bidi_calls.specs.LineParts.{begins_character}
 use Rattle.bidi_calls.proofs.counted.count_utf8.Given as goal
 
 -- the characters that have begun, and those of the rest

@@ -1,9 +1,13 @@
-use Rattle.bidi_base.proofs.Common.{◌≡◌, ◌∙◌, ◌+◌, ◌≤◌, ◌<◌, ◌⊎◌, length, drop, map, chars, length-map, length-drop, take_rest, common_steps, sym, arith}
+use Rattle.bidi_base.proofs.Common.{◌≡◌, ◌∙◌, ◌+◌, ◌≤◌, ◌<◌, ◌⊎◌, length, drop, map, chars, length-map, length-drop, take_rest, common_steps, sym, arith, List, ℕ, IsUtf8, ap, encodes-chars}
 use Rattle.bidi_text.proofs.StrLemmas.{text_len-chars}
 use Rattle.unicode_bidi.proofs.SearchLemmas.{search_in-le, searched-in}
-use Rattle.bidi_calls.proofs.Utf8Fronts.{length-chars}
 use Rattle.bidi_calls.proofs.FirstDirectionLemmas.{utf8_from-start, utf8_from-end, utf8-valid, utf8-decided, piece-found, piece-open, piece-none, piece_within}
+use Rattle.std.proofs.lemmas.Str.{length-le-encodes}
 use Rattle.bidi_calls.proofs.first_direction.first_direction_utf8.Goals as goal
+
+-- there are at least as many bytes as characters
+length-chars : (bs : List ℕ) → IsUtf8 bs → length (chars bs) ≤ length bs
+length-chars bs u = omega (arith, length-le-encodes (chars bs), ap length (encodes-chars bs u))
 
 pub returns-then-is_empty-clause-direction : goal.returns-then-is_empty-clause-direction
 returns-then-is_empty-clause-direction g c =

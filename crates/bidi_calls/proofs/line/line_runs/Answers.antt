@@ -1,5 +1,5 @@
 use Rattle.bidi_base.proofs.Common.{arith, common_steps}
-use Rattle.bidi_calls.proofs.ShownRuns.{length-moved}
+use Rattle.bidi_calls.proofs.RunStructs.{length-moved}
 use Rattle.bidi_calls.proofs.line.line_runs.Goals as goal
 
 pub returns-in_err-check_room_or_none-clause-fault : goal.returns-in_err-check_room_or_none-clause-fault

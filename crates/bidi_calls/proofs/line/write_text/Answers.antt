@@ -1,17 +1,17 @@
-use Rattle.bidi_calls.proofs.KeptText.{kept-is_line, kept-runs}
-use Rattle.bidi_calls.specs.Lines.{shown_levels}
+use Rattle.bidi_calls.proofs.CallerText.{caller-is_line, caller-runs}
+use Rattle.bidi_calls.specs.CallerLine.{caller_line_levels}
 use Rattle.bidi_calls.proofs.line.write_text.Goals as goal
 
 pub write_line-requires-clause-is_line : goal.write_line-requires-clause-is_line
 write_line-requires-clause-is_line g c =
-    rw c.requires.room (kept-is_line g.T.TextSource.units g.met.T.TextSource.has_units (g.T.TextSource.characters c.args.text) c.args.line.now c.requires.sound c.requires.even c.requires.units)
+    rw c.requires.room (caller-is_line g.T.TextSource.encoding.len_of g.T.TextSource.encoding.positive (g.T.TextSource.text c.args.text).chars c.args.line.now c.requires.valid c.requires.even c.requires.same_len)
 
 pub write_line-requires-clause-runs : goal.write_line-requires-clause-runs
-unfolding shown_levels
+unfolding caller_line_levels
 write_line-requires-clause-runs g c =
     rw (c.level.ensures, c.new-classes.ensures, c.class_numbers.ensures, c.level_numbers-levels.ensures)
-    (kept-runs g.T.TextSource.units g.met.T.TextSource.has_units (g.T.TextSource.characters c.args.text) c.args.line.now c.requires.sound c.requires.even c.requires.units)
+    (caller-runs g.T.TextSource.encoding.len_of g.T.TextSource.encoding.positive (g.T.TextSource.text c.args.text).chars c.args.line.now c.requires.valid c.requires.even c.requires.same_len)
 
 pub returns-clause-text : goal.returns-clause-text
-unfolding shown_levels
+unfolding caller_line_levels
 returns-clause-text g c = rw (c.level.ensures, c.new-classes.ensures, c.class_numbers.ensures, c.level_numbers-levels.ensures) at c.write_line.ensures.text

@@ -1,5 +1,5 @@
 use Rattle.bidi_lines.proofs.RunLengths.{visual_runs-whole}
-use Rattle.bidi_calls.proofs.ShownRuns.{runs_within, runs_ordered}
+use Rattle.bidi_calls.proofs.RunStructs.{runs_within, runs_ordered}
 use Rattle.bidi_calls.proofs.show.write_chars.Goals as goal
 
 pub write_each_run-requires-clause-within : goal.write_each_run-requires-clause-within

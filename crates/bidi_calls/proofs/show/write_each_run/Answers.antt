@@ -22,7 +22,7 @@ loop-run-preserved c =
     let more = sum_by_more (λ (r : Range ℕ). r.end - r.start) c.args.runs.now k d c.loop-run-test.true in
     let whole = sum_by_more_le (λ (r : Range ℕ). r.end - r.start) c.args.runs.now k d c.loop-run-test.true in
     let fits : c.loop-run.at ≤ length c.loop-run.out = omega (arith, c.loop-run.invariant.so_far, whole, c.requires.whole, c.requires.room, c.loop-run.auto.out) in
-    let inside : run.end ≤ length c.args.chars.now = omega (arith, here.1, c.requires.one_a_unit) in
+    let inside : run.end ≤ length c.args.chars.now = omega (arith, here.1, c.requires.same_len) in
     let odd : c.is_rtl-is_rtl.result ≡ is_odd (run_level 0 c.args.levels.now (run_of run)) =
     c.is_rtl-is_rtl.ensures ∙ ap is_odd (c.index-levels-run.is ∙ get_or_default c.args.levels.now run.start c.index-levels-run.result 0 here.0 ∙ simp sub-zero refl) in
     record {

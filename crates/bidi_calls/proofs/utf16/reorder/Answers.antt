@@ -1,7 +1,7 @@
 use Rattle.bidi_base.proofs.Common.{rules, ◌≡◌, ◌+◌, true, false, sym, refl, ap, ◌∙◌, arith, nat_tests, ℕ, length, length-take-le, utf16_text, utf16_len, encode_utf16}
 use Rattle.bidi_text.proofs.Utf16Lemmas.{has_units, text_len-utf16}
-use Rattle.bidi_calls.proofs.KeptText.{kept-text, length-kept, told-uneven, told-room}
-use Rattle.bidi_calls.specs.Shown.{is_even}
+use Rattle.bidi_calls.proofs.CallerText.{caller-text, length-caller, reported-uneven, reported-room}
+use Rattle.bidi_calls.specs.LineText.{is_even}
 use Rattle.bidi_calls.proofs.utf16.reorder.Goals as goal
 
 -- a character takes as many units as it is written with
@@ -13,8 +13,8 @@ write_text-requires-clause-even c =
     let even = rw (c.class_numbers.ensures, c.level_numbers.ensures) at c.is_even_utf16-even.ensures in
     rw c.new.ensures (grind arith)
 
-pub write_text-requires-clause-units : goal.write_text-requires-clause-units
-write_text-requires-clause-units c = rw c.new.ensures (ap (λ n. n + c.args.line.now.start) (text_len-utf16 c.args.text.now) ∙ c.requires.units)
+pub write_text-requires-clause-same_len : goal.write_text-requires-clause-same_len
+write_text-requires-clause-same_len c = rw c.new.ensures (ap (λ n. n + c.args.line.now.start) (text_len-utf16 c.args.text.now) ∙ c.requires.same_len)
 
 pub write_text-requires-clause-room : goal.write_text-requires-clause-room
 write_text-requires-clause-room c = rw c.new.ensures (length-take-le (length c.args.text.now) c.args.out.now (grind arith) ∙ sym (text_len-utf16 c.args.text.now))
@@ -23,15 +23,15 @@ pub returns-in_err-check-clause-fault : goal.returns-in_err-check-clause-fault
 returns-in_err-check-clause-fault c =
     let even = rw (c.class_numbers.ensures, c.level_numbers.ensures) at c.is_even_utf16-even.ensures in
     let fails : is_even utf16_len (utf16_text c.args.text.now) c.args.line.now ≡ false = grind arith in
-    rw (told-uneven utf16_len encode_utf16 (utf16_text c.args.text.now) c.args.text.now c.args.line.now (length c.args.out.now) fails) (grind arith)
+    rw (reported-uneven utf16_len encode_utf16 (utf16_text c.args.text.now) c.args.text.now c.args.line.now (length c.args.out.now) fails) (grind arith)
 
 pub returns-in_err-check-2-clause-fault : goal.returns-in_err-check-2-clause-fault
 returns-in_err-check-2-clause-fault c =
     let even = rw (c.class_numbers.ensures, c.level_numbers.ensures) at c.is_even_utf16-even.ensures in
     let holds : is_even utf16_len (utf16_text c.args.text.now) c.args.line.now ≡ true = grind arith in
     let long = text_len-utf16 c.args.text.now in
-    let units = ap (λ n. n + c.args.line.now.start) long ∙ c.requires.units in
-    rw (told-room utf16_len encode_utf16 (utf16_text c.args.text.now) c.args.text.now c.args.line.now (length c.args.out.now) (length c.args.text.now) holds (length-kept utf16_len has_units (utf16_text c.args.text.now) c.args.line.now c.requires.sound holds units encode_utf16 c.args.text.now (sym long) length-encode)) (grind arith)
+    let units = ap (λ n. n + c.args.line.now.start) long ∙ c.requires.same_len in
+    rw (reported-room utf16_len encode_utf16 (utf16_text c.args.text.now) c.args.text.now c.args.line.now (length c.args.out.now) (length c.args.text.now) holds (length-caller utf16_len has_units (utf16_text c.args.text.now) c.args.line.now c.requires.valid holds units encode_utf16 c.args.text.now (sym long) length-encode)) (grind arith)
 
 pub returns-in_err-write_text-clause-fault : goal.returns-in_err-write_text-clause-fault
 returns-in_err-write_text-clause-fault c = grind arith
@@ -41,15 +41,15 @@ returns-clause-fault c =
     let even = rw (c.class_numbers.ensures, c.level_numbers.ensures) at c.is_even_utf16-even.ensures in
     let holds : is_even utf16_len (utf16_text c.args.text.now) c.args.line.now ≡ true = grind arith in
     let long = text_len-utf16 c.args.text.now in
-    let units = ap (λ n. n + c.args.line.now.start) long ∙ c.requires.units in
-    rw (told-room utf16_len encode_utf16 (utf16_text c.args.text.now) c.args.text.now c.args.line.now (length c.args.out.now) (length c.args.text.now) holds (length-kept utf16_len has_units (utf16_text c.args.text.now) c.args.line.now c.requires.sound holds units encode_utf16 c.args.text.now (sym long) length-encode)) (grind arith)
+    let units = ap (λ n. n + c.args.line.now.start) long ∙ c.requires.same_len in
+    rw (reported-room utf16_len encode_utf16 (utf16_text c.args.text.now) c.args.text.now c.args.line.now (length c.args.out.now) (length c.args.text.now) holds (length-caller utf16_len has_units (utf16_text c.args.text.now) c.args.line.now c.requires.valid holds units encode_utf16 c.args.text.now (sym long) length-encode)) (grind arith)
 
 pub returns-clause-writes : goal.returns-clause-writes
 returns-clause-writes c =
     let even = rw (c.class_numbers.ensures, c.level_numbers.ensures) at c.is_even_utf16-even.ensures in
     let holds : is_even utf16_len (utf16_text c.args.text.now) c.args.line.now ≡ true = grind arith in
     let long = text_len-utf16 c.args.text.now in
-    let units = ap (λ n. n + c.args.line.now.start) long ∙ c.requires.units in
-    let text = (rw c.new.ensures at c.in_ok-write_text.ensures.text) ∙ kept-text utf16_len has_units (utf16_text c.args.text.now) c.args.line.now c.requires.sound holds units encode_utf16 c.args.text.now (sym long) in
-    let count = length-kept utf16_len has_units (utf16_text c.args.text.now) c.args.line.now c.requires.sound holds units encode_utf16 c.args.text.now (sym long) length-encode in
-    record { kept = search rules; list = rw (text, count) refl; count = sym count }
+    let units = ap (λ n. n + c.args.line.now.start) long ∙ c.requires.same_len in
+    let text = (rw c.new.ensures at c.in_ok-write_text.ensures.text) ∙ caller-text utf16_len has_units (utf16_text c.args.text.now) c.args.line.now c.requires.valid holds units encode_utf16 c.args.text.now (sym long) in
+    let count = length-caller utf16_len has_units (utf16_text c.args.text.now) c.args.line.now c.requires.valid holds units encode_utf16 c.args.text.now (sym long) length-encode in
+    record { unchanged = search rules; list = rw (text, count) refl; count = sym count }

@@ -2,7 +2,7 @@ use Rattle.bidi_base.proofs.Common.{◌≡◌, ℕ, true, List, Option, ◌∙�
 use Rattle.std.specs.Prelude.{position}
 use Rattle.bidi_controls.specs.Displayed.{is_displayed_differently}
 use Rattle.bidi_controls.specs.Findings.{wants_lines, differing_place}
-use Rattle.bidi_controls.specs.Lines.{own_chars}
+use Rattle.bidi_base.specs.Paragraphs.{own_chars}
 use Rattle.bidi_controls.specs.Matches.{is_control}
 use Rattle.bidi_controls.specs.declared.finding.Wanted.{Wanted}
 use Rattle.bidi_controls.proofs.check.differing_place.Goals as goal

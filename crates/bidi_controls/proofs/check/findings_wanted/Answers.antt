@@ -1,5 +1,5 @@
 use Rattle.bidi_base.proofs.Common.{◌≡◌, ℕ, ◌+◌, ◌++◌, List, ◌∷◌, take, sym, ap, arith, append_assoc, append-nil, ◌∙◌, Source}
-use Rattle.bidi_controls.proofs.QuietLines.{findings_in_line-quiet}
+use Rattle.bidi_controls.proofs.LinesWithoutControls.{findings_in_line-without_controls}
 use Rattle.bidi_controls.specs.Findings.{findings_of, findings_from, findings_in_line}
 use Rattle.bidi_bytes.specs.FileLines.{file_lines_of}
 use Rattle.bidi_controls.specs.declared.finding.Finding.{Finding}
@@ -11,7 +11,7 @@ pub loop-rest-init : goal.loop-rest-init
 unfolding findings_of
 loop-rest-init g c = grind arith
 
--- the findings in a line go before those in the lines behind it
+-- the findings in a line go before those in the lines after it
 with_line : (source : Source) (wanted : Wanted) (n : ℕ) (rest line after : List ℕ) (old new all : List Finding) → file_lines_of rest ≡ line ∷ file_lines_of after
     → old ++ findings_from source wanted (n + 1) (file_lines_of rest) ≡ all → new ≡ old ++ findings_in_line source wanted (n + 1) line
     → new ++ findings_from source wanted (n + 1 + 1) (file_lines_of after) ≡ all
@@ -26,7 +26,7 @@ loop-rest-preserved g c =
       | then-not-first+in_ok-push_found_in w ↦
           ap (λ found. found.items) w.findings-is
           ∙ (w.in_ok-push_found_in.ensures ∙ ap (λ chars. c.loop-rest.findings.items ++ findings_in_line source c.args.wanted (c.loop-rest.lines_before + 1) chars) c.split_at.ensures.front)
-      | else-not-first w ↦ grind (arith, append-nil, findings_in_line-quiet source c.args.wanted (c.loop-rest.lines_before + 1) line)
+      | else-not-first w ↦ grind (arith, append-nil, findings_in_line-without_controls source c.args.wanted (c.loop-rest.lines_before + 1) line)
     ] in
     record {
       few = grind arith;

@@ -3,11 +3,11 @@ use Rattle.bidi_base.proofs.Common.{Source, get_or-drop, get_or-take}
 use Rattle.bidi_bytes.specs.FileLines.{ends_file_line}
 use Rattle.bidi_controls.specs.Lines.{is_printable_ascii}
 use Rattle.bidi_controls.proofs.LinesLemmas.{IsUnbroken-more, IsUnbroken-plain, IsUnbroken-ended, IsUnbroken-whole}
-use Rattle.bidi_controls.proofs.QuietLines.{AreQuiet-more, AreQuiet-plain}
+use Rattle.bidi_controls.proofs.LinesWithoutControls.{HaveNoControls-more, HaveNoControls-plain}
 use Rattle.bidi_controls.proofs.lines.first_file_line.Goals as goal
 use Rattle.bidi_controls.proofs.lines.first_file_line.Goals.{then-is_sign, else-is_sign}
 
--- what stands behind a place
+-- what is after a place
 behind : (n : ℕ) (chars : List ℕ) → drop n chars ≡ take (length chars - n) (drop n chars)
 behind n chars = sym (take_all (length chars - n) (drop n chars) (omega (arith, length-drop n chars)))
 
@@ -36,31 +36,31 @@ loop-at-preserved-then-are_printable_ascii g c =
     record {
       ends = fits;
       unbroken = IsUnbroken-plain ends_file_line chars c.loop-at.at 16 fits (λ i low high. no_end (get_or chars i 0) (block i low high)) c.loop-at.invariant.unbroken;
-      quiet = λ yes. AreQuiet-plain source chars c.loop-at.at 16 fits (λ i low high. c.requires.quiet_ascii c.if-ascii_is_quiet.true (get_or chars i 0) (block i low high)) (c.loop-at.invariant.quiet yes);
+      without_controls = λ yes. HaveNoControls-plain source chars c.loop-at.at 16 fits (λ i low high. c.requires.no_control_in_ascii c.if-ascii_has_no_control.true (get_or chars i 0) (block i low high)) (c.loop-at.invariant.without_controls yes);
     }
 
 pub returns-then-ends_file_line-clause-first : goal.returns-then-ends_file_line-clause-first
 returns-then-ends_file_line-clause-first g c = grind (arith, behind, IsUnbroken-ended ends_file_line c.args.chars.now)
 
-pub returns-then-ends_file_line-clause-quiet : goal.returns-then-ends_file_line-clause-quiet
-returns-then-ends_file_line-clause-quiet g c =
-    AreQuiet-more (g.D.BidiDataSource.source c.args.data_source.now) c.args.chars.now c.loop-at.at _ _ _ c.loop-at-test.true c.index-chars-at.is
+pub returns-then-ends_file_line-clause-without_controls : goal.returns-then-ends_file_line-clause-without_controls
+returns-then-ends_file_line-clause-without_controls g c =
+    HaveNoControls-more (g.D.BidiDataSource.source c.args.data_source.now) c.args.chars.now c.loop-at.at _ _ _ c.loop-at-test.true c.index-chars-at.is
     (elim c.if-is_sign.branch [
       | then-is_sign w ↦ grind arith
       | else-is_sign w ↦ grind arith
     ])
-    c.loop-at.invariant.quiet
+    c.loop-at.invariant.without_controls
 
 pub loop-at-preserved : goal.loop-at-preserved
 loop-at-preserved g c = record {
   ends = omega (arith, c.loop-at-test.true);
   unbroken = grind (arith, behind, IsUnbroken-more ends_file_line c.args.chars.now);
-  quiet = AreQuiet-more (g.D.BidiDataSource.source c.args.data_source.now) c.args.chars.now c.loop-at.at _ _ _ c.loop-at-test.true c.index-chars-at.is
+  without_controls = HaveNoControls-more (g.D.BidiDataSource.source c.args.data_source.now) c.args.chars.now c.loop-at.at _ _ _ c.loop-at-test.true c.index-chars-at.is
       (elim c.if-is_sign.branch [
         | then-is_sign w ↦ grind arith
         | else-is_sign w ↦ grind arith
       ])
-      c.loop-at.invariant.quiet;
+      c.loop-at.invariant.without_controls;
 }
 
 pub returns-clause-first : goal.returns-clause-first

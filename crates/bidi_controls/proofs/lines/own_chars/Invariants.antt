@@ -1,5 +1,5 @@
 use Rattle.bidi_base.proofs.Common.{◌≡◌, ◌++◌, take, drop}
-use Rattle.bidi_controls.specs.Lines.{own_chars}
+use Rattle.bidi_base.specs.Paragraphs.{own_chars}
 use Rattle.bidi_controls.proofs.lines.own_chars.Given as goal
 
 abbrev pub invariant-loop-at : goal.invariant-loop-at

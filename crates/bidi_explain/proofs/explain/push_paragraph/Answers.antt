@@ -4,8 +4,8 @@ use Rattle.bidi_explain.proofs.StagesLemmas.{line_levels-long, order-within}
 use Rattle.bidi_explain.proofs.PlacesLemmas.{places-long}
 use Rattle.bidi_explain.proofs.explain.push_paragraph.Goals as goal
 
-pub push_stages-requires-clause-levels : goal.push_stages-requires-clause-levels
-push_stages-requires-clause-levels g c = grind (arith, line_levels-long, length-stored_levels)
+pub push_stages-requires-clause-levels_same_len : goal.push_stages-requires-clause-levels_same_len
+push_stages-requires-clause-levels_same_len g c = grind (arith, line_levels-long, length-stored_levels)
 
 pub push_stages-requires-clause-order : goal.push_stages-requires-clause-order
 push_stages-requires-clause-order g c = grind (arith, order-within, length-stored_levels)

@@ -2,7 +2,7 @@ use Rattle.bidi_base.proofs.Common.{◌≡◌, ◌++◌, List, ℕ, append_assoc
 use Rattle.bidi_explain.proofs.BlocksLemmas.{indexes-within}
 use Rattle.bidi_explain.proofs.page.push_section.Goals as goal
 
--- three texts, each written behind the last
+-- three texts, each written after the last
 all_written : (out a b c : List ℕ) {p q r : List ℕ} → p ≡ out ++ a → q ≡ p ++ b → r ≡ q ++ c → r ≡ out ++ (a ++ (b ++ c))
 all_written out a b c first second third = simp (third, second, first, append_assoc)
 

@@ -7,12 +7,12 @@ use Rattle.bidi_explain.proofs.stages.find_stages.Goals.{After-first_level-level
 use Rattle.unicode_bidi.specs.ParagraphInfo.{ranges_of, levels_of}
 
 -- the paragraph is analysed
-alone : (g : Over) (c : After-first_level-level g) → IsAnalysis (g.D.BidiDataSource.source c.args.data_source.now) c.args.base None
+alone : (g : Over) (c : After-first_level-level g) → IsAnalysis (g.D.BidiDataSource.source c.args.data_source.now) c.args.base_level None
     (record { len_of = one_unit; chars = c.args.chars.now; classes = c.in_ok-analysis.analysis.original_classes.items; levels = c.in_ok-analysis.analysis.levels.items })
     (ranges_of c.in_ok-analysis.analysis.paragraphs.items) (levels_of c.in_ok-analysis.analysis.paragraphs.items)
 alone g c = grind arith
 
-level_is : (g : Over) (c : After-first_level-level g) → c.first_level-level.result ≡ paragraph_level c.args.base (map (g.D.BidiDataSource.source c.args.data_source.now).class_of c.args.chars.now)
+level_is : (g : Over) (c : After-first_level-level g) → c.first_level-level.result ≡ paragraph_level c.args.base_level (map (g.D.BidiDataSource.source c.args.data_source.now).class_of c.args.chars.now)
 level_is g c =
     simp (c.first_level-level.ensures, c.paragraphs.ensures) (alone-level _ _ _ _ _ _ _ (alone g c))
 
@@ -23,9 +23,9 @@ pub stages_of-requires-clause-stored : goal.stages_of-requires-clause-stored
 stages_of-requires-clause-stored g c =
     c.original_classes.ensures ∙ alone-classes _ _ _ _ _ _ _ (alone g (goal.at.stages_of-requires-clause-stored g c).After-first_level-level)
 
-pub stages_of-requires-clause-levels : goal.stages_of-requires-clause-levels
-stages_of-requires-clause-levels g c =
-    ap length c.levels.ensures ∙ length-alone_levels _ _ _ _ _ _ _ (alone g (goal.at.stages_of-requires-clause-levels g c).After-first_level-level)
+pub stages_of-requires-clause-same_len : goal.stages_of-requires-clause-same_len
+stages_of-requires-clause-same_len g c =
+    ap length c.levels.ensures ∙ length-alone_levels _ _ _ _ _ _ _ (alone g (goal.at.stages_of-requires-clause-same_len g c).After-first_level-level)
 
 pub returns : goal.returns
 returns g c =

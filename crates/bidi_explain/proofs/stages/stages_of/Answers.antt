@@ -1,7 +1,7 @@
 use Rattle.bidi_base.proofs.Common.{◌≡◌, ◌∙◌, List, length, map, refl, ap, sym, arith, rules, length-map, explicit_levels, explicit_classes, stored_classes, levels_of_line, sequences}
 use Rattle.bidi_base.specs.declared.char_data.BidiClass.{BidiClass}
 use Rattle.bidi_laws.proofs.ExplicitLemmas.{length-explicit_classes}
-use Rattle.bidi_laws.proofs.LayoutLemmas.{own_indexes, visual_places-inverse}
+use Rattle.bidi_laws.proofs.LayoutLemmas.{own_indexes, visual_indexes-inverse}
 use Rattle.bidi_laws.proofs.StoredSteps.{length-stored_classes}
 use Rattle.bidi_explain.proofs.SequencesLemmas.{can_resolve}
 use Rattle.bidi_explain.proofs.stages.stages_of.Given.{Over}
@@ -53,6 +53,6 @@ returns g c =
       levels = c.in_ok-from_slice.ensures.items;
       line_levels = lines;
       order = rw (c.as_slice-4.ensures.value, lines) at c.in_ok-order.ensures.order;
-      places = visual_places-inverse c.as_slice-4.result.now c.in_ok-order.order.items c.in_ok-order.ensures.visual c.in_ok-places.places.items (simp (← c.as_slice-5.ensures.value) c.in_ok-places.ensures)
+      places = visual_indexes-inverse c.as_slice-4.result.now c.in_ok-order.order.items c.in_ok-order.ensures.visual c.in_ok-places.places.items (simp (← c.as_slice-5.ensures.value) c.in_ok-places.ensures)
           ∙ simp (c.as_slice-4.ensures.value, lines);
     }

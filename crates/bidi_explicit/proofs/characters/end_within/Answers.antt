@@ -9,13 +9,13 @@ found-by (Some (c, n)) len e = (c, cc e)
 
 pub returns-then-start-len : goal.returns-then-start-len
 returns-then-start-len g c = λ k within there.
-    sym c.if-start-len.true ∙ end-last g.T.TextSource.units g.met.T.TextSource.has_units (g.T.TextSource.characters c.args.text) c.args.start k (c.if-start-len.true ∙ c.requires.long) within there
+    sym c.if-start-len.true ∙ end-last (g.T.TextSource.text c.args.text) c.args.start k (c.if-start-len.true ∙ c.requires.same_len) within there
 
 pub overflow_add-result : goal.overflow_add-result
 overflow_add-result g c =
-    let within = end-within g.T.TextSource.units g.met.T.TextSource.has_units (g.T.TextSource.characters c.args.text) c.args.start _ _ (found-by _ _ c.len_at.ensures).1 c.requires.begins (omega (arith, c.requires.inside, c.requires.long)) in
-    omega (arith, within, c.requires.long, c.ranges.len.fits)
+    let within = end-within (g.T.TextSource.text c.args.text) c.args.start _ _ (found-by _ _ c.len_at.ensures).1 c.requires.begins (omega (arith, c.requires.inside, c.requires.same_len)) in
+    omega (arith, within, c.requires.same_len, c.ranges.len.fits)
 
 pub returns : goal.returns
 returns g c = λ k within there.
-    end-at g.T.TextSource.units g.met.T.TextSource.has_units (g.T.TextSource.characters c.args.text) c.args.start _ _ k (found-by _ _ c.len_at.ensures).1 within there
+    end-at (g.T.TextSource.text c.args.text) c.args.start _ _ k (found-by _ _ c.len_at.ensures).1 within there

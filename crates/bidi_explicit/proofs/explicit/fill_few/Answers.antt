@@ -1,8 +1,11 @@
 -- One unit after another.
-use Rattle.bidi_base.proofs.Common.{◌≡◌, ◌+◌, ◌≤◌, ℕ, List, length, set, sym, arith, common_steps}
-use Rattle.bidi_explicit.specs.ExplicitPass.{filled}
-use Rattle.bidi_explicit.proofs.ExplicitUnits.{filled-none, filled-more}
+use Rattle.bidi_base.proofs.Common.{◌≡◌, ◌+◌, ◌≤◌, ℕ, List, length, set, sym, arith, common_steps, take-append-drop}
+use Rattle.bidi_explicit.specs.RunCutting.{filled}
+use Rattle.bidi_explicit.proofs.ExplicitUnits.{filled-more}
 use Rattle.bidi_explicit.proofs.explicit.fill_few.Goals as goal
+
+filled-none : {X : Type 0} (from : ℕ) (x : X) (units : List X) → filled from 0 x units ≡ units
+filled-none from x units = grind (arith, take-append-drop)
 
 one : {X : Type 0} (start : ℕ) (x : X) (old : List X) → start + 1 ≤ length old → set old start x ≡ filled start 1 x old
 one start x old fits = filled-more start 0 start x old old (omega arith) (omega arith) (sym (filled-none start x old))

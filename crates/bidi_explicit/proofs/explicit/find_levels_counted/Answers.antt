@@ -18,12 +18,12 @@ read_stretch-stretch-requires-clause-begins g c = search (rules, read-begins)
 pub loop-at-preserved : goal.loop-at-preserved
 loop-at-preserved g c = elim c.if-is_control.branch [
   | then-is_control w ↦ (
-    simp (w.levels-is, w.classes-is, w.stack-is, w.progress-is, c.in_ok-meet.ensures.runs, c.in_ok-meet.ensures.run) (w.read_control-progress.ensures.read _ _ c.loop-at.invariant.0),
+    simp (w.levels-is, w.classes-is, w.stack-is, w.progress-is, c.in_ok-extend.ensures.runs, c.in_ok-extend.ensures.run) (w.read_control-progress.ensures.read _ _ c.loop-at.invariant.0),
     grind (arith, least-one),
     grind (arith, count-one),
   )
   | else-is_control w ↦ (
-    simp (w.levels-is, w.classes-is, w.stack-is, w.progress-is, c.in_ok-meet.ensures.runs, c.in_ok-meet.ensures.run) (w.read_stretch-stretch.ensures.read _ _ _ w.top.ensures w.write_level.ensures _ _ c.loop-at.invariant.0),
+    simp (w.levels-is, w.classes-is, w.stack-is, w.progress-is, c.in_ok-extend.ensures.runs, c.in_ok-extend.ensures.run) (w.read_stretch-stretch.ensures.read _ _ _ w.top.ensures w.write_level.ensures _ _ c.loop-at.invariant.0),
     grind arith,
     grind arith,
   )

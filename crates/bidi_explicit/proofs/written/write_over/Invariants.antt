@@ -1,6 +1,6 @@
 use Rattle.bidi_base.proofs.Common.{◌≡◌, ◌+◌, ◌-◌, ◌≤◌, get_or, is_kept_in_place}
 use Rattle.bidi_base.specs.declared.char_data.BidiClass.TheVariants.{L}
-use Rattle.bidi_explicit.specs.Written.{IsWrittenOver}
+use Rattle.bidi_explicit.specs.SequenceUnits.{IsWrittenOver}
 use Rattle.bidi_explicit.proofs.written.write_over.Given as goal
 
 -- the units so far are written; where there are none, nothing is

@@ -1,10 +1,14 @@
 use Rattle.bidi_base.proofs.Common.{◌≡◌, ℕ, ◌<◌, ◌&&◌, true, false, List, length, map, drop, get_or, ltb, ◌∙◌, sym, ap, inl, inr, arith, rules, cases_lt, get_or-map, length-map, take_all, Range}
-use Rattle.bidi_base.proofs.Common.{bounds, max, min}
-use Rattle.bidi_explicit.proofs.CountBelow.{count_below-none, count_below-more, count_below-parts, count_below-monotone, ends_ascend}
-use Rattle.bidi_explicit.proofs.InRuns.{run_some}
-use Rattle.bidi_explicit.proofs.WalkLemmas.{no_range, are_ordered-drop}
+use Rattle.bidi_base.proofs.Common.{bounds, max, min, are_ordered_from, common_steps, ◌≤◌}
+use Rattle.bidi_explicit.proofs.CountBelow.{count_below-none, count_below-more, count_below-parts, count_below-monotone}
+use Rattle.bidi_explicit.proofs.InRuns.{run_some, start_after}
+use Rattle.bidi_explicit.proofs.WalkLemmas.{no_range, are_ordered-drop, are_ordered-front}
 use Rattle.bidi_explicit.proofs.WrittenOver.{runs-more, runs-stop}
 use Rattle.bidi_explicit.proofs.written.write_over_runs_counted.Goals as goal
+
+-- the ranges end one after another
+ends_ascend : (low index : ℕ) (runs : List (ℕ × ℕ)) → are_ordered_from low runs ≡ true → index < length runs → (get_or runs 0 (0, 0)).1 ≤ (get_or runs index (0, 0)).1
+ends_ascend low index runs h fits = grind (arith, common_steps, are_ordered-front, run_some, start_after)
 
 pub loop-class-init : goal.loop-class-init
 loop-class-init g c = grind (arith, count_below-none)
@@ -31,8 +35,8 @@ loop-class-preserved g c =
     record {
       fits = omega (arith, it.fits);
       written = search (rules, runs-more);
-      at_least = omega (arith, c.loop-class.invariant.at_least, c.write_over.ensures.steps);
-      at_most = λ some first. grind (arith, ends_ascend, run_some, count_below-more);
+      steps_at_least = omega (arith, c.loop-class.invariant.steps_at_least, c.write_over.ensures.steps);
+      steps_at_most = λ some first. grind (arith, ends_ascend, run_some, count_below-more);
     }
 
 pub returns-clause-written : goal.returns-clause-written
@@ -49,8 +53,8 @@ returns-clause-written g c =
       | inr all ↦ grind (arith, take_all)
     ]
 
-pub returns-clause-at_most : goal.returns-clause-at_most
-returns-clause-at_most g c =
+pub returns-clause-steps_at_most : goal.returns-clause-steps_at_most
+returns-clause-steps_at_most g c =
     grind (
       arith,
       count_below-parts c.loop-class.index (map bounds c.args.runs.now) c.args.from,

@@ -9,20 +9,20 @@ pub loop-level-preserved : goal.loop-level-preserved
 loop-level-preserved c = grind (arith, common_steps, either_odd)
 
 -- what is read once all levels are seen
-abbrev told : Bool → Bool → Direction
-told even odd = if not even then Rtl else if not odd then Ltr else Mixed
+abbrev reported : Bool → Bool → Direction
+reported even odd = if not even then Rtl else if not odd then Ltr else Mixed
 
 pub returns-then-even-eq0 : goal.returns-then-even-eq0
 returns-then-even-eq0 c =
     sym (direction_of_levels-read _ _ _ _ c.loop-level-test.false c.loop-level.invariant.some_odd c.loop-level.invariant.some_even
-    ∙ ap (λ e. told e (is_odd c.loop-level.odd)) (not_odd c.loop-level.even c.if-even-eq0.true))
+    ∙ ap (λ e. reported e (is_odd c.loop-level.odd)) (not_odd c.loop-level.even c.if-even-eq0.true))
 
 pub returns-then-odd-eq0 : goal.returns-then-odd-eq0
 returns-then-odd-eq0 c =
     sym (direction_of_levels-read _ _ _ _ c.loop-level-test.false c.loop-level.invariant.some_odd c.loop-level.invariant.some_even
-    ∙ ap₂ told (odd_since c.loop-level.even c.if-even-eq0.false) (not_odd c.loop-level.odd c.if-odd-eq0.true))
+    ∙ ap₂ reported (odd_since c.loop-level.even c.if-even-eq0.false) (not_odd c.loop-level.odd c.if-odd-eq0.true))
 
 pub returns-else-odd-eq0 : goal.returns-else-odd-eq0
 returns-else-odd-eq0 c =
     sym (direction_of_levels-read _ _ _ _ c.loop-level-test.false c.loop-level.invariant.some_odd c.loop-level.invariant.some_even
-    ∙ ap₂ told (odd_since c.loop-level.even c.if-even-eq0.false) (odd_since c.loop-level.odd c.if-odd-eq0.false))
+    ∙ ap₂ reported (odd_since c.loop-level.even c.if-even-eq0.false) (odd_since c.loop-level.odd c.if-odd-eq0.false))

@@ -4,7 +4,7 @@ use Rattle.bidi_lines.proofs.line_levels.reset_levels.Given as goal
 
 abbrev pub invariant-loop-at : goal.invariant-loop-at
 invariant-loop-at g l = record {
-  swept : IsSweptTo l.level (g.C.ClassList.classes l.classes) l.initial.levels l.levels l.start l.before l.at;
+  swept : IsSweptTo l.para_level (g.C.ClassList.classes l.classes) l.initial.levels l.levels l.start l.before l.at;
   ends : l.at ≤ length (g.C.ClassList.classes l.classes);
 }
 

@@ -2,4 +2,4 @@ use Rattle.bidi_lines.proofs.Gathered.{IsTaken}
 use Rattle.bidi_lines.proofs.line_levels.write_first_units.Given as goal
 
 abbrev pub invariant-loop-at : goal.invariant-loop-at
-invariant-loop-at g l = IsTaken g.T.TextSource.units (g.T.TextSource.characters l.fn.text) l.levels l.out l.copied l.at
+invariant-loop-at g l = IsTaken g.T.TextSource.encoding.len_of (g.T.TextSource.text l.fn.text).chars l.levels l.out l.copied l.at

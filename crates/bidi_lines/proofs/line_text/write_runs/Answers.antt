@@ -1,14 +1,14 @@
 use Rattle.bidi_base.proofs.Common.{ℕ, ◌-◌, ◌<◌, ◌≤◌, List, length, get_or, ◌∙◌, arith, Range, sum_by_more, sum_by_more_le}
-use Rattle.bidi_lines.specs.Written.{run_units}
+use Rattle.bidi_lines.specs.LineUnits.{run_units}
 use Rattle.bidi_lines.proofs.WrittenRuns.{written_run, run_units-odd, run_units-even}
 use Rattle.bidi_lines.proofs.line_text.write_runs.Goals as goal
 use Rattle.bidi_lines.proofs.line_text.write_runs.Goals.{then-is_rtl, else-is_rtl}
 
 pub loop-run-preserved : goal.loop-run-preserved
 loop-run-preserved g c =
-    let len = g.T.TextSource.units in
+    let len = g.T.TextSource.encoding.len_of in
     let encode = g.T.LineText.encode in
-    let cs : List ℕ = g.T.TextSource.characters c.args.text in
+    let cs : List ℕ = (g.T.TextSource.text c.args.text).chars in
     let units = g.T.LineText.units_of c.args.text in
     let d : Range ℕ = record { start = 0; end = 0 } in
     let k = c.loop-run.run-index in

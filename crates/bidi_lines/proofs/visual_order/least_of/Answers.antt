@@ -4,5 +4,5 @@ use Rattle.bidi_lines.proofs.visual_order.least_of.Goals as goal
 pub loop-i-preserved : goal.loop-i-preserved
 loop-i-preserved g c = record {
   least = λ p a h. grind (arith, c.loop-i.invariant.least p);
-  above = λ base h. omega (arith, c.loop-i.invariant.above base (λ p a k. h p a (omega arith)), h c.loop-i.i (omega arith) (omega arith));
+  above = λ threshold h. omega (arith, c.loop-i.invariant.above threshold (λ p a k. h p a (omega arith)), h c.loop-i.i (omega arith) (omega arith));
 }

@@ -4,5 +4,5 @@ use Rattle.bidi_lines.proofs.visual_order.least_of.Given as goal
 abbrev pub invariant-loop-i : goal.invariant-loop-i
 invariant-loop-i g l = record {
   least : (p : ℕ) → l.from ≤ p → p < l.i → l.least ≤ slice_index (g.L.LevelList.numbers l.levels) p;
-  above : (base : ℕ) → ((p : ℕ) → l.from ≤ p → p < l.i → base < slice_index (g.L.LevelList.numbers l.levels) p) → base < l.least;
+  above : (threshold : ℕ) → ((p : ℕ) → l.from ≤ p → p < l.i → threshold < slice_index (g.L.LevelList.numbers l.levels) p) → threshold < l.least;
 }

@@ -6,7 +6,7 @@ use Rattle.bidi_lines.proofs.visual_runs.first_run_end.Goals as goal
 pub returns-clause-first : goal.returns-clause-first
 returns-clause-first c start =
     let levels = c.args.levels.now in
-    let step = level_runs-more start levels 0 c.run_end.result c.run_end.ensures.begins c.run_end.ensures.ends c.run_end.ensures.same c.run_end.ensures.stops in
+    let step = level_runs-more start levels 0 c.run_end.result c.run_end.ensures.advances c.run_end.ensures.within c.run_end.ensures.same c.run_end.ensures.stops in
     grind (arith, step)
 
 pub returns-clause-whole : goal.returns-clause-whole

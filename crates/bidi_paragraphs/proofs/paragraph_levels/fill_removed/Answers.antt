@@ -15,7 +15,7 @@ pub write_removed-from-requires : goal.write_removed-from-requires
 write_removed-from-requires c =
     let f = c.first_passing-at.ensures in
     let inside : c.first_passing-at.result < length c.args.classes.now = omega (arith, f.ends, c.if-at-units.false) in
-    record { lengths = grind arith; inside = inside; removed = ap not (f.at inside) }
+    record { same_len = grind arith; inside = inside; removed = ap not (f.at inside) }
 
 pub loop-from-preserved : goal.loop-from-preserved
 loop-from-preserved c =
@@ -23,8 +23,8 @@ loop-from-preserved c =
     record {
       filled =
           AreFilled-removed _ _ _ _ _ (up_to _ _ _ _ c.loop-from.from _ c.first_passing-at.ensures c.loop-from.invariant.filled) c.level_before-before.result
-          c.write_removed-from.result _ (omega (arith, w.begins)) w.removed w.written c.level_before-before.ensures.front c.level_before-before.ensures.inside;
-      ends = w.ends;
+          c.write_removed-from.result _ (omega (arith, w.advances)) w.removed w.written c.level_before-before.ensures.front c.level_before-before.ensures.inside;
+      ends = w.within;
     }
 
 pub returns-then-at-units : goal.returns-then-at-units

@@ -1,5 +1,5 @@
 use Rattle.bidi_base.proofs.Common.{◌≡◌, ℕ, ◌-◌, ◌<◌, ◌≤◌, false, length, is_kept_at}
-use Rattle.bidi_paragraphs.specs.Written.{IsWritten}
+use Rattle.bidi_paragraphs.specs.Updated.{IsWritten}
 use Rattle.bidi_paragraphs.proofs.paragraph_levels.write_removed.Given as goal
 
 abbrev pub invariant-loop-at : goal.invariant-loop-at

@@ -2,18 +2,18 @@
 use Rattle.bidi_base.proofs.Common.{map, arith, or_parts, bounds, carried}
 use Rattle.bidi_rules.specs.WeakPass.{is_mark_or_number}
 use Rattle.bidi_rules.specs.WeakWalk.{len_at}
-use Rattle.bidi_rules.proofs.WeakMarks.{is_any_wide-none, IsMarked-none}
+use Rattle.bidi_rules.proofs.WeakMarks.{is_any_in_blocks-none, IsMarked-none}
 use Rattle.bidi_rules.proofs.WeakText.{lines-within, marked-IsPerChar}
 use Rattle.bidi_rules.proofs.WeakWalkLemmas.{IsWalked-none}
 use Rattle.bidi_rules.proofs.weak.resolve_marks_and_numbers.Goals as goal
 
 pub resolve_marks-requires-clause-within : goal.resolve_marks-requires-clause-within
 resolve_marks-requires-clause-within g c =
-    lines-within g.T.TextSource.units g.met.T.TextSource.has_units (g.T.TextSource.characters c.args.text) (map bounds c.args.runs.now) c.requires.lines c.requires.ordered c.args.sos c.args.classes.now c.requires.per_char
+    lines-within g.T.TextSource.encoding.len_of g.T.TextSource.encoding.positive (g.T.TextSource.text c.args.text).chars (map bounds c.args.runs.now) c.requires.are_lines c.requires.ordered c.args.sos c.args.classes.now c.requires.per_char
 
 pub resolve_numbers-requires-clause-per_char : goal.resolve_numbers-requires-clause-per_char
 resolve_numbers-requires-clause-per_char g c =
-    marked-IsPerChar g.T.TextSource.units g.met.T.TextSource.has_units (g.T.TextSource.characters c.args.text) (map bounds c.args.runs.now) c.requires.lines c.requires.ordered c.args.sos c.args.classes.now c.requires.per_char
+    marked-IsPerChar g.T.TextSource.encoding.len_of g.T.TextSource.encoding.positive (g.T.TextSource.text c.args.text).chars (map bounds c.args.runs.now) c.requires.are_lines c.requires.ordered c.args.sos c.args.classes.now c.requires.per_char
     c.resolve_marks.new.classes c.resolve_marks.ensures.marked
 
 pub returns-then-has_marks_or_numbers-clause-walked : goal.returns-then-has_marks_or_numbers-clause-walked
@@ -23,9 +23,9 @@ pub returns-else-has_marks_or_numbers-clause-walked : goal.returns-else-has_mark
 returns-else-has_marks_or_numbers-clause-walked g c =
     grind (
       arith,
-      lines-within g.T.TextSource.units g.met.T.TextSource.has_units (g.T.TextSource.characters c.args.text) (map bounds c.args.runs.now) c.requires.lines c.requires.ordered c.args.sos c.args.classes.now c.requires.per_char,
-      is_any_wide-none is_mark_or_number c.args.runs.now c.args.classes.now,
+      lines-within g.T.TextSource.encoding.len_of g.T.TextSource.encoding.positive (g.T.TextSource.text c.args.text).chars (map bounds c.args.runs.now) c.requires.are_lines c.requires.ordered c.args.sos c.args.classes.now c.requires.per_char,
+      is_any_in_blocks-none is_mark_or_number c.args.runs.now c.args.classes.now,
       or_parts,
       IsMarked-none c.args.runs.now (carried c.args.sos) c.args.classes.now,
-      IsWalked-none (len_at g.T.TextSource.units (g.T.TextSource.characters c.args.text)) c.args.runs.now c.args.sos c.args.classes.now,
+      IsWalked-none (len_at g.T.TextSource.encoding.len_of (g.T.TextSource.text c.args.text).chars) c.args.runs.now c.args.sos c.args.classes.now,
     )

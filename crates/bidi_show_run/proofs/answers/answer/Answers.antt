@@ -1,7 +1,7 @@
-use Rattle.bidi_show_run.proofs.ReadLemmas.{told_of_all}
+use Rattle.bidi_show_run.proofs.ReadLemmas.{reported_of_all}
 use Rattle.bidi_show_run.proofs.answers.answer.Goals as goal
 
-pub returns-in_ok-bytes-in-Show-clause-utf8 : goal.returns-in_ok-bytes-in-Show-clause-utf8
-returns-in_ok-bytes-in-Show-clause-utf8 g c =
+pub returns-in_ok-bytes-in-Show-clause-not_utf8 : goal.returns-in_ok-bytes-in-Show-clause-not_utf8
+returns-in_ok-bytes-in-Show-clause-not_utf8 g c =
     let read = c.in_ok-bytes-in-Show.ensures in
-    told_of_all _ _ _ _ _ _ read.read read.ended (rw (c.as_slice.ensures.value) at c.answer_show.ensures.utf8)
+    reported_of_all _ _ _ _ _ _ read.read read.ended (rw (c.as_slice.ensures.value) at c.answer_show.ensures.not_utf8)

@@ -1,5 +1,5 @@
 use Rattle.bidi_base.proofs.Common.{arith, len_utf8, chars, get_or_default, length_push}
-use Rattle.bidi_base.proofs.PlaceLemmas.{index_turn, index_end}
+use Rattle.bidi_base.proofs.UnitIndexLemmas.{index_turn, index_end}
 use Rattle.bidi_text.proofs.StrLemmas.{has_units, text_len-chars}
 use Rattle.bidi_show_run.proofs.ShownLemmas.{levels_so_far-more, levels_so_far-end}
 use Rattle.bidi_show_run.proofs.shown.push_levels.Goals as goal

@@ -1,5 +1,5 @@
 use Rattle.bidi_base.proofs.Common.{◌≡◌, ◌++◌, take, map, string_bytes, run_of}
-use Rattle.bidi_show_run.specs.Shown.{layout_text}
+use Rattle.bidi_show_run.specs.Printed.{layout_text}
 use Rattle.bidi_show_run.proofs.shown.push_lines.Given as goal
 use Rattle.unicode_bidi.specs.BidiInfo.{text as text_of, original_classes, levels as levels_of_info}
 use Rattle.unicode_bidi.specs.ParagraphInfo.{level_of}

@@ -1,5 +1,5 @@
 use Rattle.bidi_base.proofs.Common.{◌≡◌, ◌++◌, take, flat_map, string_bytes}
-use Rattle.bidi_show_run.specs.Shown.{printed_in}
+use Rattle.bidi_show_run.specs.Printed.{printed_in}
 use Rattle.bidi_show_run.proofs.shown.push_paragraphs.Given as goal
 use Rattle.unicode_bidi.specs.BidiInfo.{text as text_of, original_classes, levels as levels_of_info}
 

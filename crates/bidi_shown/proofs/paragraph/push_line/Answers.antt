@@ -1,13 +1,18 @@
-use Rattle.bidi_base.proofs.Common.{◌≡◌, ◌∙◌, append_assoc, sym, ap, arith, len_utf8, chars, text_len, subrange, levels_of_line, IsLine, slice_range, AnalysedText, AreLevelsOfLine}
+use Rattle.bidi_base.proofs.Common.{◌≡◌, ◌∙◌, append_assoc, sym, ap, arith, len_utf8, chars, text_len, subrange, levels_of_line, IsLine, slice_range, AnalysedText, AreLevelsOfLine, List, ℕ, Range, IsUtf8, IsUtf8-between}
 use Rattle.bidi_base.proofs.PerUnit.{length-per_char}
-use Rattle.bidi_lines.specs.ShownLevels.{levels as kept_levels}
+use Rattle.bidi_lines.specs.LineLevels.{levels as kept_levels}
 use Rattle.bidi_text.proofs.StrLemmas.{has_units, subrange-from_str}
 use Rattle.bidi_lines.proofs.StoredLine.{same_len, within, length-shown, per_char-shown, of_line}
 use Rattle.bidi_shown.specs.Paragraph.{analysed_in}
-use Rattle.bidi_shown.proofs.BoundsLemmas.{IsLine-from, IsUtf8-range}
+use Rattle.bidi_shown.proofs.BoundsLemmas.{IsLine-from}
+use Rattle.bidi_columns.specs.Bounds.{IsRangeOf}
 use Rattle.bidi_shown.proofs.paragraph.push_line.Goals as goal
 use Rattle.bidi_shown.proofs.paragraph.push_line.Goals.{In_ok-show}
 use Rattle.bidi_shown.proofs.paragraph.push_line.Given.{Over}
+
+-- the bytes of a range are a text
+IsUtf8-range : (bs : List ℕ) (r : Range ℕ) → IsUtf8 bs → IsRangeOf bs r → IsUtf8 (slice_range bs r.start r.end)
+IsUtf8-range bs r utf8 range = IsUtf8-between bs r.start r.end utf8 range.ordered range.start range.end
 
 pub slice_bounds-classes-end : goal.slice_bounds-classes-end
 slice_bounds-classes-end g c =

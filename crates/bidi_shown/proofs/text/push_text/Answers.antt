@@ -1,8 +1,13 @@
-use Rattle.bidi_base.proofs.Common.{◌≡◌, ◌∙◌, ◌++◌, List, [], ◌∷◌, ℕ, length, refl, sym, ap, arith, append-nil, string_bytes, chars}
+use Rattle.bidi_base.proofs.Common.{◌≡◌, ◌∙◌, ◌++◌, List, [], ◌∷◌, ℕ, length, refl, sym, ap, arith, append-nil, string_bytes, chars, chars-nil}
 use Rattle.bidi_unicode.specs.Unicode.{unicode_source}
-use Rattle.bidi_visual.specs.Shown.{shown_text}
-use Rattle.bidi_shown.proofs.PiecesLemmas.{nothing-shown}
+use Rattle.bidi_visual.specs.Displayed.{shown_text}
+use Rattle.bidi_visual.specs.declared.view.View.{View}
 use Rattle.bidi_shown.proofs.text.push_text.Goals as goal
+
+-- of no text nothing
+nothing-shown : (view : View) → shown_text unicode_source view (chars []) ≡ []
+unfolding shown_text
+nothing-shown view = simp chars-nil
 
 empty : (bs : List ℕ) → length bs ≡ 0 → bs ≡ []
 empty [] none = refl

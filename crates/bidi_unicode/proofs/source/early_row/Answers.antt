@@ -6,7 +6,7 @@ use Rattle.bidi_unicode.specs.declared.tables.TheConstants.{BRACKETS}
 use Rattle.bidi_unicode.proofs.RowsLemmas.{row_value-other, row_value-before}
 use Rattle.bidi_unicode.proofs.source.early_row.Goals as goal
 
--- the rows behind those of ASCII
+-- the rows after those of ASCII
 others_are_later : list_all (λ r. nat_le 0x0F3A r.0) (drop 6 BRACKETS) ≡ true
 others_are_later = refl
 

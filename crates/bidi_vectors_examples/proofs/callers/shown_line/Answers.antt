@@ -32,7 +32,7 @@ shown-is : (source : Source) (own text shown : List ℕ) (classes : List BidiCla
 shown-is source own text shown classes levels level same of_classes of_levels of_level is =
     let cs : List ℕ = chars own in
     let own_classes : per_char L len_utf8 cs classes ≡ stored_classes (map source.class_of cs) =
-    ap (λ (units : List BidiClass). per_char L len_utf8 cs units) of_classes ∙ per_char-per_unit len_utf8 has_units L cs _ (length-stored_classes _ ∙ length-map cs source.class_of) in
+    ap (λ (classes : List BidiClass). per_char L len_utf8 cs classes) of_classes ∙ per_char-per_unit len_utf8 has_units L cs _ (length-stored_classes _ ∙ length-map cs source.class_of) in
     let own_levels : per_char 0 len_utf8 cs levels ≡ stored_levels source None cs =
     ap (λ (units : List ℕ). per_char 0 len_utf8 cs units) of_levels ∙ per_char-per_unit len_utf8 has_units 0 cs _ (length-stored_levels source None cs) in
     cc (is, own_classes, own_levels, of_level, same)

@@ -1,6 +1,6 @@
 use Rattle.bidi_base.proofs.Common.{◌≡◌, ◌∙◌, ◌++◌, ℕ, false, List, [], take, drop, ap, sym, arith, common_steps, append-nil, chars-nil, chars, encode_utf8, char_indices_rest, char_indices_offset}
 use Rattle.bidi_base.proofs.Common.{is_paragraph_separator, Source, IsCharBoundary-start}
-use Rattle.bidi_visual.specs.Shown.{own_chars}
+use Rattle.bidi_base.specs.Paragraphs.{own_chars}
 use Rattle.bidi_visual.proofs.FirstLemmas.{own-ended, past-boundary, past-rest, from-chars, past-own, past-after}
 use Rattle.bidi_visual.proofs.first.own_len.Goals as goal
 use Rattle.bidi_visual.proofs.first.own_len.Goals.{Then-separates}

@@ -1,5 +1,6 @@
 use Rattle.bidi_base.proofs.Common.{◌≡◌, ◌≤◌, ◌++◌, length, take, drop, chars, IsCharBoundary, char_indices_rest, char_indices_offset}
-use Rattle.bidi_visual.specs.Shown.{own_chars, after_first}
+use Rattle.bidi_base.specs.Paragraphs.{own_chars}
+use Rattle.bidi_visual.specs.Displayed.{after_first}
 use Rattle.bidi_visual.proofs.first.own_len.Given as goal
 
 abbrev pub invariant-loop-at : goal.invariant-loop-at

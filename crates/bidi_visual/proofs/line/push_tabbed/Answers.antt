@@ -1,5 +1,5 @@
 use Rattle.bidi_base.proofs.Common.{ℕ, arith}
-use Rattle.bidi_visual.specs.Shown.{tabbed_line}
+use Rattle.bidi_visual.specs.Displayed.{tabbed_line}
 use Rattle.bidi_visual.proofs.TabLemmas.{length-spread_values}
 use Rattle.bidi_visual.proofs.line.push_tabbed.Goals as goal
 

@@ -1,5 +1,5 @@
 use Rattle.bidi_base.proofs.Common.{◌≡◌, ◌∙◌, ◌==◌, false, list_any, sym, arith, chars, has_rtl, encodes-chars}
-use Rattle.bidi_visual.specs.Shown.{tabbed_line}
+use Rattle.bidi_visual.specs.Displayed.{tabbed_line}
 use Rattle.bidi_visual.proofs.EvenLemmas.{tabbed_line-even, tabbed_line-none}
 use Rattle.bidi_visual.proofs.line.push_text.Goals as goal
 

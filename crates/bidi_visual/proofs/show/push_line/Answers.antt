@@ -1,7 +1,10 @@
-use Rattle.bidi_base.proofs.Common.{List, ℕ, Run, run_of, IsLevelRun, flat_map-map}
-use Rattle.bidi_visual.specs.Shown.{run_at, shown_line}
-use Rattle.bidi_visual.proofs.ShownLemmas.{All-from_map}
+use Rattle.bidi_base.proofs.Common.{List, ℕ, Run, run_of, IsLevelRun, flat_map-map, All, map, subst, get_or-map, arith, length-map}
+use Rattle.bidi_visual.specs.Displayed.{run_at, shown_line}
 use Rattle.bidi_visual.proofs.show.push_line.Goals as goal
+
+-- what holds of a list under a function, and what it is made into
+All-from_map : {X Y : Type 0} (P : Y → Type 0) (f : X → Y) (xs : List X) → All P (map f xs) → All (λ x. P (f x)) xs
+All-from_map P f xs h = λ k d within. subst P (get_or-map f xs k d (f d) within) (h k (f d) (omega (arith, length-map xs f)))
 
 pub push_runs-requires-clause-runs : goal.push_runs-requires-clause-runs
 push_runs-requires-clause-runs g c =

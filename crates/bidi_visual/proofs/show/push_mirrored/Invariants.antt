@@ -1,5 +1,5 @@
 use Rattle.bidi_base.proofs.Common.{◌≡◌, ◌++◌, take, flat_map, encode_utf8, string_bytes}
-use Rattle.bidi_visual.specs.Shown.{mirror}
+use Rattle.bidi_visual.specs.Displayed.{mirror}
 use Rattle.bidi_visual.proofs.show.push_mirrored.Given as goal
 
 abbrev pub invariant-loop-c : goal.invariant-loop-c

@@ -1,5 +1,5 @@
 use Rattle.bidi_base.proofs.Common.{◌≡◌, ◌++◌, take, flat_map, string_bytes, run_of}
-use Rattle.bidi_visual.specs.Shown.{run_at}
+use Rattle.bidi_visual.specs.Displayed.{run_at}
 use Rattle.bidi_visual.proofs.show.push_runs.Given as goal
 
 abbrev pub invariant-loop-run : goal.invariant-loop-run

@@ -1,7 +1,7 @@
-use Rattle.bidi_base.proofs.Common.{Bool, ◌≡◌, ◌∙◌, ◌+◌, ◌≤◌, ◌∷◌, ◌++◌, [], ℕ, List, length, drop, map, sym, ap, arith, rules, length_push, drop_all, place}
+use Rattle.bidi_base.proofs.Common.{Bool, ◌≡◌, ◌∙◌, ◌+◌, ◌≤◌, ◌∷◌, ◌++◌, [], ℕ, List, length, drop, map, sym, ap, arith, rules, length_push, drop_all, unit_index}
 use Rattle.bidi_base.specs.declared.char_data.BidiClass.{BidiClass}
 use Rattle.bidi_base.proofs.TextLemmas.{length-le-text_len}
-use Rattle.bidi_base.proofs.PlaceLemmas.{char_turn, char_end, CharTurn}
+use Rattle.bidi_base.proofs.UnitIndexLemmas.{char_turn, char_end, CharTurn}
 use Rattle.unicode_bidi.proofs.SearchLemmas.{step-le, searched-step, over_with, searched-front}
 use Rattle.unicode_bidi.specs.declared.direction_search.DirectionSearch.{DirectionSearch}
 use Rattle.unicode_bidi.specs.declared.direction_search.DirectionSearch.TheVariants.{Open}
@@ -12,13 +12,13 @@ use Rattle.unicode_bidi.proofs.direction_search.search_direction.Goals.{In-Some}
 
 -- the character that comes
 turn_of : (g : Over) (c : In-Some g)
-    → CharTurn g.T.TextSource.units (g.T.TextSource.characters c.args.text) (length c.loop-c.yielded) (place g.T.TextSource.units (g.T.TextSource.characters c.args.text) (length c.loop-c.yielded)) c.in-Some.c
+    → CharTurn g.T.TextSource.encoding.len_of (g.T.TextSource.text c.args.text).chars (length c.loop-c.yielded) (unit_index g.T.TextSource.encoding.len_of (g.T.TextSource.text c.args.text).chars (length c.loop-c.yielded)) c.in-Some.c
 turn_of g c = search (rules, char_turn)
 
 pub search_class-requires : goal.search_class-requires
 search_class-requires g c =
     let w = turn_of g (goal.at.search_class-requires g c).In-Some in
-    omega (arith, w.within, c.loop-c.invariant.2, length-le-text_len g.T.TextSource.units g.met.T.TextSource.has_units (g.T.TextSource.characters c.args.text), c.requires)
+    omega (arith, w.within, c.loop-c.invariant.2, length-le-text_len g.T.TextSource.encoding.len_of g.T.TextSource.encoding.positive (g.T.TextSource.text c.args.text).chars, c.requires)
 
 -- the search goes on from the character that comes
 on : (full : Bool) (f : ℕ → BidiClass) (cs : List ℕ) (n c : ℕ) → drop n cs ≡ c ∷ drop (n + 1) cs → (class : BidiClass) → class ≡ f c
@@ -29,7 +29,7 @@ on full f cs n c next class same now step is more = rw (next, ← same) (is (map
 pub loop-c-preserved : goal.loop-c-preserved
 loop-c-preserved g c =
     let source = g.D.BidiDataSource.source c.args.data_source.now in
-    let cs : List ℕ = g.T.TextSource.characters c.args.text in
+    let cs : List ℕ = (g.T.TextSource.text c.args.text).chars in
     let n : ℕ = length c.loop-c.yielded in
     let w = turn_of g (goal.at.loop-c-preserved g c).In-Some in
     let longer : length (c.loop-c.yielded ++ c.in-Some.c ∷ []) ≡ n + 1 = length_push c.loop-c.yielded c.in-Some.c in
@@ -45,7 +45,7 @@ loop-c-preserved g c =
 pub returns-in_default-clause-search : goal.returns-in_default-clause-search
 returns-in_default-clause-search g c =
     let source = g.D.BidiDataSource.source c.args.data_source.now in
-    let cs : List ℕ = g.T.TextSource.characters c.args.text in
+    let cs : List ℕ = (g.T.TextSource.text c.args.text).chars in
     let n : ℕ = length c.loop-c.yielded in
     let w = turn_of g (goal.at.returns-in_default-clause-search g c).In-Some in
     λ more. c.loop-c.invariant.3 more
@@ -55,13 +55,13 @@ returns-in_default-clause-search g c =
 pub returns-clause-search : goal.returns-clause-search
 returns-clause-search g c =
     let source = g.D.BidiDataSource.source c.args.data_source.now in
-    let cs : List ℕ = g.T.TextSource.characters c.args.text in
+    let cs : List ℕ = (g.T.TextSource.text c.args.text).chars in
     let n : ℕ = length c.loop-c.yielded in
     let all : n ≡ length cs = char_end cs c.chars-c-items.ensures c.into_iter-c-iterator.ensures.into_iter_gives c.loop-c.yielded _ c.loop-c.yielded_by _ _ c.in-None.is c.next.ensures.steps in
     λ more. rw (drop_all n cs (omega arith)) at (c.loop-c.invariant.3 more)
 
 pub returns-in_default-clause-direction : goal.returns-in_default-clause-direction
-returns-in_default-clause-direction g c = searched-front (g.D.BidiDataSource.source c.args.data_source.now) c.args.full (g.T.TextSource.characters c.args.text) c.args.depth c.search_class.result (returns-in_default-clause-search g c)
+returns-in_default-clause-direction g c = searched-front (g.D.BidiDataSource.source c.args.data_source.now) c.args.full (g.T.TextSource.text c.args.text).chars c.args.depth c.search_class.result (returns-in_default-clause-search g c)
 
 pub returns-clause-direction : goal.returns-clause-direction
-returns-clause-direction g c = searched-front (g.D.BidiDataSource.source c.args.data_source.now) c.args.full (g.T.TextSource.characters c.args.text) c.args.depth (Open c.loop-c.now) (returns-clause-search g c)
+returns-clause-direction g c = searched-front (g.D.BidiDataSource.source c.args.data_source.now) c.args.full (g.T.TextSource.text c.args.text).chars c.args.depth (Open c.loop-c.now) (returns-clause-search g c)

@@ -8,7 +8,7 @@ levels_with_line-requires g c = grind (arith, same_len, within)
 pub returns-clause-levels : goal.returns-clause-levels
 returns-clause-levels g c =
     IfOk-weaker c.levels_with_line.result _ _
-    (λ v e. of_units g.T.TextSource.units g.met.T.TextSource.has_units (g.T.TextSource.characters c.args.text) c.args.level _ _ c.args.line c.requires.classes c.requires.levels c.requires.is_line
+    (λ v e. of_units g.T.TextSource.encoding.len_of g.T.TextSource.encoding.positive (g.T.TextSource.text c.args.text).chars c.args.level _ _ c.args.line c.requires.classes c.requires.levels c.requires.is_line
     v.items (rw (← c.original_classes.ensures, ← c.levels.ensures) e))
     c.levels_with_line.ensures
 

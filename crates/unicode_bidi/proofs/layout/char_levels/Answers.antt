@@ -1,6 +1,6 @@
 use Rattle.bidi_base.proofs.Common.{◌≡◌, ◌∙◌, sym, ap, arith, len_utf8, chars, text_len, subrange, levels_of_line, AreLevelsOfLine}
 use Rattle.bidi_text.proofs.StrLemmas.{has_units}
-use Rattle.bidi_lines.specs.ShownLevels.{levels as kept_levels}
+use Rattle.bidi_lines.specs.LineLevels.{levels as kept_levels}
 use Rattle.unicode_bidi.specs.BidiInfo.{text, analysed}
 use Rattle.bidi_paragraphs.specs.ParagraphInfo.{level_of}
 use Rattle.bidi_lines.proofs.StoredLine.{same_len, within, length-shown, per_char-shown, of_line}

@@ -1,6 +1,10 @@
-use Rattle.bidi_base.proofs.Common.{◌≡◌, sym, ap, ◌∙◌, arith, length, slice_get}
-use Rattle.unicode_bidi.proofs.KeptOrder.{range-found, range-past, entries-none}
+use Rattle.bidi_base.proofs.Common.{◌≡◌, sym, ap, ◌∙◌, arith, length, slice_get, ℕ, range_with_len, None, length-range_with_len, ◌≤◌}
+use Rattle.unicode_bidi.proofs.StoredOrder.{range-found, entries-none}
+use Rattle.std.proofs.lemmas.Option.{slice_get_past}
 use Rattle.unicode_bidi.proofs.layout.entry_at.Goals as goal
+
+range-past : (len k : ℕ) → len ≤ k → slice_get (range_with_len 0 len) k ≡ None
+range-past len k past = slice_get_past (range_with_len 0 len) k (omega (arith, length-range_with_len 0 len))
 
 pub returns-then-index-len : goal.returns-then-index-len
 returns-then-index-len c =

@@ -1,5 +1,5 @@
 use Rattle.bidi_base.proofs.Common.{◌≢◌, get_or, arith, get_or_default}
-use Rattle.unicode_bidi.proofs.KeptOrder.{in_order, out_of_order}
+use Rattle.unicode_bidi.proofs.StoredOrder.{in_order, out_of_order}
 use Rattle.unicode_bidi.proofs.layout.is_in_order.Goals as goal
 
 pub returns-then-order-place-clause-other : goal.returns-then-order-place-clause-other

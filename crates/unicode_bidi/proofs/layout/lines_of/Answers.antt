@@ -6,9 +6,9 @@ use Rattle.unicode_bidi.proofs.layout.lines_of.Given.{Over}
 
 -- the line that comes
 line_here : (g : Over) (c : After-first_line_len g)
-    → FirstLine (g.W.CharWidth.width_of c.args.widths.now) c.args.limit g.T.TextSource.units g.met.T.TextSource.has_units (g.T.TextSource.characters c.args.text) c.loop-start.start c.args.range.end (c.loop-start.start + c.first_line_len.result)
+    → FirstLine (g.W.CharWidth.width_of c.args.widths.now) c.args.limit g.T.TextSource.encoding.len_of g.T.TextSource.encoding.positive (g.T.TextSource.text c.args.text).chars c.loop-start.start c.args.range.end (c.loop-start.start + c.first_line_len.result)
 line_here g c =
-    first_line _ _ _ g.met.T.TextSource.has_units _ _ _ _ c.loop-start.invariant.0 c.loop-start-test.true (cc (c.first_line_len.ensures, c.subrange-rest.ensures))
+    first_line _ _ _ g.T.TextSource.encoding.positive _ _ _ _ c.loop-start.invariant.0 c.loop-start-test.true (cc (c.first_line_len.ensures, c.subrange-rest.ensures))
 
 pub overflow_add-end : goal.overflow_add-end
 overflow_add-end g c = grind (arith, line_here)
@@ -21,10 +21,10 @@ loop-start-preserved g c = grind (arith, line_here, map-append, append_assoc)
 
 pub returns-clause-lines : goal.returns-clause-lines
 returns-clause-lines g c =
-    let len = g.T.TextSource.units in
-    let cs : List ℕ = g.T.TextSource.characters c.args.text in
+    let len = g.T.TextSource.encoding.len_of in
+    let cs : List ℕ = (g.T.TextSource.text c.args.text).chars in
     let end : c.loop-start.start ≡ c.args.range.end = omega (arith, c.loop-start.invariant.0.ordered, c.loop-start-test.false) in
-    simp (line_ranges-none (g.W.CharWidth.width_of c.args.widths.now) c.args.limit len g.met.T.TextSource.has_units cs c.loop-start.start c.args.range.end end, append-nil) at c.loop-start.invariant.1
+    simp (line_ranges-none (g.W.CharWidth.width_of c.args.widths.now) c.args.limit len g.T.TextSource.encoding.positive cs c.loop-start.start c.args.range.end end, append-nil) at c.loop-start.invariant.1
 
-pub returns-clause-parted : goal.returns-clause-parted
-returns-clause-parted g c = grind (arith, line_ranges-IsPartition, returns-clause-lines)
+pub returns-clause-partition : goal.returns-clause-partition
+returns-clause-partition g c = grind (arith, line_ranges-IsPartition, returns-clause-lines)

@@ -4,8 +4,8 @@ use Rattle.unicode_bidi.proofs.layout.lines_of.Given as goal
 -- the lines so far, with those of what is left, are those of the range
 abbrev pub invariant-loop-start : goal.invariant-loop-start
 invariant-loop-start g l =
-    let len = g.T.TextSource.units in
-    let cs = g.T.TextSource.characters l.text in
+    let len = g.T.TextSource.encoding.len_of in
+    let cs = (g.T.TextSource.text l.text).chars in
     let width_of = g.W.CharWidth.width_of l.widths in
     IsLine len cs l.start l.range.end
     × (map run_of l.lines.items ++ line_ranges len cs width_of l.limit l.start l.range.end ≡ line_ranges len cs width_of l.limit l.range.start l.range.end)

@@ -1,19 +1,19 @@
 use Rattle.bidi_base.proofs.Common.{◌≡◌, ℕ, ◌+◌, ◌-◌, ◌++◌, ◌≤◌, List, [], ◌∷◌, length, length-drop, length-take-le, sym, ap, ap₂, arith, append_assoc, append-nil, ◌∙◌, Source}
 use Rattle.bidi_controls.specs.Findings.{findings_in_line, findings_in_paragraph, findings_in_paragraphs}
-use Rattle.bidi_controls.specs.Lines.{lines_of}
+use Rattle.bidi_base.specs.Paragraphs.{paragraphs_in}
 use Rattle.bidi_controls.specs.declared.finding.Finding.{Finding}
 use Rattle.bidi_controls.specs.declared.finding.Wanted.{Wanted}
 use Rattle.bidi_controls.proofs.check.LineSearch.push_found_in.Goals as goal
 
--- the findings in a paragraph go before those in the paragraphs behind it
-with_paragraph : (source : Source) (wanted : Wanted) (number from next : ℕ) (rest paragraph after : List ℕ) (old new all : List Finding) → lines_of source rest ≡ paragraph ∷ lines_of source after
-    → next ≡ from + length paragraph → old ++ findings_in_paragraphs source wanted number from (lines_of source rest) ≡ all → new ≡ old ++ findings_in_paragraph source wanted number from paragraph
-    → new ++ findings_in_paragraphs source wanted number next (lines_of source after) ≡ all
+-- the findings in a paragraph go before those in the paragraphs after it
+with_paragraph : (source : Source) (wanted : Wanted) (number from next : ℕ) (rest paragraph after : List ℕ) (old new all : List Finding) → paragraphs_in source rest ≡ paragraph ∷ paragraphs_in source after
+    → next ≡ from + length paragraph → old ++ findings_in_paragraphs source wanted number from (paragraphs_in source rest) ≡ all → new ≡ old ++ findings_in_paragraph source wanted number from paragraph
+    → new ++ findings_in_paragraphs source wanted number next (paragraphs_in source after) ≡ all
 with_paragraph source wanted number from next rest paragraph after old new all first next_is before here = grind (arith, append_assoc)
 
--- behind the last paragraph nothing more is found
+-- after the last paragraph nothing more is found
 at_end : (source : Source) (wanted : Wanted) (number from : ℕ) (rest : List ℕ) (old all : List Finding) → length rest ≡ 0
-    → old ++ findings_in_paragraphs source wanted number from (lines_of source rest) ≡ all → old ≡ all
+    → old ++ findings_in_paragraphs source wanted number from (paragraphs_in source rest) ≡ all → old ≡ all
 at_end source wanted number from [] old all none found = sym (append-nil old) ∙ found
 at_end source wanted number from (c ∷ rest) old all none found = absurd (omega (arith, none))
 
@@ -27,11 +27,11 @@ loop-rest-preserved g c =
     let paragraph : List ℕ = c.split_at.result.0.now in
     let after : List ℕ = c.split_at.result.1.now in
     let fits : length rest ≤ length c.args.line.now.chars.now = c.loop-rest.invariant.fits in
-    let within : c.first_line_len.result ≤ length rest = c.first_line_len.ensures.within in
-    let front_len : length paragraph ≡ c.first_line_len.result = ap length c.split_at.ensures.front ∙ length-take-le c.first_line_len.result rest within in
-    let back_len : length after ≡ length rest - c.first_line_len.result = ap length c.split_at.ensures.back ∙ length-drop c.first_line_len.result rest in
-    let first : lines_of source rest ≡ paragraph ∷ lines_of source after =
-    c.first_line_len.ensures.first ∙ ap₂ (λ p a. p ∷ lines_of source a) (sym c.split_at.ensures.front) (sym c.split_at.ensures.back) in
+    let within : c.first_paragraph_len.result ≤ length rest = c.first_paragraph_len.ensures.within in
+    let front_len : length paragraph ≡ c.first_paragraph_len.result = ap length c.split_at.ensures.front ∙ length-take-le c.first_paragraph_len.result rest within in
+    let back_len : length after ≡ length rest - c.first_paragraph_len.result = ap length c.split_at.ensures.back ∙ length-drop c.first_paragraph_len.result rest in
+    let first : paragraphs_in source rest ≡ paragraph ∷ paragraphs_in source after =
+    c.first_paragraph_len.ensures.first ∙ ap₂ (λ p a. p ∷ paragraphs_in source a) (sym c.split_at.ensures.front) (sym c.split_at.ensures.back) in
     record {
       fits = omega (arith, fits, back_len, within);
       found = with_paragraph source c.args.wanted c.args.line.now.number (length c.args.line.now.chars.now - length rest) (length c.args.line.now.chars.now - length after) rest paragraph after _ _ _ first

@@ -1,6 +1,6 @@
 use Rattle.bidi_base.proofs.Common.{◌≡◌, ◌++◌, ◌-◌, ◌≤◌, length}
 use Rattle.bidi_controls.specs.Findings.{findings_in_paragraphs}
-use Rattle.bidi_controls.specs.Lines.{lines_of}
+use Rattle.bidi_base.specs.Paragraphs.{paragraphs_in}
 use Rattle.bidi_controls.proofs.check.LineSearch.push_found_in.Given as goal
 
 abbrev pub invariant-loop-rest : goal.invariant-loop-rest
@@ -8,10 +8,10 @@ invariant-loop-rest g l = record {
   fits : length l.rest ≤ length l.line.chars.now;
   found : l.findings.items
       ++ findings_in_paragraphs (g.D.BidiDataSource.source l.fn.data_source) l.wanted l.line.number (length l.line.chars.now - length l.rest)
-      (lines_of (g.D.BidiDataSource.source l.fn.data_source) l.rest)
+      (paragraphs_in (g.D.BidiDataSource.source l.fn.data_source) l.rest)
       ≡ l.fn.findings.items
       ++ findings_in_paragraphs (g.D.BidiDataSource.source l.fn.data_source) l.wanted l.line.number 0
-      (lines_of (g.D.BidiDataSource.source l.fn.data_source) l.line.chars.now);
+      (paragraphs_in (g.D.BidiDataSource.source l.fn.data_source) l.line.chars.now);
 }
 
 abbrev pub decreases-loop-rest : goal.decreases-loop-rest

@@ -1,8 +1,8 @@
 use Rattle.bidi_base.proofs.Common.{◌≡◌, ℕ, ◌++◌, List, None, length, take, drop, ap, ◌∙◌, arith, first_or, line_levels, one_unit, take-append_seam}
-use Rattle.bidi_base.proofs.PlaceLemmas.{text_len-one_unit}
+use Rattle.bidi_base.proofs.UnitIndexLemmas.{text_len-one_unit}
 use Rattle.bidi_terminal.specs.Bases.{level_of_base}
 use Rattle.bidi_paragraphs.specs.ParagraphInfo.{ranges_of, levels_of}
-use Rattle.bidi_base.specs.Analysed.{IsAnalysis}
+use Rattle.bidi_base.specs.AnalysedText.{IsAnalysis}
 use Rattle.bidi_controls.proofs.LineLevels.{displayed_levels-alone}
 use Rattle.bidi_controls.proofs.displayed.CharLevels.find.Given.{Over}
 use Rattle.bidi_controls.proofs.displayed.CharLevels.find.Goals as goal

@@ -6,7 +6,7 @@ use Rattle.bidi_explicit.proofs.explicit.status.pop_isolate.Given as goal
 abbrev pub invariant-loop-entry : goal.invariant-loop-entry
 invariant-loop-entry g l = record {
   stack : drop_isolate (map seen (reverse l.entries.items)) ≡ drop_isolate (map seen (reverse l.fn.entries.items));
-  at_least : l.fn.steps ≤ l.steps;
+  steps_at_least : l.fn.steps ≤ l.steps;
   popped : l.steps + length l.entries.items ≡ l.fn.steps + length l.fn.entries.items;
 }
 

@@ -9,5 +9,5 @@ pub returns : goal.returns
 returns g c =
     rw (← c.original_classes-classes.ensures.classes, ← c.levels.ensures.levels)
     (IfOk-weaker c.levels_per_char.result _ _
-    (λ v e. of_chars _ g.met.T.TextSource.has_units _ c.args.level _ _ c.args.line c.original_classes-classes.ensures.per_char c.levels.ensures.per_char c.requires v.items e)
+    (λ v e. of_chars _ g.T.TextSource.encoding.positive _ c.args.para_level _ _ c.args.line c.original_classes-classes.ensures.per_char c.levels.ensures.per_char c.requires v.items e)
     c.levels_per_char.ensures)

@@ -1,5 +1,5 @@
 use Rattle.bidi_base.proofs.Common.{◌≡◌, List, [], refl, sym, ◌∙◌, arith, Ok, Err, Result, OnOk, OnErr}
-use Rattle.bidi_lines.proofs.LineShown.{empty-IsLine, empty-runs, empty-runs_of_chars}
+use Rattle.bidi_lines.proofs.LineByLevels.{empty-IsLine, empty-runs, empty-runs_of_chars}
 use Rattle.bidi_lines.proofs.shown_line.ShownLine.clear.Goals as goal
 
 -- what a call leaves, if it gives the same whether or not it fails
@@ -11,7 +11,7 @@ pub invariant_of-self : goal.invariant_of-self
 invariant_of-self g c = record {
   is_line = empty-IsLine _ _;
   one_a_unit = omega arith;
-  runs_of_levels = always c.find.result _ _ [] c.find.ensures.runs c.find.ensures.none (empty-runs 0);
+  runs_of_levels = always c.find.result _ _ [] c.find.ensures.runs c.find.ensures.emptied (empty-runs 0);
   runs_of_chars = empty-runs_of_chars _ _ 0;
   of_levels = refl;
 }

@@ -1,5 +1,5 @@
 use Rattle.bidi_base.proofs.Common.{refl, sym, ◌∙◌, arith}
-use Rattle.bidi_lines.proofs.LineShown.{empty-IsLine, empty-runs, empty-runs_of_chars, empty-levels}
+use Rattle.bidi_lines.proofs.LineByLevels.{empty-IsLine, empty-runs, empty-runs_of_chars, empty-levels}
 use Rattle.bidi_lines.proofs.shown_line.ShownLine.of_text.Goals as goal
 
 pub invariant_of-result : goal.invariant_of-result

@@ -4,4 +4,4 @@ use Rattle.bidi_lines.proofs.shown_line.ShownLine.runs.Goals as goal
 
 pub returns-clause-runs : goal.returns-clause-runs
 returns-clause-runs g c a level line shows =
-    subst (AreRunsOfLine a level line) (sym c.as_slice.ensures) (runs_of_shown c.args.self.now g.met.T.TextSource.has_units a level line shows)
+    subst (AreRunsOfLine a level line) (sym c.as_slice.ensures) (runs_of_shown c.args.self.now g.T.TextSource.encoding.positive a level line shows)

@@ -10,18 +10,18 @@ use Rattle.bidi_lines.proofs.shown_line.ShownLine.write_units.Goals as goal
 pub write_runs-requires-clause-within : goal.write_runs-requires-clause-within
 write_runs-requires-clause-within g c =
     let s = c.args.self.now in
-    rw c.levels.ensures.value
+    rw c.levels.ensures.result
     (runs_begin s.start (levels s) c.as_slice-runs.result.now (AreVisualRuns-from_same s.start (levels s) (map run_of c.as_slice-runs.result.now) (c.as_slice-runs.ensures ∙ s.runs_of_levels)))
 
-pub write_runs-requires-clause-boundaries : goal.write_runs-requires-clause-boundaries
-write_runs-requires-clause-boundaries g c =
+pub write_runs-requires-clause-are_lines : goal.write_runs-requires-clause-are_lines
+write_runs-requires-clause-are_lines g c =
     let s = c.args.self.now in
-    ranges_at_boundaries g.T.TextSource.units (g.T.TextSource.characters (text_of s)) c.as_slice-runs.result.now _ (c.as_slice-runs.ensures ∙ s.runs_of_levels) s.runs_of_chars
+    ranges_at_boundaries g.T.TextSource.encoding.len_of (g.T.TextSource.text (text_of s)).chars c.as_slice-runs.result.now _ (c.as_slice-runs.ensures ∙ s.runs_of_levels) s.runs_of_chars
 
 pub write_runs-requires-clause-whole : goal.write_runs-requires-clause-whole
 write_runs-requires-clause-whole g c =
     let s = c.args.self.now in
-    rw c.levels.ensures.value
+    rw c.levels.ensures.result
     (visual_runs-whole s.start (levels s) c.as_slice-runs.result.now (AreVisualRuns-from_same s.start (levels s) (map run_of c.as_slice-runs.result.now) (c.as_slice-runs.ensures ∙ s.runs_of_levels)))
 
 pub returns-else-self : goal.returns-else-self

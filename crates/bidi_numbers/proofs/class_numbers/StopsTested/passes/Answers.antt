@@ -1,6 +1,6 @@
 use Rattle.bidi_base.proofs.Common.{◌≡◌, ℕ, ◌&&◌, ◌||◌, nat_le, sym, ap, ◌∙◌, arith, nat_tests, get_or-map}
 use Rattle.bidi_base.specs.declared.char_data.BidiClass.TheVariants.{L}
-use Rattle.bidi_lines.specs.Stops.{is_stop}
+use Rattle.bidi_lines.specs.ResetStops.{is_stop}
 use Rattle.bidi_numbers.specs.Numbers.{class_numbered}
 use Rattle.bidi_numbers.proofs.class_numbers.StopsTested.passes.Goals as goal
 

@@ -7,9 +7,9 @@ use Rattle.bidi_paragraphs.proofs.paragraph_levels.LevelResolver.resolve_nested.
 
 abbrev pub invariant-loop-first : goal.invariant-loop-first
 invariant-loop-first g l =
-    let len = g.T.TextSource.units in
-    let h = g.met.T.TextSource.has_units in
-    let cs : List ℕ = g.T.TextSource.characters l.paragraph.text in
+    let len = g.T.TextSource.encoding.len_of in
+    let h = g.T.TextSource.encoding.positive in
+    let cs : List ℕ = (g.T.TextSource.text l.paragraph.text).chars in
     let given = g.D.BidiDataSource.source l.paragraph.data_source.now in
     let source = map given.class_of cs in
     let runs = linked_runs l.links l.initial.runs.items in

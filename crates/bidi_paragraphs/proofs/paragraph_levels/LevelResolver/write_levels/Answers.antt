@@ -9,7 +9,7 @@ use Rattle.bidi_paragraphs.proofs.paragraph_levels.LevelResolver.write_levels.Go
 
 pub returns-then-keeps_to : goal.returns-then-keeps_to
 returns-then-keeps_to g c =
-    let cs : List ℕ = g.T.TextSource.characters c.args.paragraph.now.text in
+    let cs : List ℕ = (g.T.TextSource.text c.args.paragraph.now.text).chars in
     let given = g.D.BidiDataSource.source c.args.paragraph.now.data_source.now in
     let keeps = sym (keeps_to-flags _ _ c.args.paragraph.now.own_flags _) ∙ sym c.keeps_to.ensures ∙ c.if-keeps_to.true in
     kept_to_levels _ cs _ (map given.bracket_of cs) _ _ _ (length-map cs given.class_of) c.requires keeps (c.fill.ensures.after (λ y e. e))
@@ -19,11 +19,11 @@ fill_removed-requires g c = grind (arith, length-per_unit, length-stored_classes
 
 pub resolve_with_new_count-requires-clause-some : goal.resolve_with_new_count-requires-clause-some
 resolve_with_new_count-requires-clause-some g c =
-    let cs : List ℕ = g.T.TextSource.characters c.args.paragraph.now.text in
+    let cs : List ℕ = (g.T.TextSource.text c.args.paragraph.now.text).chars in
     let class_of = (g.D.BidiDataSource.source c.args.paragraph.now.data_source.now).class_of in
     let leaves = sym (keeps_to-flags c.args.paragraph.now.flags (map class_of cs) c.args.paragraph.now.own_flags c.args.paragraph.now.level)
     ∙ sym c.keeps_to.ensures ∙ c.if-keeps_to.false in
-    omega (arith, c.requires, some-keeps_to c.args.paragraph.now.level (map class_of cs) leaves, length-map cs class_of, length-le-text_len _ g.met.T.TextSource.has_units cs)
+    omega (arith, c.requires, some-keeps_to c.args.paragraph.now.level (map class_of cs) leaves, length-map cs class_of, length-le-text_len _ g.T.TextSource.encoding.positive cs)
 
 pub returns-then-has_removed : goal.returns-then-has_removed
 returns-then-has_removed g c = grind (arith, length-stored_classes, length-map, filled-levels_in, length-per_unit)

@@ -8,8 +8,8 @@ returns-in-empty t c = status_inside-none c.args.status c.args.openers.now c.in-
 
 pub returns-in-Ok : goal.returns-in-Ok
 returns-in-Ok t c =
-    let asked = OkIff-at_ok c.asked_level.result _ _ c.in-Ok.level c.asked_level.ensures c.in-Ok.is in
-    c.status_inside.ensures ∙ status_inside-first _ _ _ c.status.view_is _ c.in-Ok.level _ c.in-len1-up.len_at_least asked.0 asked.1 c.override_of.ensures
+    let level_fits = OkIff-at_ok c.next_level.result _ _ c.in-Ok.level c.next_level.ensures c.in-Ok.is in
+    c.status_inside.ensures ∙ status_inside-first _ _ _ c.status.view_is _ c.in-Ok.level _ c.in-len1-up.len_at_least level_fits.0 level_fits.1 c.override_of.ensures
 
 pub returns-in-Err : goal.returns-in-Err
-returns-in-Err t c = status_inside-stops _ _ _ c.status.view_is _ c.in-len1-up.len_at_least (OkIff-at_err c.asked_level.result _ _ c.in-Err.field-0 c.asked_level.ensures c.in-Err.is)
+returns-in-Err t c = status_inside-stops _ _ _ c.status.view_is _ c.in-len1-up.len_at_least (OkIff-at_err c.next_level.result _ _ c.in-Err.field-0 c.next_level.ensures c.in-Err.is)

@@ -18,5 +18,5 @@ returns-clause-levels c = IsExplicitSoFar-levels _ _ c.loop-class.class-index _ 
 pub returns-clause-classes : goal.returns-clause-classes
 returns-clause-classes c = IsExplicitSoFar-classes _ _ c.loop-class.class-index _ _ _ (omega arith) c.loop-class.invariant
 
-pub returns-clause-lengths : goal.returns-clause-lengths
-returns-clause-lengths c = search (rules, returns-clause-levels, length-explicit_levels, returns-clause-classes, length-explicit_classes)
+pub returns-clause-same_len : goal.returns-clause-same_len
+returns-clause-same_len c = search (rules, returns-clause-levels, length-explicit_levels, returns-clause-classes, length-explicit_classes)

@@ -1,4 +1,4 @@
-use Rattle.bidi_base.proofs.Common.{arith, is_neutral}
+use Rattle.bidi_base.proofs.Common.{arith, is_ni}
 use Rattle.bidi_laws.proofs.Blocks.{IsBlock-counted, length-part}
 use Rattle.bidi_laws.proofs.InPlace.{IsRewritten-end}
 use Rattle.bidi_laws.proofs.NeutralBlocks.{IsAtNeutrals-block}
@@ -8,7 +8,7 @@ pub loop-start-preserved : goal.loop-start-preserved
 loop-start-preserved c =
     grind (
       arith,
-      IsBlock-counted is_neutral c.args.classes.now c.loop-start.classes c.loop-start.start,
+      IsBlock-counted is_ni c.args.classes.now c.loop-start.classes c.loop-start.start,
       length-part,
       IsAtNeutrals-block c.args.embedding_direction c.args.sos c.args.eos c.args.classes.now c.loop-start.classes,
     )

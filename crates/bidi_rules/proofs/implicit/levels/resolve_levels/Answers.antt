@@ -25,5 +25,5 @@ loop-unit-preserved c = grind (arith, read_is, get_or-set_other, get_or-set_same
 
 pub returns-clause-levels : goal.returns-clause-levels
 returns-clause-levels c =
-    all_are c.args.levels.now c.args.processing_classes.now c.loop-unit.levels c.requires.lengths c.loop-unit.auto.levels
+    all_are c.args.levels.now c.args.processing_classes.now c.loop-unit.levels c.requires.same_len c.loop-unit.auto.levels
     (λ k fits. c.loop-unit.invariant.written k (omega arith))

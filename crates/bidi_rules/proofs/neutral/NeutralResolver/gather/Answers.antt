@@ -7,13 +7,13 @@ use Rattle.bidi_rules.proofs.neutral.NeutralResolver.gather.Goals as goal
 pub loop-run-init : goal.loop-run-init
 loop-run-init g c = grind (arith, kept_in_place-none)
 
-pub gather_run-requires-clause-line : goal.gather_run-requires-clause-line
-gather_run-requires-clause-line g c = search (rules, line_at)
+pub gather_run-requires-clause-is_line : goal.gather_run-requires-clause-is_line
+gather_run-requires-clause-is_line g c = search (rules, line_at)
 
 pub loop-run-preserved : goal.loop-run-preserved
 loop-run-preserved g c =
-    let len_of = g.T.TextSource.units in
-    let chars : List ℕ = g.T.TextSource.characters c.args.text in
+    let len_of = g.T.TextSource.encoding.len_of in
+    let chars : List ℕ = (g.T.TextSource.text c.args.text).chars in
     let source : Source = g.D.BidiDataSource.source c.args.data_source.now in
     let units = c.args.classes.now in
     let i = c.loop-run.run-index in

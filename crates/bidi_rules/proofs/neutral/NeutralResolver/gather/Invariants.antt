@@ -5,6 +5,6 @@ use Rattle.bidi_rules.proofs.neutral.NeutralResolver.gather.Given as goal
 
 abbrev pub invariant-loop-run : goal.invariant-loop-run
 invariant-loop-run g l =
-    let len_of = g.T.TextSource.units in
-    let chars = g.T.TextSource.characters l.fn.text in
+    let len_of = g.T.TextSource.encoding.len_of in
+    let chars = (g.T.TextSource.text l.fn.text).chars in
     HasRead l.self.search (placed_brackets len_of chars (g.D.BidiDataSource.source l.data_source) l.classes (kept_in_place len_of chars l.classes (map bounds (take l.run-index l.runs))))

@@ -28,8 +28,8 @@ counted c o u is = grind arith
 
 pub loop-at-preserved : goal.loop-at-preserved
 loop-at-preserved g c =
-    let len_of = g.T.TextSource.units in
-    let chars : List ℕ = g.T.TextSource.characters c.args.text in
+    let len_of = g.T.TextSource.encoding.len_of in
+    let chars : List ℕ = (g.T.TextSource.text c.args.text).chars in
     let source : Source = g.D.BidiDataSource.source c.args.data_source.now in
     let units = c.args.classes.now in
     let at = c.loop-at.at in
@@ -55,11 +55,11 @@ loop-at-preserved g c =
 
 pub returns : goal.returns
 returns g c =
-    let len_of = g.T.TextSource.units in
-    let h-units = g.met.T.TextSource.has_units in
-    let chars : List ℕ = g.T.TextSource.characters c.args.text in
+    let len_of = g.T.TextSource.encoding.len_of in
+    let h-units = g.T.TextSource.encoding.positive in
+    let chars : List ℕ = (g.T.TextSource.text c.args.text).chars in
     let source : Source = g.D.BidiDataSource.source c.args.data_source.now in
     let run = c.args.run.now in
     let i = c.loop-at.invariant in
     let end : c.loop-at.at ≡ run.end = omega (arith, i.ends, c.loop-at-test.false) in
-    λ before h. simp (end, unit_brackets-line len_of chars source c.args.classes.now h-units run.start run.end c.requires.line) at (i.held before h)
+    λ before h. simp (end, unit_brackets-line len_of chars source c.args.classes.now h-units run.start run.end c.requires.is_line) at (i.held before h)

@@ -7,8 +7,8 @@ use Rattle.bidi_rules.proofs.neutral.NeutralResolver.gather_run.Given as goal
 
 abbrev pub invariant-loop-at : goal.invariant-loop-at
 invariant-loop-at g l =
-    let len_of = g.T.TextSource.units in
-    let chars = g.T.TextSource.characters l.fn.text in
+    let len_of = g.T.TextSource.encoding.len_of in
+    let chars = (g.T.TextSource.text l.fn.text).chars in
     let source = g.D.BidiDataSource.source l.data_source in
     record {
       begins : l.run.start ≤ l.at;

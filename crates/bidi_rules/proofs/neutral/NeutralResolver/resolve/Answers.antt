@@ -1,36 +1,38 @@
 use Rattle.bidi_base.proofs.Common.{◌≡◌, ◌<◌, length, map, find, Some, refl, sym, ap, ◌∙◌, arith, rules, get_or_default, is_kept_in_place, direction_of, class_at, bounds, units_in_runs}
+use Rattle.bidi_base.proofs.UnitsLemmas.{length-from_is_per_char}
 use Rattle.bidi_base.specs.InPlace.{CanResolveNeutrals}
+use Rattle.bidi_text.proofs.PerCharTests.{class_eq, class_test}
 use Rattle.bidi_rules.specs.NeutralPass.{IsReady}
-use Rattle.bidi_explicit.specs.RunSequence.{lent_runs, lent_sos, lent_eos}
+use Rattle.bidi_explicit.specs.RunSequence.{borrowed_runs, borrowed_sos, borrowed_eos}
 use Rattle.bidi_rules.proofs.NeutralSteps.{IsReady-sequence, IsUpToN1, runs-within, first-is, first-within}
-use Rattle.bidi_rules.proofs.Settled.{resolved-none, IsResolved, IsResolved-alike, IsResolved-settled}
+use Rattle.bidi_rules.proofs.ResolvedUnits.{resolved-none, IsResolved, IsResolved-alike, IsResolved-decided}
 use Rattle.bidi_rules.proofs.neutral.NeutralResolver.resolve.Given.{Over}
 use Rattle.bidi_rules.proofs.neutral.NeutralResolver.resolve.Goals as goal
 use Rattle.bidi_rules.proofs.neutral.NeutralResolver.resolve.Goals.{After-runs-runs, In-Some}
 
--- what the lent sequence fits
+-- what the borrowed sequence fits
 given : (g : Over) (c : After-runs-runs g)
-    → CanResolveNeutrals g.T.TextSource.units (g.T.TextSource.characters c.args.text) (map bounds (lent_runs c.lend-lent.result)) c.args.levels.now c.args.original_classes.now c.args.processing_classes.now
-given g c = rw c.lend-lent.ensures.runs c.requires
+    → CanResolveNeutrals g.T.TextSource.encoding.len_of (g.T.TextSource.text c.args.text).chars (map bounds (borrowed_runs c.borrowed-borrowed.result)) c.args.levels.now c.args.original_classes.now c.args.processing_classes.now
+given g c = rw c.borrowed-borrowed.ensures.runs c.requires
 
-ready : (g : Over) (c : After-runs-runs g) → IsReady g.T.TextSource.units (g.T.TextSource.characters c.args.text) (lent_runs c.lend-lent.result) (lent_sos c.lend-lent.result) c.args.processing_classes.now
+ready : (g : Over) (c : After-runs-runs g) → IsReady g.T.TextSource.encoding.len_of (g.T.TextSource.text c.args.text).chars (borrowed_runs c.borrowed-borrowed.result) (borrowed_sos c.borrowed-borrowed.result) c.args.processing_classes.now
 ready g c =
-    IsReady-sequence g.T.TextSource.units g.met.T.TextSource.has_units (g.T.TextSource.characters c.args.text) c.lend-lent.result (lent_runs c.lend-lent.result) (lent_sos c.lend-lent.result) c.args.processing_classes.now refl refl
-    (given g c).per_char (given g c).fits (given g c).resolved
+    IsReady-sequence g.T.TextSource.encoding.len_of g.T.TextSource.encoding.positive (g.T.TextSource.text c.args.text).chars c.borrowed-borrowed.result (borrowed_runs c.borrowed-borrowed.result) (borrowed_sos c.borrowed-borrowed.result) c.args.processing_classes.now refl refl
+    (given g c).per_char (given g c).are_lines (given g c).resolved
 
 pub first_kept-requires : goal.first_kept-requires
 first_kept-requires g c =
-    rw c.runs-runs.ensures (runs-within g.T.TextSource.units g.met.T.TextSource.has_units (g.T.TextSource.characters c.args.text) (lent_runs c.lend-lent.result) (lent_sos c.lend-lent.result) c.args.processing_classes.now (ready g (goal.at.first_kept-requires g c).After-runs-runs))
+    rw c.runs-runs.ensures (runs-within g.T.TextSource.encoding.len_of g.T.TextSource.encoding.positive (g.T.TextSource.text c.args.text).chars (borrowed_runs c.borrowed-borrowed.result) (borrowed_sos c.borrowed-borrowed.result) c.args.processing_classes.now (ready g (goal.at.first_kept-requires g c).After-runs-runs))
 
 -- the runs at hand are those of the sequence
-found : (g : Over) (c : In-Some g) → Some c.in-Some.first ≡ find (λ u. is_kept_in_place (class_at c.args.processing_classes.now u)) (units_in_runs (map bounds (lent_runs c.lend-lent.result)))
+found : (g : Over) (c : In-Some g) → Some c.in-Some.first ≡ find (λ u. is_kept_in_place (class_at c.args.processing_classes.now u)) (units_in_runs (map bounds (borrowed_runs c.borrowed-borrowed.result)))
 found g c = grind arith
 
 within : (g : Over) (c : In-Some g) → c.in-Some.first < length c.args.levels.now
 within g c =
     grind (
       arith,
-      first-within g.T.TextSource.units g.met.T.TextSource.has_units (g.T.TextSource.characters c.args.text) (lent_runs c.lend-lent.result) (lent_sos c.lend-lent.result) c.args.processing_classes.now (ready g (goal.at.bounds-levels-first g c).After-runs-runs) c.in-Some.first (found g c),
+      first-within g.T.TextSource.encoding.len_of g.T.TextSource.encoding.positive (g.T.TextSource.text c.args.text).chars (borrowed_runs c.borrowed-borrowed.result) (borrowed_sos c.borrowed-borrowed.result) c.args.processing_classes.now (ready g (goal.at.bounds-levels-first g c).After-runs-runs) c.in-Some.first (found g c),
       ready g (goal.at.bounds-levels-first g c).After-runs-runs,
       found g c,
     )
@@ -42,43 +44,49 @@ pub returns-in_default : goal.returns-in_default
 returns-in_default g c =
     let none = simp c.runs-runs.ensures at (sym c.in_default.is ∙ c.first_kept.ensures) in
     record {
-      resolved = IsResolved-alike _ _ _ _ _ _ _ _ _ _ _ _ _ c.lend-lent.ensures.runs c.lend-lent.ensures.sos c.lend-lent.ensures.eos
-          (resolved-none g.T.TextSource.units g.met.T.TextSource.has_units (g.T.TextSource.characters c.args.text) (g.D.BidiDataSource.source c.args.data_source.now) c.args.levels.now c.args.original_classes.now c.args.processing_classes.now
-          (lent_runs c.lend-lent.result) (lent_sos c.lend-lent.result) (lent_eos c.lend-lent.result) c.requires.per_char (ready g (goal.at.returns-in_default g c).After-runs-runs) none);
-      refused = grind arith;
+      resolved = IsResolved-alike _ _ _ _ _ _ _ _ _ _ _ _ _ c.borrowed-borrowed.ensures.runs c.borrowed-borrowed.ensures.sos c.borrowed-borrowed.ensures.eos
+          (resolved-none g.T.TextSource.encoding.len_of g.T.TextSource.encoding.positive (g.T.TextSource.text c.args.text).chars (g.D.BidiDataSource.source c.args.data_source.now) c.args.levels.now c.args.original_classes.now c.args.processing_classes.now
+          (borrowed_runs c.borrowed-borrowed.result) (borrowed_sos c.borrowed-borrowed.result) (borrowed_eos c.borrowed-borrowed.result) c.requires.per_char (ready g (goal.at.returns-in_default g c).After-runs-runs) none);
+      unchanged = grind arith;
     }
+
+pub invariant_of-leveled : goal.invariant_of-leveled
+invariant_of-leveled g c =
+    let e = g.T.TextSource.encoding in
+    let long = length-from_is_per_char class_eq class_test e.len_of e.positive _ _ c.requires.per_char in
+    record { class_each = c.requires.original ∙ long; level_each = c.requires.levels ∙ long }
 
 pub resolve_up_to_n1-requires : goal.resolve_up_to_n1-requires
 resolve_up_to_n1-requires g c = given g (goal.at.resolve_up_to_n1-requires g c).After-runs-runs
 
-pub settle_rest-requires : goal.settle_rest-requires
-settle_rest-requires g c = search (rules, first_kept-requires)
+pub apply_n2-requires : goal.apply_n2-requires
+apply_n2-requires g c = search (rules, first_kept-requires)
 
 -- N2 is done
 resolved : (g : Over) (c : goal.After-processing_classes-2-1 g)
-    → IsResolved g.T.TextSource.units (g.T.TextSource.characters c.args.text) (g.D.BidiDataSource.source c.args.data_source.now) c.args.levels.now c.args.original_classes.now c.args.processing_classes.now c.settle_rest.new.classes
-    (lent_runs c.lend-lent.result) (lent_sos c.lend-lent.result) (lent_eos c.lend-lent.result)
+    → IsResolved g.T.TextSource.encoding.len_of (g.T.TextSource.text c.args.text).chars (g.D.BidiDataSource.source c.args.data_source.now) c.args.levels.now c.args.original_classes.now c.args.processing_classes.now c.apply_n2.new.classes
+    (borrowed_runs c.borrowed-borrowed.result) (borrowed_sos c.borrowed-borrowed.result) (borrowed_eos c.borrowed-borrowed.result)
 resolved g c =
     let first = (goal.at.returns g c).In-Some in
     let r = ready g (goal.at.returns g c).After-runs-runs in
-    let units = g.T.TextSource.units in
-    let chars = g.T.TextSource.characters c.args.text in
-    let runs = lent_runs c.lend-lent.result in
-    let sos = lent_sos c.lend-lent.result in
+    let units = g.T.TextSource.encoding.len_of in
+    let chars = (g.T.TextSource.text c.args.text).chars in
+    let runs = borrowed_runs c.borrowed-borrowed.result in
+    let sos = borrowed_sos c.borrowed-borrowed.result in
     let old = c.args.processing_classes.now in
     let now = c.resolve_up_to_n1.new.processing_classes in
-    let up : IsUpToN1 units chars (g.D.BidiDataSource.source c.args.data_source.now) c.args.levels.now c.args.original_classes.now old now runs sos (lent_eos c.lend-lent.result) =
+    let up : IsUpToN1 units chars (g.D.BidiDataSource.source c.args.data_source.now) c.args.levels.now c.args.original_classes.now old now runs sos (borrowed_eos c.borrowed-borrowed.result) =
     grind arith in
     let same_runs = ap (map bounds) c.runs-runs.ensures in
-    IsResolved-settled units g.met.T.TextSource.has_units chars runs sos (lent_eos c.lend-lent.result) (g.D.BidiDataSource.source c.args.data_source.now) c.args.levels.now c.args.original_classes.now old r now c.settle_rest.new.classes up
+    IsResolved-decided units g.T.TextSource.encoding.positive chars runs sos (borrowed_eos c.borrowed-borrowed.result) (g.D.BidiDataSource.source c.args.data_source.now) c.args.levels.now c.args.original_classes.now old r now c.apply_n2.new.classes up
     c.bidi_class-embedding.result
-    (simp (c.bidi_class-embedding.ensures, first-is units g.met.T.TextSource.has_units chars runs sos old r c.in-Some.first (found g first)) (ap direction_of (c.index-levels-first.is ∙ get_or_default c.args.levels.now c.in-Some.first c.index-levels-first.result 0 (within g first))))
-    c.settle_rest.ensures.long
-    (λ u inside. c.settle_rest.ensures.changed u (simp same_runs inside))
-    (λ u out. c.settle_rest.ensures.same u (simp same_runs out))
+    (simp (c.bidi_class-embedding.ensures, first-is units g.T.TextSource.encoding.positive chars runs sos old r c.in-Some.first (found g first)) (ap direction_of (c.index-levels-first.is ∙ get_or_default c.args.levels.now c.in-Some.first c.index-levels-first.result 0 (within g first))))
+    c.apply_n2.ensures.same_len
+    (λ u inside. c.apply_n2.ensures.changed u (simp same_runs inside))
+    (λ u out. c.apply_n2.ensures.outside u (simp same_runs out))
 
 pub returns : goal.returns
 returns g c = record {
-  resolved = IsResolved-alike _ _ _ _ _ _ _ _ _ _ _ _ _ c.lend-lent.ensures.runs c.lend-lent.ensures.sos c.lend-lent.ensures.eos (resolved g c);
-  refused = grind arith;
+  resolved = IsResolved-alike _ _ _ _ _ _ _ _ _ _ _ _ _ c.borrowed-borrowed.ensures.runs c.borrowed-borrowed.ensures.sos c.borrowed-borrowed.ensures.eos (resolved g c);
+  unchanged = grind arith;
 }

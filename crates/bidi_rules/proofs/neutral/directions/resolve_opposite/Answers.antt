@@ -1,7 +1,7 @@
 use Rattle.bidi_base.proofs.Common.{◌≡◌, length, map, true, if◌then◌else◌, refl, sym, ◌∙◌, arith, length-map, is_l_or_r, stands_for, bounds}
 use Rattle.bidi_base.specs.declared.char_data.BidiClass.{BidiClass}
 use Rattle.bidi_rules.specs.JoinPass.{Unjoined, IsUnderWay}
-use Rattle.bidi_rules.specs.PairWalk.{opposite_of}
+use Rattle.bidi_rules.specs.PairPass.{opposite_of}
 use Rattle.bidi_explicit.proofs.InRuns.{start_or-at, start_or-past}
 use Rattle.bidi_rules.proofs.JoinWalk.{IsUnderWay-start, IsUnderWay-gap, IsFinished, IsFinished-embedding, IsFinished-opposite}
 use Rattle.bidi_rules.proofs.neutral.directions.resolve_opposite.Goals as goal
@@ -44,17 +44,17 @@ asked : (c : After-stands_for-2) → c.stands_for-2.result ≡ stands_for (oppos
 asked c = grind arith steps 400000
 
 -- the direction at the end is the opposite one
-turned : (c : goal.After-classes-then-stands_for-1) → IsFinished (sequence (goal.at.returns-then-stands_for-clause-kept c).After-loop-run) c.settle.new.classes
+turned : (c : goal.After-classes-then-stands_for-1) → IsFinished (sequence (goal.at.returns-then-stands_for-clause-kept c).After-loop-run) c.write_waiting.new.classes
 turned c =
     let before = (goal.at.returns-then-stands_for-clause-kept c).After-loop-run in
     IsFinished-opposite (sequence before) _ _ _ c.requires.eos (sym (asked (goal.at.returns-then-stands_for-clause-kept c).After-stands_for-2) ∙ c.if-stands_for.true)
-    (λ waiting. simp (c.loop-run.invariant.opposite, c.loop-run.invariant.long) at (c.settle.ensures.held waiting)) c.settle.ensures.idle (read before)
+    (λ waiting. simp (c.loop-run.invariant.opposite, c.loop-run.invariant.long) at (c.write_waiting.ensures.held waiting)) c.write_waiting.ensures.unchanged (read before)
 
 pub returns-then-stands_for-clause-kept : goal.returns-then-stands_for-clause-kept
 returns-then-stands_for-clause-kept c = (turned c).answers
 
-pub returns-then-stands_for-clause-others : goal.returns-then-stands_for-clause-others
-returns-then-stands_for-clause-others c = (turned c).unseen
+pub returns-then-stands_for-clause-outside : goal.returns-then-stands_for-clause-outside
+returns-then-stands_for-clause-outside c = (turned c).unseen
 
 pub returns-then-stands_for-clause-own : goal.returns-then-stands_for-clause-own
 returns-then-stands_for-clause-own c = (turned c).own
@@ -68,8 +68,8 @@ kept c =
 pub returns-else-stands_for-clause-kept : goal.returns-else-stands_for-clause-kept
 returns-else-stands_for-clause-kept c = (kept c).answers
 
-pub returns-else-stands_for-clause-others : goal.returns-else-stands_for-clause-others
-returns-else-stands_for-clause-others c = (kept c).unseen
+pub returns-else-stands_for-clause-outside : goal.returns-else-stands_for-clause-outside
+returns-else-stands_for-clause-outside c = (kept c).unseen
 
 pub returns-else-stands_for-clause-own : goal.returns-else-stands_for-clause-own
 returns-else-stands_for-clause-own c = (kept c).own

@@ -1,7 +1,7 @@
 -- The runs that came are read.
 use Rattle.bidi_base.proofs.Common.{◌≡◌, ◌≤◌, length, map, bounds}
 use Rattle.bidi_rules.specs.JoinPass.{IsUnderWay, Unjoined}
-use Rattle.bidi_rules.specs.PairWalk.{opposite_of}
+use Rattle.bidi_rules.specs.PairPass.{opposite_of}
 use Rattle.bidi_explicit.proofs.InRuns.{start_or}
 use Rattle.bidi_rules.proofs.neutral.directions.resolve_opposite.Given as goal
 

@@ -1,4 +1,4 @@
--- The runs below `low` end at or before the unit, those from `high` on behind it.
+-- The runs below `low` end at or before the unit, those from `high` on after it.
 use Rattle.bidi_base.proofs.Common.{◌-◌, ◌<◌, ◌≤◌, ℕ, length, map, get_or, bounds}
 use Rattle.bidi_rules.proofs.neutral.nearest.run_of.Given as goal
 

@@ -1,6 +1,6 @@
 -- The units so far are written; where there are none, nothing is.
 use Rattle.bidi_base.proofs.Common.{◌≡◌, ◌≤◌, is_kept_in_place, class_at}
-use Rattle.bidi_explicit.specs.Written.{IsWrittenOver}
+use Rattle.bidi_explicit.specs.SequenceUnits.{IsWrittenOver}
 use Rattle.bidi_rules.proofs.neutral.pairs.write_bracket.Given as goal
 
 abbrev pub invariant-loop-unit : goal.invariant-loop-unit

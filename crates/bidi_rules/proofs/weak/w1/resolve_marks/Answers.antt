@@ -46,5 +46,5 @@ loop-run-preserved g c =
 pub returns-clause-marked : goal.returns-clause-marked
 returns-clause-marked g c = grind (arith, common_steps, start_or-past)
 
-pub returns-clause-at_most : goal.returns-clause-at_most
-returns-clause-at_most g c = grind (arith, length-map, take_all)
+pub returns-clause-steps_at_most : goal.returns-clause-steps_at_most
+returns-clause-steps_at_most g c = grind (arith, length-map, take_all)

@@ -17,7 +17,7 @@ Marks-block : (now : List BidiClass) (last before : BidiClass) (at n : ℕ) → 
 Marks-block now last before at n none fits is runs sos old in_run h =
     rw is (AreMarked-passes runs sos old now last at n h (omega (arith, fits, h.long)) (λ k from below. (in_run k from below, none_at now at n k none fits from below)))
 
--- one part of a run behind another
+-- one part of a run after another
 Marks-more : (start mid end : ℕ) (a b c : BidiClass) (old mid_classes new : List BidiClass) → start ≤ mid → mid ≤ end → Marks start mid a b old mid_classes → Marks mid end b c mid_classes new → Marks start end a c old new
 Marks-more start mid end a b c old mid_classes new order within first second runs sos before in_run h =
     second runs sos before (λ k from below. in_run k (omega (arith, from, order)) below) (first runs sos before (λ k from below. in_run k from (omega (arith, below, within))) h)
@@ -39,6 +39,6 @@ loop-at-preserved g c =
       end = h.end;
       long = h.long;
       marked = Marks-more c.args.run.now.start at (at + 16) c.args.before last c.unwrap_or-last.result c.args.classes.now now now h.starts (omega arith) h.marked block;
-      at_least = omega (arith, h.at_least);
-      at_most = omega (arith, h.at_most, h.starts);
+      steps_at_least = omega (arith, h.steps_at_least);
+      steps_at_most = omega (arith, h.steps_at_most, h.starts);
     }

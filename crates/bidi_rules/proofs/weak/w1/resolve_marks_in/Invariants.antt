@@ -10,8 +10,8 @@ invariant-loop-at g l = record {
   end : l.end ≡ l.run.end;
   long : length l.classes ≡ length l.fn.classes;
   marked : Marks l.run.start l.at l.fn.before l.last l.fn.classes l.classes;
-  at_least : l.fn.steps ≤ l.steps;
-  at_most : 16 * l.steps ≤ 16 * l.fn.steps + 17 * (l.at - l.run.start);
+  steps_at_least : l.fn.steps ≤ l.steps;
+  steps_at_most : 16 * l.steps ≤ 16 * l.fn.steps + 17 * (l.at - l.run.start);
 }
 
 abbrev pub decreases-loop-at : goal.decreases-loop-at

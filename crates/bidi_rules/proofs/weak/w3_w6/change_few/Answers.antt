@@ -9,13 +9,13 @@ loop-unit-preserved g c =
     record {
       changed = λ u from below ends. elim (cases_eq u i) [
         | inl here ↦ grind arith
-        | inr other ↦ now.others u other ∙ s.changed u from (omega arith) ends
+        | inr other ↦ now.outside u other ∙ s.changed u from (omega arith) ends
       ];
-      below = λ u low. let other : u ≢ i = omega arith in now.others u other ∙ s.below u low;
-      rest = λ u high. let other : u ≢ i = omega arith in now.others u other ∙ s.rest u (omega arith);
+      below = λ u low. let other : u ≢ i = omega arith in now.outside u other ∙ s.below u low;
+      rest = λ u high. let other : u ≢ i = omega arith in now.outside u other ∙ s.rest u (omega arith);
       steps = omega arith;
       none = λ empty. absurd (omega arith);
-      past = λ u high. let other : u ≢ i = omega arith in now.others u other ∙ s.past u high;
+      past = λ u high. let other : u ≢ i = omega arith in now.outside u other ∙ s.past u high;
     }
 
 pub returns : goal.returns

@@ -11,7 +11,7 @@ use Rattle.bidi_rules.proofs.weak.w3_w6.resolve_w3_w6.Goals as goal
 left_over-twice : (c : BidiClass) → left_over (left_over c) ≡ left_over c
 left_over-twice c = grind arith
 
--- the turns of the run that came
+-- the iterations of the run that came
 units_more : (runs : List (ℕ × ℕ)) (i start end : ℕ) → are_ordered runs ≡ true → i < length runs → (get_or runs i (0, 0)).0 ≡ start → (get_or runs i (0, 0)).1 ≡ end
     → (length (units_in_runs (take (i + 1) runs)) ≡ length (units_in_runs (take i runs)) + (end - start)) × (start < end)
 units_more runs i start end ordered fits starts ends = grind (arith, length-units_in_runs-more, run_some) steps 400000
@@ -36,15 +36,15 @@ loop-run-preserved g c =
 pub returns-clause-changed : goal.returns-clause-changed
 returns-clause-changed g c = grind (arith, length-map, take_all)
 
-pub returns-clause-same : goal.returns-clause-same
-returns-clause-same g c = grind (arith, length-map, take_all)
+pub returns-clause-outside : goal.returns-clause-outside
+returns-clause-outside g c = grind (arith, length-map, take_all)
 
 -- all runs came
 all_runs : (i : ℕ) (runs : List (ℕ × ℕ)) → length runs ≤ i → length (units_in_runs (take i runs)) ≡ length (units_in_runs runs)
 all_runs i runs past = ap (λ (rs : List (ℕ × ℕ)). length (units_in_runs rs)) (take_all i runs past)
 
-pub returns-clause-at_least : goal.returns-clause-at_least
-returns-clause-at_least g c = grind (arith, length-map, all_runs)
+pub returns-clause-steps_at_least : goal.returns-clause-steps_at_least
+returns-clause-steps_at_least g c = grind (arith, length-map, all_runs)
 
-pub returns-clause-at_most : goal.returns-clause-at_most
-returns-clause-at_most g c = grind (arith, length-map, all_runs)
+pub returns-clause-steps_at_most : goal.returns-clause-steps_at_most
+returns-clause-steps_at_most g c = grind (arith, length-map, all_runs)

@@ -7,6 +7,6 @@ abbrev pub invariant-loop-run : goal.invariant-loop-run
 invariant-loop-run g l = record {
   changed : (u : ℕ) → in_runs (take l.run-index (map bounds l.runs)) u ≡ true → class_at l.classes u ≡ left_over (class_at l.fn.classes u);
   same : (u : ℕ) → in_runs (take l.run-index (map bounds l.runs)) u ≡ false → class_at l.classes u ≡ class_at l.fn.classes u;
-  at_least : l.fn.steps + length (units_in_runs (take l.run-index (map bounds l.runs))) ≤ l.steps;
-  at_most : l.steps ≤ l.fn.steps + 2 * length (units_in_runs (take l.run-index (map bounds l.runs)));
+  steps_at_least : l.fn.steps + length (units_in_runs (take l.run-index (map bounds l.runs))) ≤ l.steps;
+  steps_at_most : l.steps ≤ l.fn.steps + 2 * length (units_in_runs (take l.run-index (map bounds l.runs)));
 }

@@ -1,11 +1,19 @@
-use Rattle.bidi_base.proofs.Common.{◌≡◌, ◌+◌, ◌++◌, ◌∙◌, ◌∷◌, false, sym, ap, arith, append-nil, map}
+use Rattle.bidi_base.proofs.Common.{◌≡◌, ◌+◌, ◌++◌, ◌∙◌, ◌∷◌, false, sym, ap, arith, append-nil, map, ℕ, List, length, nil_from_length, []}
 use Rattle.bidi_bytes.specs.ControlBytes.{holds_control}
 use Rattle.bidi_bytes.specs.Decoded.{utf8_decoded}
 use Rattle.bidi_bytes.specs.FileLines.{file_lines_of}
 use Rattle.bidi_bytes.proofs.FileLinesLemmas.{no_lines}
-use Rattle.bidi_scan.specs.FileSearch.{line_of}
-use Rattle.bidi_scan.proofs.FoundLemmas.{first-quiet, first-count, nothing-left}
+use Rattle.bidi_scan.specs.FileSearch.{line_of, found_from}
+use Rattle.bidi_scan.proofs.FoundLemmas.{first-without_controls, first-count}
+use Rattle.bidi_controls.specs.declared.finding.Wanted.{Wanted}
+use Rattle.bidi_unicode.specs.Unicode.{unicode_source}
+use Rattle.bidi_bytes.proofs.LossyLemmas.{utf8_decoded-nil}
 use Rattle.bidi_scan.proofs.file_search.FileSearch.push_each_line.Goals as goal
+
+nothing-left : (wanted : Wanted) (number : ℕ) (bytes : List ℕ) → length bytes ≡ 0 → found_from unicode_source wanted number (file_lines_of (utf8_decoded bytes)) ≡ []
+nothing-left wanted number bytes none =
+    ap (λ t. found_from unicode_source wanted number (file_lines_of (utf8_decoded t))) (nil_from_length bytes none)
+    ∙ ap (λ t. found_from unicode_source wanted number (file_lines_of t)) utf8_decoded-nil
 
 pub loop-rest-preserved : goal.loop-rest-preserved
 loop-rest-preserved c =
@@ -16,12 +24,12 @@ loop-rest-preserved c =
     let first : file_lines_of (utf8_decoded rest) ≡ utf8_decoded line ∷ file_lines_of (utf8_decoded after) =
     rw (c.split_at.ensures.front, c.split_at.ensures.back) c.first_line_len.ensures.first in
     let none : holds_control line ≡ false = sym c.holds_control.ensures ∙ c.if-holds_control.false in
-    let same = first-quiet wanted number rest line after first none in
+    let same = first-without_controls wanted number rest line after first none in
     let count = first-count wanted number rest line after first in (
       record {
         all = ap (λ t. map line_of c.loop-rest.found.items ++ t) (sym same) ∙ h.all;
         count = let before = h.count in omega arith;
-        few = let before = h.few in omega (arith, c.split_at.ensures.back_len, c.first_line_len.ensures.some);
+        few = let before = h.few in omega (arith, c.split_at.ensures.back_len, c.first_line_len.ensures.advances);
       },
       c.loop-rest.invariant.1,
       c.loop-rest.invariant.2,

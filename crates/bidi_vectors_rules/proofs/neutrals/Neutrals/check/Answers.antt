@@ -7,7 +7,7 @@ pub returns : goal.returns
 unfolding kept_in_place
 returns c = record {
   per_char = grind arith;
-  fits = grind arith;
+  are_lines = grind arith;
   levels = grind arith;
   original = grind arith;
   resolved = all_resolved _ _ c.args.classes.now _ (sym c.are_left_or_removed.ensures ∙ c.if-not-are_left_or_removed.false);

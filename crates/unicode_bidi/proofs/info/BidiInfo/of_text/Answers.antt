@@ -10,7 +10,7 @@ pub invariant_of-result : goal.invariant_of-result
 invariant_of-result g c = record {
   paragraphs_are_lines =
       rw c.new.ensures.text
-      (paragraphs-are_lines g.T.TextSource.units (g.T.TextSource.characters c.args.text) c.in_ok-found.found.paragraphs.items c.in_ok-found.ensures.analysis.paragraphs.partition.lines);
+      (paragraphs-are_lines g.T.TextSource.encoding.len_of (g.T.TextSource.text c.args.text).chars c.in_ok-found.found.paragraphs.items c.in_ok-found.ensures.analysis.paragraphs.partition.lines);
 }
 
 pub returns : goal.returns

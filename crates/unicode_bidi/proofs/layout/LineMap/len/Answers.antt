@@ -1,5 +1,5 @@
 use Rattle.bidi_base.proofs.Common.{sym, arith}
-use Rattle.unicode_bidi.proofs.KeptOrder.{length-entries}
+use Rattle.unicode_bidi.proofs.StoredOrder.{length-entries}
 use Rattle.unicode_bidi.proofs.layout.LineMap.len.Goals as goal
 
 pub returns-clause-order : goal.returns-clause-order

@@ -1,5 +1,9 @@
-use Rattle.unicode_bidi.proofs.KeptOrder.{entries-inverse, found-back, AreInverse-sym}
+use Rattle.unicode_bidi.proofs.StoredOrder.{entries-inverse, found-back}
+use Rattle.bidi_base.proofs.Common.{List, ℕ, AreInverse, sym}
 use Rattle.unicode_bidi.proofs.layout.LineMap.logical_to_visual.Goals as goal
+
+AreInverse-sym : (xs ys : List ℕ) → AreInverse xs ys → AreInverse ys xs
+AreInverse-sym xs ys h = record { same_len = sym h.same_len; back = h.forth; forth = h.back }
 
 pub returns-clause-back : goal.returns-clause-back
 returns-clause-back c =

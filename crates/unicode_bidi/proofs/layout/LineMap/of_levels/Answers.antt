@@ -1,8 +1,13 @@
-use Rattle.bidi_base.proofs.Common.{refl, sym, subst, ◌∙◌, arith, length, IsVisualOrder, AreInverse}
+use Rattle.bidi_base.proofs.Common.{refl, sym, subst, ◌∙◌, arith, length, IsVisualOrder, AreInverse, List, ℕ, ◌≡◌, [], ◌∷◌}
 use Rattle.bidi_lines.proofs.Ordered.{visual_order-is, visual_order-still, none_odd}
-use Rattle.bidi_laws.proofs.LayoutLemmas.{own_indexes, visual_places-inverse}
-use Rattle.unicode_bidi.proofs.KeptOrder.{entries-whole, order-long, still-indexes, places-in_order}
+use Rattle.bidi_laws.proofs.LayoutLemmas.{own_indexes, visual_indexes-inverse}
+use Rattle.unicode_bidi.proofs.StoredOrder.{order-long, still-indexes, places-in_order, entries-stored}
+use Rattle.unicode_bidi.specs.StoredOrder.{entries}
 use Rattle.unicode_bidi.proofs.layout.LineMap.of_levels.Goals as goal
+
+entries-whole : (list : List ℕ) (len : ℕ) → length list ≡ len → entries list len ≡ list
+entries-whole [] len e = rw (← e) refl
+entries-whole (x ∷ xs) len e = entries-stored (x ∷ xs) len (omega arith)
 
 pub returns-then-not-has_rtl-clause-order : goal.returns-then-not-has_rtl-clause-order
 returns-then-not-has_rtl-clause-order c =
@@ -40,4 +45,4 @@ returns-clause-places c =
     let places = c.in_ok-places.places.items in
     let inverse : AreInverse order places = rw c.as_slice-2.ensures.value at c.in_ok-places.ensures in
     entries-whole places (length c.args.levels.now) (sym inverse.same_len ∙ order-long c.args.levels.now order c.in_ok-order.ensures.visual)
-    ∙ visual_places-inverse c.args.levels.now order c.in_ok-order.ensures.visual places inverse
+    ∙ visual_indexes-inverse c.args.levels.now order c.in_ok-order.ensures.visual places inverse

@@ -1,4 +1,4 @@
-use Rattle.unicode_bidi.proofs.KeptOrder.{entries-inverse, found-back}
+use Rattle.unicode_bidi.proofs.StoredOrder.{entries-inverse, found-back}
 use Rattle.unicode_bidi.proofs.layout.LineMap.visual_to_logical.Goals as goal
 
 pub returns-clause-back : goal.returns-clause-back

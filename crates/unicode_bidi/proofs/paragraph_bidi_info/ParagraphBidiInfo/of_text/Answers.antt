@@ -19,8 +19,8 @@ pub returns : goal.returns
 returns g c =
     let source = g.D.BidiDataSource.source c.args.data_source.now in
     let base = c.args.default_para_level in
-    let cs : List ℕ = g.T.TextSource.characters c.args.text in
-    let found = with_analysis g.T.TextSource.units cs c.in_ok-found.found in
+    let cs : List ℕ = (g.T.TextSource.text c.args.text).chars in
+    let found = with_analysis (g.T.TextSource.text c.args.text) c.in_ok-found.found in
     let ps : List ParagraphInfo = c.in_ok-found.found.paragraphs.items in
     let analysis = c.in_ok-found.ensures.analysis in
     let one : c.in_ok-found.found.flags.items ≡ flags_of (map source.class_of cs) ∷ [] = rw (← flags-one) c.in_ok-found.ensures.flags in

@@ -5,4 +5,4 @@ use Rattle.bidi_explicit.proofs.explicit.stretches.Paragraph.new.Goals as goal
 
 pub invariant_of-result-clause-long : goal.invariant_of-result-clause-long
 invariant_of-result-clause-long g c =
-    length-from_is_per_char ghosts.eq class_test g.T.TextSource.units g.met.T.TextSource.has_units (g.T.TextSource.characters c.args.text) c.args.original_classes.now c.requires.per_char
+    length-from_is_per_char ghosts.eq class_test g.T.TextSource.encoding.len_of g.T.TextSource.encoding.positive (g.T.TextSource.text c.args.text).chars c.args.original_classes.now c.requires.per_char

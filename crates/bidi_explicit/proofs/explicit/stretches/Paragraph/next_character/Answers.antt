@@ -7,9 +7,9 @@ use Rattle.bidi_explicit.proofs.explicit.stretches.Paragraph.next_character.Goal
 
 -- the character that is passed over
 next : (g : Over) (c : After-end_of-at g)
-    → Goes g.T.TextSource.units g.met.T.TextSource.has_units (g.T.TextSource.characters c.args.self.now.text) c.args.self.now.original_classes.now c.loop-at.at c.end_of-at.result c.args.to
+    → Goes (g.T.TextSource.text c.args.self.now.text) c.args.self.now.original_classes.now c.loop-at.at c.end_of-at.result c.args.to
 next g c =
-    goes g.T.TextSource.units g.met.T.TextSource.has_units (g.T.TextSource.characters c.args.self.now.text) c.args.self.now.original_classes.now c.loop-at.at c.end_of-at.result c.args.to
+    goes (g.T.TextSource.text c.args.self.now.text) c.args.self.now.original_classes.now c.loop-at.at c.end_of-at.result c.args.to
     c.args.self.now.per_char c.loop-at.invariant.3 c.requires.ends c.loop-at-test.true (omega (arith, c.requires.within, c.args.self.now.long)) c.end_of-at.ensures
 
 pub loop-at-smaller : goal.loop-at-smaller

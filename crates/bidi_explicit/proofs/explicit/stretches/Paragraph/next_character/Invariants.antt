@@ -4,8 +4,8 @@ use Rattle.bidi_explicit.proofs.explicit.stretches.Paragraph.next_character.Give
 
 abbrev pub invariant-loop-at : goal.invariant-loop-at
 invariant-loop-at g l =
-    let len_of = g.T.TextSource.units in
-    let chars = g.T.TextSource.characters l.self.text in
+    let len_of = g.T.TextSource.encoding.len_of in
+    let chars = (g.T.TextSource.text l.self.text).chars in
     (l.from ≤ l.at)
     × (l.at ≤ l.to)
     × ((k : ℕ) → l.from ≤ k → k < l.at → g.C.ClassTest.test l.test (class_at l.self.original_classes.now k) ≡ false)

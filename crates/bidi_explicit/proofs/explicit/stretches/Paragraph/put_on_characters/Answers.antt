@@ -7,9 +7,9 @@ use Rattle.bidi_explicit.proofs.explicit.stretches.Paragraph.put_on_characters.G
 use Rattle.bidi_explicit.proofs.explicit.stretches.Paragraph.put_on_characters.Goals.{After-end_of-next}
 
 next : (g : Over) (c : After-end_of-next g)
-    → Goes g.T.TextSource.units g.met.T.TextSource.has_units (g.T.TextSource.characters c.args.self.now.text) c.args.self.now.original_classes.now c.loop-at.at c.end_of-next.result c.args.to
+    → Goes (g.T.TextSource.text c.args.self.now.text) c.args.self.now.original_classes.now c.loop-at.at c.end_of-next.result c.args.to
 next g c =
-    goes g.T.TextSource.units g.met.T.TextSource.has_units (g.T.TextSource.characters c.args.self.now.text) c.args.self.now.original_classes.now c.loop-at.at c.end_of-next.result c.args.to
+    goes (g.T.TextSource.text c.args.self.now.text) c.args.self.now.original_classes.now c.loop-at.at c.end_of-next.result c.args.to
     c.args.self.now.per_char c.loop-at.invariant.3 c.requires.ends c.loop-at-test.true (omega (arith, c.requires.within, c.args.self.now.long)) c.end_of-next.ensures
 
 -- the class of its units before the override
@@ -20,7 +20,7 @@ pub write_class-requires-clause-ordered : goal.write_class-requires-clause-order
 write_class-requires-clause-ordered g c = omega (arith, next g (goal.at.write_class-requires-clause-ordered g c).After-end_of-next)
 
 pub write_class-requires-clause-within : goal.write_class-requires-clause-within
-write_class-requires-clause-within g c = omega (arith, next g (goal.at.write_class-requires-clause-within g c).After-end_of-next, c.loop-at.invariant.2.long, c.requires.classes, c.requires.within)
+write_class-requires-clause-within g c = omega (arith, next g (goal.at.write_class-requires-clause-within g c).After-end_of-next, c.loop-at.invariant.2.long, c.requires.same_len, c.requires.within)
 
 pub loop-at-init : goal.loop-at-init
 loop-at-init g c = grind arith steps 400000
@@ -37,7 +37,7 @@ loop-at-preserved-then-passes g c =
     let on = next g a.After-end_of-next in (
       omega (arith, on.some, c.loop-at.invariant.0),
       on.within,
-      simp c.write_class.ensures (IsOverridden-more _ _ _ _ _ _ c.loop-at.invariant.2 c.loop-at.invariant.0 (omega (arith, on.some)) (omega (arith, on.within, c.requires.within, c.requires.classes))
+      simp c.write_class.ensures (IsOverridden-more _ _ _ _ _ _ c.loop-at.invariant.2 c.loop-at.invariant.0 (omega (arith, on.some)) (omega (arith, on.within, c.requires.within, c.requires.same_len))
           (λ u above below. ap is_kept_in_place (was g a.After-end_of-next u above below) ∙ sym c.passes.ensures ∙ c.if-passes.true)),
       on.begins,
       omega (arith, on.index),
@@ -58,4 +58,4 @@ loop-at-preserved g c =
 pub returns-clause-steps : goal.returns-clause-steps
 returns-clause-steps g c =
     let same : c.loop-at.at ≡ c.args.to = omega (arith, c.loop-at.invariant.1) in
-    c.loop-at.invariant.4 ∙ ap (λ u. c.args.steps.now + char_index g.T.TextSource.units (g.T.TextSource.characters c.args.self.now.text) u) same
+    c.loop-at.invariant.4 ∙ ap (λ u. c.args.steps.now + char_index g.T.TextSource.encoding.len_of (g.T.TextSource.text c.args.self.now.text).chars u) same

@@ -5,8 +5,8 @@ use Rattle.bidi_explicit.proofs.explicit.stretches.Paragraph.put_on_characters.G
 
 abbrev pub invariant-loop-at : goal.invariant-loop-at
 invariant-loop-at g l =
-    let len_of = g.T.TextSource.units in
-    let chars = g.T.TextSource.characters l.self.text in
+    let len_of = g.T.TextSource.encoding.len_of in
+    let chars = (g.T.TextSource.text l.self.text).chars in
     (l.from ≤ l.at)
     × (l.at ≤ l.to)
     × IsOverridden (Some l.put) l.from l.at l.fn.classes l.classes

@@ -1,5 +1,5 @@
 use Rattle.bidi_base.proofs.Common.{arith}
-use Rattle.bidi_explicit.proofs.ExplicitStretches.{control-can, control-index, control-met, control-some, read-begins}
+use Rattle.bidi_explicit.proofs.ExplicitStretches.{control-can, control-index, control-after, control-some, read-begins}
 use Rattle.bidi_explicit.proofs.explicit.stretches.Paragraph.read_control.Goals as goal
 
 pub read-answer-requires : goal.read-answer-requires
@@ -17,11 +17,11 @@ pub returns : goal.returns
 returns g c =
     record {
       read =
-          λ runs run h. control-met _ _ _ _ _ runs run h c.requires.inside c.end_of-end.result c.end_of-end.ensures _ _ _ c.read-answer.ensures.state c.read-answer.ensures.level
+          λ runs run h. control-after _ _ _ _ _ runs run h c.requires.inside c.end_of-end.result c.end_of-end.ensures _ _ _ c.read-answer.ensures.state c.read-answer.ensures.level
           c.read-answer.ensures.class
           _ _ c.write_control.ensures.levels c.write_control.ensures.classes _ (grind (arith, c.then_some.ensures));
-      some = control-some _ _ _ _ _ _ _ c.requires.read.2 c.requires.inside c.end_of-end.result c.end_of-end.ensures;
+      advances = control-some _ _ _ _ _ _ _ c.requires.read.2 c.requires.inside c.end_of-end.result c.end_of-end.ensures;
       one = control-index _ _ _ _ _ _ _ c.requires.read.2 c.requires.inside c.end_of-end.result c.end_of-end.ensures;
-      at_least = omega (arith, c.read-answer.ensures.at_least);
-      at_most = omega (arith, c.read-answer.ensures.at_most);
+      steps_at_least = omega (arith, c.read-answer.ensures.steps_at_least);
+      steps_at_most = omega (arith, c.read-answer.ensures.steps_at_most);
     }

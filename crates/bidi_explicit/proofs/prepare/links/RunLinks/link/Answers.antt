@@ -9,8 +9,8 @@ use Rattle.bidi_explicit.proofs.prepare.links.RunLinks.link.Goals as goal
 use Rattle.bidi_explicit.proofs.prepare.links.RunLinks.link.Goals.{In-loop-run}
 
 -- the run that comes
-run_at : (g : Over) (c : In-loop-run g) → Comes g.T.TextSource.units g.met.T.TextSource.has_units (g.T.TextSource.characters c.args.leveled.now.text) c.args.leveled.now.original_classes.now c.args.leveled.now.levels.now c.args.runs.now
-    (record { classes = c.requires.original; levels = c.requires.levels; runs_are = c.requires.runs }) c.loop-run.run-index (get_or c.args.runs.now c.loop-run.run-index no_range)
+run_at : (g : Over) (c : In-loop-run g) → Comes (g.T.TextSource.text c.args.leveled.now.text) c.args.leveled.now.original_classes.now c.args.leveled.now.levels.now c.args.runs.now
+    (record { classes = c.requires.leveled.original; levels = c.requires.leveled.levels; runs_are = c.requires.runs }) c.loop-run.run-index (get_or c.args.runs.now c.loop-run.run-index no_range)
 run_at g c = search (rules, comes)
 
 direction-known : (level : ℕ) → is_l_or_r (direction_of level) ≡ true
@@ -18,7 +18,7 @@ direction-known level = grind arith
 
 pub loop-run-init : goal.loop-run-init
 loop-run-init g c =
-    AreLinkedSoFar-start _ g.met.T.TextSource.has_units _ _ _ _ (record { classes = c.requires.original; levels = c.requires.levels; runs_are = c.requires.runs }) _ _ _ c.in_ok-restart.ensures.next c.in_ok-restart.ensures.sides c.in_ok-restart.ensures.waiting
+    AreLinkedSoFar-start _ _ _ _ (record { classes = c.requires.leveled.original; levels = c.requires.leveled.levels; runs_are = c.requires.runs }) _ _ _ c.in_ok-restart.ensures.next c.in_ok-restart.ensures.sides c.in_ok-restart.ensures.waiting
 
 pub kept_end-kept_end-requires-clause-ordered : goal.kept_end-kept_end-requires-clause-ordered
 kept_end-kept_end-requires-clause-ordered g c = grind (arith, run_at)
@@ -33,8 +33,8 @@ returns-then-kept_end-run g c =
     grind (
       arith,
       sequences-explicit_levels,
-      AreSequences-removed _ g.met.T.TextSource.has_units _ _ _ _
-          (record { classes = c.requires.original; levels = c.requires.levels; runs_are = c.requires.runs }) _ _ _ _ _ _ _ _ c.put.new.self
+      AreSequences-removed _ _ _ _
+          (record { classes = c.requires.leveled.original; levels = c.requires.leveled.levels; runs_are = c.requires.runs }) _ _ _ _ _ _ _ _ c.put.new.self
           c.loop-run.invariant run.next run.within run.is c.kept_end-kept_end.ensures c.if-kept_end-run.true known c.in_ok-put.ensures.next c.in_ok-put.ensures.sides,
     )
 
@@ -50,19 +50,19 @@ level_after-requires g c = grind (arith, run_at)
 pub bounds-original_classes-run : goal.bounds-original_classes-run
 bounds-original_classes-run g c = grind (arith, run_at)
 
-pub read-requires-clause-line : goal.read-requires-clause-line
-read-requires-clause-line g c = grind (arith, run_at)
+pub read-requires-clause-is_line : goal.read-requires-clause-is_line
+read-requires-clause-is_line g c = grind (arith, run_at)
 
 pub read-requires-clause-kept_end : goal.read-requires-clause-kept_end
 read-requires-clause-kept_end g c =
     let run = run_at g (goal.at.read-requires-clause-kept_end g c).In-loop-run in
-    (last_kept _ g.met.T.TextSource.has_units _ _ _ _ (record { classes = c.requires.original; levels = c.requires.levels; runs_are = c.requires.runs }) _ _ _ run.next c.kept_end-kept_end.ensures c.if-kept_end-run.false).boundary
+    (last_kept _ _ _ _ (record { classes = c.requires.leveled.original; levels = c.requires.leveled.levels; runs_are = c.requires.runs }) _ _ _ run.next c.kept_end-kept_end.ensures c.if-kept_end-run.false).boundary
 
 pub put-requires-in-loop-run : goal.put-requires-in-loop-run
 put-requires-in-loop-run g c =
     let run = run_at g (goal.at.put-requires-in-loop-run g c).In-loop-run in
     rw c.in_ok-read.ensures.next
-    (waiting_fits _ g.met.T.TextSource.has_units _ _ _ _ (record { classes = c.requires.original; levels = c.requires.levels; runs_are = c.requires.runs }) _ _ _ _ _ _ _ _
+    (waiting_fits _ _ _ _ (record { classes = c.requires.leveled.original; levels = c.requires.leveled.levels; runs_are = c.requires.runs }) _ _ _ _ _ _ _ _
     c.loop-run.invariant run.next run.within c.kept_end-kept_end.ensures c.if-kept_end-run.false c.waiting_for-waits.ensures)
 
 pub loop-run-preserved : goal.loop-run-preserved
@@ -75,11 +75,11 @@ loop-run-preserved g c =
     rw run.more
     (elim (cases_Bool c.args.has_isolate_controls) [
       | inl on ↦
-          AreLinkedSoFar-read _ g.met.T.TextSource.has_units _ _ _ _ (record { classes = c.requires.original; levels = c.requires.levels; runs_are = c.requires.runs }) _ _ _ _ _ _ _ _
+          AreLinkedSoFar-read _ _ _ _ (record { classes = c.requires.leveled.original; levels = c.requires.leveled.levels; runs_are = c.requires.runs }) _ _ _ _ _ _ _ _
           c.loop-run.invariant run.next run.within c.kept_end-kept_end.ensures c.if-kept_end-run.false waits_is _ _ _ _ c.index-levels-kept_end.is c.level_after.ensures c.side-sos.ensures c.side-eos.ensures _ next_is sides_are
           on (length c.loop-run.self.next.items) c.loop-run.invariant.so_far.links.long (rw on at waiting)
       | inr off ↦
-          AreLinkedSoFar-unread _ g.met.T.TextSource.has_units _ _ _ _ (record { classes = c.requires.original; levels = c.requires.levels; runs_are = c.requires.runs }) _ _ _ _ _ _ _ _
+          AreLinkedSoFar-unread _ _ _ _ (record { classes = c.requires.leveled.original; levels = c.requires.leveled.levels; runs_are = c.requires.runs }) _ _ _ _ _ _ _ _
           c.loop-run.invariant run.next run.within c.kept_end-kept_end.ensures c.if-kept_end-run.false waits_is _ _ _ _ c.index-levels-kept_end.is c.level_after.ensures c.side-sos.ensures c.side-eos.ensures _ next_is sides_are
           off c.requires.isolates (rw off at waiting)
     ])
@@ -89,7 +89,7 @@ returns g c =
     grind (
       arith,
       sequences-explicit_levels,
-      AreSequences-end _ g.met.T.TextSource.has_units _ _ _ _
-          (record { classes = c.requires.original; levels = c.requires.levels; runs_are = c.requires.runs }) _ _ _ _ _
+      AreSequences-end _ _ _ _
+          (record { classes = c.requires.leveled.original; levels = c.requires.leveled.levels; runs_are = c.requires.runs }) _ _ _ _ _
           (take_all c.loop-run.run-index c.args.runs.now c.loop-run-test.false) c.loop-run.invariant,
     )

@@ -5,4 +5,4 @@ use Rattle.bidi_explicit.proofs.prepare.links.RunLinks.link.Given as goal
 
 abbrev pub invariant-loop-run : goal.invariant-loop-run
 invariant-loop-run g l =
-    AreLinkedSoFar g.T.TextSource.units (g.T.TextSource.characters l.fn.leveled.text) l.fn.leveled.original_classes.now l.fn.leveled.levels.now l.para_level l.has_isolate_controls (take l.run-index l.runs) l.self l.level_before
+    AreLinkedSoFar (g.T.TextSource.text l.fn.leveled.text) l.fn.leveled.original_classes.now l.fn.leveled.levels.now l.para_level l.has_isolate_controls (take l.run-index l.runs) l.self l.level_before

@@ -19,7 +19,7 @@ returns-then-not-is_line g c = grind (arith, one_of)
 
 pub loop-run-preserved : goal.loop-run-preserved
 loop-run-preserved g c =
-    All-more (λ (r : Range ℕ). IsLine g.T.TextSource.units (g.T.TextSource.characters c.args.text) r.start r.end) c.runs-run-items.result.now c.loop-run.run-index _ c.loop-run-test.true c.loop-run.invariant (c.is_line.ensures.0 c.if-not-is_line.false)
+    All-more (λ (r : Range ℕ). IsLine g.T.TextSource.encoding.len_of (g.T.TextSource.text c.args.text).chars r.start r.end) c.runs-run-items.result.now c.loop-run.run-index _ c.loop-run-test.true c.loop-run.invariant (c.is_line.ensures.0 c.if-not-is_line.false)
 
 pub returns : goal.returns
 returns g c = search (rules, all_of)

@@ -1,5 +1,5 @@
 use Rattle.bidi_base.proofs.Common.{◌≡◌, ℕ, ◌+◌, ◌<◌, ◌^◌, true, List, length, get_or, reverse, flat_map, arith, list_all, subrange, IsLine, utf16_text, utf16_len, encode_utf16, is_character}
-use Rattle.bidi_base.proofs.PlaceLemmas.{text_len-subrange}
+use Rattle.bidi_base.proofs.UnitIndexLemmas.{text_len-subrange}
 use Rattle.bidi_text.proofs.Utf16Lemmas.{has_units, text_len-utf16}
 use Rattle.bidi_lines.proofs.Utf16Backwards.{utf16_text-characters, backwards-characters}
 use Rattle.bidi_lines.proofs.line_text.utf16.Utf16TextLineText.reverse_run.Goals as goal

@@ -1,7 +1,7 @@
 use Rattle.bidi_base.proofs.Common.{◌≡◌, sym, ap, subst, ◌∙◌, arith, IsUtf8, chars, encode_utf8, len_utf8}
 use Rattle.bidi_text.proofs.StrLemmas.{has_units, text_len-chars, IsCharBoundary-from_is_boundary}
 use Rattle.bidi_lines.specs.Analysed.{analysed}
-use Rattle.bidi_lines.specs.Written.{line_units}
+use Rattle.bidi_lines.specs.LineUnits.{line_units}
 use Rattle.bidi_lines.proofs.LineUtf8.{line_utf8}
 use Rattle.bidi_lines.proofs.StoredLine.{classes_IsPerChar, levels_IsPerChar, of_text, still}
 use Rattle.bidi_lines.proofs.line_text.utf8.Analysed+StrText.reorder_line.Goals as goal
@@ -16,8 +16,8 @@ pub from_utf8_unchecked-requires : goal.from_utf8_unchecked-requires
 from_utf8_unchecked-requires c =
     let a = c.args.self.now in
     let u : IsUtf8 a.text.text.now = subst IsUtf8 (c.as_str-text.ensures ∙ ap (λ t. t.text.now) c.text.ensures) c.as_str-text.utf8 in
-    let is : c.in-Some.turned.items ≡ line_units encode_utf8 a.text.text.now (analysed a) c.args.level c.args.line = grind arith in
-    subst IsUtf8 (sym is) (line_utf8 a.text.text.now u c.args.level a.original_classes.items a.levels.items c.args.line
+    let is : c.in-Some.turned.items ≡ line_units encode_utf8 a.text.text.now (analysed a) c.args.para_level c.args.line = grind arith in
+    subst IsUtf8 (sym is) (line_utf8 a.text.text.now u c.args.para_level a.original_classes.items a.levels.items c.args.line
     (classes_IsPerChar len_utf8 has_units (chars a.text.text.now) _ a.classes_per_char) (levels_IsPerChar len_utf8 has_units (chars a.text.text.now) _ a.levels_per_char) c.requires)
 
 pub returns-in-Some-clause-text : goal.returns-in-Some-clause-text

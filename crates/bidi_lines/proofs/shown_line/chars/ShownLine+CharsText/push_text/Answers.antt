@@ -1,5 +1,5 @@
 use Rattle.bidi_base.proofs.Common.{[], ◌∷◌, sym, arith}
-use Rattle.bidi_base.proofs.PlaceLemmas.{text_len-one_unit}
+use Rattle.bidi_base.proofs.UnitIndexLemmas.{text_len-one_unit}
 use Rattle.bidi_lines.proofs.ShownLines.{on_ok, appends_shown}
 use Rattle.bidi_lines.proofs.shown_line.chars.ShownLine+CharsText.push_text.Goals as goal
 

@@ -1,7 +1,7 @@
 use Rattle.bidi_base.proofs.Common.{◌≡◌, ◌≤◌, ◌<◌, ℕ, length, true, false, sym, ap, subst, ◌∙◌, arith, inl, inr, cases_lt, stands_for, class_at}
 use Rattle.bidi_base.specs.declared.char_data.BidiClass.{BidiClass}
-use Rattle.bidi_rules.specs.PairWalk.{opposite_of}
-use Rattle.bidi_rules.proofs.JoinWalk.{IsAtOpposite-settled, IsAtOpposite-quiet, IsUnderWay-turned}
+use Rattle.bidi_rules.specs.PairPass.{opposite_of}
+use Rattle.bidi_rules.proofs.JoinWalk.{IsAtOpposite-decided, IsAtOpposite-inert, IsUnderWay-turned}
 use Rattle.bidi_rules.proofs.neutral.directions.Join.next_opposite.Goals as goal
 use Rattle.bidi_rules.proofs.neutral.directions.Join.next_opposite.Goals.{then-self+else-next-end+else-stands_for, else-self}
 
@@ -12,7 +12,7 @@ pub returns-then-stands_for-clause-reads : goal.returns-then-stands_for-clause-r
 returns-then-stands_for-clause-reads c =
     λ s runs_are same inside u. grind (
       arith,
-      IsAtOpposite-settled s c.args.classes.now c.args.self.now c.args.at c.args.end inside,
+      IsAtOpposite-decided s c.args.classes.now c.args.self.now c.args.at c.args.end inside,
     )
 
 pub returns-clause-reads : goal.returns-clause-reads
@@ -40,9 +40,9 @@ returns-clause-reads c = λ s runs_are same inside u.
             | inl after ↦ before is k (omega (arith, w.from-is)) b
             | inr upto ↦ let here : mid ≡ k = omega (arith, a, upto) in subst (λ u. stands_for (opposite_of s.e) (class_at now u) ≡ false) here other
           ] in
-          IsAtOpposite-quiet s now c.if-self.self mid mid next end turned (ap (λ r. r.waits) w.self-is) (omega (arith, q.begins, w.from-is)) q.ends fits behind (there is)
+          IsAtOpposite-inert s now c.if-self.self mid mid next end turned (ap (λ r. r.waits) w.self-is) (omega (arith, q.begins, w.from-is)) q.ends fits behind (there is)
       | else-self w ↦
           let is = ap (λ r. r.opposite) w.self-is in
           let idle : c.args.self.now.waits ≡ false = w.if-self.false in
-          IsAtOpposite-quiet s now c.if-self.self u.done c.if-self.from next end (simp w.from-is (simp idle at u.joined)) (ap (λ r. r.waits) w.self-is ∙ idle) q.begins q.ends fits (before is) (there is)
+          IsAtOpposite-inert s now c.if-self.self u.done c.if-self.from next end (simp w.from-is (simp idle at u.joined)) (ap (λ r. r.waits) w.self-is ∙ idle) q.begins q.ends fits (before is) (there is)
     ]

@@ -13,7 +13,7 @@ loop-at-preserved c =
     let runs = map bounds c.args.runs.now in
     record {
       starts = omega arith;
-      ends = q.ends;
+      ends = q.within;
       end = before.end;
       long = c.next_opposite-at.auto.classes ∙ before.long;
       first_run = q.first_run;

@@ -1,7 +1,7 @@
 -- The units of the run that came are read.
 use Rattle.bidi_base.proofs.Common.{◌≡◌, ◌-◌, ◌≤◌, length, map, get_or, bounds}
 use Rattle.bidi_rules.specs.JoinPass.{IsUnderWay, Unjoined}
-use Rattle.bidi_rules.specs.PairWalk.{opposite_of}
+use Rattle.bidi_rules.specs.PairPass.{opposite_of}
 use Rattle.bidi_rules.proofs.neutral.directions.Join.read_run.Given as goal
 
 abbrev pub invariant-loop-at : goal.invariant-loop-at

@@ -1,5 +1,5 @@
 use Rattle.bidi_base.proofs.Common.{◌≡◌, ◌+◌, ◌-◌, ◌<◌, ◌≤◌, ℕ, false, arith, inl, inr, cases_lt, class_at}
-use Rattle.bidi_rules.specs.WeakPass.{is_asked}
+use Rattle.bidi_rules.specs.WeakPass.{is_number_or_terminator}
 use Rattle.bidi_rules.proofs.WeakWalkLemmas.{IsUnderWay-passes_all}
 use Rattle.bidi_rules.proofs.weak.w2_w4_w5_w7.Walk.pass_over.Goals as goal
 
@@ -11,7 +11,7 @@ returns-clause-passes g c p run fits starts ends h =
     let next = c.first_passing_counted-next.result in
     let n = next - i in
     let to : i + n ≡ next = omega (arith, found.begins) in
-    let none : (k : ℕ) → i ≤ k → k < i + n → is_asked (class_at now k) ≡ false =
+    let none : (k : ℕ) → i ≤ k → k < i + n → is_number_or_terminator (class_at now k) ≡ false =
     λ k from below. elim (cases_lt k (i + 1)) [
       | inl first ↦ grind arith
       | inr behind ↦ found.before k behind (omega (arith, to))

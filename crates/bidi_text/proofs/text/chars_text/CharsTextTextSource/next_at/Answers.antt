@@ -1,5 +1,5 @@
 use Rattle.bidi_base.proofs.Common.{◌<◌, length, arith}
-use Rattle.bidi_base.proofs.PlaceLemmas.{text_len-one_unit}
+use Rattle.bidi_base.proofs.UnitIndexLemmas.{text_len-one_unit}
 use Rattle.bidi_text.proofs.CharsLemmas.{char_at-one_unit}
 use Rattle.bidi_text.proofs.text.chars_text.CharsTextTextSource.next_at.Goals as goal
 

@@ -1,10 +1,13 @@
-use Rattle.bidi_base.proofs.Common.{◌≡◌, ◌∙◌, ◌+◌, ◌-◌, ℕ, Some, length, length-append, ap, arith, len_utf8, CharIndices}
+use Rattle.bidi_base.proofs.Common.{◌≡◌, ◌∙◌, ◌+◌, ◌-◌, ℕ, Some, length, length-append, ap, arith, len_utf8, CharIndices, common_steps, chars-nil, []}
 use Rattle.bidi_base.proofs.Common.{char_indices_rest, char_indices_offset, char_indices_steps, IsUtf8-past_char, length-encode}
 use Rattle.bidi_text.specs.declared.text.str_text.Utf8IndexLenIter.{Utf8IndexLenIter}
 use Rattle.std.specs.Char.{encode_utf8}
-use Rattle.bidi_text.proofs.StrLemmas.{lengths_left, lengths_end, lengths_step}
+use Rattle.bidi_text.proofs.StrLemmas.{lengths_left, lengths_step}
 use Rattle.bidi_base.proofs.GivesLemmas.{progress}
 use Rattle.bidi_text.proofs.text.str_text.Utf8IndexLenIterIterator.next.Goals as goal
+
+lengths_end : (s : CharIndices) → length (char_indices_rest s) ≡ 0 → lengths_left s ≡ []
+lengths_end s e = grind (arith, common_steps, chars-nil)
 
 -- the place after a character is as far on as the character is long
 long : (s t : CharIndices) (at : ℕ) (c : ℕ) → char_indices_steps s (Some (at, c)) t → char_indices_offset t - at ≡ len_utf8 c

@@ -1,5 +1,0 @@
-use Rattle.bidi_base.proofs.Common.{arith}
-use Rattle.bidi_lines.proofs.line_text.turned.turn_round.Goals as goal
-
-pub returns : goal.returns
-returns c = grind arith

@@ -1,6 +1,0 @@
--- The levels that are kept of a line.
-use Rattle.std.specs.Prelude.{ℕ, if◌then◌else◌, List, take}
-use Rattle.bidi_lines.specs.declared.shown_levels.ShownLevels.{ShownLevels}
-
-abbrev pub levels : ShownLevels → List ℕ
-levels s = take s.len (if s.are_many then s.many.items else s.few)

@@ -1,6 +1,0 @@
-use Rattle.bidi_base.proofs.Common.{◌≡◌, ◌++◌, take, flat_map, string_bytes}
-use Rattle.bidi_terminal.specs.Names.{quoted_char}
-use Rattle.bidi_terminal.proofs.names.push_quoted_line.Given as goal
-
-abbrev pub invariant-loop-c : goal.invariant-loop-c
-invariant-loop-c l = string_bytes l.out ≡ string_bytes l.fn.out ++ flat_map quoted_char (take l.c-index l.chars)

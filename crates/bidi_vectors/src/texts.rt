@@ -1,0 +1,454 @@
+//! Rows of texts: stored classes, paragraphs and stored levels, by each constructor.
+
+use bidi_base::char_data::BidiClass;
+use bidi_base::data_source::TableBidiData;
+use bidi_base::level::{Level, has_rtl};
+use bidi_text::text::{CharsText, StrText, TextSource, Utf16Text};
+use bidi_vectors_format::answer::{
+    class_words, classes_in, flag_word, index_at, level_words, levels_in, paragraph_words,
+    per_char, places_of,
+};
+use bidi_vectors_format::base::base_of;
+use bidi_vectors_format::fault::{RowFault, Why};
+use bidi_vectors_format::item::level_of;
+use bidi_vectors_format::resolve;
+use bidi_vectors_format::row::Row;
+use bidi_vectors_format::source::Tables;
+use bidi_vectors_format::tally::Tally;
+use bidi_vectors_format::text::RowText;
+use std::alloc::Global;
+use unicode_bidi::engine::{Analyser, Analysis, analyse, analyse_with_rule};
+use unicode_bidi::{BidiInfo, InitialInfo, ParagraphBidiInfo, ParagraphInfo, SplitRule, utf16};
+
+// A text without its levels: the class of each code unit, and the paragraphs.
+#[derive(Clone, Copy)]
+struct Found<'a, T: TextSource> {
+    text: T,
+    classes: &'a [BidiClass],
+    paragraphs: &'a [ParagraphInfo],
+}
+
+impl<T: TextSource> Found<'_, T> {
+    // Compares this with a row.
+    fn check(&self, asked: &Asked<'_>, tally: &mut Tally, call: &'static str) {
+        let (alloc, row) = (asked.alloc, asked.row);
+        let words = classes_in(alloc, self.text, self.classes);
+        tally.agree(row, "classes", call, words);
+        let words = paragraphs_in(alloc, self.text, self.paragraphs);
+        tally.agree(row, "paragraphs", call, words);
+    }
+}
+
+// Converts the paragraphs of a text to characters.
+fn paragraphs_in<T: TextSource>(
+    alloc: Global,
+    text: T,
+    paragraphs: &[ParagraphInfo],
+) -> Result<String, RowFault> {
+    let places = places_of(alloc, text)?;
+    let mut found = Vec::new(alloc);
+    for paragraph in paragraphs {
+        let range = paragraph.range();
+        let start = index_at(places.as_slice(), range.start);
+        let end = index_at(places.as_slice(), range.end);
+        found.push((start, end, paragraph.level().number()))?;
+    }
+    paragraph_words(alloc, found.as_slice())
+}
+
+// Where a paragraph ends: after each separator, after each one except a CR before LF, or only at the text's end.
+#[derive(Clone, Copy, PartialEq)]
+enum Split {
+    EachSeparator,
+    CrLfTogether,
+    Whole,
+}
+
+impl Split {
+    fn of_row(row: &Row<'_>) -> Result<Split, RowFault> {
+        let Some(field) = row.get("split") else {
+            return Ok(Split::EachSeparator);
+        };
+        match field.value {
+            "each-separator" => Ok(Split::EachSeparator),
+            "cr-lf-together" => Ok(Split::CrLfTogether),
+            "whole" => Ok(Split::Whole),
+            _ => Err(RowFault::Line(field.line, Why::Split)),
+        }
+    }
+
+    fn rule(self) -> Option<SplitRule> {
+        match self {
+            Split::EachSeparator => Some(SplitRule::EachSeparator),
+            Split::CrLfTogether => Some(SplitRule::CrLfTogether),
+            Split::Whole => None,
+        }
+    }
+}
+
+// A row of a text: its source, and how it is split into paragraphs.
+#[derive(Clone, Copy)]
+struct Asked<'r> {
+    alloc: Global,
+    row: &'r Row<'r>,
+    source: &'r TableBidiData<'r>,
+    split: Split,
+}
+
+// Compares what a constructor found, without its levels, with a row.
+macro_rules! check_found {
+    ($asked:expr, $tally:expr, $call:expr, $text:expr, $info:expr) => {
+        Found {
+            text: $text,
+            classes: $info.original_classes(),
+            paragraphs: $info.paragraphs(),
+        }
+        .check($asked, $tally, $call)
+    };
+}
+
+// Compares what a constructor found, with its levels, with a row.
+macro_rules! check_info {
+    ($asked:expr, $tally:expr, $call:expr, $text:expr, $info:expr) => {{
+        check_found!($asked, $tally, $call, $text, $info);
+        $asked.check_levels($text, $info.levels(), $tally, $call);
+    }};
+}
+
+impl Asked<'_> {
+    // Compares the levels that a call returns, one for each code unit of the text, with the row.
+    fn check_levels<T: TextSource>(
+        &self,
+        text: T,
+        levels: &[Level],
+        tally: &mut Tally,
+        call: &'static str,
+    ) {
+        let words = levels_in(self.alloc, text, levels);
+        tally.agree(self.row, "levels", call, words);
+    }
+
+    // Compares what the engine finds of a text in some encoding with the row.
+    fn check_analysis<T: TextSource>(
+        &self,
+        text: T,
+        analysis: &Analysis,
+        tally: &mut Tally,
+        call: &'static str,
+    ) {
+        check_info!(self, tally, call, text, analysis);
+    }
+
+    fn check_engine<T: TextSource>(&self, text: T, tally: &mut Tally) -> Result<(), RowFault> {
+        let (base, rule) = (base_of(self.row)?, self.split.rule());
+        let analysis = analyse_with_rule(self.alloc, self.source, text, base, rule)?;
+        self.check_analysis(text, &analysis, tally, "engine::analyse_with_rule");
+        self.check_analyser(text, tally)?;
+        if self.split != Split::CrLfTogether {
+            let split = self.split == Split::EachSeparator;
+            let analysis = analyse(self.alloc, self.source, text, base_of(self.row)?, split)?;
+            self.check_analysis(text, &analysis, tally, "engine::analyse");
+        }
+        Ok(())
+    }
+
+    // Compares what an analyser writes to the caller's lists with the row, when it reads the text for the second time.
+    fn check_analyser<T: TextSource>(&self, text: T, tally: &mut Tally) -> Result<(), RowFault> {
+        let (alloc, base, rule) = (self.alloc, base_of(self.row)?, self.split.rule());
+        let mut classes = vec![in alloc; BidiClass::B; text.len()]?;
+        let mut levels = vec![in alloc; Level::rtl(); text.len()]?;
+        let (own_classes, own_levels) = (classes.as_mut_slice(), levels.as_mut_slice());
+        let mut analyser = Analyser::new(alloc);
+        analyser.analyse(
+            alloc,
+            self.source,
+            text,
+            base,
+            rule,
+            own_classes,
+            own_levels,
+        )?;
+        analyser.analyse(
+            alloc,
+            self.source,
+            text,
+            base,
+            rule,
+            own_classes,
+            own_levels,
+        )?;
+        let call = "Analyser::analyse";
+        Found {
+            text,
+            classes: own_classes,
+            paragraphs: analyser.paragraphs(),
+        }
+        .check(self, tally, call);
+        self.check_levels(text, own_levels, tally, call);
+        Ok(())
+    }
+
+    // Tests the constructors over UTF-8 that split a text into paragraphs by a rule.
+    fn check_rule(&self, text: &str, rule: SplitRule, tally: &mut Tally) -> Result<(), RowFault> {
+        let (base, units) = (base_of(self.row)?, StrText::new(text));
+        let info = BidiInfo::new_with_rule(self.alloc, self.source, text, base, rule)?;
+        check_info!(self, tally, "BidiInfo::new_with_rule", units, info);
+        Ok(())
+    }
+
+    // Tests the constructors over UTF-8 that split a text after each separator.
+    fn check_utf8(&self, text: &str, tally: &mut Tally) -> Result<(), RowFault> {
+        let (alloc, source, units) = (self.alloc, self.source, StrText::new(text));
+        let info = BidiInfo::new_with_data_source(alloc, source, text, base_of(self.row)?)?;
+        check_info!(self, tally, "BidiInfo::new_with_data_source", units, info);
+        self.check_rtl(tally, info.levels(), info.has_rtl());
+        Ok(())
+    }
+
+    // Tests the constructors over UTF-8 that find no levels.
+    fn check_initial(&self, text: &str, tally: &mut Tally) -> Result<(), RowFault> {
+        let (base, units) = (base_of(self.row)?, StrText::new(text));
+        let info = InitialInfo::new_with_data_source(self.alloc, self.source, text, base)?;
+        let call = "InitialInfo::new_with_data_source";
+        check_found!(self, tally, call, units, info);
+        Ok(())
+    }
+
+    // Tests the constructors over UTF-16 that split a text into paragraphs by a rule.
+    fn check_rule16(
+        &self,
+        text: &[u16],
+        rule: SplitRule,
+        tally: &mut Tally,
+    ) -> Result<(), RowFault> {
+        let (base, units) = (base_of(self.row)?, Utf16Text::new(text));
+        let info = utf16::BidiInfo::new_with_rule(self.alloc, self.source, text, base, rule)?;
+        check_info!(self, tally, "utf16::BidiInfo::new_with_rule", units, info);
+        Ok(())
+    }
+
+    fn check_utf16(&self, text: &[u16], tally: &mut Tally) -> Result<(), RowFault> {
+        let (alloc, source, units) = (self.alloc, self.source, Utf16Text::new(text));
+        let base = base_of(self.row)?;
+        let info = utf16::BidiInfo::new_with_data_source(alloc, source, text, base)?;
+        let call = "utf16::BidiInfo::new_with_data_source";
+        check_info!(self, tally, call, units, info);
+        self.check_rtl(tally, info.levels(), info.has_rtl());
+        Ok(())
+    }
+
+    fn check_initial16(&self, text: &[u16], tally: &mut Tally) -> Result<(), RowFault> {
+        let (base, units) = (base_of(self.row)?, Utf16Text::new(text));
+        let info = utf16::InitialInfo::new_with_data_source(self.alloc, self.source, text, base)?;
+        let call = "utf16::InitialInfo::new_with_data_source";
+        check_found!(self, tally, call, units, info);
+        Ok(())
+    }
+
+    // Tests the constructors that take a text of UTF-8 as one paragraph.
+    fn check_whole_utf8(&self, text: &str, tally: &mut Tally) -> Result<(), RowFault> {
+        let (base, units) = (base_of(self.row)?, StrText::new(text));
+        let info = ParagraphBidiInfo::new_with_data_source(self.alloc, self.source, text, base)?;
+        let whole = whole_of(text.len(), info.paragraph_level());
+        let call = "ParagraphBidiInfo::new_with_data_source";
+        Found {
+            text: units,
+            classes: info.original_classes(),
+            paragraphs: whole.as_slice(),
+        }
+        .check(self, tally, call);
+        self.check_levels(units, info.levels(), tally, call);
+        self.check_rtl(tally, info.levels(), info.has_rtl());
+        Ok(())
+    }
+
+    fn check_whole_utf16(&self, text: &[u16], tally: &mut Tally) -> Result<(), RowFault> {
+        let (alloc, base, units) = (self.alloc, base_of(self.row)?, Utf16Text::new(text));
+        let info = utf16::ParagraphBidiInfo::new_with_data_source(alloc, self.source, text, base)?;
+        let whole = whole_of(text.len(), info.paragraph_level());
+        let call = "utf16::ParagraphBidiInfo::new_with_data_source";
+        Found {
+            text: units,
+            classes: info.original_classes(),
+            paragraphs: whole.as_slice(),
+        }
+        .check(self, tally, call);
+        self.check_levels(units, info.levels(), tally, call);
+        self.check_rtl(tally, info.levels(), info.has_rtl());
+        Ok(())
+    }
+
+    // Compares the result of `has_rtl` with the levels.
+    fn check_rtl(&self, tally: &mut Tally, levels: &[Level], came: bool) {
+        let wanted = flag_word(has_rtl(levels));
+        tally.same_word(self.row, "has_rtl", wanted, flag_word(came));
+    }
+
+    // Tests the constructors of a text in both encodings.
+    fn check_infos(&self, text: &RowText, tally: &mut Tally) -> Result<(), RowFault> {
+        let (utf8, utf16) = (text.utf8.as_str(), text.utf16.as_slice());
+        if let Some(rule) = self.split.rule() {
+            self.check_rule(utf8, rule, tally)?;
+            self.check_rule16(utf16, rule, tally)?;
+        }
+        if self.split == Split::EachSeparator {
+            self.check_utf8(utf8, tally)?;
+            self.check_initial(utf8, tally)?;
+            self.check_utf16(utf16, tally)?;
+            self.check_initial16(utf16, tally)?;
+        }
+        if self.split == Split::Whole || has_one_paragraph(self.row) {
+            self.check_whole_utf8(utf8, tally)?;
+            self.check_whole_utf16(utf16, tally)?;
+        }
+        Ok(())
+    }
+
+    // Tests the rules over lists on a text that is not too long for them.
+    fn check_rules(&self, chars: &[char], tally: &mut Tally) -> Result<(), RowFault> {
+        if self.split == Split::CrLfTogether || chars.len() > 1000 {
+            return Ok(());
+        }
+        let is_cut = self.split == Split::EachSeparator;
+        let number = base_of(self.row)?.map(|level| level.number());
+        let (classes, levels) = resolve(self.alloc, self.source, chars, number, is_cut)?;
+        let words = class_words(self.alloc, classes.as_slice());
+        tally.agree(self.row, "classes", "the rules over lists", words);
+        let words = level_words(self.alloc, levels.as_slice());
+        tally.agree(self.row, "levels", "the rules over lists", words);
+        Ok(())
+    }
+
+    // Inserts U+00AD into a text, and returns the levels of the other characters as text.
+    fn levels_around(&self, chars: &[char], index: usize) -> Result<String, RowFault> {
+        let alloc = self.alloc;
+        let longer = with_soft_hyphen(alloc, chars, index)?;
+        let text = longer.as_str();
+        let info = BidiInfo::new_with_data_source(alloc, self.source, text, base_of(self.row)?)?;
+        let levels = per_char(alloc, StrText::new(text), info.levels())?;
+        let others = without(alloc, levels.as_slice(), index)?;
+        level_words(alloc, others.as_slice())
+    }
+
+    // Tests that U+00AD changes no other level of a short text over the sample, at any index.
+    fn check_soft_hyphens(&self, chars: &[char], tally: &mut Tally) {
+        if self.split != Split::EachSeparator
+            || self.row.get("source").is_some()
+            || chars.len() > 20
+        {
+            return;
+        }
+        for index in 0..=chars.len() {
+            let words = self.levels_around(chars, index);
+            tally.agree(self.row, "levels", "U+00AD anywhere", words);
+        }
+    }
+}
+
+// Returns the one paragraph of a text, if the text is not empty.
+fn whole_of(len: usize, level: Level) -> Option<ParagraphInfo> {
+    if len == 0 {
+        return None;
+    }
+    ParagraphInfo::new(0..len, level)
+}
+
+// Returns the text with U+00AD before the character at an index, or at the end.
+fn with_soft_hyphen(alloc: Global, chars: &[char], index: usize) -> Result<String, RowFault> {
+    let mut longer = String::new(alloc);
+    for (at, c) in chars.iter().enumerate() {
+        if at == index {
+            longer.push('\u{AD}')?;
+        }
+        longer.push(*c)?;
+    }
+    if index >= chars.len() {
+        longer.push('\u{AD}')?;
+    }
+    Ok(longer)
+}
+
+// Returns the levels except the one at an index.
+fn without(alloc: Global, levels: &[Level], index: usize) -> Result<Vec<Level>, RowFault> {
+    let mut others = Vec::new(alloc);
+    for (at, level) in levels.iter().enumerate() {
+        if at != index {
+            others.push(*level)?;
+        }
+    }
+    Ok(others)
+}
+
+/// Runs a row of a text: what each constructor finds in each encoding, and the rules over lists.
+pub fn run(
+    alloc: Global,
+    tables: &Tables,
+    row: &Row<'_>,
+    tally: &mut Tally,
+) -> Result<(), RowFault> {
+    row.has_only(&[
+        "text",
+        "types",
+        "source",
+        "base",
+        "split",
+        "classes",
+        "paragraphs",
+        "levels",
+    ])?;
+    let source = tables.source(row.line)?;
+    let text = RowText::of_row(alloc, row)?;
+    let asked = Asked {
+        alloc,
+        row,
+        source: &source,
+        split: Split::of_row(row)?,
+    };
+    let chars = text.chars.as_slice();
+    asked.check_engine(CharsText::new(chars), tally)?;
+    asked.check_engine(StrText::new(text.utf8.as_str()), tally)?;
+    asked.check_engine(Utf16Text::new(text.utf16.as_slice()), tally)?;
+    asked.check_infos(&text, tally)?;
+    asked.check_soft_hyphens(chars, tally);
+    asked.check_rules(chars, tally)
+}
+
+// Returns whether a row says that its text is one paragraph, or none.
+fn has_one_paragraph(row: &Row<'_>) -> bool {
+    match row.get("paragraphs") {
+        Some(field) => !field.value.contains(" "),
+        None => false,
+    }
+}
+
+// Returns the base level of a row, which may be above 125.
+fn any_base_of(row: &Row<'_>) -> Result<Option<Level>, RowFault> {
+    let field = row.field("base")?;
+    match field.value {
+        "auto" => Ok(None),
+        number => Ok(Some(level_of(number, field.line)?)),
+    }
+}
+
+/// Runs a row that only the constructor without levels accepts: a base level above 125, or a very long text.
+pub fn run_initial(
+    alloc: Global,
+    tables: &Tables,
+    row: &Row<'_>,
+    tally: &mut Tally,
+) -> Result<(), RowFault> {
+    row.has_only(&["text", "source", "base", "classes", "paragraphs"])?;
+    let source = tables.source(row.line)?;
+    let text = RowText::of_row(alloc, row)?;
+    let asked = Asked {
+        alloc,
+        row,
+        source: &source,
+        split: Split::EachSeparator,
+    };
+    let (units, base) = (StrText::new(text.utf8.as_str()), any_base_of(row)?);
+    let info = InitialInfo::new_with_data_source(alloc, &source, text.utf8.as_str(), base)?;
+    let call = "InitialInfo::new_with_data_source";
+    check_found!(&asked, tally, call, units, info);
+    Ok(())
+}
