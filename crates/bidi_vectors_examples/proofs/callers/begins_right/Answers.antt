@@ -1,4 +1,4 @@
-use Rattle.bidi_base.proofs.Common.{◌≡◌, ◌∙◌, ap, map, chars, Option, None, paragraph_level}
+use Rattle.bidi_base.proofs.Common.{◌≡◌, ◌∙◌, ap, map, chars, None, paragraph_level}
 use Rattle.bidi_base.specs.Levels.{is_odd}
 use Rattle.bidi_laws.proofs.OneParagraph.{para_level-one}
 use Rattle.bidi_vectors_examples.proofs.callers.begins_right.Goals as goal
