@@ -47,7 +47,7 @@ number_colon text = find (is_number_colon text) (indexes text)
 abbrev pub number_of : List ℕ → Option ℕ
 number_of digits = if nat_le (length digits) 9 && not (slice_index digits 0 == 48) then Some (digits_value 10 digits) else None
 
--- a path that stands for all that is below a directory
+-- a path that names all that is below a directory
 abbrev pub is_directory : List ℕ → Bool
 is_directory path = ends_with nat_eq path (codes "/")
 

@@ -23,7 +23,7 @@ pub record IsReported (source : Source) (view : StageView) (line old new : List 
   pub are : AreStages source (level_of_base view.base) (own_chars source line) stages
   pub appended : new ≡ old ++ stages_text view.form view.width (own_chars source line) stages
 
--- the same of several lines
+-- the same for several lines
 abbrev pub AreAppended : Source → StageView → List (List ℕ) → List ℕ → List ℕ → Type 0
 AreAppended source view [] old new = new ≡ old
 AreAppended source view (line ∷ lines) old new =

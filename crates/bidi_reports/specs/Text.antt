@@ -35,7 +35,7 @@ unfoldable pub note_text : Bool → List ℕ → List ℕ → Finding → List �
 note_text colors name displayed finding =
     styled colors bold (place_text name finding) ++ (note_start ++ (marked_part colors displayed (finding.column - 1) ++ codes "\n"))
 
--- an excerpt if these are wanted, and the note of a finding that is about the line
+-- the excerpt, if excerpts are shown, and the note of a finding that is about the line
 unfoldable pub excerpt_report : Bool → Bool → List ℕ → ℕ → List ℕ
 excerpt_report excerpts colors line place = if excerpts then excerpt_text colors (without_end line) place else []
 

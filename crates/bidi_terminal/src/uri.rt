@@ -27,8 +27,8 @@ fn plain_path(path: &[u8]) -> &[u8]
 
 /// Appends a path as a reference of a URI, without the `./` that it may begin with.
 ///
-/// A relative path becomes a relative reference. Other bytes than letters, digits, `-`, `.`, `_`, `~` and `/` are written
-/// as in `%20`.
+/// A relative path becomes a relative reference. Bytes other than letters, digits, `-`, `.`, `_`, `~` and `/` are
+/// written as in `%20`.
 pub fn push_uri(out: &mut String, path: &str) -> Result<(), AllocError>
     ensures { OnOk result (string_bytes out.new ≡ string_bytes out.old ++ uri_of path.now) }
 {

@@ -10,7 +10,7 @@ use std::test::Fail;
 // A line with an override in it.
 const LINE: [char; 7] = ['i', '\u{202E}', 'a', '(', 'b', '\u{202C}', '!'];
 
-// Each base direction, and what is displayed of the line.
+// Each base level, and what is displayed of the line.
 const DISPLAYED: [(Base, [char; 5]); 2] = [
     (Base::Ltr, ['i', 'b', '(', 'a', '!']),
     (Base::Rtl, ['!', 'i', 'b', '(', 'a']),

@@ -15,7 +15,7 @@ pub struct Tally {
     fault: Option<RowFault>,
 }
 
-// Whether the words are the wanted ones. The word [`ANY`] matches any word.
+// Returns whether the words are the wanted ones. The word [`ANY`] matches any word.
 fn are_words(wanted: &[&str], came: &str) -> bool {
     let mut words = came.split(" ");
     if wanted.is_empty() {
