@@ -17,9 +17,13 @@ use std::io::{ErrorKind, Read};
 /// that a function owns is dropped at each exit, and each drop takes time to prove.
 #[derive(Drop)]
 pub struct Run<'s, 'w, 'l> {
+    /// What `check` looks for, where, and how it reports.
     pub options: &'s CheckOptions<'w>,
+    /// The findings that are allowed.
     pub allowed: &'s AllowList<'l>,
+    /// The form of the report, and whether it has findings.
     pub report: &'s mut Report,
+    /// The worst status so far.
     pub status: Status,
 }
 

@@ -23,7 +23,7 @@ pub fn read_piece<R: Read>(reader: &mut R, bytes: &mut Vec<u8>) -> io::Result<bo
     Ok(len < most)
 }
 
-/// Deletes the first `len` bytes. There must be so many.
+/// Deletes the first `len` bytes. `bytes` must have at least `len`.
 pub fn drop_front(bytes: &mut Vec<u8>, len: usize)
     requires { len ≤ vec_len bytes.old }
     ensures { bytes.new.items ≡ drop len bytes.old.items }

@@ -13,7 +13,7 @@ columns_in (Some width) len = max ((width - 16) / 8) 1
 abbrev pub block_count : ℕ → ℕ → ℕ
 block_count columns len = (max len 1 - 1) / columns + 1
 
--- a block: where it begins, and how many columns it may have
+-- a block: where it begins, and its maximum number of columns
 abbrev pub block_at : ℕ → ℕ → Block
 block_at columns k = record { from = k * columns; columns = columns }
 

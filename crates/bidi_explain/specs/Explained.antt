@@ -12,7 +12,7 @@ use Rattle.bidi_explain.specs.declared.view.Form.{Form}
 use Rattle.bidi_explain.specs.declared.view.Form.TheVariants.{Table, Page}
 use Rattle.bidi_explain.specs.declared.view.StageView.{StageView}
 
--- the stages of a paragraph in a form, tables for a terminal of this width
+-- the stages of a paragraph in a form; a table fits a terminal of this width
 abbrev pub stages_text : Form → Option ℕ → List ℕ → Stages → List ℕ
 stages_text Table width chars s = table_text width chars s
 stages_text Page width chars s = section_text chars s

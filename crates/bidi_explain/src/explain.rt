@@ -31,7 +31,7 @@ fn push_stages(
     }
 }
 
-/// Appends what the rules make of a paragraph, whose separator is left out.
+/// Appends the results of the rules for a paragraph, without the separator that ends it.
 fn push_paragraph<D: BidiDataSource>(
     alloc: Global,
     out: &mut String,

@@ -23,7 +23,7 @@ is_own name = bytes_eq name (codes ".") || bytes_eq name (codes "..")
 abbrev pub is_searched : Bool → List ℕ → Bool
 is_searched hidden name = not (length name == 0) && (if hidden then not (is_own name) else not (is_dotted name))
 
--- the names of a directory that are searched, where a NUL ends each name
+-- the names of a directory that are searched, if a NUL ends each name
 abbrev pub searched_names : Bool → List ℕ → List (List ℕ)
 searched_names hidden listing = filter (is_searched hidden) (slice_split (λ byte. byte == 0) listing)
 

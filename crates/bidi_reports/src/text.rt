@@ -92,7 +92,7 @@ fn push_note_start(out: &mut String) -> Result<(), AllocError>
     out.push_str("note: displayed as: ")
 }
 
-// Appends the line that tells how the line of a finding is displayed.
+// Appends the line that shows how the line of a finding is displayed.
 #[tactic(auto, unfolding(crate::specs::Text::note_text))]
 fn push_note(
     out: &mut String,

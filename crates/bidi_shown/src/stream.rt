@@ -35,7 +35,7 @@ impl From<AllocError> for StreamFault {
 impl StreamFault {
     ghost use Rattle.bidi_shown.specs.Faults.{ReportsBytesAfter};
 
-    // Returns the fault of a text that has so many bytes before those in which it was found.
+    // Returns the fault of a text that has `before` bytes before those in which the fault was found.
     fn after(self, before: usize) -> StreamFault
         ensures { (bytes : List ℕ) → ReportsBytes bytes self → ReportsBytesAfter before bytes result }
     {
@@ -104,7 +104,7 @@ impl Stream {
     ghost use Rattle.bidi_shown.specs.Faults.{ReportsBytesAfter};
     ghost use Rattle.bidi_shown.specs.Streams.{pending as pending_of, shown_len as shown_len_of, shown_now, pending_after, lines_with, shown_len_after, HasShownPending, IsShownTo, ShowsPending, ReportsPending};
 
-    /// Returns a text of which nothing has come. Does not allocate.
+    /// Returns a text without pieces so far. Does not allocate.
     pub fn new(alloc: Global) -> Stream
         ensures pending { pending_of result ≡ [] }
         ensures shown_len { shown_len_of result ≡ 0 }

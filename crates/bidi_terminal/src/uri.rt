@@ -5,7 +5,7 @@ ghost use Rattle.bidi_terminal.specs.Uris.{plain_path, uri_of};
 use percent_encoding::{AsciiSet, NON_ALPHANUMERIC, ascii_set, percent_encode};
 use std::alloc::AllocError;
 
-/// The ASCII characters that a path has to escape in a URI: all but letters, digits, `-`, `.`, `_`, `~` and `/`.
+/// The ASCII characters that are escaped in a path of a URI: all but letters, digits, `-`, `.`, `_`, `~` and `/`.
 const NOT_IN_PATHS: AsciiSet = ascii_set!(
     NON_ALPHANUMERIC
         .remove(b'-')

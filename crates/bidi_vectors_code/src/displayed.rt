@@ -37,7 +37,7 @@ fn a_line_without_its_controls(rt: HostRuntime) -> Result<(), Fail> {
     check_displayed(&rt, &mut displayed, &mut out)
 }
 
-// Compares a line whose text is swapped and one whose text is kept with how they read.
+// Compares two lines with how they read: one is displayed in another order, and the other is not.
 fn check_comparison(
     rt: &(impl Abort + AllocGlobal),
     comparison: &mut DisplayComparison,

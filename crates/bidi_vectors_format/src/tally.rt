@@ -31,6 +31,7 @@ fn are_words(wanted: &[&str], came: &str) -> bool {
 }
 
 impl Tally {
+    /// Returns the tally of no rows.
     pub fn new(alloc: Global) -> Tally {
         Tally {
             calls: Vec::new(alloc),
