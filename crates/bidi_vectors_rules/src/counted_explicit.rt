@@ -14,7 +14,7 @@ use std::sync::ledger::{Blank, Ledger};
 // Finds the explicit levels of a paragraph. Counts steps in the ledger that this blank opens.
 fn find_with_new_count<S: Ledger>(
     alloc: Global,
-    stride: StepUnit,
+    step_unit: StepUnit,
     paragraph: &ParagraphUnits<'_>,
     blank: Blank,
 ) -> Result<ExplicitUnits, RowFault>
@@ -36,7 +36,7 @@ fn find_with_new_count<S: Ledger>(
     let levels = units.levels.as_mut_slice();
     let processing_classes = units.classes.as_mut_slice();
     let runs = &mut units.runs;
-    match stride {
+    match step_unit {
         StepUnit::Character => compute_counted(
             alloc,
             text,
@@ -48,7 +48,7 @@ fn find_with_new_count<S: Ledger>(
             &mut steps,
         )?,
         StepUnit::CodeUnit => {
-            let stored = Paragraph::new(text, level, stride, classes);
+            let stored = Paragraph::new(text, level, step_unit, classes);
             find_levels_counted(&stored, levels, processing_classes, runs, &mut steps)?;
         }
     }
@@ -59,10 +59,10 @@ fn find_with_new_count<S: Ledger>(
 /// from code unit to code unit by `find_levels_counted`.
 pub fn find(
     alloc: Global,
-    stride: StepUnit,
+    step_unit: StepUnit,
     paragraph: &ParagraphUnits<'_>,
 ) -> Result<ExplicitUnits, RowFault>
     requires { paragraph.now.level ≤ 125 }
 {
-    find_with_new_count::<Brand>(alloc, stride, paragraph, Blank::new(1))
+    find_with_new_count::<Brand>(alloc, step_unit, paragraph, Blank::new(1))
 }

@@ -56,11 +56,11 @@ impl Pass {
             text,
             classes: classes.as_slice(),
         };
-        let stride = match self {
+        let step_unit = match self {
             Pass::Counted => StepUnit::Character,
             Pass::ByUnits => StepUnit::CodeUnit,
         };
-        counted_explicit::find(alloc, stride, &stored)
+        counted_explicit::find(alloc, step_unit, &stored)
     }
 }
 
