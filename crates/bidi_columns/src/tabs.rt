@@ -86,8 +86,8 @@ impl SpreadLine {
         }
     }
 
-    /// Replaces the line by these characters and their levels. Each tab becomes spaces up to the next multiple of eight
-    /// columns, at the level of the tab. Returns an error if an allocation fails.
+    /// Replaces the line by these characters and their levels, one for each. Each tab becomes spaces up to the next
+    /// multiple of eight columns, at the level of the tab. Returns an error if an allocation fails.
     pub fn spread(&mut self, chars: &[char], levels: &[Level]) -> Result<(), AllocError>
         requires { length levels.now ≡ length chars.now }
         ensures chars { OnOk result (chars_of self.new ≡ spread_of 0 chars.now) }

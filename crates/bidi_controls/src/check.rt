@@ -211,10 +211,10 @@ const LONG: usize = 1024;
 
 /// Returns what is found in a text, in order.
 ///
-/// These are direction controls that have no match in their paragraph and line, or with `EveryControl` and `Everything`
-/// every control and mark. The match of an embedding or an override is its PDF (BD11), that of an isolate initiator its
-/// PDI (BD9), and that of a PDF or a PDI what it closes. With `Misleading` and `Everything`, a paragraph that is
-/// displayed differently from how it reads is found too, at its first control (see `DisplayComparison`).
+/// These are direction controls that have no match in their paragraph on their line, or with `EveryControl` and
+/// `Everything` every control and mark. The match of an embedding or an override is its PDF (BD11), that of an isolate
+/// initiator its PDI (BD9), and that of a PDF or a PDI what it closes. With `Misleading` and `Everything`, a paragraph
+/// that is displayed differently from how it reads is found too, at its first control (see `DisplayComparison`).
 ///
 /// Lines and columns are counted from 1, columns in characters. Lines end where editors end them: after a line feed, a
 /// CR LF or a carriage return. Another paragraph separator ends a paragraph, but not the line. Returns an error if an

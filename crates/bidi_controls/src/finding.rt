@@ -108,7 +108,8 @@ impl Finding {
     ghost use Rattle.std.specs.Prelude.{◌≡◌, ◌+◌, ◌<◌, ◌^◌};
     ghost use Rattle.bidi_controls.specs.Findings.{finding_with, finding_of};
 
-    /// Returns a finding of this trouble, or `None` if the character is neither a control nor a mark.
+    /// Returns a finding of this trouble, or `None` if the character is neither a control nor a mark. The column must
+    /// be below 2^64.
     pub fn with(trouble: Trouble, at: LineChar) -> Option<Finding>
         requires { at.place + 1 < 2 ^ 64 }
         ensures { result ≡ finding_with trouble at.line at.place at.class at.c }
@@ -122,7 +123,7 @@ impl Finding {
     }
 
     /// Returns the finding at a character, if there is one: a control without its match on its line, or with `any`
-    /// every control and mark.
+    /// every control and mark. The column must be below 2^64.
     pub fn of(any: bool, unmatched: bool, at: LineChar) -> Option<Finding>
         requires { at.place + 1 < 2 ^ 64 }
         ensures { result ≡ finding_of any at.line at.place unmatched at.class at.c }

@@ -49,6 +49,7 @@ fn block_count(columns: usize, len: usize) -> usize
 }
 
 /// Returns the blocks of `columns` columns of a table of `len` columns. Together they have each column once, in order.
+/// `columns` must not be 0.
 pub fn blocks(alloc: Global, columns: usize, len: usize) -> Result<Vec<Block>, AllocError>
     requires { 0 < columns }
     ensures blocks { IfOk result (λ v. v.items ≡ blocks_of columns len) }

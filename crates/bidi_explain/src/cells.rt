@@ -188,7 +188,7 @@ pub fn option_cells(alloc: Global, classes: &[Option<BidiClass>]) -> Result<Vec<
     Ok(cells)
 }
 
-/// Returns one cell for each character, as [`push_glyph`] writes it.
+/// Returns one cell for each character, as [`push_glyph`] writes it. There must be one class for each character.
 pub fn glyph_cells(
     alloc: Global,
     classes: &[BidiClass],

@@ -62,7 +62,8 @@ pub fn stage_rows(alloc: Global, chars: &[char], stages: &Stages) -> Result<Vec<
     Ok(rows)
 }
 
-/// Returns the rows of a paragraph: those of its characters, and those of its stages.
+/// Returns the rows of a paragraph: those of its characters, and those of its stages. The stages must be of as many
+/// characters.
 pub fn rows(alloc: Global, chars: &[char], stages: &Stages) -> Result<Vec<Row>, AllocError>
     requires { vec_len stages.now.classes ≡ length chars.now }
     ensures { IfOk result (λ v. v.items ≡ rows_from chars.now stages.now) }

@@ -170,7 +170,7 @@ fn push_stages(
 }
 
 /// Appends the table of a paragraph for a terminal of this width: its level, a row for each stage, in blocks that fit,
-/// and its isolating run sequences.
+/// and its isolating run sequences. The stages must be of as many characters.
 pub fn push_table(
     alloc: Global,
     out: &mut String,

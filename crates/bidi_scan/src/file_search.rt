@@ -144,7 +144,8 @@ impl FileSearch {
 
     /// Searches the last bytes of the file, and appends the lines in which something is found.
     ///
-    /// Returns an error if an allocation fails. Then `found`, `lines` and `offset` are not specified.
+    /// There must be room for `bytes` (`has_room`). Returns an error if an allocation fails. Then nothing is promised
+    /// of `found`, and only `wanted` of the search.
     pub fn push_last(
         &mut self,
         alloc: Global,
@@ -170,7 +171,8 @@ impl FileSearch {
     /// Searches the lines that end in the next bytes of the file, and appends those in which something is found.
     /// Returns how many bytes these lines have. The next call must get the bytes after them.
     ///
-    /// Returns an error if an allocation fails. Then `found`, `lines` and `offset` are not specified.
+    /// There must be room for `bytes` (`has_room`). Returns an error if an allocation fails. Then nothing is promised
+    /// of `found`, and only `wanted` of the search.
     pub fn push_whole_lines(
         &mut self,
         alloc: Global,
@@ -200,7 +202,8 @@ impl FileSearch {
     /// Searches the lines that end in the bytes that are read, and deletes the bytes of these lines. If `at_end` is
     /// true, searches and deletes all bytes.
     ///
-    /// Returns an error if an allocation fails. Then `found`, `bytes`, `lines` and `offset` are not specified.
+    /// There must be room for `bytes` (`has_room`). Returns an error if an allocation fails. Then nothing is promised
+    /// of `found` and `bytes`, and only `wanted` of the search.
     pub fn push_read(
         &mut self,
         alloc: Global,

@@ -238,7 +238,7 @@ fn push_paragraphs<D: BidiDataSource>(
 /// Returns what is printed of each paragraph of a text.
 ///
 /// This is its range and its level, the level of each of its characters, and its text from left to right; or its lines
-/// of at most so many characters. Returns an error if an allocation fails.
+/// of at most so many characters. `base_level` is at most 125. Returns an error if an allocation fails.
 pub fn show<D: BidiDataSource>(
     alloc: Global,
     data_source: &D,

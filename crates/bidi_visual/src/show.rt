@@ -122,7 +122,7 @@ fn push_runs<D: BidiDataSource>(
     Ok(())
 }
 
-/// Appends a line from left to right, given its characters and their levels after L1.
+/// Appends a line from left to right, given its characters and their levels after L1, one for each.
 ///
 /// At odd levels characters are mirrored (L4), and nonspacing marks come after their letters (L3), unless `plain` is
 /// true. Returns an error if an allocation fails.

@@ -18,7 +18,7 @@ impl Random {
         }
     }
 
-    /// Returns the next number, below the limit.
+    /// Returns the next number, below the limit, which must not be 0.
     pub fn below(&mut self, limit: usize) -> usize
         requires { 0 < limit }
         ensures { result < limit }
