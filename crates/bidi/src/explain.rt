@@ -10,7 +10,7 @@ use bidi_inputs::status::Status;
 use std::fs;
 use std::rt::Files;
 
-// Writes what the rules make of a text.
+// Writes the results of the rules for a text.
 fn explain_argument(
     rt: &(impl Print + Eprint + AllocGlobal),
     view: StageView,
@@ -25,7 +25,7 @@ fn explain_argument(
     }
 }
 
-// Writes what the rules make of an input.
+// Writes the results of the rules for an input.
 fn explain_bytes(
     rt: &(impl Print + Eprint + AllocGlobal),
     view: StageView,
@@ -77,7 +77,7 @@ fn explain_word(
     }
 }
 
-// Writes what the rules make of texts or files, or of standard input where there are none.
+// Writes the results of the rules for texts or files, or for standard input if there are none.
 fn explain_words(
     rt: &(impl Files + Input + Print + Eprint + AllocGlobal),
     view: StageView,
@@ -112,9 +112,9 @@ fn explain_as_page(
     }
 }
 
-/// Writes what the rules make of texts, or of the files of these names: `-` is standard input. Without any, it
-/// reads standard input. A file that cannot be read or is not UTF-8 is reported on standard error, and the next one
-/// is read.
+/// Writes the results of the rules for texts, or for the files of these names: `-` is standard input. Without any,
+/// reads standard input. A file that cannot be read or is not UTF-8 is reported on standard error, and the next one is
+/// read.
 pub fn explain_operands(
     rt: &(impl Files + Input + Print + Eprint + AllocGlobal),
     view: StageView,

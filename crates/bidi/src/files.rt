@@ -15,7 +15,7 @@ use unicode_bidi::VERSION;
 /// What standard input is called in a report.
 pub const STANDARD_INPUT: &str = "<stdin>";
 
-// What a write to standard output means for the run. What fails ends it, quietly where nobody reads on.
+// Ends the run if a write to standard output failed. Says nothing if the reader has closed its end.
 fn after_write(rt: &impl Eprint, written: io::Result<()>) -> Result<(), Status> {
     let Err(error) = written else {
         return Ok(());
@@ -32,7 +32,7 @@ pub fn write_out(rt: &(impl Print + Eprint), text: &str) -> Result<(), Status> {
     after_write(rt, io::writer(rt).write_all(text.as_bytes()))
 }
 
-/// Reports that an input was not read, and goes on to the next; if an allocation fails, the run ends.
+/// Reports on standard error that an input was not read. Returns an error, which ends the run, if an allocation failed.
 pub fn refuse(
     rt: &(impl Print + Eprint + AllocGlobal),
     name: &str,
@@ -48,7 +48,7 @@ pub fn refuse(
     Ok(Status::Device)
 }
 
-/// The run ends because an allocation failed.
+/// Reports that an allocation failed, and returns the status with which the run ends.
 pub fn end_without_memory(rt: &impl Eprint) -> Status {
     let _ = eprintln!(rt; "bidi: out of memory");
     Status::Memory
@@ -58,7 +58,7 @@ fn out_of_memory(rt: &impl Eprint) -> Result<Status, Status> {
     Err(end_without_memory(rt))
 }
 
-/// Reports why an input is not read to its end.
+/// Reports on standard error why an input is not read to its end.
 pub fn refuse_rest(
     rt: &(impl Eprint + AllocGlobal),
     name: &str,
@@ -76,10 +76,10 @@ pub fn refuse_rest(
     }
 }
 
-// How many bytes of an input are read at once.
+// The number of bytes of an input that are read at once.
 const PIECE: usize = 0x1_0000;
 
-// The memory of an input that is shown: the piece at hand, the text that comes in pieces, and what is shown of it.
+// The memory of an input that is shown: the current piece, the text that comes in pieces, and what is shown of it.
 #[derive(Drop)]
 struct Shown {
     piece: Vec<u8>,
@@ -131,7 +131,7 @@ fn show_pieces(
     Ok(Status::Clean)
 }
 
-// Shows an input piece by piece, so that it takes the memory of its longest line.
+// Shows an input piece by piece, so that its longest line determines the memory.
 fn show_reader(
     rt: &(impl Print + Eprint + AllocGlobal),
     view: View,
@@ -149,7 +149,7 @@ fn show_reader(
     show_pieces(rt, view, name, reader, &mut shown)
 }
 
-/// The bytes of standard input.
+/// Returns the bytes of standard input.
 pub fn read_standard_input(rt: &(impl Input + AllocGlobal)) -> io::Result<Vec<u8>> {
     let mut bytes = Vec::new(rt.alloc());
     rt.reader().read_to_end(&mut bytes)?;
@@ -177,8 +177,8 @@ fn show_file(
     }
 }
 
-/// Shows the files of these names, or standard input where there are none and for the name `-`. A file
-/// that cannot be read or is not UTF-8 is reported on standard error, and the next one is read.
+/// Shows the files of these names: `-` is standard input. Without any, shows standard input. A file that cannot be read
+/// or is not UTF-8 is reported on standard error, and the next one is read.
 pub fn show_files(
     rt: &(impl Files + Input + Print + Eprint + AllocGlobal),
     view: View,
@@ -197,7 +197,7 @@ pub fn show_files(
     status
 }
 
-// How a run ends that only writes.
+// Returns the status of a run that only writes.
 fn status_of(written: Result<(), Status>) -> Status {
     match written {
         Ok(()) => Status::Clean,
@@ -205,7 +205,7 @@ fn status_of(written: Result<(), Status>) -> Status {
     }
 }
 
-/// Writes what words there are after a subcommand, or for the program.
+/// Writes the help of a subcommand, or of the program.
 pub fn write_help(rt: &(impl Print + Eprint), subcommand: Option<Subcommand>) -> Status {
     status_of(write_out(rt, help(subcommand)))
 }

@@ -110,7 +110,7 @@ const EXPLAIN: &str =
     \n\
     Status: 0 all was written; 'bidi --help' lists the others.\n";
 
-/// What is said of a subcommand, or of the program.
+/// Returns the help of a subcommand, or of the program.
 pub fn help(subcommand: Option<Subcommand>) -> &'static str {
     match subcommand {
         None => PROGRAM,

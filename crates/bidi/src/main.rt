@@ -1,6 +1,6 @@
-//! The program `bidi`. `bidi check` finds direction controls that have no match on their line: they can make a text, such as
-//! source code, display differently from how it reads. `bidi show` writes the lines of a text for a terminal without
-//! bidirectional support. `bidi explain` writes the result of each rule for the characters of a text.
+//! The program `bidi`. `bidi check` finds direction controls that have no match on their line: they can make a text,
+//! such as source code, display differently from how it reads. `bidi show` writes the lines of a text for a terminal
+//! without bidirectional support. `bidi explain` writes the result of each rule for the characters of a text.
 #![tactic(auto)]
 
 mod explain;
@@ -25,13 +25,13 @@ use std::rt::{Env, Files};
 use terminal::terminal_columns;
 use walk::check_files;
 
-// The arguments after the program's name.
+// Returns the arguments after the program's name.
 fn arguments(rt: &(impl Env + AllocGlobal)) -> io::Result<Vec<String>> {
     let words = env::args(rt)?.skip(1).collect(rt.alloc())?;
     Ok(words)
 }
 
-// The most bytes that Linux takes in an argument.
+// The maximum number of bytes of an argument in Linux.
 const ARGUMENT_LIMIT: usize = 0x2_0000;
 
 // Reports each argument that is not UTF-8. Its bytes are those of the system's list of arguments.
@@ -72,7 +72,7 @@ fn refuse_arguments(rt: &(impl Env + Eprint + AllocGlobal), error: &io::Error) -
     Status::Refused
 }
 
-// Reports why the arguments are none of the program's forms.
+// Reports why the arguments are wrong.
 fn refuse(rt: &(impl Eprint + AllocGlobal), refusal: &Refusal<'_>) -> Result<(), AllocError> {
     let text = format!(in rt.alloc(); "{refusal}")?;
     let shown = shown_name(rt.alloc(), text.as_str())?;

@@ -13,13 +13,17 @@ use bidi_terminal::names::shown_name;
 use std::alloc::AllocError;
 use std::io::{ErrorKind, Read};
 
-/// What `check` looks for and where, and how the run has gone so far. It borrows what needs memory, because a value that a
-/// function owns is dropped at each exit, and each drop takes time to prove.
+/// What `check` looks for and where, and how the run has gone so far. It borrows what needs memory, because a value
+/// that a function owns is dropped at each exit, and each drop takes time to prove.
 #[derive(Drop)]
 pub struct Run<'s, 'w, 'l> {
+    /// What `check` looks for, where, and how it reports.
     pub options: &'s CheckOptions<'w>,
+    /// The findings that are allowed.
     pub allowed: &'s AllowList<'l>,
+    /// The form of the report, and whether it has findings.
     pub report: &'s mut Report,
+    /// The worst status so far.
     pub status: Status,
 }
 
@@ -46,8 +50,8 @@ impl Run<'_, '_, '_> {
     }
 }
 
-/// Returns the value. If the allocation failed, writes that to standard error, and returns the status with which the run
-/// ends.
+/// Returns the value. If the allocation failed, writes that to standard error, and returns the status with which the
+/// run ends.
 pub fn or_end<T: Drop>(rt: &impl Eprint, made: Result<T, AllocError>) -> Result<T, Status> {
     match made {
         Ok(value) => Ok(value),
@@ -96,7 +100,7 @@ fn check_bytes(
     Ok(())
 }
 
-// Writes what is found in some lines, and lets them go.
+// Writes what is found in some lines, and drops them.
 fn report_found(
     rt: &(impl Print + Eprint + AllocGlobal),
     run: &mut Run<'_, '_, '_>,
@@ -194,8 +198,8 @@ fn check_pieces(
 }
 
 /// Searches an input, and writes what it finds. If `text` is false, reads only the first bytes of a binary input, and
-/// reports nothing of it. UTF-16 is read as a whole, and other inputs piece by piece. A failed read is reported and noted.
-/// Returns an error only if the run must end: an allocation or a write to standard output failed.
+/// reports nothing of it. UTF-16 is read as a whole, and other inputs piece by piece. A failed read is reported and
+/// noted. Returns an error only if the run must end: an allocation or a write to standard output failed.
 pub fn check_reader(
     rt: &(impl Print + Eprint + AllocGlobal),
     run: &mut Run<'_, '_, '_>,

@@ -1,5 +1,5 @@
-//! The files that `check` searches: its arguments and its list name them, or they are below a directory. They
-//! are searched one after the other. A fault of one does not keep the next from being searched.
+//! The files that `check` searches: its arguments and its list name them, or they are below a directory. They are
+//! searched one after another. If one cannot be read, the next is searched all the same.
 use crate::files::{STANDARD_INPUT, end_without_memory, read_standard_input, refuse, write_out};
 use crate::search::{Run, check_reader, or_end};
 use bidi_allowed::allowed::{AllowList, ListFault};
@@ -51,7 +51,7 @@ fn check_file(
     }
 }
 
-// The names of a directory, each ended by a NUL.
+// Returns the names of a directory, each ended by a NUL.
 fn read_directory(rt: &(impl Files + AllocGlobal), dir: &str) -> io::Result<Vec<u8>> {
     let path = path_below(rt.alloc(), dir.as_bytes(), b"")?;
     let path = str::from_utf8(path.as_slice()).map_err(|_| ErrorKind::InvalidFilename)?;
@@ -171,7 +171,7 @@ fn check_arguments(
     Ok(())
 }
 
-// The bytes of a list of names.
+// Returns the bytes of a list of names.
 fn read_list(rt: &(impl Files + Input + AllocGlobal), list: &str) -> io::Result<Vec<u8>> {
     if list == STANDARD_INPUT_NAME {
         read_standard_input(rt)

@@ -43,19 +43,19 @@ is_number_colon text index = slice_index text index == 58 && is_digits (drop (in
 abbrev pub number_colon : List ℕ → Option ℕ
 number_colon text = find (is_number_colon text) (indexes text)
 
--- the number of a line, counted from 1, which digits write: one to nine of them, of which the first is not 0
+-- the number of a line, counted from 1, that digits write: one to nine of them, the first not 0
 abbrev pub number_of : List ℕ → Option ℕ
 number_of digits = if nat_le (length digits) 9 && not (slice_index digits 0 == 48) then Some (digits_value 10 digits) else None
 
--- a path that stands for all that is below a directory
+-- a path that names all that is below a directory
 abbrev pub is_directory : List ℕ → Bool
 is_directory path = ends_with nat_eq path (codes "/")
 
--- the entry PATH, which has to name something
+-- the entry PATH, which must name something
 abbrev pub whole_entry : List ℕ → Option Entry
 whole_entry path = if length path == 0 then None else Some (path, None)
 
--- the entry PATH:LINE, which has to name a file
+-- the entry PATH:LINE, which must name a file
 abbrev pub line_entry : List ℕ → Option ℕ → Option Entry
 line_entry path None = None
 line_entry path (Some line) = if length path == 0 || is_directory path then None else Some (path, Some line)

@@ -1,8 +1,8 @@
 //! Lists of the findings that are allowed.
 //!
-//! Each line of a list is a path, or a path and the number of a line, as `src/names.c` or `src/names.c:12`. It allows
-//! what is found in the file of that name, or in that line of it. A path that ends with `/` allows what is found in each
-//! file below that directory. An empty line, and a line that begins with `#`, allows nothing.
+//! Each line of a list is a path, or a path and the number of a line, such as `src/names.c` or `src/names.c:12`. It
+//! allows what is found in the file of that name, or in that line of it. A path that ends with `/` allows what is found
+//! in each file below that directory. An empty line allows nothing, nor does one that begins with `#`.
 ghost use Rattle.std.specs.Prelude.{◌≡◌, ◌≤◌, ◌++◌, ◌∷◌, [], map, flat_map, not, true, ◌+◌, ◌<◌, length, drop, IfOk, IfErr, IfSome, OnOk};
 ghost use Rattle.std.specs.Char.{is_ascii_digit};
 ghost use Rattle.std.specs.List.{list_all, list_any};
@@ -111,7 +111,7 @@ fn number_of(digits: &[u8]) -> Option<usize>
     Some(value_of(digits))
 }
 
-// Returns whether a path stands for all that is below a directory.
+// Returns whether a path names all that is below a directory.
 fn is_directory(path: &[u8]) -> bool
     ensures { result ≡ is_directory path.now }
 {
@@ -275,7 +275,9 @@ impl<'l> AllowList<'l> {
         }
     }
 
-    /// Returns what a text allows, or the number of its first line that is not an entry.
+    /// Returns what a text allows.
+    ///
+    /// Returns `NotAnEntry` with the number of the first line that is not an entry, or `Memory` if an allocation fails.
     pub fn parse(alloc: Global, text: &'l [u8]) -> Result<AllowList<'l>, ListFault>
         ensures entries { IfOk result (λ list. list ≡ entries_of text.now) }
         ensures fault { IfErr result (ReportsLines (lines_of text.now)) }
@@ -286,7 +288,7 @@ impl<'l> AllowList<'l> {
         Ok(AllowList { entries })
     }
 
-    /// Returns whether what is found in a line of a file is allowed. Lines count from 1.
+    /// Returns whether what is found in a line of a file is allowed. Lines are counted from 1.
     ///
     /// Names are compared byte by byte, without the `./` that either of them may begin with.
     pub fn allows(&self, name: &str, line: usize) -> bool

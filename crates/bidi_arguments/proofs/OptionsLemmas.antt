@@ -1,4 +1,4 @@
--- What options before others ask for, where words are texts.
+-- What options before others ask for, if arguments are texts.
 use Rattle.bidi_base.proofs.Common.{◌≡◌, sym, ap, ◌∙◌, ℕ, ◌-◌, ◌≤◌, Bool, true, false, List, [], ◌∷◌, Some, None, Ok, length, get_or, map, drop, string_bytes, arith, codes}
 use Rattle.bidi_base.proofs.Common.{slice_range, take_all, length-drop}
 use Rattle.std.specs.Str.{bytes_eq}

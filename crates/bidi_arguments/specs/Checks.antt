@@ -63,7 +63,7 @@ setting_named word =
     else if bytes_eq word (codes "--format") then Some FormatOf
     else None
 
--- what options ask for with one more; of options that exclude each other the last counts
+-- what options ask for with one more; if two exclude each other, the last counts
 unfoldable pub with_flag : Flag → CheckOptions → CheckOptions
 with_flag Any options = record options { wanted = Everything }
 with_flag Hidden options = record options { search = record options.search { hidden = true } }
@@ -93,7 +93,7 @@ with_setting FormatOf value options = with_format value options (format_named va
 
 -- ---- what reads standard input
 
--- a name stands for standard input
+-- a name that means standard input
 abbrev pub is_input : List ℕ → Bool
 is_input name = bytes_eq name (codes "-")
 

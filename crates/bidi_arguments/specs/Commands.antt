@@ -1,4 +1,4 @@
--- What words ask for.
+-- What arguments ask for.
 use Rattle.std.specs.Prelude.{ℕ, Bool, true, false, ◌||◌, is_some, if◌then◌else◌, List, [], ◌∷◌, find, Option, Some, None, Result, Ok, Err, codes}
 use Rattle.std.specs.Str.{bytes_eq}
 use Rattle.bidi_terminal.specs.Bases.{base_named}
@@ -26,7 +26,7 @@ asks_help [] = false
 asks_help (word ∷ []) = is_help word
 asks_help (word ∷ other ∷ words) = false
 
--- an option that the subcommand does not have, or that has to stand alone
+-- an option that the subcommand does not have, or that must be the only argument
 abbrev pub unknown_option : Subcommand → List ℕ → Refusal
 unknown_option subcommand word = if is_help word then NotAlone (Some subcommand) word else NotAnOption subcommand word
 
@@ -39,7 +39,7 @@ abbrev pub unless_late : Subcommand → Option (List ℕ) → List (List ℕ) �
 unless_late subcommand None words = Ok words
 unless_late subcommand (Some late) words = Err (late_option subcommand late)
 
--- after the options of a subcommand: words that name files, or texts. None of them is an option, unless `--` stands
+-- after the options of a subcommand: arguments that name files, or texts. None of them is an option, unless `--` is
 -- before them
 abbrev pub file_words : Subcommand → List (List ℕ) → Result (List (List ℕ)) Refusal
 file_words subcommand [] = Ok []
@@ -48,12 +48,12 @@ file_words subcommand (word ∷ words) =
     else if is_option word then Err (unknown_option subcommand word)
     else unless_late subcommand (find is_option words) (word ∷ words)
 
--- a command over files, if these can be had
+-- a command over files, unless one of the arguments is wrong
 abbrev pub over_files : (List (List ℕ) → Command) → Result (List (List ℕ)) Refusal → Result Command Refusal
 over_files command (Ok files) = Ok (command files)
 over_files command (Err refusal) = Err refusal
 
--- `check` over files, if these can be had, and if standard input is not read twice
+-- `check` over files, unless one of the arguments is wrong or standard input is read twice
 abbrev pub check_over : CheckOptions → Result (List (List ℕ)) Refusal → Result Command Refusal
 check_over options (Ok files) = if reads_input_twice options files then Err InputTwice else Ok (Check options files)
 check_over options (Err refusal) = Err refusal
@@ -63,7 +63,7 @@ abbrev pub by_case : {A B : Type 0} → Option A → (A → B) → B → B
 by_case None next otherwise = otherwise
 by_case (Some value) next otherwise = next value
 
--- what follows of options, unless one of them is refused
+-- what follows from options, unless one of them is wrong
 abbrev pub by_options : Result CheckOptions Refusal → (CheckOptions → Result Command Refusal) → Result Command Refusal
 by_options (Err refusal) next = Err refusal
 by_options (Ok options) next = next options
@@ -80,7 +80,7 @@ check_of options (word ∷ value ∷ words) =
     (by_case (setting_named word) (λ setting. by_options (with_setting setting value options) (λ next. check_of next words))
     (check_over options (file_words Checking (word ∷ value ∷ words))))
 
--- what follows of the value after an option, or the refusal of one that it does not take
+-- what follows from the value after an option, or the error for a value that the option does not take
 abbrev pub by_value : {A : Type 0} → Refusal → (A → Result Command Refusal) → Option A → Result Command Refusal
 by_value refusal next None = Err refusal
 by_value refusal next (Some value) = next value
@@ -100,8 +100,8 @@ show_of view (word ∷ value ∷ words) =
     then by_value (NotAWidth Showing value) (λ width. show_of (record view { width = Some width }) words) (number_of value)
     else over_files (Show view) (file_words Showing (word ∷ value ∷ words))
 
--- after `explain` and options that ask for this view and say what words stand for: further options, in any order, and
--- texts or files
+-- after `explain` and options that ask for this view and these operands: further options, in any order, and texts or
+-- files
 abbrev pub explain_of : StageView → Operands → List (List ℕ) → Result Command Refusal
 explain_of view operands [] = Ok (Explain view operands [])
 explain_of view operands (word ∷ []) =
@@ -118,18 +118,18 @@ explain_of view operands (word ∷ value ∷ words) =
     then by_value (NotAWidth Explaining value) (λ width. explain_of (record view { width = Some width }) operands words) (number_of value)
     else over_files (Explain view operands) (file_words Explaining (word ∷ value ∷ words))
 
--- an option of the program that has to stand alone
+-- an option of the program that must be the only argument
 abbrev pub if_alone : List ℕ → List (List ℕ) → Command → Result Command Refusal
 if_alone name [] command = Ok command
 if_alone name (word ∷ words) command = Err (NotAlone None name)
 
--- after the program: a word that is no subcommand, and further words
+-- after the program: an argument that is no subcommand, and further arguments
 abbrev pub alone_of : List ℕ → List (List ℕ) → Result Command Refusal
 alone_of name words =
     if is_help name then if_alone name words (Help None)
     else if is_version name then if_alone name words Version else Err (NotASubcommand name)
 
--- what words ask for, or the word that is wrong and why
+-- what arguments ask for, or the argument that is wrong and why
 abbrev pub command_of : List (List ℕ) → Result Command Refusal
 command_of [] = Err NoSubcommand
 command_of (name ∷ words) =

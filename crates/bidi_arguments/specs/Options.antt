@@ -3,7 +3,7 @@ use Rattle.std.specs.Prelude.{ℕ, Bool, not, ◌&&◌, List, codes, nat_eq}
 use Rattle.std.specs.List.{starts_with}
 use Rattle.std.specs.Str.{bytes_eq}
 
--- an argument that begins as an option does: with a hyphen, and there is more than that hyphen
+-- an argument that looks like an option: it begins with a hyphen, and has more than that hyphen
 abbrev pub is_option : List ℕ → Bool
 is_option word = starts_with nat_eq word (codes "-") && not (bytes_eq word (codes "-"))
 

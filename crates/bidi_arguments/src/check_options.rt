@@ -34,14 +34,14 @@ impl Format {
     }
 }
 
-/// When text is written as for a terminal: in colours, and with the line of each finding.
+/// When a report in text has colours, and shows the line of each finding.
 #[derive(Clone, Copy, Debug, PartialEq)]
 pub enum Color {
     /// If standard output is a terminal.
     Auto,
     /// Always.
     Always,
-    /// Never in colours.
+    /// Never in colours. Lines are shown if standard output is a terminal.
     Never,
 }
 
@@ -66,14 +66,14 @@ pub struct ReportOptions<'w> {
     pub quiet: bool,
     /// How findings are written.
     pub format: Format,
-    /// When text is written as for a terminal.
+    /// When a report in text has colours, and shows the line of each finding.
     pub color: Color,
     /// The file that lists the findings that are allowed.
     pub allow: Option<Word<'w>>,
 }
 
 impl<'w> Default for ReportOptions<'w> {
-    /// Lines of text, as for a terminal if standard output is one, and no list.
+    /// Lines of text, with colours if standard output is a terminal, and no list.
     fn default() -> ReportOptions<'w>
         ensures { result ≡ first_report }
     {
@@ -87,7 +87,9 @@ impl<'w> Default for ReportOptions<'w> {
 }
 
 impl ReportOptions<'_> {
-    /// Returns the form of the report, where standard output may be a terminal, and where the environment may ask for no
+    /// Returns the form of the report.
+    ///
+    /// `is_terminal` says whether standard output is a terminal, and `no_color` whether the environment asks for no
     /// colours.
     pub fn form(&self, is_terminal: bool, no_color: bool) -> Form
         ensures { result ≡ form_of self.now is_terminal no_color }
@@ -169,14 +171,14 @@ impl Setting {
     }
 }
 
-// Whether a name stands for standard input.
+// Returns whether a name means standard input.
 fn is_input(name: &str) -> bool
     ensures { result ≡ is_input name.now }
 {
     name == STANDARD_INPUT_NAME
 }
 
-// Whether a list is read from standard input, if there is one.
+// Returns whether there is a list and it is read from standard input.
 fn is_input_list(list: &Option<Word<'_>>) -> bool
     ensures { result ≡ is_input_list list.now }
 {
@@ -186,7 +188,7 @@ fn is_input_list(list: &Option<Word<'_>>) -> bool
     }
 }
 
-// Whether one of the files is standard input.
+// Returns whether one of the files is standard input.
 fn has_input(files: &[String]) -> bool
     ensures { result ≡ list_any is_input (map string_bytes files.now) }
 {
@@ -223,7 +225,7 @@ impl<'w> Default for CheckOptions<'w> {
 }
 
 impl<'w> CheckOptions<'w> {
-    // Whether standard input is searched, if the arguments name these files.
+    // Returns whether standard input is searched, if the arguments name these files.
     fn searches_input(&self, files: &[String]) -> bool
         ensures { result ≡ searches_input self.now.search.list (map string_bytes files.now) }
     {
@@ -233,8 +235,8 @@ impl<'w> CheckOptions<'w> {
         has_input(files)
     }
 
-    /// Returns whether standard input would be read twice, if the arguments name these files. The second reader would find
-    /// it empty.
+    /// Returns whether standard input would be read twice, if the arguments name these files. The second reader would
+    /// find it empty.
     pub fn reads_input_twice(&self, files: &[String]) -> bool
         ensures { result ≡ reads_input_twice self.now (map string_bytes files.now) }
     {
@@ -363,7 +365,7 @@ impl<'w> CheckOptions<'w> {
         }
     }
 
-    /// Returns the options with one more that has a value, unless it does not take this value.
+    /// Returns the options with one more that has a value, or an error if it does not take this value.
     #[tactic(auto, unfolding(crate::specs::Checks::with_setting))]
     pub fn with_setting(
         self,

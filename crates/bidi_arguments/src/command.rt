@@ -1,4 +1,4 @@
-//! What the arguments of a call ask for.
+//! What the arguments of the program ask for.
 ghost use Rattle.std.specs.Prelude.{◌≡◌, find, map, string_bytes};
 ghost use Rattle.bidi_arguments.specs.Commands.{asks_help, unknown_option, late_option};
 ghost use Rattle.bidi_arguments.specs.Options.{is_option};
@@ -11,7 +11,7 @@ use bidi_terminal::{Base, parse_number};
 use bidi_visual::view::View;
 use std::marker::Model;
 
-/// Words that name files, or texts. In clauses they are their bytes.
+/// Arguments that name files, or are texts. In clauses they are their bytes.
 #[derive(Drop)]
 pub struct FileWords<'w> {
     words: &'w [String],
@@ -25,14 +25,14 @@ impl<'w> Model for FileWords<'w> {
     ghost view = { λ f. map string_bytes f.words.now };
 }
 
-/// Whether an argument begins as an option does: with a hyphen, and is more than that hyphen.
+/// Returns whether an argument looks like an option: it begins with a hyphen, and has more than that hyphen.
 fn is_option(word: &str) -> bool
     ensures { result ≡ is_option word.now }
 {
     word.as_bytes().starts_with(b"-") && word != "-"
 }
 
-/// Whether the only argument after a subcommand asks for help.
+/// Returns whether there is one argument after a subcommand and it asks for help.
 fn asks_help(words: &[String]) -> bool
     ensures { result ≡ asks_help (map string_bytes words.now) }
 {
@@ -42,8 +42,7 @@ fn asks_help(words: &[String]) -> bool
     }
 }
 
-/// Why an option is wrong where options may be: the subcommand does not have it, or it has to be the
-/// only argument.
+/// Returns why an option is wrong among options: the subcommand does not have it, or it must be the only argument.
 fn unknown_option<'w>(subcommand: Subcommand, word: &'w str) -> Refusal<'w>
     ensures { result ≡ unknown_option subcommand word.now }
 {
@@ -55,7 +54,7 @@ fn unknown_option<'w>(subcommand: Subcommand, word: &'w str) -> Refusal<'w>
     }
 }
 
-/// Why an option after a file or a text is wrong.
+/// Returns why an option after a file or a text is wrong.
 fn late_option<'w>(subcommand: Subcommand, word: &'w str) -> Refusal<'w>
     ensures { result ≡ late_option subcommand word.now }
 {
@@ -67,7 +66,7 @@ fn late_option<'w>(subcommand: Subcommand, word: &'w str) -> Refusal<'w>
     }
 }
 
-/// The first of the words that begins as an option does.
+/// Returns the first argument that looks like an option.
 fn first_option<'w>(words: &'w [String]) -> Option<Word<'w>>
     ensures { result ≡ find is_option (map string_bytes words.now) }
 {
@@ -82,8 +81,8 @@ fn first_option<'w>(words: &'w [String]) -> Option<Word<'w>>
 impl<'w> FileWords<'w> {
     ghost use Rattle.bidi_arguments.specs.Commands.{file_words};
 
-    /// What is after the options of a subcommand. Refused where there is an option among the
-    /// words, unless `--` is the first of them.
+    /// Returns the arguments after the options of a subcommand. Returns an error if there is an option among them,
+    /// unless `--` is the first of them.
     fn parse(subcommand: Subcommand, words: &'w [String]) -> Result<FileWords<'w>, Refusal<'w>>
         ensures { result ≡ file_words subcommand (map string_bytes words.now) }
     {
@@ -100,7 +99,7 @@ impl<'w> FileWords<'w> {
         }
     }
 
-    /// The words, in order.
+    /// Returns the arguments, in order.
     pub fn words(&self) -> &'w [String]
         ensures { map string_bytes result.now ≡ self.now }
     {
@@ -108,30 +107,30 @@ impl<'w> FileWords<'w> {
     }
 }
 
-/// A form of the program.
+/// What the program is asked to do.
 #[derive(Drop)]
 pub enum Command<'w> {
-    /// `check [OPTION..] [FILE..]`: direction controls without a match on their line, or all controls, and lines that are
-    /// displayed differently from how they read.
+    /// `check [OPTION..] [FILE..]`: reports direction controls without a match on their line, or all controls, and
+    /// lines that are displayed differently from how they read.
     Check {
         options: CheckOptions<'w>,
         files: FileWords<'w>,
     },
-    /// `explain [--base auto|ltr|rtl] [--html] [--width N] [--files] [TEXT..]`: what each stage makes of the
-    /// characters.
+    /// `explain [--base auto|ltr|rtl] [--html] [--width N] [--files] [TEXT..]`: writes the result of each stage of the
+    /// rules.
     Explain {
         view: StageView,
         operands: Operands,
         words: FileWords<'w>,
     },
-    /// `--help`, by itself or after a subcommand: what words there are.
+    /// `--help`, by itself or after a subcommand: writes which arguments there are.
     Help(Option<Subcommand>),
-    /// `show [--base auto|ltr|rtl] [--width N] [--plain] [FILE..]`: the lines from left to right.
+    /// `show [--base auto|ltr|rtl] [--width N] [--plain] [FILE..]`: writes the lines from left to right.
     Show {
         view: View,
         files: FileWords<'w>,
     },
-    /// `--version`: the versions of the program and of Unicode's data.
+    /// `--version`: writes the versions of the program and of Unicode's data.
     Version,
 }
 
@@ -139,7 +138,7 @@ impl<'w> Command<'w> {
     ghost use Rattle.bidi_arguments.specs.Commands.{command_of, check_of, check_over, explain_of, show_of, alone_of, file_words};
     ghost use Rattle.bidi_arguments.specs.declared.refusal.Subcommand.TheVariants.{Checking};
 
-    /// What words after the options of `check` ask for. Refused if standard input would be read twice.
+    /// Returns what arguments after the options of `check` ask for, or an error if standard input would be read twice.
     fn over_files(
         options: CheckOptions<'w>,
         words: &'w [String],
@@ -153,7 +152,7 @@ impl<'w> Command<'w> {
         }
     }
 
-    /// What words after `check` ask for, where the options before them ask for this.
+    /// Returns what arguments after `check` ask for, if the options before them ask for `options`.
     fn parse_check(
         options: CheckOptions<'w>,
         words: &'w [String],
@@ -178,7 +177,7 @@ impl<'w> Command<'w> {
         }
     }
 
-    /// What words after `show` ask for, where the options before them ask for this view.
+    /// Returns what arguments after `show` ask for, if the options before them ask for this view.
     fn parse_show(view: View, words: &'w [String]) -> Result<Command<'w>, Refusal<'w>>
         ensures { result ≡ show_of view (map string_bytes words.now) }
     {
@@ -215,8 +214,7 @@ impl<'w> Command<'w> {
         }
     }
 
-    /// What words after `explain` ask for, where the options before them ask for this view and say what
-    /// the words stand for.
+    /// Returns what arguments after `explain` ask for, if the options before them ask for this view and these operands.
     fn parse_explain(
         view: StageView,
         operands: Operands,
@@ -272,7 +270,7 @@ impl<'w> Command<'w> {
         }
     }
 
-    /// What `--help` and `--version` ask for, which have to be the only argument. Another word is no
+    /// Returns what `--help` or `--version` asks for, which must be the only argument. Any other argument is not a
     /// subcommand.
     fn parse_alone(name: &'w str, rest: &'w [String]) -> Result<Command<'w>, Refusal<'w>>
         ensures { result ≡ alone_of name.now (map string_bytes rest.now) }
@@ -290,9 +288,10 @@ impl<'w> Command<'w> {
         Ok(Command::Version)
     }
 
-    /// What the arguments ask for, or which of them is wrong and why. Options come before the files, in
-    /// any order, and the last of a repeated option counts; `--` ends them. `--help` and `--version`
-    /// count only if nothing else follows the program or the subcommand. It does not allocate.
+    /// Returns what the arguments ask for, or which of them is wrong and why. Does not allocate.
+    ///
+    /// Options come before the files, in any order, and `--` ends them. If an option is repeated, the last one counts.
+    /// `--help` must be the only argument, or the only one after the subcommand. `--version` must be the only argument.
     pub fn parse(words: &'w [String]) -> Result<Command<'w>, Refusal<'w>>
         ensures { result ≡ command_of (map string_bytes words.now) }
     {

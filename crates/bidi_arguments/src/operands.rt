@@ -1,6 +1,6 @@
-//! What arguments after options stand for.
+//! What the arguments after options mean.
 
-/// What the arguments after the options of `explain` stand for.
+/// What the arguments after the options of `explain` mean.
 #[derive(Clone, Copy, Debug, PartialEq)]
 pub enum Operands {
     /// Texts.
@@ -9,5 +9,5 @@ pub enum Operands {
     Files,
 }
 
-/// The name of a file that stands for standard input.
+/// The name of a file that means standard input.
 pub const STANDARD_INPUT_NAME: &str = "-";

@@ -1,8 +1,8 @@
-//! Why words are no form of the program.
+//! Why the arguments are wrong.
 use std::fmt;
 use std::marker::Model;
 
-/// What a call asks for in its first word.
+/// A subcommand: the first argument names it.
 #[derive(Clone, Copy, Debug, PartialEq)]
 pub enum Subcommand {
     /// `check`: direction controls.
@@ -23,7 +23,7 @@ impl fmt::Display for Subcommand {
     }
 }
 
-/// A word as it was given. In clauses it is its bytes.
+/// An argument, unchanged. In clauses it is its bytes.
 #[derive(Drop)]
 pub struct Word<'w> {
     text: &'w str,
@@ -41,28 +41,28 @@ impl<'w> Word<'w> {
     ghost use Rattle.std.specs.Prelude.{◌≡◌};
     ghost use Rattle.bidi_arguments.specs.Options.{is_help, is_version};
 
-    /// A text as a word.
+    /// Returns a text as an argument.
     pub fn new(text: &'w str) -> Word<'w>
         ensures { result ≡ text.now }
     {
         Word { text }
     }
 
-    /// Its text.
+    /// Returns its text.
     pub fn text(&self) -> &'w str
         ensures { result.now ≡ self.now }
     {
         self.text
     }
 
-    /// Whether it asks for help.
+    /// Returns whether it asks for help: `--help` or `-h`.
     pub fn is_help(&self) -> bool
         ensures { result ≡ is_help self.now }
     {
         self.text == "--help" || self.text == "-h"
     }
 
-    /// Whether it asks for the version.
+    /// Returns whether it asks for the version: `--version` or `-V`.
     pub fn is_version(&self) -> bool
         ensures { result ≡ is_version self.now }
     {
@@ -70,12 +70,12 @@ impl<'w> Word<'w> {
     }
 }
 
-/// Which word is wrong, and why.
+/// Which argument is wrong, and why.
 #[derive(Drop)]
 pub enum Refusal<'w> {
-    /// There is no word at all.
+    /// There is no argument.
     NoSubcommand,
-    /// The first word names nothing that the program does.
+    /// The first argument is not a subcommand.
     NotASubcommand(Word<'w>),
     /// The subcommand has no such option.
     NotAnOption(Subcommand, Word<'w>),
@@ -83,17 +83,17 @@ pub enum Refusal<'w> {
     LateOption(Subcommand, Word<'w>),
     /// `--help` or `--version` is not the only argument after the program or the subcommand.
     NotAlone(Option<Subcommand>, Word<'w>),
-    /// The option asks for a value, and no word is left.
+    /// The option needs a value, and no argument is left.
     NoValue(Subcommand, Word<'w>),
     /// The value of `--base` is none of `auto`, `ltr` and `rtl`.
     NotABase(Subcommand, Word<'w>),
-    /// The value of `--width` is no number of one to three digits.
+    /// The value of `--width` is not a number of one to three digits.
     NotAWidth(Subcommand, Word<'w>),
     /// The value of `--format` is none of `text`, `json` and `sarif`.
     NotAFormat(Word<'w>),
     /// The value of `--color` is none of `auto`, `always` and `never`.
     NotAColor(Word<'w>),
-    /// Two of `--allow`, `--files-from` and the files are standard input.
+    /// Two of `--allow`, `--files-from` and the search read standard input.
     InputTwice,
 }
 

@@ -83,7 +83,7 @@ utf8_decoded-other bytes h =
 
 -- ---- the search for one
 
--- no first byte of one stands before an index
+-- no first byte of one is before an index
 abbrev NoneLeads : List ℕ → ℕ → Type 0
 NoneLeads bytes end = (k : ℕ) → k < end → is_byte2 0xD8 0xE2 (get_or bytes k 0) ≡ true → ⊥
 

@@ -1,4 +1,4 @@
--- Where bytes stop being UTF-8 that are cut after an ASCII byte.
+-- Where bytes stop being UTF-8, if they are cut after an ASCII byte.
 use Rattle.bidi_base.proofs.Common.{◌≡◌, ℕ, ◌+◌, ◌-◌, ◌<◌, ◌≤◌, false, ◌==◌, List, [], ◌∷◌, ◌++◌, Option, None, Some, length, get_or, take, drop, refl, sym, ap, subst, ◌∙◌, arith, length-append}
 use Rattle.bidi_base.proofs.Common.{IsUtf8, append_assoc, take_all, cases_lt, cond-true, cond-false, eq-eqb, nat_tests, get_or-append_seam, length-take-le, take-append-drop, option_map, ⊎_elim}
 use Rattle.bidi_base.proofs.Common.{zero-add, take-append-add, take-append_seam, drop-append_seam, take-append-le, IsUtf8-nil, IsUtf8-append, IsUtf8-take, IsUtf8-drop, IsCharBoundary-from_take}
@@ -32,7 +32,7 @@ module _ (before : List ℕ) (a : ℕ) (low : a < 128) where
   abbrev xs : List ℕ
   xs = before ++ a ∷ []
 
-  -- bytes that begin so are no text unless these are
+  -- bytes that begin with these are no text unless these are
   text_before : (zs : List ℕ) → IsUtf8 (xs ++ zs) → IsUtf8 xs
   text_before zs t =
       let long : length xs ≡ length before + 1 = length-append before (a ∷ []) in
@@ -78,7 +78,7 @@ utf8_fault-cut before a after low =
     (λ v. let n = utf8_valid_len xs in rw (fault-some xs n v) (fault-some (xs ++ after) n (IsValidUpTo-before before a low after n v)))
     (utf8_valid_len-cases xs)
 
--- the same of bytes whose first n end with an ASCII byte
+-- the same for bytes whose first n end with an ASCII byte
 pub utf8_fault-at : (bytes more before : List ℕ) (n a : ℕ) → take n bytes ≡ before ++ a ∷ [] → a < 128 → n ≤ length bytes
     → utf8_fault (bytes ++ more) ≡ fault_from (utf8_fault (take n bytes)) n (drop n bytes ++ more)
 utf8_fault-at bytes more before n a front low within =
@@ -93,6 +93,6 @@ from_start : (found : Option ℕ) → option_map (λ at. 0 + at) found ≡ found
 from_start None = refl
 from_start (Some at) = ap Some (zero-add at)
 
--- nothing stands before them
+-- nothing is before them
 pub utf8_fault-start : (bytes : List ℕ) → utf8_fault bytes ≡ fault_from (utf8_fault []) 0 bytes
 utf8_fault-start bytes = rw (fault-none [] IsUtf8-nil) (sym (from_start (utf8_fault bytes)))

@@ -32,7 +32,7 @@ same_line_feed c b one other = ⊎_elim
     (λ high. ⊎_elim (λ low. ap (λ x. x == 0x0A) (one low)) (λ high_too. grind (arith, nat_tests)) (cases_lt c 128))
     (cases_lt b 128)
 
--- a line feed stands first in both
+-- a line feed is first in both
 pub before_line_feed-decoded : (bytes : List ℕ) → is_before_line_feed (utf8_decoded bytes) ≡ is_before_line_feed bytes
 before_line_feed-decoded [] = rw utf8_decoded-nil refl
 before_line_feed-decoded (b ∷ bytes) =
@@ -104,7 +104,7 @@ module _ (bytes : List ℕ) (at : ℕ) (within : at < length bytes) (is : is_bre
   front : take (at + 1) bytes ≡ take at bytes ++ a ∷ []
   front = take_more bytes at 0 within
 
-  -- a carriage return, or a line feed that stands alone
+  -- a carriage return, or a line feed by itself
   module _ (single : a == 0x0D && next == 0x0A ≡ false) where
     end-single : break_end bytes at ≡ at + 1
     end-single = cond-false _ _ _ single

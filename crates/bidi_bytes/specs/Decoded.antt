@@ -1,4 +1,4 @@
--- The characters that the bytes of a file are.
+-- The characters that the bytes of a file encode.
 use Rattle.std.specs.Prelude.{ℕ, ◌+◌, ◌*◌, Bool, true, false, not, ◌==◌, ◌&&◌, ◌||◌, if◌then◌else◌, List, [], ◌∷◌, take, drop, length, slice_index, nat_eq, Option, Some, None, option_map}
 use Rattle.std.specs.Option.{option_or}
 use Rattle.std.specs.Char.Utf16.{utf16_lossy_chars}
@@ -30,12 +30,12 @@ units_of high_first (first ∷ second ∷ bytes) = unit_of high_first first seco
 abbrev pub utf16_decoded : Bool → List ℕ → List ℕ
 utf16_decoded high_first bytes = utf16_lossy_chars (units_of high_first bytes)
 
--- the characters of UTF-8, where each sequence of bytes that is not UTF-8 is one U+FFFD (as `String::from_utf8_lossy` of
--- Rust divides them)
+-- the characters of UTF-8, where each sequence of bytes that is not UTF-8 is one U+FFFD (as `String::from_utf8_lossy`
+-- of Rust divides them)
 abbrev pub utf8_decoded : List ℕ → List ℕ
 utf8_decoded bytes = chars (utf8_lossy bytes)
 
--- the characters of a file: of UTF-16 after a byte order mark, which is not one of them, and else of UTF-8
+-- the characters of a file: those of UTF-16 after a byte order mark, which is not one of them, or those of UTF-8
 abbrev pub decoded : List ℕ → List ℕ
 decoded bytes =
     if has_low_first bytes then utf16_decoded false (drop 2 bytes)

@@ -2,7 +2,7 @@
 use Rattle.std.specs.Prelude.{ℕ, ◌+◌, Bool, false, List, [], ◌∷◌, ◌==◌, ◌&&◌, ◌||◌, not, slice_index, if◌then◌else◌}
 use Rattle.bidi_base.specs.Paragraphs.{SplitTest, cut_after}
 
--- a line feed stands first
+-- a line feed is first
 abbrev pub is_before_line_feed : List ℕ → Bool
 is_before_line_feed [] = false
 is_before_line_feed (c ∷ cs) = c == 0x0A

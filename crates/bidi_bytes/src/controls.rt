@@ -4,7 +4,7 @@ ghost use Rattle.bidi_bytes.specs.ControlBytes.{begins_with_control, holds_contr
 
 use memchr::memchr2;
 
-/// Whether bytes begin with the UTF-8 of a direction control or mark.
+/// Returns whether bytes begin with the UTF-8 of a direction control or mark.
 fn begins_with_control(bytes: &[u8]) -> bool
     ensures { result ≡ begins_with_control bytes.now }
 {

@@ -1,4 +1,4 @@
-//! The bytes of files: the characters that they are, the lines in them, and whether they hold a direction control.
+//! The bytes of files: the characters that they encode, their lines, and whether they hold a direction control or mark.
 #![tactic(auto)]
 
 pub mod controls;

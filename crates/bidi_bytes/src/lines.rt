@@ -5,7 +5,7 @@ ghost use Rattle.bidi_bytes.specs.FileLines.{is_break, break_end, file_lines_of}
 
 use memchr::{memchr2, memrchr2};
 
-/// Where the line feed, the CR LF or the carriage return at an index ends.
+/// Returns the index after the line feed, the CR LF or the carriage return at an index.
 fn break_end(bytes: &[u8], at: usize) -> usize
     requires within { at < length bytes.now }
     ensures end { result ≡ break_end bytes.now at }
@@ -17,7 +17,7 @@ fn break_end(bytes: &[u8], at: usize) -> usize
     }
 }
 
-/// Returns how many bytes the first line of some bytes has, with the LF, CR LF or CR that ends it. There are bytes.
+/// Returns the length in bytes of the first line, with the LF, CR LF or CR that ends it. `bytes` must not be empty.
 pub fn first_line_len(bytes: &[u8]) -> usize
     requires { 0 < length bytes.now }
     ensures advances { 0 < result }
@@ -31,7 +31,7 @@ pub fn first_line_len(bytes: &[u8]) -> usize
     }
 }
 
-/// Returns how many lines bytes have.
+/// Returns the number of lines. A line ends after a LF, a CR LF or a CR, or at the end of the bytes.
 pub fn count_lines(bytes: &[u8]) -> usize
     ensures count { result ≡ length (file_lines_of (utf8_decoded bytes.now)) }
     ensures within { result ≤ length bytes.now }

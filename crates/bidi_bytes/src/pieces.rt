@@ -7,8 +7,10 @@ use std::io::{self, Read};
 /// How many bytes are read at once, if no line is longer.
 const PIECE: usize = 256 * 1024;
 
-/// Appends the next bytes of a file. Returns whether these are the last. If bytes wait for the end of their line, as many
-/// are read again, so that a long line is read in few pieces. If reading fails, the bytes before are appended.
+/// Appends the next bytes of a file. Returns whether these are the last.
+///
+/// Reads up to 256 KiB, or up to as many bytes as `bytes` already has if these are more, so that a long line is read in
+/// few pieces. Returns an error if a read or an allocation fails. Then `bytes` still begins with what it had before.
 pub fn read_piece<R: Read>(reader: &mut R, bytes: &mut Vec<u8>) -> io::Result<bool>
     ensures appends { StartsWith bytes.new.items bytes.old.items }
     ensures piece { OnOk result (IfSome (R.remaining reader.old)
@@ -21,7 +23,7 @@ pub fn read_piece<R: Read>(reader: &mut R, bytes: &mut Vec<u8>) -> io::Result<bo
     Ok(len < most)
 }
 
-/// Deletes the first bytes.
+/// Deletes the first `len` bytes. `bytes` must have at least `len`.
 pub fn drop_front(bytes: &mut Vec<u8>, len: usize)
     requires { len ≤ vec_len bytes.old }
     ensures { bytes.new.items ≡ drop len bytes.old.items }

@@ -10,11 +10,11 @@ use Rattle.bidi_base.specs.declared.char_data.BidiClass.TheVariants.{S, WS}
 use Rattle.bidi_base.specs.Source.{Source}
 use Rattle.bidi_columns.specs.declared.cluster.Cluster.{Cluster}
 
--- the columns that a character takes, and none where it has no width
+-- the columns that a character takes, none if it has no width
 abbrev pub columns : ℕ → ℕ
 columns c = unwrap_or (char_width false c) 0
 
--- the columns that a tab takes from a column on: those up to the next multiple of eight
+-- the columns that a tab takes at a column: those up to the next multiple of eight
 abbrev pub tab_columns : ℕ → ℕ
 tab_columns column = 8 - column % 8
 
@@ -24,7 +24,7 @@ is_space S = true
 is_space WS = true
 is_space _ = false
 
--- the columns that characters take together, and 65535 where they take more
+-- the columns that characters take together, or 65535 if they take more
 abbrev pub width_of : List ℕ → ℕ
 width_of cs = min 65535 (sum_by columns cs)
 

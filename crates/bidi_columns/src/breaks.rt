@@ -105,11 +105,11 @@ fn line_of(clusters: &[Cluster], fit: usize) -> LineLength
     }
 }
 
-/// Returns the first line of clusters, of which there is at least one.
+/// Returns the first line of clusters. There must be at least one cluster.
 ///
 /// If the clusters end, or white space follows, the line has all clusters that fit in `limit` columns, and at least
-/// one. The white space that follows it is in no line. Else the line ends with the last white space among them, if there
-/// is one.
+/// one. The white space that follows it is in no line. Otherwise, the line ends with the last white space among them,
+/// if there is one.
 pub fn first_line(clusters: &[Cluster], limit: u16) -> LineLength
     requires { 1 ≤ length clusters.now }
     ensures line { result ≡ first_line_of limit clusters.now }
@@ -120,7 +120,7 @@ pub fn first_line(clusters: &[Cluster], limit: u16) -> LineLength
     line_of(clusters, fitting(clusters, limit).max(1))
 }
 
-// Returns the range of bytes of a line, which is the first one of clusters.
+// Returns the range of bytes of the first line of clusters.
 fn range_of(clusters: &[Cluster], line: LineLength) -> Range<usize>
     requires some { 1 ≤ line.shown }
     requires within { line.shown ≤ length clusters.now }
@@ -132,7 +132,7 @@ fn range_of(clusters: &[Cluster], line: LineLength) -> Range<usize>
 /// Returns the lines of a text of at most `limit` columns, as ranges of its bytes. An empty text is one empty line.
 ///
 /// No line begins or ends in a grapheme cluster. White space between two lines is in neither, if it does not fit in the
-/// first one.
+/// first one. Returns an error if an allocation fails.
 pub fn lines<D: BidiDataSource>(
     alloc: Global,
     data_source: &D,

@@ -17,7 +17,7 @@ pub struct Cluster {
     pub start: usize,
     /// The offset after its last byte.
     pub end: usize,
-    /// The columns that it takes if it is no tab; `u16::MAX` also stands for more.
+    /// The columns that it takes if it is no tab, or `u16::MAX` if it takes more.
     pub width: u16,
     /// Whether it is a tab.
     pub is_tab: bool,
@@ -25,7 +25,7 @@ pub struct Cluster {
     pub is_space: bool,
 }
 
-/// Returns the number of columns that a character takes. A nonspacing mark and a control take none.
+/// Returns the number of columns that a character takes in a terminal, at most 3, or 0 if it has no width.
 pub fn columns(c: char) -> usize
     ensures result { result ≡ columns_of c }
     ensures bound { result ≤ 3 }
@@ -74,7 +74,7 @@ impl Cluster {
     }
 }
 
-/// Returns the clusters of a text, in order.
+/// Returns the clusters of a text, in order. Returns an error if an allocation fails.
 pub fn clusters<D: BidiDataSource>(
     alloc: Global,
     data_source: &D,

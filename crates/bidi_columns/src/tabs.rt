@@ -8,7 +8,7 @@ use std::alloc::{AllocError, Global};
 
 /// The characters of a line with their levels, with spaces in place of its tabs.
 ///
-/// It is used for one line after another, and reuses its memory.
+/// Takes one line after another, and reuses its memory.
 #[derive(Drop)]
 pub struct SpreadLine {
     chars: Vec<char>,
@@ -56,7 +56,7 @@ impl SpreadLine {
         Ok(())
     }
 
-    // Appends so many spaces at a level.
+    // Appends `count` spaces at a level.
     fn push_spaces(&mut self, level: Level, count: usize) -> Result<(), AllocError>
         ensures chars { OnOk result (chars_of self.new ≡ chars_of self.old ++ replicate count 0x20) }
         ensures levels { OnOk result (levels_of self.new ≡ levels_of self.old ++ replicate count level) }
@@ -86,8 +86,8 @@ impl SpreadLine {
         }
     }
 
-    /// Replaces the line by these characters and levels, one a character. Each tab becomes spaces up to the next
-    /// multiple of eight columns, at the level of the tab.
+    /// Replaces the line by these characters and their levels, one for each. Each tab becomes spaces up to the next
+    /// multiple of eight columns, at the level of the tab. Returns an error if an allocation fails.
     pub fn spread(&mut self, chars: &[char], levels: &[Level]) -> Result<(), AllocError>
         requires { length levels.now ≡ length chars.now }
         ensures chars { OnOk result (chars_of self.new ≡ spread_of 0 chars.now) }

@@ -1,4 +1,4 @@
--- The opener that a character closes, by the openers that are open before it: it is the one whose match that character is (BD9, BD11).
+-- The opener that a character closes, by the openers that are open before it. The character is its match (BD9, BD11).
 use Rattle.bidi_base.proofs.Common.{◌≡◌, ℕ, suc, ◌+◌, ◌-◌, ◌<◌, Bool, true, false, cond, List, [], ◌∷◌, length, drop, find, Option, Some, None, refl, sym, ap, subst}
 use Rattle.bidi_base.proofs.Common.{◌∙◌, arith, filter, and_parts, and_from, false_from_ne_true, is_embedding_initiator, is_opener, is_pdf, class_at, is_isolate_initiator_at}
 use Rattle.bidi_base.proofs.Common.{is_pdi_at, matching_pdi, is_inside, is_level_with, is_embedding_level_with, is_pdf_level_with, closing_pdf}
@@ -45,7 +45,7 @@ module _ (classes : List BidiClass) where
   levels_apart : (q k : ℕ) → is_embedding_level_with classes q k ≡ true → is_pdf_level_with classes q k ≡ false
   levels_apart q k e = grind arith
 
-  -- the embeddings level with q that are open before p, where q and p stand inside the same isolates
+  -- the embeddings level with q that are open before p, if q and p are inside the same isolates
   level_stack : (p q : ℕ) → q < p → p < length classes → ((r : ℕ) → r < length classes → is_inside classes r q ≡ is_inside classes r p)
       → IsReadStack (is_embedding_level_with classes q) (is_pdf_level_with classes q) p (filter (is_embedding_level_with classes q) (openers_read classes p))
   level_stack p q order fits same =
@@ -114,7 +114,7 @@ module _ (classes : List BidiClass) where
   pub IsCloser-closed_opener : (p q : ℕ) → is_opener (class_at classes q) ≡ true → closer_of classes q ≡ Some p → closed_opener classes p (openers_read classes p) ≡ Some q
   IsCloser-closed_opener p q opener e = grind (arith, matched_isolate, matched_embedding)
 
-  -- a match stands after what it closes, in the line
+  -- a match is after what it closes, in the line
   pub closer_of-within : (q m : ℕ) → closer_of classes q ≡ Some m → (q < m) × (m < length classes)
   unfolding closing_pdf
   closer_of-within q m e =

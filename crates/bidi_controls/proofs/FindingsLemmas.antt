@@ -10,7 +10,7 @@ use Rattle.bidi_controls.specs.declared.finding.Finding.{Finding}
 flat_map-range : {Y : Type 0} (f : ℕ → List Y) (p : ℕ) → flat_map f (range_with_len 0 (p + 1)) ≡ flat_map f (range_with_len 0 p) ++ f p
 flat_map-range f p = grind (arith, next_index, flat_map-append, append-nil)
 
--- what is found at one more index, where the parts that it is made of are read one by one
+-- what is found at one more index, if the parts that it is made of are read one by one
 pub more_findings : (class_of : ℕ → BidiClass) (any : Bool) (differing : Option ℕ) (number from : ℕ) (line : List ℕ) (p c : ℕ) (class : BidiClass) (flags : List Bool) (here : Bool) (before old new : List Finding)
     → p < length line → c ≡ get_or line p c → class ≡ class_of c → flags ≡ map (is_unmatched (map class_of line)) (indexes line) → here ≡ holds_number differing p
     → old ≡ before ++ flat_map (findings_at any differing number from (map class_of line) line) (range_with_len 0 p)

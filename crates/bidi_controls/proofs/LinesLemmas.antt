@@ -38,7 +38,7 @@ module _ (ends : SplitTest) (chars : List ℕ) (n c : ℕ) (fits : n < length ch
   pub IsUnbroken-ended : ends c (drop (n + 1) chars) ≡ true → IsUnbroken ends chars n → cut_after ends chars ≡ take (n + 1) chars ∷ cut_after ends (drop (n + 1) chars)
   IsUnbroken-ended stops h = grind (arith, from_here, onto_front-line, with_it)
 
--- nor do the next k, which end no line whatever stands after them
+-- nor do the next k, which end no line whatever follows them
 pub IsUnbroken-plain : (ends : SplitTest) (chars : List ℕ) (n k : ℕ) → n + k ≤ length chars → ((i : ℕ) → n ≤ i → i < n + k → (after : List ℕ) → ends (get_or chars i 0) after ≡ false)
     → IsUnbroken ends chars n → IsUnbroken ends chars (n + k)
 IsUnbroken-plain ends chars n zero fits plain h = subst (IsUnbroken ends chars) (omega arith) h

@@ -32,7 +32,7 @@ flat_map-none : {Y : Type 0} (f : ℕ → List Y) (n low : ℕ) → ((k : ℕ) �
 flat_map-none f zero low none = refl
 flat_map-none f (suc n) low none = grind (arith, none low, flat_map-none f n (suc low))
 
--- nothing is found where there is no control
+-- nothing is found if there is no control
 finding_of-none : (any : Bool) (number k : ℕ) (unmatched : Bool) (class : BidiClass) (c : ℕ) → control_of class c ≡ None → finding_of any number k unmatched class c ≡ None
 finding_of-none any number k unmatched class c none = grind arith
 

@@ -9,7 +9,7 @@ isolates_in openers = count_by (λ opener. opener.is_isolate) openers
 count_more : (o : Opener) (openers : List Opener) → isolates_in (o ∷ openers) ≡ cond o.is_isolate 1 0 + isolates_in openers
 count_more o openers = sum_by-cons (λ x. cond x.is_isolate 1 0) o openers
 
--- where an isolate is open, there is an innermost one, and outside it one fewer
+-- if an isolate is open, there is an innermost one, and outside it one fewer
 pub record HasIsolate (openers : List Opener) : Type 0 where
   pub some : is_some (innermost_isolate openers) ≡ true
   pub fewer : isolates_in openers ≡ isolates_in (outside_isolate openers) + 1

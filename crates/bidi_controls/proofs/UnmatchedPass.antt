@@ -1,4 +1,4 @@
--- The walk along a line: what is open, and which of the characters read so far are controls without a match.
+-- The pass over a line: what is open, and which of the characters read so far are controls without a match.
 use Rattle.bidi_base.proofs.Common.{◌≡◌, ℕ, ◌+◌, ◌<◌, Bool, true, false, ◌||◌, ◌&&◌, cond, leb, List, [], ◌∷◌, ◌++◌, length, get_or, map, find, Option, Some, None, refl, sym, ap, ◌∙◌, arith}
 use Rattle.bidi_base.proofs.Common.{length-append, add-one, list_any, range_with_len, cases_lt, false_from_ne_true, length-set, get_or_append_left, get_or_push, fill_by_all, length-range_with_len}
 use Rattle.bidi_base.proofs.Common.{get_or-range_with_len, list_any_none, list_any_at, is_opener, class_at, between, is_isolate_initiator_at, is_some, get_or-set_same, get_or-set_other}
@@ -11,7 +11,7 @@ use Rattle.bidi_controls.specs.OpenOpeners.{innermost_isolate, outside_isolate, 
 use Rattle.bidi_controls.specs.Matches.{is_control, closer_of, is_closed_by, closes_nothing, is_unmatched}
 use Rattle.bidi_controls.proofs.ClosedOpeners.{closed_opener, closed_opener-IsCloser, IsCloser-closed_opener, closer_of-within}
 
--- ---- the openers, as the indexes at which they stand
+-- ---- the openers, as their indexes
 
 -- the opener at an index
 abbrev pub opener_at : List BidiClass → ℕ → Opener
@@ -24,7 +24,7 @@ innermost_isolate-at : (classes : List BidiClass) (stack : List ℕ) → innermo
 innermost_isolate-at classes [] = refl
 innermost_isolate-at classes (q ∷ stack) = ap (λ rest. cond (is_isolate_initiator_at classes q) (Some q) rest) (innermost_isolate-at classes stack)
 
--- outside the innermost isolate, or the whole where there is none
+-- outside the innermost isolate, or the whole if there is none
 left_by_pdi : (classes : List BidiClass) (whole stack : List ℕ)
     → cond (is_some (innermost_isolate (openers_at classes stack))) (outside_isolate (openers_at classes stack)) (openers_at classes whole) ≡ openers_at classes (below_isolate classes whole stack)
 left_by_pdi classes whole [] = refl
@@ -80,7 +80,7 @@ module _ (classes : List BidiClass) where
   unmatched_by-last : (p : ℕ) → p < length classes → unmatched_by classes (p + 1) p ≡ (is_none (closed p) && is_control (class_at classes p))
   unmatched_by-last p fits = grind (arith, opener_closes_none, closes_some, closer_of-within)
 
-  -- ---- the walk
+  -- ---- the pass
 
   -- p characters were read, these openers are open, and these are the controls without a match so far
   pub record IsReadSoFar (p : ℕ) (openers : List Opener) (unmatched : List Bool) : Type 0 where
@@ -92,7 +92,7 @@ module _ (classes : List BidiClass) where
   unfolding openers_read
   IsReadSoFar-start openers unmatched none empty = grind arith
 
-  -- what is closed stands among what was read
+  -- what is closed is among what was read
   pub IsReadSoFar-closed : (p : ℕ) (openers : List Opener) (unmatched : List Bool) (o : Option ℕ) → p < length classes → IsReadSoFar p openers unmatched
       → o ≡ closed_place (class_at classes p) openers → o ≡ closed p
   IsReadSoFar-closed p openers unmatched o fits h e = grind (arith, closed_place-at)

@@ -23,7 +23,7 @@ wants_every_control Everything = true
 wants_every_control Unmatched = false
 wants_every_control Misleading = false
 
--- lines are wanted that are displayed differently from how they read
+-- lines that are displayed differently from how they read are wanted
 abbrev pub wants_lines : Wanted → Bool
 wants_lines Unmatched = false
 wants_lines Misleading = true
@@ -34,56 +34,56 @@ wants_lines EveryControl = false
 abbrev pub controls_wanted : Bool → Wanted
 controls_wanted any = if any then EveryControl else Unmatched
 
--- what is the matter with a control of this class
+-- what is wrong with a control of this class, or `Present` for any that is wanted without being wrong
 abbrev pub trouble_of : Bool → BidiClass → Trouble
 trouble_of unmatched class = if unmatched then (if is_opener class then NotClosed else ClosesNothing) else Present
 
--- that this is the matter with the control or the mark at a place of a line, if the character there is one
+-- the finding of this trouble at an index of a line, if the character there is a control or a mark
 abbrev pub finding_with : Trouble → ℕ → ℕ → BidiClass → ℕ → Option Finding
 finding_with trouble line place class c =
     option_map (λ control. record { line = line; column = place + 1; control = control; trouble = trouble }) (control_of class c)
 
--- what is found at a place of a line, if something is: a control without its match on the line, or with `any`
--- every control and mark
+-- what is found at an index of a line, if something is: a control without its match on the line, or with `any` every
+-- control and mark
 abbrev pub finding_of : Bool → ℕ → ℕ → Bool → BidiClass → ℕ → Option Finding
 finding_of any line place unmatched class c =
     if any || unmatched then finding_with (trouble_of unmatched class) line place class c else None
 
--- the same of the character at an index of a paragraph, which begins at this place of its line
+-- the same for the character at an index of a paragraph that begins at the index `from` of its line
 abbrev pub finding_at : Bool → ℕ → ℕ → List BidiClass → List ℕ → ℕ → Option Finding
 finding_at any line from classes chars k =
     finding_of any line (from + k) (is_unmatched classes k) (class_at classes k) (get_or chars k 0)
 
--- what is found at a place of a line if this is where the line tells that it is displayed differently from how it reads
+-- what is found at an index of a line, if the finding that the line is displayed differently from how it reads is there
 abbrev pub line_finding_of : Bool → ℕ → ℕ → BidiClass → ℕ → Option Finding
 line_finding_of here line place class c = if here then finding_with DisplayedDifferently line place class c else None
 
--- the same of the character at an index of a paragraph, which begins at this place of its line
+-- the same for the character at an index of a paragraph that begins at the index `from` of its line
 abbrev pub line_finding_at : Option ℕ → ℕ → ℕ → List BidiClass → List ℕ → ℕ → Option Finding
 line_finding_at differing line from classes chars k =
     line_finding_of (holds_number differing k) line (from + k) (class_at classes k) (get_or chars k 0)
 
--- all that is found at an index of a paragraph: first what is found of the paragraph, then what is found of the
--- character
+-- all that is found at an index of a paragraph: first what is found in the paragraph as a whole, then what is found in
+-- the character
 abbrev pub findings_at : Bool → Option ℕ → ℕ → ℕ → List BidiClass → List ℕ → ℕ → List Finding
 findings_at any differing line from classes chars k =
     option_to_list (line_finding_at differing line from classes chars k) ++ option_to_list (finding_at any line from classes chars k)
 
--- where a paragraph tells that it is displayed differently from how it reads, if it is so and this is wanted: at its
--- first control
+-- the index of the first control of a paragraph that is displayed differently from how it reads, if such lines are
+-- wanted
 abbrev pub differing_place : Source → Wanted → List ℕ → Option ℕ
 differing_place source wanted chars =
     if wants_lines wanted && is_displayed_differently source (own_chars source chars)
     then position (λ c. is_control (source.class_of c)) chars else None
 
--- the findings in a paragraph, which begins at this place of the line of this number, in the order of their columns
+-- the findings in a paragraph that begins at the index `from` of the line of this number, in the order of their columns
 abbrev pub findings_in_paragraph : Source → Wanted → ℕ → ℕ → List ℕ → List Finding
 findings_in_paragraph source wanted line from chars =
     flat_map
     (findings_at (wants_every_control wanted) (differing_place source wanted chars) line from (map source.class_of chars) chars)
     (indexes chars)
 
--- the same for paragraphs, of which the first begins at this place of the line
+-- the same for paragraphs, the first of which begins at the index `from` of the line
 abbrev pub findings_in_paragraphs : Source → Wanted → ℕ → ℕ → List (List ℕ) → List Finding
 findings_in_paragraphs source wanted line from [] = []
 findings_in_paragraphs source wanted line from (chars ∷ paragraphs) =
@@ -94,7 +94,7 @@ findings_in_paragraphs source wanted line from (chars ∷ paragraphs) =
 unfoldable pub findings_in_line : Source → Wanted → ℕ → List ℕ → List Finding
 findings_in_line source wanted line chars = findings_in_paragraphs source wanted line 0 (paragraphs_in source chars)
 
--- the same for lines, of which the first has this number
+-- the same for lines, the first of which has this number
 abbrev pub findings_from : Source → Wanted → ℕ → List (List ℕ) → List Finding
 findings_from source wanted line [] = []
 findings_from source wanted line (chars ∷ lines) =
@@ -112,7 +112,7 @@ trouble_text ClosesNothing = codes "closes nothing on its line"
 trouble_text Present = codes "is present"
 trouble_text DisplayedDifferently = codes "is on a line displayed differently from how it reads"
 
--- where it stands: the file, the line and the column
+-- its position: the file, the line and the column
 abbrev pub place_text : List ℕ → Finding → List ℕ
 place_text name finding = name ++ (codes ":" ++ (decimal finding.line ++ (codes ":" ++ (decimal finding.column ++ codes ": "))))
 

@@ -32,8 +32,8 @@ fn first_control<D: BidiDataSource>(data_source: &D, chars: &[char]) -> Option<u
         .position(|c| is_control(data_source.bidi_class(*c)))
 }
 
-/// Returns where a paragraph tells that it is displayed differently from how it reads, if it is so and this is wanted:
-/// the index of its first control.
+/// Returns the index of the first control of a paragraph that is displayed differently from how it reads, if such lines
+/// are wanted.
 fn differing_place<D: BidiDataSource>(
     comparison: &mut DisplayComparison,
     alloc: Global,
@@ -53,7 +53,7 @@ fn differing_place<D: BidiDataSource>(
     Ok(first_control(data_source, line))
 }
 
-/// Returns whether an index is this one, if there is one.
+/// Returns whether `place` is this index.
 fn is_at(place: Option<usize>, index: usize) -> bool
     ensures { result ≡ holds_number place index }
 {
@@ -87,15 +87,15 @@ fn push_findings_at(
 struct LineParagraph<'l> {
     /// The number of its line, counted from 1.
     line: usize,
-    /// How many characters of its line precede it.
+    /// The index of its first character in its line.
     place: usize,
     /// Its characters.
     chars: &'l [char],
     ghost in_line: { place + length chars.now < 2 ^ 64 },
 }
 
-/// Appends the findings in a paragraph. At the index `differing`, if there is one, it is displayed differently from how
-/// it reads. The others are controls without a match, or with `any` all controls and marks.
+/// Appends the findings in a paragraph. At the index `differing`, if there is one, is the finding that it is displayed
+/// differently from how it reads. The others are controls without a match, or with `any` all controls and marks.
 fn push_findings<D: BidiDataSource>(
     findings: &mut Vec<Finding>,
     data_source: &D,
@@ -206,18 +206,19 @@ impl LineSearch {
     }
 }
 
-/// How many characters a text has at least for which the classes of ASCII are looked up first.
+/// The minimum length, in characters, of a text for which the classes of ASCII are looked up first.
 const LONG: usize = 1024;
 
 /// Returns what is found in a text, in order.
 ///
-/// These are direction controls that have no match on their paragraph, or with `EveryControl` and `Everything` every
-/// control and mark. An embedding or an override wants its PDF (BD11), an isolate initiator its PDI (BD9), and a PDF or a
-/// PDI what it closes. With `Misleading` and `Everything`, a paragraph that is displayed differently from how it reads is
-/// found too, at its first control (see `DisplayComparison`).
+/// These are direction controls that have no match in their paragraph on their line, or with `EveryControl` and
+/// `Everything` every control and mark. The match of an embedding or an override is its PDF (BD11), that of an isolate
+/// initiator its PDI (BD9), and that of a PDF or a PDI what it closes. With `Misleading` and `Everything`, a paragraph
+/// that is displayed differently from how it reads is found too, at its first control (see `DisplayComparison`).
 ///
 /// Lines and columns are counted from 1, columns in characters. Lines end where editors end them: after a line feed, a
-/// CR LF or a carriage return. Another paragraph separator ends a paragraph, but not the line.
+/// CR LF or a carriage return. Another paragraph separator ends a paragraph, but not the line. Returns an error if an
+/// allocation fails.
 pub fn findings_wanted<D: BidiDataSource>(
     alloc: Global,
     data_source: &D,
@@ -251,7 +252,7 @@ pub fn findings_wanted<D: BidiDataSource>(
 
 /// Returns the direction controls of a text that have no match on their line, or with `any` every control and mark.
 ///
-/// These are the findings of [`findings_wanted`] without those of lines.
+/// These are the findings of [`findings_wanted`] without those of lines. Returns an error if an allocation fails.
 pub fn findings_in<D: BidiDataSource>(
     alloc: Global,
     data_source: &D,

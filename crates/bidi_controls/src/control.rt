@@ -4,7 +4,7 @@ ghost use Rattle.std.specs.Prelude.{◌≡◌};
 use bidi_base::char_data::BidiClass;
 use bidi_base::format_chars::{ALM, LRM, RLM};
 
-/// A character that is not seen and sets directions: one of the nine controls, or a mark.
+/// An invisible character that sets directions: one of the nine direction controls, or one of the three marks.
 #[derive(Clone, Copy, Debug)]
 pub enum Control {
     /// LRE, U+202A.
@@ -36,7 +36,7 @@ pub enum Control {
 impl Control {
     ghost use Rattle.bidi_controls.specs.Controls.{mark_of, control_of, control_name, control_short};
 
-    /// The mark that a character is.
+    /// Returns the mark that a character is, or `None` if it is not a mark.
     fn mark(c: char) -> Option<Control>
         ensures { result ≡ mark_of c }
     {
@@ -48,8 +48,9 @@ impl Control {
         }
     }
 
-    /// The control or the mark that a character of this class is, if it is one. Each of the nine
-    /// classes of controls has one character, so the class alone decides among them.
+    /// Returns the control or the mark that a character of this class is, or `None` if it is neither.
+    ///
+    /// The class alone decides among the nine controls, since Unicode has one character of each class.
     pub fn of(class: BidiClass, c: char) -> Option<Control>
         ensures { result ≡ control_of class c }
     {
@@ -67,7 +68,7 @@ impl Control {
         }
     }
 
-    /// Its code point and its name.
+    /// Returns its code point and its name.
     pub fn name(self) -> &'static str
         ensures { result.now ≡ control_name self }
     {
@@ -87,7 +88,7 @@ impl Control {
         }
     }
 
-    /// Its short name, as UAX #9 has it.
+    /// Returns its short name, as UAX #9 has it.
     pub fn short_name(self) -> &'static str
         ensures { result.now ≡ control_short self }
     {

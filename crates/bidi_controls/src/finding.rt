@@ -27,7 +27,7 @@ impl Wanted {
         matches!(self, Wanted::EveryControl | Wanted::Everything)
     }
 
-    /// Returns whether lines are wanted that are displayed differently from how they read.
+    /// Returns whether lines that are displayed differently from how they read are wanted.
     pub fn wants_lines(self) -> bool
         ensures { result ≡ wants_lines self }
     {
@@ -35,14 +35,14 @@ impl Wanted {
     }
 }
 
-/// What is the matter with a control.
+/// What is wrong with a control.
 #[derive(Clone, Copy, Debug)]
 pub enum Trouble {
     /// Nothing on its line closes what it opens.
     NotClosed,
     /// There is nothing on its line that it closes.
     ClosesNothing,
-    /// It is there, as every control and mark is that is asked for.
+    /// It is there. Only `EveryControl` and `Everything` find such controls and marks.
     Present,
     /// It is the first control of a line that is displayed differently from how it reads.
     DisplayedDifferently,
@@ -52,7 +52,7 @@ impl Trouble {
     ghost use Rattle.std.specs.Prelude.{◌≡◌};
     ghost use Rattle.bidi_controls.specs.Findings.{trouble_of, trouble_text};
 
-    /// What is the matter with a control of this class.
+    /// Returns what is wrong with a control of this class, or `Present` if `unmatched` is false.
     pub fn of(unmatched: bool, class: BidiClass) -> Trouble
         ensures { result ≡ trouble_of unmatched class }
     {
@@ -83,7 +83,7 @@ impl Trouble {
 pub struct LineChar {
     /// The number of its line, counted from 1.
     pub line: usize,
-    /// Its place in the line, in characters, counted from 0.
+    /// Its index in the line, in characters.
     pub place: usize,
     /// Its class.
     pub class: BidiClass,
@@ -96,9 +96,11 @@ pub struct LineChar {
 pub struct Finding {
     /// The number of its line, counted from 1.
     pub line: usize,
-    /// Its place in the line, in characters, counted from 1.
+    /// Its column: its index in the line, in characters, plus 1.
     pub column: usize,
+    /// The control or the mark.
     pub control: Control,
+    /// What is wrong with it.
     pub trouble: Trouble,
 }
 
@@ -106,7 +108,8 @@ impl Finding {
     ghost use Rattle.std.specs.Prelude.{◌≡◌, ◌+◌, ◌<◌, ◌^◌};
     ghost use Rattle.bidi_controls.specs.Findings.{finding_with, finding_of};
 
-    /// Returns a finding of this trouble, or `None` if the character is neither a control nor a mark.
+    /// Returns a finding of this trouble, or `None` if the character is neither a control nor a mark. The column must
+    /// be below 2^64.
     pub fn with(trouble: Trouble, at: LineChar) -> Option<Finding>
         requires { at.place + 1 < 2 ^ 64 }
         ensures { result ≡ finding_with trouble at.line at.place at.class at.c }
@@ -119,8 +122,8 @@ impl Finding {
         })
     }
 
-    /// Returns the finding at a character, if there is one: a control without its match on its line, or with `any` every
-    /// control and mark.
+    /// Returns the finding at a character, if there is one: a control without its match on its line, or with `any`
+    /// every control and mark. The column must be below 2^64.
     pub fn of(any: bool, unmatched: bool, at: LineChar) -> Option<Finding>
         requires { at.place + 1 < 2 ^ 64 }
         ensures { result ≡ finding_of any at.line at.place unmatched at.class at.c }

@@ -1,5 +1,5 @@
-//! Direction controls that have no match on their line, and lines that are displayed differently from how they read. Both
-//! can make source code display differently from how it is compiled.
+//! Direction controls that have no match on their line, and lines that are displayed differently from how they read.
+//! Both can make source code display differently from how it is compiled.
 #![tactic(auto)]
 
 pub mod check;

@@ -29,7 +29,7 @@ fn ends_paragraph<D: BidiDataSource>(data_source: &D, c: char, after: &[char]) -
 }
 
 /// Returns how many characters the first paragraph of a text has, with the separator that ends it, CR LF as one. The
-/// text is not empty.
+/// text must not be empty.
 pub fn first_paragraph_len<D: BidiDataSource>(data_source: &D, chars: &[char]) -> usize
     requires { 0 < length chars.now }
     ensures advances { 0 < result }
@@ -115,11 +115,12 @@ fn are_printable_ascii(chars: &[char]) -> bool
 pub(crate) struct FirstLine {
     /// How many characters it has, with those that end it.
     pub len: usize,
-    /// True only where no control and no mark stands in it.
+    /// True only if it has no control and no mark.
     pub has_no_controls: bool,
 }
 
-/// Returns the first line of a file that is not empty. With `ascii_has_no_control`, printable ASCII is passed over in blocks.
+/// Returns the first line of a file that is not empty. With `ascii_has_no_control`, printable ASCII is passed over in
+/// blocks.
 #[inline(never)]
 pub(crate) fn first_file_line<D: BidiDataSource>(
     data_source: &D,

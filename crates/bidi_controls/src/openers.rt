@@ -11,10 +11,11 @@ use std::marker::Model;
 pub struct Opener {
     /// Its index in the line.
     pub place: usize,
+    /// Whether it is an isolate initiator.
     pub is_isolate: bool,
 }
 
-/// The openers that are open at a place of a line. In clauses they are a list, the innermost first.
+/// The openers that are open at an index of a line. In clauses they are a list, the innermost first.
 #[derive(Drop)]
 pub struct Openers {
     /// The outermost first.
@@ -38,7 +39,7 @@ impl Openers {
     ghost use Rattle.std.specs.Prelude.{[]};
     ghost use Rattle.bidi_controls.specs.OpenOpeners.{innermost_isolate, outside_isolate, innermost_embedding, outside_embedding, closed_place, left_open, then_open};
 
-    /// None. It takes no memory.
+    /// Returns no openers. Does not allocate.
     pub fn new(alloc: Global) -> Self
         ensures { result ≡ [] }
     {
@@ -48,7 +49,7 @@ impl Openers {
         }
     }
 
-    /// None are left. The memory is kept.
+    /// Removes all openers. Keeps the memory.
     pub fn clear(&mut self)
         ensures { self.new ≡ [] }
     {
@@ -56,7 +57,7 @@ impl Openers {
         self.isolates = 0;
     }
 
-    /// Takes away the innermost isolate and all that was opened inside it, and returns its place.
+    /// Removes the innermost isolate and all that was opened inside it, and returns its index.
     fn take_isolate(entries: &mut Vec<Opener>) -> Option<usize>
         ensures place { result ≡ innermost_isolate (reverse entries.old.items) }
         ensures left { reverse entries.new.items ≡ outside_isolate (reverse entries.old.items) }
@@ -81,8 +82,7 @@ impl Openers {
         Openers::take_isolate(&mut self.entries)
     }
 
-    /// Closes what a PDF closes: the innermost embedding or override, unless an isolate was opened
-    /// inside it (X7).
+    /// Closes what a PDF closes: the innermost embedding or override, unless an isolate was opened inside it (X7).
     fn close_embedding(&mut self) -> Option<usize>
         ensures place { result ≡ innermost_embedding self.old }
         ensures left { self.new ≡ outside_embedding self.old }
@@ -95,7 +95,7 @@ impl Openers {
         Some(innermost.place)
     }
 
-    /// Closes what a character of this class closes, and returns the place of what it closed.
+    /// Closes what a character of this class closes, and returns the index of what it closed.
     pub fn close(&mut self, class: BidiClass) -> Option<usize>
         ensures place { result ≡ closed_place class self.old }
         ensures left { self.new ≡ left_open class self.old }
@@ -107,7 +107,7 @@ impl Openers {
         }
     }
 
-    /// Opens what a character of this class opens, which stands at this index.
+    /// Opens what a character of this class at this index opens. Returns an error if an allocation fails.
     pub fn open(&mut self, place: usize, class: BidiClass) -> Result<(), AllocError>
         ensures { OnOk result (self.new ≡ then_open place class self.old) }
     {

@@ -6,7 +6,7 @@ use crate::finding::Finding;
 use bidi_terminal::push_number;
 use std::alloc::{AllocError, Global};
 
-/// Appends where a finding stands: its file, its line and its column.
+/// Appends the position of a finding: its file, its line and its column.
 pub fn push_place(out: &mut String, name: &str, finding: &Finding) -> Result<(), AllocError>
     ensures { OnOk result (string_bytes out.new ≡ string_bytes out.old ++ place_text name.now finding.now) }
 {
@@ -29,7 +29,8 @@ fn push_finding(out: &mut String, name: &str, finding: &Finding) -> Result<(), A
     out.push_str("\n")
 }
 
-/// The lines for all findings in the file of this name, in their order.
+/// Returns the lines for all findings in the file of this name, in their order. Returns an error if an allocation
+/// fails.
 pub fn report(alloc: Global, name: &str, findings: &[Finding]) -> Result<String, AllocError>
     ensures { IfOk result (λ out. string_bytes out ≡ report_of name.now findings.now) }
 {

@@ -11,7 +11,7 @@ use bidi_base::classes::{is_embedding_initiator, is_isolate_initiator, is_pdi};
 use bidi_base::data_source::BidiDataSource;
 use std::alloc::AllocError;
 
-/// Whether a character of this class opens or closes something.
+/// Returns whether a character of this class opens or closes something.
 pub(crate) fn is_control(class: BidiClass) -> bool
     ensures { result ≡ is_control class }
 {
@@ -21,7 +21,8 @@ pub(crate) fn is_control(class: BidiClass) -> bool
         || matches!(class, BidiClass::PDF)
 }
 
-/// Notes a character of this class, which has closed what is at a place, or nothing.
+/// Appends whether a character of this class is a control without a match so far. It closed what is at the index
+/// `closed`, if there is one.
 fn note_character(
     unmatched: &mut Vec<bool>,
     closed: Option<usize>,
@@ -41,8 +42,10 @@ fn note_character(
     Ok(())
 }
 
-/// For each character of a line whether it is a control without its match on that line, in the
-/// vector passed. What the vector and the openers held before goes; their memory is kept.
+/// Writes for each character of a line whether it is a control without its match on that line.
+///
+/// Replaces the contents of `unmatched` and of `openers`, and reuses their memory. Returns an error if an allocation
+/// fails.
 pub fn find_unmatched<D: BidiDataSource>(
     data_source: &D,
     line: &[char],

@@ -1,4 +1,4 @@
--- What is for a character between tags neither begins nor ends one.
+-- What is written for a character between tags neither begins nor ends a tag.
 use Rattle.bidi_base.proofs.Common.{◌≡◌, ℕ, ◌≤◌, true, false, arith, list_all, ◌==◌}
 use Rattle.std.proofs.Math.Utf8.{encode}
 use Rattle.bidi_base.specs.declared.char_data.BidiClass.{BidiClass}

@@ -1,4 +1,4 @@
--- The cells that stand for a character in a row of each stage.
+-- The cells of a character in the rows of the stages.
 use Rattle.std.specs.Prelude.{ℕ, Bool, true, false, ◌/◌, ◌%◌, nat_le, if◌then◌else◌, List, [], ◌∷◌, ◌++◌, codes, encode_utf8, Option, Some, None}
 use Rattle.bidi_base.specs.declared.char_data.BidiClass.{BidiClass}
 use Rattle.bidi_base.specs.declared.char_data.BidiClass.TheVariants.{L, R, AL, EN, ES, ET, AN, CS, NSM, BN, B, S, WS, ON, LRE, LRO, RLE, RLO, PDF, LRI, RLI, FSI, PDI}
@@ -33,12 +33,12 @@ class_name RLI = codes "RLI"
 class_name FSI = codes "FSI"
 class_name PDI = codes "PDI"
 
--- the same, and a dash where there is none
+-- the same, or a dash if there is none
 abbrev pub option_name : Option BidiClass → List ℕ
 option_name (Some class) = class_name class
 option_name None = codes "-"
 
--- characters of this class are not seen: white space, separators, and boundary neutrals
+-- characters of this class are invisible: white space, separators, and boundary neutrals
 abbrev pub is_unseen : BidiClass → Bool
 is_unseen B = true
 is_unseen S = true
@@ -46,8 +46,8 @@ is_unseen WS = true
 is_unseen BN = true
 is_unseen _ = false
 
--- a character that is no control and no mark: what is not seen is nothing, and a nonspacing mark stands on a
--- dotted circle
+-- a character that is no control and no mark: an invisible one is nothing, and a nonspacing mark follows a dotted
+-- circle
 abbrev pub plain_glyph : BidiClass → ℕ → List ℕ
 plain_glyph class c = if is_unseen class then [] else (if is_nsm class then 0xE2 ∷ 0x97 ∷ 0x8C ∷ [] else []) ++ encode_utf8 c
 
@@ -55,11 +55,11 @@ abbrev pub glyph_of : Option Control → BidiClass → ℕ → List ℕ
 glyph_of (Some control) class c = control_short control
 glyph_of None class c = plain_glyph class c
 
--- a character so that it stands for itself alone: a control or a mark by its short name
+-- a character so that it can be read by itself: a control or a mark by its short name
 abbrev pub glyph : BidiClass → ℕ → List ℕ
 glyph class c = glyph_of (control_of class c) class c
 
--- the digit of a number that is worth so much, if the number is no less
+-- the hexadecimal digit of a number at a power of 16, unless the number is below that power
 abbrev pub leading_digit : ℕ → ℕ → List ℕ
 leading_digit worth code = if nat_le worth code then hex_digit (code / worth % 16) else []
 

@@ -12,7 +12,7 @@ use Rattle.bidi_explain.specs.declared.view.Form.{Form}
 use Rattle.bidi_explain.specs.declared.view.Form.TheVariants.{Table, Page}
 use Rattle.bidi_explain.specs.declared.view.StageView.{StageView}
 
--- the stages of a paragraph in a form, tables for a terminal of this width
+-- the stages of a paragraph in a form; a table fits a terminal of this width
 abbrev pub stages_text : Form → Option ℕ → List ℕ → Stages → List ℕ
 stages_text Table width chars s = table_text width chars s
 stages_text Page width chars s = section_text chars s
@@ -23,7 +23,7 @@ pub record IsReported (source : Source) (view : StageView) (line old new : List 
   pub are : AreStages source (level_of_base view.base) (own_chars source line) stages
   pub appended : new ≡ old ++ stages_text view.form view.width (own_chars source line) stages
 
--- the same of several lines
+-- the same for several lines
 abbrev pub AreAppended : Source → StageView → List (List ℕ) → List ℕ → List ℕ → Type 0
 AreAppended source view [] old new = new ≡ old
 AreAppended source view (line ∷ lines) old new =

@@ -12,7 +12,7 @@ use Rattle.bidi_explain.specs.Tables.{level_text, sequence_text}
 use Rattle.bidi_explain.specs.declared.blocks.Block.{Block}
 use Rattle.bidi_explain.specs.declared.stages.Stages.{Stages}
 
--- what is for a character between tags: what could begin or end one is written as its reference
+-- what is written for a character between tags: a character that could begin or end a tag is written as its reference
 abbrev pub escaped : BidiClass → ℕ → List ℕ
 escaped class c =
     if c == 0x26 then codes "&amp;"
@@ -47,7 +47,7 @@ abbrev pub shown_row : List ℕ → Stages → List ℕ → List ℕ
 shown_row chars s indexes =
     codes "<tr><th>as shown</th>" ++ (flat_map (box_at (codes "<td data-at=\"") chars s) indexes ++ codes "</tr>\n")
 
--- a line from the logical place of a character to its visual one
+-- a line from the logical index of a character to its visual index
 abbrev pub link : ℕ → ℕ → List ℕ
 link logical visual =
     codes "<line data-at=\""

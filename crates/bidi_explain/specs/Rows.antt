@@ -1,4 +1,4 @@
--- The rows of a paragraph's stages, each as what it shows and a cell for each character.
+-- The rows of a paragraph's stages, each as its label and a cell for each character.
 use Rattle.std.specs.Prelude.{ℕ, List, [], ◌∷◌, length, map, zip, codes, decimal}
 use Rattle.std.specs.List.{range_with_len}
 use Rattle.bidi_explain.specs.Cells.{class_name, option_name, glyph, hex}

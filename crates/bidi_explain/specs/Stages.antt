@@ -34,7 +34,7 @@ neutral_in source_classes brackets levels classes s =
 abbrev pub HasOneEach : RunSequence → List BidiClass → Type 0
 HasOneEach s classes = length classes ≡ length s.places
 
--- a row in which entries are written to their places
+-- a row in which entries are written to their indexes
 abbrev pub written : List (Option BidiClass) → List (ℕ × BidiClass) → List (Option BidiClass)
 written row [] = row
 written row (e ∷ entries) = written (slice_set row e.0 (Some e.1)) entries
@@ -78,7 +78,7 @@ module _ (source : Source) (chars : List ℕ) (para_level : ℕ) where
   abbrev pub own_sequences : List RunSequence
   own_sequences = sequences para_level (stored_classes source_classes) own_explicit_levels
 
-  -- the levels after L1, where the paragraph is one line
+  -- the levels after L1, if the paragraph is one line
   abbrev pub own_line_levels : List ℕ → List ℕ
   own_line_levels levels = levels_of_line para_level (stored_classes source_classes) levels 0 (length chars)
 

@@ -8,7 +8,7 @@ use Rattle.bidi_explain.specs.Rows.{rows_from}
 use Rattle.bidi_explain.specs.declared.blocks.Block.{Block}
 use Rattle.bidi_explain.specs.declared.stages.Stages.{Stages}
 
--- a cell stands after a tab
+-- a cell is after a tab
 abbrev pub cell_text : List ℕ → List ℕ
 cell_text cell = codes "\t" ++ cell
 
@@ -16,7 +16,7 @@ cell_text cell = codes "\t" ++ cell
 abbrev pub row_text : Block → List ℕ × List (List ℕ) → List ℕ
 row_text block row = row.0 ++ (flat_map cell_text (part_of block row.1) ++ codes "\n")
 
--- an empty line stands between blocks
+-- an empty line is between blocks
 abbrev pub gap_text : Block → List ℕ
 gap_text block = if block.from == 0 then [] else codes "\n"
 

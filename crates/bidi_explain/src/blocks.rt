@@ -4,23 +4,23 @@ ghost use Rattle.bidi_explain.specs.Blocks.{columns_in, block_count, blocks_of, 
 
 use std::alloc::{AllocError, Global};
 
-/// How many columns of a terminal the labels of a table take.
+/// The number of columns of a terminal that the labels of a table take.
 const LABEL_WIDTH: u16 = 16;
 
-/// How many columns of a terminal a cell takes: a tab stop.
+/// The number of columns of a terminal that a cell takes: a tab stop.
 const CELL_WIDTH: u16 = 8;
 
-/// Some columns of a table, one after another.
+/// Consecutive columns of a table.
 #[derive(Clone, Copy, Debug)]
 pub struct Block {
     /// The index of the first column.
     pub from: usize,
-    /// How many columns there are at most.
+    /// The maximum number of columns.
     pub columns: usize,
 }
 
 impl Block {
-    /// What the block has of a row.
+    /// Returns the part of a row that is in the block.
     pub fn part<T>(self, items: &[T]) -> &[T]
         ensures { result.now ≡ part_of self items.now }
     {
@@ -29,7 +29,7 @@ impl Block {
     }
 }
 
-/// How many columns a block of a table may have, for a terminal of this width.
+/// Returns the maximum number of columns of a block of a table of `len` columns, for a terminal of this width.
 pub fn columns_in(width: Option<u16>, len: usize) -> usize
     ensures columns { result ≡ columns_in width len }
     ensures advances { 0 < result }
@@ -40,7 +40,7 @@ pub fn columns_in(width: Option<u16>, len: usize) -> usize
     }
 }
 
-/// How many blocks of so many columns there are, if the table has `len` columns.
+/// Returns how many blocks of `columns` columns there are, if the table has `len` columns.
 fn block_count(columns: usize, len: usize) -> usize
     requires { 0 < columns }
     ensures { result ≡ block_count columns len }
@@ -48,8 +48,8 @@ fn block_count(columns: usize, len: usize) -> usize
     (len.max(1) - 1) / columns + 1
 }
 
-/// The blocks of so many columns that a table of `len` columns has: together they have each column once,
-/// in order.
+/// Returns the blocks of `columns` columns of a table of `len` columns. Together they have each column once, in order.
+/// `columns` must not be 0.
 pub fn blocks(alloc: Global, columns: usize, len: usize) -> Result<Vec<Block>, AllocError>
     requires { 0 < columns }
     ensures blocks { IfOk result (λ v. v.items ≡ blocks_of columns len) }

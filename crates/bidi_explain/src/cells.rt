@@ -89,7 +89,7 @@ pub fn push_glyph(out: &mut String, class: BidiClass, c: char) -> Result<(), All
     Ok(())
 }
 
-/// Appends the hexadecimal digit with this worth, unless the number is below `worth`.
+/// Appends the hexadecimal digit of a number at the power `worth` of 16, unless the number is below `worth`.
 fn push_leading_digit(out: &mut String, code: u32, worth: u32) -> Result<(), AllocError>
     requires { 0 < worth }
     ensures { OnOk result (string_bytes out.new ≡ string_bytes out.old ++ leading_digit worth code) }
@@ -114,7 +114,7 @@ fn push_hex(out: &mut String, c: char) -> Result<(), AllocError>
     Ok(())
 }
 
-/// Returns the indexes of a list of length `len`.
+/// Returns one cell for each index of a list of length `len`.
 pub fn index_cells(alloc: Global, len: usize) -> Result<Vec<String>, AllocError>
     ensures { IfOk result (λ v. map string_bytes v.items ≡ map decimal (range_with_len 0 len)) }
 {
@@ -188,7 +188,7 @@ pub fn option_cells(alloc: Global, classes: &[Option<BidiClass>]) -> Result<Vec<
     Ok(cells)
 }
 
-/// Returns one cell for each character, as [`push_glyph`] writes it.
+/// Returns one cell for each character, as [`push_glyph`] writes it. There must be one class for each character.
 pub fn glyph_cells(
     alloc: Global,
     classes: &[BidiClass],

@@ -10,7 +10,7 @@ use bidi_base::data_source::BidiDataSource;
 use bidi_controls::lines::{first_paragraph_len, own_chars};
 use std::alloc::{AllocError, Global};
 
-/// Appends the stages of a paragraph in this form, a table for a terminal of this width.
+/// Appends the stages of a paragraph in this form. A table fits a terminal of this width.
 fn push_stages(
     alloc: Global,
     out: &mut String,
@@ -31,7 +31,7 @@ fn push_stages(
     }
 }
 
-/// Appends what the rules make of a paragraph, whose separator is left out.
+/// Appends the results of the rules for a paragraph, without the separator that ends it.
 fn push_paragraph<D: BidiDataSource>(
     alloc: Global,
     out: &mut String,
@@ -47,9 +47,11 @@ fn push_paragraph<D: BidiDataSource>(
     Ok(())
 }
 
-/// Of each line of a text, which is a paragraph by itself: its level, what each stage of the rules makes
-/// of its characters, and its isolating run sequences, as a table whose cells stand after tabs, or as
-/// a section of a page of HTML. A table is split into blocks of columns that fit the width of the view.
+/// Returns the result of each stage of the rules for each paragraph of a text.
+///
+/// This is the level of the paragraph, the result of each stage for each character, and the isolating run sequences, as
+/// a table with a tab before each cell, or as a section of a page of HTML. A table is split into blocks of columns that
+/// fit the width of the view. Returns an error if an allocation fails.
 pub fn explain<D: BidiDataSource>(
     alloc: Global,
     data_source: &D,

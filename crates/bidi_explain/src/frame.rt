@@ -69,5 +69,5 @@ thick edge on the side where its direction begins.</dd>
 </details>
 "#;
 
-/// What is after them.
+/// What is after the sections.
 pub const FOOT: &str = "</body>\n</html>\n";

@@ -14,10 +14,10 @@ use bidi_plain::plain::PlainSequence;
 use bidi_terminal::push_number;
 use std::alloc::{AllocError, Global};
 
-/// How many columns a block of a page may have.
+/// The maximum number of columns of a block of a page.
 const PAGE_COLUMNS: usize = 30;
 
-/// Appends what is for a character, between tags: what could begin or end one as its reference.
+/// Appends a character between tags. One that could begin or end a tag is written as its reference.
 fn push_escaped(out: &mut String, class: BidiClass, c: char) -> Result<(), AllocError>
     ensures text { OnOk result (string_bytes out.new ≡ string_bytes out.old ++ escaped class c) }
     ensures harmless { list_all is_text_byte (escaped class c) ≡ true }
@@ -31,7 +31,7 @@ fn push_escaped(out: &mut String, class: BidiClass, c: char) -> Result<(), Alloc
     Ok(())
 }
 
-/// The attributes of a box of this level, but for the number and the end of its tag.
+/// Returns the attributes of a box of this level, without the number and the end of its tag.
 fn level_attribute(level: Level) -> &'static str
     ensures { result.now ≡ level_attribute level }
 {
@@ -42,8 +42,7 @@ fn level_attribute(level: Level) -> &'static str
     }
 }
 
-/// Appends the tag that begins the box of the character at an index, of this level. `tag` is what it
-/// begins with.
+/// Appends the tag that begins the box of the character at an index, with this level. `tag` is its beginning.
 fn push_box_start(out: &mut String, tag: &str, at: usize, level: Level) -> Result<(), AllocError>
     ensures { OnOk result (string_bytes out.new ≡ string_bytes out.old ++ box_start tag.now at level) }
 {
@@ -146,7 +145,7 @@ fn push_shown_row(
     Ok(())
 }
 
-/// Appends a line from the logical place of a character to its visual one.
+/// Appends a line from the logical index of a character to its visual index.
 fn push_link(out: &mut String, logical: usize, visual: usize) -> Result<(), AllocError>
     ensures { OnOk result (string_bytes out.new ≡ string_bytes out.old ++ link logical visual) }
 {
@@ -160,14 +159,14 @@ fn push_link(out: &mut String, logical: usize, visual: usize) -> Result<(), Allo
     Ok(())
 }
 
-/// Whether a place is one of those in a block.
+/// Returns whether a visual index is in a block.
 fn is_in_block(block: Block, place: usize) -> bool
     ensures { result ≡ is_in_block block place }
 {
     block.from <= place && place - block.from < block.columns
 }
 
-/// Appends a line from a logical place to the visual one, if the block has it.
+/// Appends a line from a logical index to the visual index, if that is in the block.
 fn push_link_in(
     out: &mut String,
     block: Block,
@@ -182,7 +181,7 @@ fn push_link_in(
     Ok(())
 }
 
-/// Appends a line from each logical place to the visual one, if the block has both.
+/// Appends a line from each of some logical indexes to its visual index, if that is in the block.
 fn push_links(
     out: &mut String,
     block: Block,
@@ -382,7 +381,7 @@ fn push_blocks(
     Ok(())
 }
 
-/// The indexes of a list of this length.
+/// Returns the indexes of a list of this length.
 fn indexes_below(alloc: Global, len: usize) -> Result<Vec<usize>, AllocError>
     ensures { IfOk result (λ v. v.items ≡ range_with_len 0 len) }
 {
@@ -393,10 +392,10 @@ fn indexes_below(alloc: Global, len: usize) -> Result<Vec<usize>, AllocError>
     Ok(indexes)
 }
 
-/// Appends the section of a paragraph: its level and its isolating run sequences, and its characters in
-/// blocks. A block has them as boxes in logical order, coloured by level, a row for each stage below
-/// them, and the boxes again in visual order. Each is joined to where it stands in logical order, if
-/// that is in the same block.
+/// Appends the section of a paragraph: its level and its isolating run sequences, and its characters in blocks.
+///
+/// A block has the characters as boxes in logical order, coloured by level, a row for each stage below them, and the
+/// boxes again in visual order. A line joins the two boxes of a character, if both are in the same block.
 pub(crate) fn push_section(
     alloc: Global,
     out: &mut String,

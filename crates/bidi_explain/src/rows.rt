@@ -9,10 +9,12 @@ use crate::stages::Stages;
 use std::alloc::{AllocError, Global};
 use std::marker::Model;
 
-/// A row: what it shows, and a cell for each character. In clauses it is a pair of both.
+/// A row: its label, and a cell for each character. In clauses it is the pair of both.
 #[derive(Drop)]
 pub struct Row {
+    /// What the row shows.
     pub label: &'static str,
+    /// One cell for each character.
     pub cells: Vec<String>,
 }
 
@@ -24,14 +26,14 @@ impl Model for Row {
     ghost view = { λ r. (r.label.now, map string_bytes r.cells.items) };
 }
 
-/// The row with this label.
+/// Returns the row with this label.
 fn labelled(label: &'static str, cells: Vec<String>) -> Row
     ensures { result ≡ (label.now, map string_bytes cells.items) }
 {
     Row { label, cells }
 }
 
-/// The rows of a paragraph's stages, from its characters.
+/// Returns the rows of a paragraph's stages, given its characters.
 pub fn stage_rows(alloc: Global, chars: &[char], stages: &Stages) -> Result<Vec<Row>, AllocError>
     ensures { IfOk result (λ v. v.items ≡ stage_rows chars.now stages.now) }
 {
@@ -60,7 +62,8 @@ pub fn stage_rows(alloc: Global, chars: &[char], stages: &Stages) -> Result<Vec<
     Ok(rows)
 }
 
-/// The rows of a paragraph, from its characters and their stages: the characters, and the stages.
+/// Returns the rows of a paragraph: those of its characters, and those of its stages. The stages must be of as many
+/// characters.
 pub fn rows(alloc: Global, chars: &[char], stages: &Stages) -> Result<Vec<Row>, AllocError>
     requires { vec_len stages.now.classes ≡ length chars.now }
     ensures { IfOk result (λ v. v.items ≡ rows_from chars.now stages.now) }

@@ -22,9 +22,9 @@ use unicode_bidi::engine;
 /// A list has one entry for each character, unless its field says otherwise.
 #[derive(Drop)]
 pub struct Stages {
-    /// The level of the paragraph (P2, P3).
+    /// The paragraph level (P2, P3), or the base level.
     pub level: Level,
-    /// The classes of the characters.
+    /// The source classes.
     pub classes: Vec<BidiClass>,
     /// The explicit levels, and the classes under overrides (X1 to X8).
     pub explicit: Explicit,
@@ -34,7 +34,7 @@ pub struct Stages {
     pub weak: Vec<Option<BidiClass>>,
     /// The classes after N2, or none for a character that X9 removes.
     pub neutral: Vec<Option<BidiClass>>,
-    /// The levels after I1 and I2.
+    /// The stored levels, those after I2.
     pub levels: Vec<Level>,
     /// The levels after L1, if the paragraph is one line.
     pub line_levels: Vec<Level>,
@@ -140,7 +140,7 @@ fn neutral_of(
     Ok(neutral)
 }
 
-/// Writes the classes of a sequence's characters to their places.
+/// Writes the classes of a sequence's characters to their indexes.
 fn write_row(row: &mut Vec<Option<BidiClass>>, places: &[usize], values: &[BidiClass])
     requires within { All (λ p. p < vec_len row.old) places.now }
     requires same_len { length values.now ≡ length places.now }
@@ -187,7 +187,7 @@ fn resolve(
     })
 }
 
-/// Returns the classes of characters.
+/// Returns the source classes of characters.
 fn classes_of<D: BidiDataSource>(
     alloc: Global,
     data_source: &D,
@@ -260,7 +260,8 @@ fn stages_of<D: BidiDataSource>(
 
 /// Returns the result of each stage of the rules for a paragraph by itself.
 ///
-/// `base` is the level of the paragraph, at most 125. If it is `None`, the characters decide (P2, P3).
+/// `base_level` is the level of the paragraph, at most 125. If it is `None`, the characters decide (P2, P3). Returns an
+/// error if an allocation fails.
 pub fn find_stages<D: BidiDataSource>(
     alloc: Global,
     data_source: &D,

@@ -22,7 +22,7 @@ fn push_cells(out: &mut String, cells: &[String]) -> Result<(), AllocError>
     Ok(())
 }
 
-/// Appends a label, and the cells of a block. They stand after tabs.
+/// Appends a label, and the cells of a block, each after a tab.
 fn push_labelled(
     out: &mut String,
     label: &str,
@@ -169,8 +169,8 @@ fn push_stages(
     Ok(())
 }
 
-/// Appends the table of a paragraph for a terminal of this width: its level, a row for each stage, in
-/// blocks that fit, and its isolating run sequences.
+/// Appends the table of a paragraph for a terminal of this width: its level, a row for each stage, in blocks that fit,
+/// and its isolating run sequences. The stages must be of as many characters.
 pub fn push_table(
     alloc: Global,
     out: &mut String,

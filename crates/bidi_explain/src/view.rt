@@ -1,7 +1,7 @@
 //! How stages are reported.
 use bidi_terminal::Base;
 
-/// In which form the stages of a text are written.
+/// The form in which the stages of a text are written.
 #[derive(Clone, Copy, Debug, PartialEq)]
 pub enum Form {
     /// As tables of plain text.
@@ -25,7 +25,7 @@ impl Default for StageView {
     ghost use Rattle.std.specs.Prelude.{◌≡◌};
     ghost use Rattle.bidi_explain.specs.Explained.{first_stage_view};
 
-    /// Tables of lines, each of which finds its own base level. They are not split.
+    /// Tables that are not split. Each line gets its level from its characters.
     fn default() -> StageView
         ensures { result ≡ first_stage_view }
     {

@@ -3,7 +3,7 @@ use Rattle.std.specs.Prelude.{ℕ, Bool, not, ◌==◌, ◌&&◌, ◌||◌, if�
 use Rattle.std.specs.List.{ends_with, list_any, slice_split}
 use Rattle.std.specs.Str.{bytes_eq}
 
--- the byte that separates the names of a list: NUL, if there is one in it, and else the line feed
+-- the byte that separates the names of a list: NUL if there is one in it, or the line feed
 abbrev pub separator_of : List ℕ → ℕ
 separator_of bytes = if list_any (λ byte. nat_eq byte 0) bytes then 0 else 10
 
@@ -15,7 +15,7 @@ listed_names bytes = filter (λ name. not (length name == 0)) (slice_split (λ b
 abbrev pub is_dotted : List ℕ → Bool
 is_dotted name = slice_index name 0 == 46
 
--- a name that a directory has for itself, or for the one above it
+-- the name of a directory in itself, or of the one above it
 abbrev pub is_own : List ℕ → Bool
 is_own name = bytes_eq name (codes ".") || bytes_eq name (codes "..")
 
@@ -23,7 +23,7 @@ is_own name = bytes_eq name (codes ".") || bytes_eq name (codes "..")
 abbrev pub is_searched : Bool → List ℕ → Bool
 is_searched hidden name = not (length name == 0) && (if hidden then not (is_own name) else not (is_dotted name))
 
--- the names of a directory that are searched, where a NUL ends each name
+-- the names of a directory that are searched, if a NUL ends each name
 abbrev pub searched_names : Bool → List ℕ → List (List ℕ)
 searched_names hidden listing = filter (is_searched hidden) (slice_split (λ byte. byte == 0) listing)
 

@@ -16,8 +16,8 @@ fn separator_of(bytes: &[u8]) -> u8
 
 /// Returns the names in a list of files, in order.
 ///
-/// If the list has a NUL, NUL separates the names, and otherwise the line feed. Leaves out empty names. A carriage return
-/// is part of a name. Names need not be UTF-8. Returns an error if an allocation fails.
+/// If the list has a NUL, NUL separates the names, and otherwise the line feed. Leaves out empty names. A carriage
+/// return is part of a name. Names need not be UTF-8. Returns an error if an allocation fails.
 pub fn listed_names<'b>(alloc: Global, bytes: &'b [u8]) -> Result<Vec<&'b [u8]>, AllocError>
     ensures { IfOk result (λ names. map (λ name. name.now) names.items ≡ listed_names bytes.now) }
 {
@@ -28,8 +28,8 @@ pub fn listed_names<'b>(alloc: Global, bytes: &'b [u8]) -> Result<Vec<&'b [u8]>,
         .collect(alloc)
 }
 
-/// Returns whether a name of a directory is searched. Empty names, `.` and `..` never are. Other names that begin with a
-/// dot are searched only if `hidden` is true.
+/// Returns whether a name of a directory is searched. Empty names, `.` and `..` never are. Other names that begin with
+/// a dot are searched only if `hidden` is true.
 fn is_searched(hidden: bool, name: &[u8]) -> bool
     ensures { result ≡ is_searched hidden name.now }
 {
@@ -57,8 +57,8 @@ fn searched_names<'b>(
 
 /// Returns the names of a directory that `bidi check` searches, in the order of their bytes.
 ///
-/// A NUL ends each name of `listing`. Leaves out empty names, `.` and `..`. Leaves out other names that begin with a dot,
-/// unless `hidden` is true. Names need not be UTF-8. Returns an error if an allocation fails.
+/// A NUL ends each name of `listing`. Leaves out empty names, `.` and `..`. Leaves out other names that begin with a
+/// dot, unless `hidden` is true. Names need not be UTF-8. Returns an error if an allocation fails.
 pub fn names_in_order<'b>(
     alloc: Global,
     hidden: bool,
@@ -74,8 +74,8 @@ pub fn names_in_order<'b>(
 
 /// Returns the path of a name in a directory: `dir`, a slash unless `dir` ends with one, and `name`.
 ///
-/// Neither need be UTF-8, and `name` may be empty. If `dir` is empty, the path begins with the slash. Returns an error if
-/// an allocation fails.
+/// Neither need be UTF-8, and `name` may be empty. If `dir` is empty, the path begins with the slash. Returns an error
+/// if an allocation fails.
 pub fn path_below(alloc: Global, dir: &[u8], name: &[u8]) -> Result<Vec<u8>, AllocError>
     ensures { IfOk result (λ path. path.items ≡ path_below dir.now name.now) }
 {

@@ -38,7 +38,7 @@ impl Checked {
     ghost use Rattle.std.specs.Prelude.{if◌then◌else◌, is_some};
     ghost use Rattle.bidi_inputs.specs.declared.status.Status.TheVariants.{Clean, Found, Refused};
 
-    /// Returns the status of this input: `Refused` if it has a byte that is not UTF-8, otherwise `Found` if it has a
+    /// Returns the status of this input: `Refused` if `invalid` is an index, otherwise `Found` if it has a
     /// finding, otherwise `Clean`.
     pub fn status(&self) -> Status
         ensures { result ≡ (if is_some self.now.invalid then Refused else if self.now.found then Found else Clean) }
@@ -56,9 +56,9 @@ impl Checked {
 /// Searches an input, and returns the report of its findings without those that `allowed` allows.
 ///
 /// `bytes` are all bytes of the input: UTF-8, or UTF-16 after a byte order mark. Invalid bytes are read as U+FFFD.
-/// `wanted` says which findings count. `name` is the input's name in the report and in `allowed`. `report` has the form,
-/// and notes whether there were findings that are not allowed. Returns an error if an allocation fails. Then the report of this input is
-/// lost, but `report` may have noted its findings.
+/// `wanted` says which findings count. `name` is the input's name in the report and in `allowed`. `report` has the
+/// form, and notes whether there were findings that are not allowed. Returns an error if an allocation fails. Then the
+/// report of this input is lost, but `report` may have noted its findings.
 pub fn check_input(
     alloc: Global,
     report: &mut Report,
@@ -106,7 +106,7 @@ pub fn explain_text(alloc: Global, view: StageView, text: &str) -> Result<String
     Ok(reported)
 }
 
-/// Returns the text that an input is.
+/// Returns the text that an input encodes.
 fn text_of(bytes: &[u8]) -> Result<&str, StreamFault>
     ensures text { IfOk result (λ text. (text.now ≡ bytes.now) × IsUtf8 bytes.now) }
     ensures fault { IfErr result (ReportsBytes bytes.now) }

@@ -1,4 +1,5 @@
-//! What `bidi check` and `bidi explain` write for an input, the names that `bidi check` searches, and the exit statuses.
+//! What `bidi check` and `bidi explain` write for an input, the names that `bidi check` searches, and the exit
+//! statuses.
 #![tactic(auto)]
 
 pub mod entries;

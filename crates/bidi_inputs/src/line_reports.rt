@@ -28,7 +28,8 @@ fn reported_findings<'f>(
     }
 }
 
-// Appends what is reported of the findings in a line of a file, unless they are allowed. Returns whether something is reported.
+// Appends what is reported of the findings in a line of a file, unless they are allowed. Returns whether something is
+// reported.
 fn push_reported(
     alloc: Global,
     report: &mut Report,
@@ -56,8 +57,8 @@ fn push_reported(
     Ok(!reported.is_empty())
 }
 
-/// Appends the report of lines of a file to `out`, without the lines that `allowed` allows. Returns whether a finding is
-/// left.
+/// Appends the report of lines of a file to `out`, without the lines that `allowed` allows. Returns whether a finding
+/// is left.
 ///
 /// `name` is the file's name in the report and in `allowed`. `report` has the form, and notes whether there were
 /// findings that are not allowed. Returns an error if an allocation fails. Then `out` may have a part of the report.

@@ -12,7 +12,7 @@ paragraph_with place [] = []
 paragraph_with place (chars ∷ paragraphs) =
     if nat_lt place (length chars) then chars else paragraph_with (place - length chars) paragraphs
 
--- the base level with which a paragraph is displayed differently from how it reads: from left to right, or else that of
+-- the base level with which a paragraph is displayed differently from how it reads: 0, or otherwise that of
 -- P2 and P3
 abbrev pub telling_base : Source → List ℕ → Option ℕ
 telling_base source chars = if is_reordered source (Some 0) chars then Some 0 else None
@@ -25,7 +25,7 @@ displayed_paragraph source chars = displayed_text source (telling_base source ch
 unfoldable pub displayed_around : Source → List ℕ → ℕ → List ℕ
 displayed_around source line place = displayed_paragraph source (own_chars source (paragraph_with place (paragraphs_in source line)))
 
--- what is displayed where a finding is about that, and else nothing
+-- what is displayed, if a finding is about that, or nothing
 abbrev pub displayed_for : Source → List ℕ → Finding → List ℕ
 displayed_for source line finding =
     if is_about_line finding.trouble then displayed_around source line (finding.column - 1) else []

@@ -52,7 +52,7 @@ abbrev pub result_rule : Finding → List ℕ
 result_rule finding =
     codes "{\"ruleId\":\"" ++ (kind_of finding.trouble ++ (codes "\"" ++ (json_member (codes "level") (level_of finding.trouble) ++ message_start)))
 
--- the column after the character, where it is a number of 64 bits
+-- the column after the character, if it is below 2^64
 unfoldable pub result_end : ℕ → List ℕ
 result_end column = if nat_lt (column + 1) (2 ^ 64) then codes ",\"endColumn\":" ++ decimal (column + 1) else []
 

@@ -16,7 +16,7 @@ bold_red = 27 ∷ codes "[1;31m"
 abbrev pub as_before : List ℕ
 as_before = 27 ∷ codes "[0m"
 
--- a text in this style, if colours are wanted
+-- a text in this style, if colours are used
 abbrev pub styled : Bool → List ℕ → List ℕ → List ℕ
 styled colors style text = if colors then style ++ (text ++ as_before) else text
 
@@ -28,8 +28,8 @@ is_marked c = is_hidden c && not (c == 9)
 abbrev pub marked_char : Bool → ℕ → List ℕ
 marked_char colors c = styled (colors && is_marked c) reverse_video (quoted_char c)
 
--- the index from which a line of this length is shown: of a line of more than 200 characters, 100 characters before the
--- place that matters, but 200 before the end at least
+-- the index from which a line of this length is shown: in a line of more than 200 characters, 100 characters before the
+-- index that matters, but at least 200 before the end
 abbrev pub part_start : ℕ → ℕ → ℕ
 part_start size place = if nat_le size 200 then 0 else min (place - 100) (size - 200)
 
@@ -37,7 +37,7 @@ part_start size place = if nat_le size 200 then 0 else min (place - 100) (size -
 abbrev pub part_end : ℕ → ℕ → ℕ
 part_end size place = min (part_start size place + 200) size
 
--- what is for characters that are left out
+-- what is written in place of characters that are left out
 abbrev pub dots : Bool → List ℕ
 dots left_out = if left_out then codes "..." else []
 
@@ -55,7 +55,7 @@ shown_columns c = if c == 9 then 1 else if is_hidden c then 8 else columns c
 abbrev pub blanks : ℕ → List ℕ
 blanks size = replicate size 32
 
--- the blanks below the characters of a part that are before an index
+-- the spaces below the characters of a part that are before an index
 unfoldable pub blank_part : List ℕ → ℕ → List ℕ
 blank_part line place =
     blanks (length (dots (nat_lt 0 (part_start (length line) place))))

@@ -10,7 +10,7 @@ use Rattle.bidi_reports.specs.Text.{text_report}
 use Rattle.bidi_reports.specs.declared.form.Form.{Form}
 use Rattle.bidi_reports.specs.declared.form.Form.TheVariants.{Quiet, Text, Json, Sarif}
 
--- a finding in a file of this name, in this form, where `later` says that results were written before
+-- a finding in a file of this name, in this form; `later` says whether findings were written before
 abbrev pub finding_report : Form → Bool → List ℕ → List ℕ → List ℕ → Finding → List ℕ
 finding_report Quiet later name line displayed finding = []
 finding_report (Text excerpts colors) later name line displayed finding =

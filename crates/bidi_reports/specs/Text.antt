@@ -16,7 +16,7 @@ without_last c line = if ends_with_char c line then take (length line - 1) line 
 abbrev pub without_end : List ℕ → List ℕ
 without_end line = without_last 13 (without_last 10 line)
 
--- the line for a finding: its place, and what is found
+-- the line for a finding: its position, and what is found
 unfoldable pub finding_text : Bool → List ℕ → Finding → List ℕ
 finding_text colors name finding =
     styled colors bold (place_text name finding)
@@ -27,7 +27,7 @@ unfoldable pub excerpt_text : Bool → List ℕ → ℕ → List ℕ
 excerpt_text colors line place =
     codes "  " ++ (marked_part colors line place ++ (codes "\n  " ++ (blank_part line place ++ (styled colors bold_red (codes "^") ++ codes "\n"))))
 
--- the line that tells how a line is displayed
+-- the line that shows how a line is displayed
 unfoldable pub note_start : List ℕ
 note_start = codes "note: displayed as: "
 
@@ -35,7 +35,7 @@ unfoldable pub note_text : Bool → List ℕ → List ℕ → Finding → List �
 note_text colors name displayed finding =
     styled colors bold (place_text name finding) ++ (note_start ++ (marked_part colors displayed (finding.column - 1) ++ codes "\n"))
 
--- an excerpt if these are wanted, and the note of a finding that is about the line
+-- the excerpt, if excerpts are shown, and the note of a finding that is about the line
 unfoldable pub excerpt_report : Bool → Bool → List ℕ → ℕ → List ℕ
 excerpt_report excerpts colors line place = if excerpts then excerpt_text colors (without_end line) place else []
 

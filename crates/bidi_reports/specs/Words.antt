@@ -45,7 +45,7 @@ kind_of ClosesNothing = codes "closes-nothing"
 kind_of Present = codes "present"
 kind_of DisplayedDifferently = codes "displayed-differently"
 
--- how bad it is, in the words of SARIF
+-- its level in SARIF
 abbrev pub level_of : Trouble → List ℕ
 level_of NotClosed = codes "warning"
 level_of ClosesNothing = codes "warning"

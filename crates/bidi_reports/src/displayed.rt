@@ -98,8 +98,9 @@ impl Displayed {
         self.display(alloc, data_source, own_chars(data_source, paragraph))
     }
 
-    /// Displays what a finding is about: its paragraph in the line, if it is about how that is displayed, and else
-    /// nothing.
+    /// Displays the paragraph of a finding in its line, if the finding is about how that is displayed, or else nothing.
+    ///
+    /// Replaces `chars`. Returns an error if an allocation fails.
     pub fn display_for<D: BidiDataSource>(
         &mut self,
         alloc: Global,

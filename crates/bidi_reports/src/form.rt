@@ -9,7 +9,7 @@ pub enum Form {
     Text {
         /// Whether the line of the file is shown below a finding.
         excerpts: bool,
-        /// Whether sequences for a terminal set colours.
+        /// Whether the text is coloured by escape sequences for a terminal.
         colors: bool,
     },
     /// A line of JSON for each finding.

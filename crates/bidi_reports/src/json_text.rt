@@ -60,7 +60,7 @@ fn message_of(alloc: Global, finding: &Finding) -> Result<String, AllocError>
     Ok(text)
 }
 
-// Appends what is the matter with it.
+// Appends what is wrong with it.
 fn push_json_kind(alloc: Global, out: &mut String, finding: &Finding) -> Result<(), AllocError>
     ensures { OnOk result (string_bytes out.new ≡ string_bytes out.old ++ json_kind finding.now) }
 {
@@ -69,7 +69,7 @@ fn push_json_kind(alloc: Global, out: &mut String, finding: &Finding) -> Result<
     push_member(out, "message", message.as_str())
 }
 
-// Returns the text that some characters are.
+// Returns characters as a text.
 fn text_of(alloc: Global, chars: &[char]) -> Result<String, AllocError>
     ensures { IfOk result (λ text. string_bytes text ≡ flat_map encode_utf8 chars.now) }
 {
@@ -97,7 +97,7 @@ fn push_json_displayed(
     push_json_string(alloc, out, text.as_str())
 }
 
-/// Appends a finding as a line of JSON.
+/// Appends a finding as a line of JSON. Returns an error if an allocation fails.
 pub fn push_json(
     alloc: Global,
     out: &mut String,
@@ -114,7 +114,7 @@ pub fn push_json(
     out.push_str("}\n")
 }
 
-// Returns what SARIF reports of a finding.
+// Returns the message of a finding in SARIF.
 fn result_message(
     alloc: Global,
     displayed: &[char],
@@ -227,7 +227,7 @@ fn push_result_start(out: &mut String, later: bool) -> Result<(), AllocError>
     out.push_str(if later { ",\n" } else { "\n" })
 }
 
-/// Appends a finding as a result of SARIF.
+/// Appends a finding as a result of SARIF. `later` says whether a result was written before it.
 pub fn push_result(
     alloc: Global,
     out: &mut String,

@@ -6,24 +6,24 @@ use bidi_columns::cluster::columns;
 use bidi_terminal::names::{is_hidden, push_quoted};
 use std::alloc::AllocError;
 
-/// Sets bold letters.
+/// The escape sequence that sets bold text.
 pub const BOLD: &str = "\u{1B}[1m";
 
-/// Sets bold red letters.
+/// The escape sequence that sets bold red text.
 pub const BOLD_RED: &str = "\u{1B}[1;31m";
 
-/// Sets reverse video.
+/// The escape sequence that sets reverse video.
 const REVERSE_VIDEO: &str = "\u{1B}[7m";
 
-/// Sets letters as before.
+/// The escape sequence that resets the style.
 pub const AS_BEFORE: &str = "\u{1B}[0m";
 
-// The most characters of a line that are shown, and how many of them are before the place that matters.
+// The maximum number of characters of a line that are shown, and how many of them are before the index that matters.
 const MOST_SHOWN: usize = 200;
 
 const SHOWN_BEFORE: usize = 100;
 
-/// Appends a sequence for a terminal, if colours are wanted.
+/// Appends an escape sequence, if `colors` is true.
 pub fn push_style(out: &mut String, colors: bool, style: &str) -> Result<(), AllocError>
     ensures { OnOk result (string_bytes out.new ≡ string_bytes out.old ++ (if colors then style.now else [])) }
 {
@@ -79,7 +79,7 @@ fn part_end(len: usize, place: usize) -> usize
     start + MOST_SHOWN.min(len - start)
 }
 
-// Appends what is for characters that are left out.
+// Appends what is written in place of characters that are left out.
 fn push_dots(out: &mut String, left_out: bool) -> Result<(), AllocError>
     ensures { OnOk result (string_bytes out.new ≡ string_bytes out.old ++ dots left_out) }
 {
@@ -90,7 +90,8 @@ fn push_dots(out: &mut String, left_out: bool) -> Result<(), AllocError>
     }
 }
 
-/// Appends a line, or of a long one the part around an index. Hidden characters are written by their code points.
+/// Appends a line, or the part around an index if the line has more than 200 characters. Hidden characters are written
+/// by their code points.
 #[tactic(auto, unfolding(crate::specs::Parts::marked_part))]
 pub fn push_part(
     out: &mut String,
@@ -120,7 +121,7 @@ fn shown_columns(c: char) -> usize
     columns(c)
 }
 
-// Appends blanks.
+// Appends spaces.
 fn push_blanks(out: &mut String, count: usize) -> Result<(), AllocError>
     ensures { OnOk result (string_bytes out.new ≡ string_bytes out.old ++ blanks count) }
 {
@@ -130,7 +131,7 @@ fn push_blanks(out: &mut String, count: usize) -> Result<(), AllocError>
     Ok(())
 }
 
-// Appends as many blanks as characters of a line take columns.
+// Appends as many spaces as characters of a line take columns.
 fn push_blank_chars(out: &mut String, chars: &[char]) -> Result<(), AllocError>
     ensures { OnOk result (string_bytes out.new ≡ string_bytes out.old ++ flat_map (λ c. blanks (shown_columns c)) chars.now) }
 {
@@ -140,7 +141,7 @@ fn push_blank_chars(out: &mut String, chars: &[char]) -> Result<(), AllocError>
     Ok(())
 }
 
-/// Appends as many blanks as the part of a line around an index takes columns before that index.
+/// Appends as many spaces as the part of a line around an index takes columns before that index.
 #[tactic(auto, unfolding(crate::specs::Parts::blank_part))]
 pub fn push_blank_part(out: &mut String, line: &[char], place: usize) -> Result<(), AllocError>
     ensures { OnOk result (string_bytes out.new ≡ string_bytes out.old ++ blank_part line.now place) }

@@ -51,7 +51,7 @@ pub struct LineFindings<'l> {
     pub findings: &'l [Finding],
 }
 
-/// The report of a run, which is written line by line of the files.
+/// The report of a run, written one line of a file after another.
 #[derive(Drop)]
 pub struct Report {
     /// Its form.
@@ -123,6 +123,8 @@ impl Report {
     }
 
     /// Appends the report of the findings in a line of a file.
+    ///
+    /// Returns an error if an allocation fails. Then `out` may have a part of the report.
     pub fn push_line<D: BidiDataSource>(
         &mut self,
         alloc: Global,

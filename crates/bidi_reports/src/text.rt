@@ -11,7 +11,7 @@ use bidi_controls::finding::Finding;
 use bidi_controls::report::push_place;
 use std::alloc::AllocError;
 
-// Returns characters without this one at their end, if it is there.
+// Returns characters without this one at their end, if they end with it.
 fn without_last(c: char, chars: &[char]) -> &[char]
     ensures { result.now ≡ without_last c chars.now }
 {
@@ -92,7 +92,7 @@ fn push_note_start(out: &mut String) -> Result<(), AllocError>
     out.push_str("note: displayed as: ")
 }
 
-// Appends the line that tells how the line of a finding is displayed.
+// Appends the line that shows how the line of a finding is displayed.
 #[tactic(auto, unfolding(crate::specs::Text::note_text))]
 fn push_note(
     out: &mut String,
@@ -109,7 +109,7 @@ fn push_note(
     out.push_str("\n")
 }
 
-// Appends an excerpt, if these are wanted.
+// Appends an excerpt, if `excerpts` is true.
 #[tactic(auto, unfolding(crate::specs::Text::excerpt_report))]
 fn push_excerpt_if(
     out: &mut String,
@@ -156,8 +156,8 @@ pub struct ReportedFinding<'f> {
     pub finding: &'f Finding,
 }
 
-/// Appends the report of a finding: its line, an excerpt if these are wanted, and a note if it is about how its line is
-/// displayed.
+/// Appends the report of a finding: its line, an excerpt if `excerpts` is true, and a note if it is about how its line
+/// is displayed.
 #[tactic(auto, unfolding(crate::specs::Text::text_report))]
 pub fn push_text(
     out: &mut String,

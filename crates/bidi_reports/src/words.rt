@@ -58,7 +58,7 @@ pub fn kind_of(trouble: Trouble) -> &'static str
     }
 }
 
-/// Returns how bad a finding is, in the words of SARIF.
+/// Returns the level of a finding in SARIF.
 pub fn level_of(trouble: Trouble) -> &'static str
     ensures { result.now ≡ level_of trouble }
 {

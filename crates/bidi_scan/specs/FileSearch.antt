@@ -14,7 +14,7 @@ use Rattle.bidi_scan.specs.declared.file_search.FileSearch.{FileSearch}
 abbrev pub FoundAt : Type 0
 FoundAt = ℕ × List ℕ × List Finding
 
--- those of a value of the code
+-- those of a `FoundLine`
 abbrev pub line_of : FoundLine → FoundAt
 line_of line = (line.number, line.chars.items, line.findings.items)
 
@@ -26,7 +26,7 @@ with_findings number chars (finding ∷ findings) = (number, chars, finding ∷ 
 abbrev pub found_in : Source → Wanted → ℕ → List ℕ → List FoundAt
 found_in source wanted number chars = with_findings number chars (findings_in_line source wanted number chars)
 
--- those of lines, of which the first has this number
+-- those of lines, the first of which has this number
 abbrev pub found_from : Source → Wanted → ℕ → List (List ℕ) → List FoundAt
 found_from source wanted number [] = []
 found_from source wanted number (chars ∷ lines) =

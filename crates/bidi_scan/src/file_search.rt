@@ -30,11 +30,11 @@ pub struct FoundLine {
 pub struct FileSearch {
     /// What is searched for.
     pub wanted: Wanted,
-    /// How many lines are searched.
+    /// How many lines were searched.
     pub lines: usize,
     /// How many bytes these have.
     pub offset: usize,
-    /// Where they stop being UTF-8.
+    /// The index of their first byte that is not UTF-8, if there is one.
     pub invalid: Option<usize>,
     line_search: LineSearch,
 }
@@ -58,7 +58,7 @@ impl FileSearch {
         }
     }
 
-    /// Returns whether the numbers of lines and bytes can be counted over this many bytes more.
+    /// Returns whether the counts of lines and bytes stay below 2^64 over `len` more bytes.
     pub fn has_room(&self, len: usize) -> bool
         ensures { IsTrue result ↔ HasRoom self.now len }
     {
@@ -143,6 +143,9 @@ impl FileSearch {
     }
 
     /// Searches the last bytes of the file, and appends the lines in which something is found.
+    ///
+    /// There must be room for `bytes` (`has_room`). Returns an error if an allocation fails. Then nothing is promised
+    /// of `found`, and only `wanted` of the search.
     pub fn push_last(
         &mut self,
         alloc: Global,
@@ -165,8 +168,11 @@ impl FileSearch {
         Ok(())
     }
 
-    /// Searches the lines that end in the next bytes of the file, and appends those in which something is found. Returns
-    /// how many bytes these lines have. The next call wants the bytes after them.
+    /// Searches the lines that end in the next bytes of the file, and appends those in which something is found.
+    /// Returns how many bytes these lines have. The next call must get the bytes after them.
+    ///
+    /// There must be room for `bytes` (`has_room`). Returns an error if an allocation fails. Then nothing is promised
+    /// of `found`, and only `wanted` of the search.
     pub fn push_whole_lines(
         &mut self,
         alloc: Global,
@@ -193,8 +199,11 @@ impl FileSearch {
         Ok(len)
     }
 
-    /// Searches the lines that end in the bytes that are read, and deletes the bytes of these lines. At the end of the
-    /// file it searches and deletes all bytes.
+    /// Searches the lines that end in the bytes that are read, and deletes the bytes of these lines. If `at_end` is
+    /// true, searches and deletes all bytes.
+    ///
+    /// There must be room for `bytes` (`has_room`). Returns an error if an allocation fails. Then nothing is promised
+    /// of `found` and `bytes`, and only `wanted` of the search.
     pub fn push_read(
         &mut self,
         alloc: Global,
@@ -236,7 +245,7 @@ impl FileSearch {
 pub struct Searched {
     /// The lines in which something is found.
     pub lines: Vec<FoundLine>,
-    /// Where the file stops being UTF-8, if it does.
+    /// The index of the first byte that is not UTF-8. `None` if there is none, and for UTF-16.
     pub invalid: Option<usize>,
 }
 
@@ -255,8 +264,10 @@ fn found_lines_of_utf8(alloc: Global, wanted: Wanted, bytes: &[u8]) -> Result<Se
     })
 }
 
-/// Returns what is found in all bytes of a file, which may be in UTF-16 after a byte order mark. A file that is not UTF-8
-/// is read as `decoded` says.
+/// Returns what is found in a file, given all its bytes: UTF-8, or UTF-16 after a byte order mark.
+///
+/// Each sequence of bytes that is not UTF-8 is read as one U+FFFD, and so is each surrogate without a partner. Returns
+/// an error if an allocation fails.
 pub fn found_lines(alloc: Global, wanted: Wanted, bytes: &[u8]) -> Result<Searched, AllocError>
     ensures lines { IfOk result (λ searched. map line_of searched.lines.items
         ≡ found_from unicode_source wanted 1 (file_lines_of (decoded bytes.now))) }

@@ -1,5 +1,6 @@
-//! Shows what the bidirectional algorithm makes of levels, `bidi_show map <level>..`, and of a text,
-//! `bidi_show show auto`, `ltr` or `rtl`, or in lines, `bidi_show lines auto 40`.
+//! Shows the results of the bidirectional algorithm: the visual order of levels, `bidi_show map <level>..`, and the
+//! paragraphs of a text, `bidi_show show auto`, or their lines, `bidi_show lines auto 40`. The base level may also be
+//! `ltr` or `rtl`.
 #![tactic(auto)]
 
 ghost use Rattle.std.specs.Prelude.{◌≡◌, IfErr};
@@ -10,7 +11,7 @@ use std::process::ExitCode;
 use std::rt::Env;
 use std::{env, io};
 
-// The words after the program's name.
+// Returns the arguments after the program's name.
 fn arguments(rt: &(impl Env + AllocGlobal)) -> Result<Vec<String>, ShowFault>
     ensures { IfErr result (λ fault. fault ≡ Device) }
 {

@@ -124,7 +124,7 @@ module _ (source : Source) (base_level : Option ℕ) (text : List ℕ) (utf8 : I
     line_in-places i j order short =
         grind (arith, classes_back, levels_back, bytes, line_text-middle, length-own_classes, length-stored_levels, text_len-encodes)
 
-    -- the same for the characters that stand after `before` in the piece
+    -- the same for the characters that follow `before` in the piece
     line_in-piece : (before some after : List ℕ) → piece ≡ before ++ (some ++ after)
         → in_text (start + text_len len_utf8 before) (start + (text_len len_utf8 before + text_len len_utf8 some)) ≡ in_piece (text_len len_utf8 before) (text_len len_utf8 before + text_len len_utf8 some)
     line_in-piece before some after e =
@@ -174,7 +174,7 @@ module _ (source : Source) (base_level : Option ℕ) (text : List ℕ) (utf8 : I
 -- ---- all paragraphs
 
 module _ (view : View) (source : Source) (base_level : Option ℕ) (text : List ℕ) (utf8 : IsUtf8 text) (classes : List BidiClass) (levels : List ℕ) where
-  -- what is printed of the paragraphs from a character on, where some characters stand before
+  -- what is printed of the paragraphs from a character on, if some characters are before it
   printed_in-from : (front : List ℕ) (cf : List BidiClass) (lf : List ℕ) (pieces : List (List ℕ)) (ps : List ParagraphInfo)
       → chars text ≡ front ++ joined pieces → length cf ≡ length front → length lf ≡ length front
       → classes ≡ per_unit len_utf8 (chars text) (cf ++ flat_map (own_classes source) pieces) → levels ≡ per_unit len_utf8 (chars text) (lf ++ flat_map (stored_levels source base_level) pieces)

@@ -5,7 +5,7 @@ use Rattle.bidi_show_run.specs.Texts.{ReadsAll}
 use Rattle.bidi_show_run.specs.declared.fault.ShowFault.{ShowFault}
 use Rattle.bidi_show_run.specs.declared.fault.ShowFault.TheVariants.{NotUtf8}
 
--- they are all bytes that the input had, where it tells these
+-- they are all bytes that the input had, if these are known
 pub reported_of_all : {A : Type 0} (old new : Option (List ℕ)) (bytes : List ℕ) (result : Result A ShowFault) (before after : ℕ) → ReadsAll old new bytes
     → after ≡ before + 1 → (IsErrOf result NotUtf8 ↔ ¬ (IsUtf8 bytes)) → IfSome old (λ all. IsErrOf result NotUtf8 ↔ (before < after) × ¬ (IsUtf8 all))
 reported_of_all None new bytes result before after read ended reported = tt

@@ -7,21 +7,21 @@ use Rattle.bidi_show_run.specs.Runs.{LeavesAtEnd}
 use Rattle.bidi_show_run.specs.declared.fault.ShowFault.{ShowFault}
 use Rattle.bidi_show_run.specs.declared.fault.ShowFault.TheVariants.{Usage, NotUtf8, Memory, Device}
 
--- the count has risen, where the flag is set
+-- the count has risen, if the flag is set
 pub risen : (flag : Bool) (count : ℕ) → flag ≡ nat_lt 0 count → IsTrue flag → 0 < count
 risen flag count same set = ltb-true 0 count (sym same ∙ set)
 
--- the flag is set, where the count has risen
+-- the flag is set, if the count has risen
 pub set_by : (flag : Bool) (count : ℕ) → flag ≡ nat_lt 0 count → 0 < count → flag ≡ true
 set_by flag count same more = same ∙ lt-ltb 0 count more
 
--- what is reported exactly where either count rose is reported exactly where either flag is set
+-- what is reported exactly if either count rose is reported exactly if either flag is set
 pub reported_by_either : (P : Type 0) (first second : Bool) (one other : ℕ) → first ≡ nat_lt 0 one → second ≡ nat_lt 0 other
     → (P ↔ 0 < one + other) → (P ↔ IsTrue (first || second))
 reported_by_either P first second one other same same-2 reported =
     ((λ p. let more : 0 < one + other = reported.0 p in grind (arith, nat_tests)), λ set. reported.1 (grind (arith, nat_tests)))
 
--- the same of NotUtf8 and the end of the input
+-- the same for NotUtf8 and the end of the input
 pub reported_at_end : (P : Type 0) (Q : List ℕ → Type 0) (known : Option (List ℕ)) (flag : Bool) (count : ℕ) → flag ≡ nat_lt 0 count
     → IfSome known (λ bytes. P ↔ (0 < count) × Q bytes) → IfSome known (λ bytes. P ↔ IsTrue flag × Q bytes)
 reported_at_end P Q None flag count same reported = tt

@@ -1,4 +1,4 @@
--- What words ask for.
+-- What arguments ask for.
 use Rattle.std.specs.Prelude.{ℕ, Bool, true, false, if◌then◌else◌, List, [], ◌∷◌, Option, Some, None, codes}
 use Rattle.std.specs.Option.{option_map, option_and_then}
 use Rattle.std.specs.Str.{bytes_eq}
@@ -10,7 +10,7 @@ use Rattle.bidi_show_run.specs.declared.command.Command.{Command}
 use Rattle.bidi_show_run.specs.declared.command.Command.TheVariants.{Map, Show}
 use Rattle.bidi_show_run.specs.declared.command.View.TheVariants.{Whole, Lines}
 
--- the base level that a single word names
+-- the base level that a single argument names
 abbrev pub base_of : List (List ℕ) → Option Base
 base_of (word ∷ []) = base_named word
 base_of _ = None
@@ -20,8 +20,8 @@ abbrev pub lines_named : List (List ℕ) → Option Command
 lines_named (base ∷ limit ∷ []) = option_and_then (λ b. option_map (λ n. Show b (Lines n)) (number_of limit)) (base_named base)
 lines_named _ = None
 
--- the form that words have, where they have one: `map` and none or more levels, `show` and a base level, or
--- `lines`, a base level and a limit
+-- the command of some arguments, if they are one: `map` and any number of levels, `show` and a base level, or `lines`,
+-- a base level and a limit
 abbrev pub command_of : List (List ℕ) → Option Command
 command_of [] = None
 command_of (form ∷ words) =
@@ -30,7 +30,7 @@ command_of (form ∷ words) =
     else if bytes_eq form (codes "lines") then lines_named words
     else None
 
--- the form reads the input
+-- the command reads the input
 abbrev pub reads_input : Option Command → Bool
 reads_input (Some (Show base view)) = true
 reads_input _ = false

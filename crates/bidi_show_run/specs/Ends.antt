@@ -21,12 +21,12 @@ abbrev pub ends_met : {E : Type 0} → Result ℕ E → List ℕ → ℕ
 ends_met (Ok count) buffer = if nat_eq count 0 && nat_lt 0 (length buffer) then 1 else 0
 ends_met (Err fault) buffer = 0
 
--- reading came to the end, once: the count of ends rose from `before` to `after`, and no byte is left
+-- reading came to the end, once: the count of ends rose by 1, and no byte is left
 abbrev pub CameToEnd : ℕ → ℕ → Option (List ℕ) → Type 0
 CameToEnd before after left = (after ≡ before + 1) × IsAtEnd left
 
--- how far a call with this result reads: an answer to what reads the input, and NotUtf8, which comes there
--- alone, are given at the end; no call reads on past the end
+-- how far a call with this result reads: if it reads the input and succeeds, or returns NotUtf8, reading came to the
+-- end. No call reads past the end
 abbrev pub ReadsToEnd : {A : Type 0} → Bool → Result A ShowFault → ℕ → ℕ → Option (List ℕ) → Type 0
 ReadsToEnd reads (Ok answer) before after left = reads ≡ true → CameToEnd before after left
 ReadsToEnd reads (Err NotUtf8) before after left = (reads ≡ true) × CameToEnd before after left
@@ -34,7 +34,7 @@ ReadsToEnd reads (Err Usage) before after left = after ≡ before
 ReadsToEnd reads (Err Memory) before after left = after ≤ before + 1
 ReadsToEnd reads (Err Device) before after left = after ≤ before + 1
 
--- NotUtf8 comes exactly where reading came to the end and the bytes, if the end tells them, are not UTF-8
+-- the error is NotUtf8 exactly if reading came to the end and the bytes, if these are known, are not UTF-8
 abbrev pub ReportsNotUtf8 : {I A : Type 0} → (I → Option (List ℕ)) → (I → ℕ) → Result A ShowFault → I → I → Type 0
 ReportsNotUtf8 left ended_reads result old new =
     IfSome (left old) (λ bytes. IsErrOf result NotUtf8 ↔ (ended_reads old < ended_reads new) × ¬ (IsUtf8 bytes))

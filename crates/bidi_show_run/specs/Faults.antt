@@ -1,4 +1,4 @@
--- What a fault says.
+-- The faults of a run.
 use Rattle.std.specs.Prelude.{◌≡◌, ℕ, ◌+◌, List, Result, Ok, Err, codes}
 use Rattle.bidi_show_run.specs.declared.fault.ShowFault.{ShowFault}
 use Rattle.bidi_show_run.specs.declared.fault.ShowFault.TheVariants.{Usage, NotUtf8, Memory, Device}
@@ -11,7 +11,7 @@ device_faults (Err Usage) = 0
 device_faults (Err NotUtf8) = 0
 device_faults (Err Memory) = 0
 
--- the failed reads of an input are counted, where a call had this result
+-- the failed reads of an input are counted, if a call had this result
 abbrev pub CountsFaults : {I A : Type 0} → (I → ℕ) → Result A ShowFault → I → I → Type 0
 CountsFaults failed_reads result old new = failed_reads new ≡ failed_reads old + device_faults result
 

@@ -22,7 +22,7 @@ IsParagraphIn text p = IsLine len_utf8 (chars text) (range_of p).start (range_of
 abbrev pub levels_in : List ℕ → List ℕ → ℕ → ℕ → List ℕ
 levels_in text levels start end = per_char 0 len_utf8 (chars (slice_range text start end)) (slice_range levels start end)
 
--- where it ends in bytes, without the separator that closes it
+-- where it ends in bytes, without the separator that ends it
 abbrev pub own_end : Source → List ℕ → ℕ → ℕ → ℕ
 own_end source cs start end = start + text_len len_utf8 (without_separator source (subrange len_utf8 cs start end))
 
@@ -45,7 +45,7 @@ layout_in source limit cs start end =
 abbrev pub layout_text : List ℕ → ℕ → List BidiClass → List ℕ → List Run → List ℕ
 layout_text text level classes levels lines = flat_map (λ r. shown_line (line_in text level classes levels r.0 r.1)) lines
 
--- what is printed of it, from where it stands and its level
+-- what is printed of it, given its range and its level
 abbrev pub printed_at : View → Source → List ℕ → ℕ → ℕ → ℕ → List BidiClass → List ℕ → List ℕ
 printed_at Whole source text start end level classes levels =
     heading start end level

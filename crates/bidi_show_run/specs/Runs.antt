@@ -9,8 +9,8 @@ use Rattle.bidi_show_run.specs.declared.fault.ShowFault.{ShowFault}
 use Rattle.bidi_show_run.specs.declared.fault.ShowFault.TheVariants.{Usage, NotUtf8, Memory, Device}
 use Rattle.bidi_show_run.specs.declared.runs.Finished.{Finished}
 
--- where a run with this result leaves its reader: an answer to what reads the input, and NotUtf8, which comes
--- there alone, are given at the end
+-- where a run with this result leaves its reader: if it reads the input and succeeds, or returns NotUtf8, the reader is
+-- at its end
 abbrev pub LeavesAtEnd : {A : Type 0} → Bool → Result A ShowFault → Bool → Option (List ℕ) → Type 0
 LeavesAtEnd reads (Ok answer) ended left = reads ≡ true → (ended ≡ true) × IsAtEnd left
 LeavesAtEnd reads (Err NotUtf8) ended left = (reads ≡ true) × (ended ≡ true) × IsAtEnd left
@@ -18,27 +18,28 @@ LeavesAtEnd reads (Err Usage) ended left = ended ≡ false
 LeavesAtEnd reads (Err Memory) ended left = Unit
 LeavesAtEnd reads (Err Device) ended left = Unit
 
--- a run with these words has ended; its reader had `remaining` bytes left, and its writer has written `contents`
+-- a run with these arguments has ended; `remaining` and `contents` are the bytes of its reader and of its writer, if
+-- known
 pub record IsRunOf {R W : Type 0} (remaining : R → Option (List ℕ)) (contents : W → Option (List ℕ))
     (words : List (List ℕ)) (reader : R) (writer : W) (finished : Finished R W) : Type 0 where
-  -- `Usage` comes exactly where the words are none of the forms
+  -- the error is `Usage` exactly if the arguments are no command
   pub usage : IsErrOf finished.outcome Usage ↔ IsNone (command_of words)
-  -- `Device` comes exactly where a read or a write failed. No clause of a reader or a writer says when its own
-  -- calls fail, so none says more of the two ends: tests make reads and writes fail
+  -- the error is `Device` exactly if a read or a write failed. No clause of a reader or a writer says when its own
+  -- calls fail, so no clause says more here. Tests make reads and writes fail
   pub device : IsErrOf finished.outcome Device
       ↔ IsTrue (has_read_failed finished.reader || has_write_failed finished.writer)
-  -- `NotUtf8` comes exactly where reading came to the end and the bytes, if the reader tells them, are not UTF-8
+  -- the error is `NotUtf8` exactly if reading came to the end and the bytes, if these are known, are not UTF-8
   pub not_utf8 : IfSome (remaining reader) (λ bytes.
       IsErrOf finished.outcome NotUtf8 ↔ IsTrue (has_read_ended finished.reader) × ¬ (IsUtf8 bytes))
-  -- an answer to what reads the input, and `NotUtf8`, come at its end
+  -- a command that reads the input and succeeds, or returns `NotUtf8`, has read to the end
   pub ended : LeavesAtEnd (reads_input (command_of words)) finished.outcome (has_read_ended finished.reader)
       (remaining (reader_of finished.reader))
-  -- a run without a fault has written the answer
+  -- a run that succeeds has written the text of its command
   pub written : OnOk finished.outcome (IfSome (command_of words) (λ command.
       WritesAnswer command (remaining reader) (remaining (reader_of finished.reader)) (contents writer)
       (contents (writer_of finished.writer))))
-  -- a fault other than `Device`, and a read that failed, leave the writer as it was, and a form that reads nothing
-  -- the reader
+  -- after a fault other than `Device`, or a failed read, the writer is unchanged; after a command that reads nothing,
+  -- the reader is
   pub unchanged : IfErr finished.outcome (λ fault. fault ≢ Device → writer_of finished.writer ≡ writer)
   pub unchanged_if_read_fails : IsTrue (has_read_failed finished.reader) → writer_of finished.writer ≡ writer
   pub unread : reads_input (command_of words) ≡ false → reader_of finished.reader ≡ reader

@@ -1,4 +1,4 @@
--- The text that answers a command.
+-- The text that a command writes.
 use Rattle.std.specs.Prelude.{◌≡◌, ℕ, ◌+◌, ◌-◌, if◌then◌else◌, List, [], ◌∷◌, ◌++◌, length, take, map, flat_map, codes, decimal, Option, encode_utf8, encode_utf8_all}
 use Rattle.std.specs.Char.{len_utf8}
 use Rattle.std.specs.Io.KnownBytes.{Appends, Consumes, IsAtEnd}
@@ -26,7 +26,7 @@ line_of numbers = join_with_byte (byte " ") (map decimal numbers) ++ codes "\n"
 
 -- ---- what `show` prints of a paragraph
 
--- where it stands, in bytes of the text, and its level
+-- its range, in bytes of the text, and its level
 abbrev pub heading : ℕ → ℕ → ℕ → List ℕ
 heading start end level =
     codes "paragraph "
@@ -44,11 +44,11 @@ levels_line levels = codes "levels" ++ (flat_map spaced levels ++ codes "\n")
 abbrev pub text_line : List ℕ → List ℕ
 text_line shown = codes "text " ++ (shown ++ codes "\n")
 
--- its characters without the separator that closes it
+-- its characters without the separator that ends it
 abbrev pub without_separator : Source → List ℕ → List ℕ
 without_separator source piece = if ends_with_separator source piece then take (length piece - 1) piece else piece
 
--- these three lines for a paragraph that begins at the byte `start`, where the classes and levels are the stored ones
+-- these three lines for a paragraph that begins at the byte `start`, given the stored classes and levels
 abbrev pub paragraph_lines : Source → ℕ → List ℕ → ℕ → List BidiClass → List ℕ → List ℕ
 paragraph_lines source start piece level classes levels =
     heading start (start + text_len len_utf8 piece) level
@@ -66,13 +66,12 @@ shown_line shown = shown ++ codes "\n"
 abbrev pub one_column : ℕ → ℕ
 one_column c = 1
 
--- the lines, and an empty one at `start` where there is none
+-- the lines, or an empty one at `start` if there is none
 abbrev pub one_at_least : ℕ → List Run → List Run
 one_at_least start [] = (start, start) ∷ []
 one_at_least start (line ∷ lines) = line ∷ lines
 
--- its lines of at most `limit` columns, without the separator that closes it, where the classes and levels are
--- the stored ones
+-- its lines of at most `limit` columns, without the separator that ends it, given the stored classes and levels
 abbrev pub layout_lines : Source → ℕ → List ℕ → ℕ → List BidiClass → List ℕ → List ℕ
 layout_lines source limit piece level classes levels =
     flat_map (λ r. shown_line (line_text len_utf8 encode_utf8 piece (encode_utf8_all piece) level classes levels r.0 r.1))
@@ -97,7 +96,7 @@ lines_from view source base_level start (piece ∷ pieces) =
 unfoldable pub shown_text : View → Source → Option ℕ → List ℕ → List ℕ
 shown_text view source base_level text = lines_from view source base_level 0 (paragraphs_of (each_separator source) (chars text))
 
--- ---- what the forms print
+-- ---- what the commands print
 
 -- the sample table
 unfoldable pub sample_source : Source
@@ -108,14 +107,14 @@ pub record ReadsAll (old new : Option (List ℕ)) (bytes : List ℕ) : Type 0 wh
   pub consumed : Consumes old new bytes
   pub to_end : IsAtEnd new
 
--- the text answers the command, whose input had `old` and then `new` left: for `map` it is the visual order of
--- the levels, for `show` and `lines` what the bytes that were read show
+-- the text is what the command writes, if its input had `old` and then `new` left: for `map` the visual order of the
+-- levels, for `show` and `lines` what the bytes that were read show
 abbrev pub IsAnswer : Command → Option (List ℕ) → Option (List ℕ) → List ℕ → Type 0
 IsAnswer (Map levels) old new text = text ≡ line_of (visual_order levels)
 IsAnswer (Show base view) old new text =
     (bytes : List ℕ) × ReadsAll old new bytes × IsUtf8 bytes
     × (text ≡ shown_text view sample_source (level_of_base base) bytes)
 
--- the output has grown from `before` to `after` by a text that answers the command
+-- the output has grown from `before` to `after` by the text of the command
 abbrev pub WritesAnswer : Command → Option (List ℕ) → Option (List ℕ) → Option (List ℕ) → Option (List ℕ) → Type 0
 WritesAnswer command old new before after = (text : List ℕ) × IsAnswer command old new text × Appends before after text

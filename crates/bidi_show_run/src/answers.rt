@@ -1,4 +1,4 @@
-//! The text that answers a command.
+//! The text that a command writes.
 ghost use Rattle.std.specs.Prelude.{◌≡◌, ◌↔◌, false, string_bytes, IfOk, IsOk, IsErrOf};
 ghost use Rattle.std.specs.Str.{IsUtf8};
 ghost use Rattle.bidi_base.specs.Order.{visual_order};
@@ -23,7 +23,7 @@ use itoa::Buffer;
 use std::alloc::{AllocError, Global};
 use unicode_bidi::BidiInfo;
 
-// A line of numbers, separated by one space.
+// Returns a line of numbers, separated by one space.
 fn number_line(alloc: Global, numbers: &[usize]) -> Result<String, AllocError>
     ensures { IfOk result (λ line. string_bytes line ≡ line_of numbers.now) }
 {
@@ -39,7 +39,7 @@ fn number_line(alloc: Global, numbers: &[usize]) -> Result<String, AllocError>
     Ok(line)
 }
 
-// The text of `map`: the visual order of the levels.
+// Returns the text of `map`: the visual order of the levels.
 fn answer_map(alloc: Global, levels: &LevelWords<'_>) -> Result<String, AllocError>
     ensures { IfOk result (λ text. string_bytes text ≡ line_of (visual_order levels.now)) }
 {
@@ -48,14 +48,14 @@ fn answer_map(alloc: Global, levels: &LevelWords<'_>) -> Result<String, AllocErr
     number_line(alloc, order.as_slice())
 }
 
-// The sample table as a source.
+// Returns the sample table as a data source.
 fn sample_table() -> TableBidiData<'static>
     ensures { source_of result ≡ sample_source }
 {
     TableBidiData::new(&sample::RANGES, &sample::BRACKETS).unwrap()
 }
 
-// The text of `show` and `lines`: the paragraphs of these bytes.
+// Returns the text of `show` or `lines`, given the bytes of the input.
 fn answer_show(alloc: Global, base: Base, view: View, bytes: &[u8]) -> Result<String, ShowFault>
     ensures text { IfOk result (λ text. string_bytes text ≡ shown_text view sample_source (level_of_base base) bytes.now) }
     ensures usage { ¬ IsErrOf result Usage }
@@ -69,7 +69,7 @@ fn answer_show(alloc: Global, base: Base, view: View, bytes: &[u8]) -> Result<St
     Ok(show(alloc, &sample_table(), text, base.level(), view)?)
 }
 
-/// The text that answers a command.
+/// Returns the text that a command writes. `show` and `lines` read the input to its end.
 pub fn answer<R: ShowIn>(
     alloc: Global,
     command: &Command<'_>,

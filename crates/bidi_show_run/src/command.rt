@@ -1,4 +1,4 @@
-//! What the words of a call ask for.
+//! What the arguments ask for.
 ghost use Rattle.std.specs.Prelude.{◌≡◌, map, string_bytes};
 
 use crate::number::LevelWords;
@@ -7,13 +7,13 @@ use bidi_terminal::{Base, parse_number};
 /// What is printed of each paragraph.
 #[derive(Clone, Copy)]
 pub enum View {
-    /// Where it stands, its levels, and its text from left to right.
+    /// Its range, its levels, and its text from left to right.
     Whole,
     /// Its lines of at most so many characters, each from left to right.
     Lines(u16),
 }
 
-/// A form of the program.
+/// What the program is asked to do.
 #[derive(Drop)]
 pub enum Command<'w> {
     /// `map <level>..`: the visual order of these levels.
@@ -25,7 +25,7 @@ pub enum Command<'w> {
 impl<'w> Command<'w> {
     ghost use Rattle.bidi_show_run.specs.Commands.{command_of};
 
-    /// The form that the words have, where they have one. It takes no memory.
+    /// Returns the command of some arguments, or `None` if they are no command. Does not allocate.
     pub fn parse(words: &'w [String]) -> Option<Command<'w>>
         ensures { result ≡ command_of (map string_bytes words.now) }
     {

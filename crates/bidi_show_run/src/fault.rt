@@ -9,11 +9,11 @@ use std::fmt;
 /// Why a run ends early.
 #[derive(Debug, PartialEq, Drop)]
 pub enum ShowFault {
-    /// The words are none of the program's forms.
+    /// The arguments are no command.
     Usage,
     /// The input is not UTF-8.
     NotUtf8,
-    /// Memory was refused.
+    /// An allocation failed.
     Memory,
     /// A read or a write failed.
     Device,
@@ -22,7 +22,7 @@ pub enum ShowFault {
 impl ShowFault {
     ghost use Rattle.bidi_show_run.specs.Faults.{exit_status};
 
-    /// The exit status of the program.
+    /// Returns the exit status of the program.
     pub fn status(&self) -> u8
         ensures { result ≡ exit_status self.now }
     {

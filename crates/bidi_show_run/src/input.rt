@@ -9,11 +9,11 @@ use crate::ends::ShowIn;
 use crate::fault::ShowFault;
 use std::alloc::Global;
 
-// How many bytes are asked for at once.
+// The maximum number of bytes of one read.
 const CHUNK: usize = 8192;
 
-/// All bytes that an input has left: it is read until it gives none. It ends early where a read
-/// fails, by `Device`, or where memory is refused, by `Memory`.
+/// Returns all bytes that an input has left: reads it until a read returns none. Returns `Device` if a read fails, or
+/// `Memory` if an allocation fails.
 pub fn read_all<R: ShowIn>(alloc: Global, input: &mut R) -> Result<Vec<u8>, ShowFault>
     ensures read { IfOk result (λ v. ReadsAll (R.left input.old) (R.left input.new) v.items) }
     ensures usage { ¬ IsErrOf result Usage }

@@ -1,4 +1,4 @@
-//! Numbers as words write them.
+//! Numbers in arguments.
 ghost use Rattle.std.specs.Prelude.{◌≡◌, map, filter_map, is_some, IfOk, string_bytes};
 ghost use Rattle.std.specs.List.{list_all};
 ghost use Rattle.bidi_show_run.specs.Numbers.{level_of, levels_of};
@@ -8,7 +8,7 @@ use std::alloc::{AllocError, Global};
 use std::marker::Model;
 use unicode_bidi::Level;
 
-/// The level that a word writes: a number of at most 126.
+/// Returns the level in an argument: a number of at most 126. Returns `None` for any other argument.
 pub fn parse_level(word: &str) -> Option<Level>
     ensures { result ≡ level_of word.now }
 {
@@ -16,7 +16,7 @@ pub fn parse_level(word: &str) -> Option<Level>
     Level::new(number).ok()
 }
 
-// Whether each word writes a level.
+// Returns whether each argument is a level.
 fn are_levels(words: &[String]) -> bool
     ensures { result ≡ list_all (λ word. is_some (level_of (string_bytes word))) words.now }
 {
@@ -25,7 +25,7 @@ fn are_levels(words: &[String]) -> bool
         .all(|word| parse_level(word.as_str()).is_some())
 }
 
-// The levels that words write.
+// Returns the levels in arguments.
 fn levels_in(alloc: Global, words: &[String]) -> Result<Vec<Level>, AllocError>
     ensures { IfOk result (λ v.
         v.items ≡ filter_map (λ word. level_of (string_bytes word)) words.now) }
@@ -36,7 +36,7 @@ fn levels_in(alloc: Global, words: &[String]) -> Result<Vec<Level>, AllocError>
         .collect(alloc)
 }
 
-/// Words each of which writes a level. In a contract they are these levels.
+/// Arguments each of which is a level. In clauses they are these levels.
 #[derive(Drop)]
 pub struct LevelWords<'w> {
     words: &'w [String],
@@ -52,7 +52,7 @@ impl<'w> Model for LevelWords<'w> {
 }
 
 impl<'w> LevelWords<'w> {
-    /// These words, if each of them writes a level. It takes no memory.
+    /// Returns these arguments, or `None` unless each of them is a level. Does not allocate.
     pub fn parse(words: &'w [String]) -> Option<LevelWords<'w>>
         ensures { result ≡ levels_of (map string_bytes words.now) }
     {
@@ -63,7 +63,7 @@ impl<'w> LevelWords<'w> {
         }
     }
 
-    /// The levels, in order.
+    /// Returns the levels, in order. Returns an error if an allocation fails.
     pub fn levels(&self, alloc: Global) -> Result<Vec<Level>, AllocError>
         ensures { IfOk result (λ v. v.items ≡ self.now) }
     {

@@ -17,24 +17,23 @@ use std::io::{Read, Write};
 use std::marker::Brand;
 use std::sync::ledger::{Blank, Ledger};
 
-/// Writes what the words ask for.
+/// Writes what the arguments ask for.
 ///
-/// - `map` and levels, each of which is a number from 0 to 126 of one to three digits: their visual
-///   order, as indexes separated by one space and ended by a line feed. Nothing is read.
-/// - `show` and `auto`, `ltr` or `rtl` (no base level, 0 or 1): three lines for each paragraph of
-///   the input, by the sample table: where it stands, in bytes, and its level; the level of each of
-///   its characters; its text from left to right, without the separator that closes it. The sample
-///   table knows the Hebrew letters and the Arabic ones from U+0627 to U+064A: Hebrew points, the
-///   letters that Persian adds, and Syriac count as left to right.
-/// - `lines`, one of the same words and a limit of one to three digits: of each such paragraph its
-///   lines of at most so many characters, from left to right, each ended by a line feed. A paragraph
-///   of a separator alone is one empty line.
+/// - `map` and levels, each a number from 0 to 126 of one to three digits: their visual order, as indexes separated by
+///   one space and ended by a line feed. Nothing is read.
+/// - `show` and `auto`, `ltr` or `rtl` (no base level, 0 or 1): three lines for each paragraph of the input, by the
+///   sample table. The first has its range, in bytes, and its level. The second has the level of each of its
+///   characters. The third has its text from left to right, without the separator that ends it. The sample table has
+///   the Hebrew letters, and the Arabic ones from U+0627 to U+064A. Hebrew points, the letters that Persian adds, and
+///   Syriac have class L in it.
+/// - `lines`, one of the same base levels and a limit of one to three digits: for each such paragraph its lines of at
+///   most so many characters, from left to right, each ended by a line feed. A paragraph that is only a separator is
+///   one empty line.
 ///
-/// The words are looked at before any memory is taken, and the whole answer is made before any of
-/// it is written. `Usage` comes exactly where the words are none of the forms, `NotUtf8` exactly
-/// where reading came to the end and the bytes are not UTF-8, and `Device` exactly where a read or
-/// a write failed. `Memory` comes where memory was refused. No clause can say that it comes only
-/// there: tests show that.
+/// The error is `Usage` exactly if the arguments are no command, `NotUtf8` exactly if reading came to the end and the
+/// bytes are not UTF-8, and `Device` exactly if a read or a write failed. `Memory` means that an allocation failed: no
+/// clause says so, but tests show it. After an error other than `Device`, or after a failed read, the output is
+/// unchanged.
 pub fn run<R: ShowIn, W: ShowOut>(
     alloc: Global,
     words: &[String],
@@ -55,7 +54,7 @@ pub fn run<R: ShowIn, W: ShowOut>(
         IfSome (command_of (map string_bytes words.now)) (λ command.
         WritesAnswer command (R.left input.old) (R.left input.new) (W.written output.old) (W.written output.new))) }
     ensures unchanged { IfErr result (λ fault. fault ≢ Device → output.new ≡ output.old) }
-    // A read that failed leaves the output too.
+    // A read that failed leaves the output unchanged too.
     ensures unchanged_if_read_fails { R.failed_reads input.old < R.failed_reads input.new → output.new ≡ output.old }
     ensures unread { reads_input (command_of (map string_bytes words.now)) ≡ false → input.new ≡ input.old }
 {
@@ -111,8 +110,8 @@ fn run_counted<F: Ledger, E: Ledger, O: Ledger, R: Read + Drop, W: Write + Drop>
 
 /// Runs the program over a reader and a writer, and returns both. The writer is flushed.
 ///
-/// It promises what [`run`] does. The returned reader and writer know whether a read or a write
-/// failed, and whether a read came to the end.
+/// Promises what [`run`] promises. The returned reader and writer know whether a read or a write failed, and whether a
+/// read came to the end.
 pub fn run_over_streams<R: Read + Drop, W: Write + Drop>(
     alloc: Global,
     words: &[String],

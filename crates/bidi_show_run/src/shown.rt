@@ -18,7 +18,7 @@ use std::alloc::{AllocError, Global};
 use unicode_bidi::layout::{self, CharWidth};
 use unicode_bidi::{BidiClass, BidiDataSource, BidiInfo, Level, LevelRun, ParagraphInfo};
 
-// Appends where a paragraph stands, and its level.
+// Appends the range of a paragraph, and its level.
 fn push_heading(out: &mut String, paragraph: &ParagraphInfo) -> Result<(), AllocError>
     ensures { OnOk result (string_bytes out.new
         ≡ string_bytes out.old ++ heading (range_of paragraph.now).start (range_of paragraph.now).end (level_of paragraph.now)) }
@@ -33,7 +33,7 @@ fn push_heading(out: &mut String, paragraph: &ParagraphInfo) -> Result<(), Alloc
     out.push_str("\n")
 }
 
-// Appends the level of each character of a text, from one level a byte.
+// Appends the level of each character of a text, given one level for each byte.
 fn push_levels(out: &mut String, text: &str, levels: &[Level]) -> Result<(), AllocError>
     requires { length levels.now ≡ length text.now }
     ensures { OnOk result (string_bytes out.new
@@ -47,7 +47,7 @@ fn push_levels(out: &mut String, text: &str, levels: &[Level]) -> Result<(), All
     out.push_str("\n")
 }
 
-// The text of a paragraph without the separator that closes it.
+// Returns the text of a paragraph without the separator that ends it.
 fn without_separator<'t, D: BidiDataSource>(data_source: &D, text: &'t str) -> &'t str
     ensures { chars result.now ≡ without_separator_of (D.source data_source.now) (chars text.now) }
 {
@@ -60,7 +60,7 @@ fn without_separator<'t, D: BidiDataSource>(data_source: &D, text: &'t str) -> &
     }
 }
 
-// The text of a line.
+// Returns the text of a line.
 fn text_of_line(text: &str, start: usize, end: usize) -> &str
     requires { IsLine len_utf8 (chars text.now) start end }
     ensures part { result.now ≡ slice_range text.now start end }
@@ -69,7 +69,7 @@ fn text_of_line(text: &str, start: usize, end: usize) -> &str
     &text[start..end]
 }
 
-// Where a paragraph ends, without the separator that closes it.
+// Returns where a paragraph ends, without the separator that ends it.
 fn own_end<D: BidiDataSource>(
     data_source: &D,
     info: &BidiInfo<'_>,
@@ -135,7 +135,7 @@ impl CharWidth for OneColumn {
     }
 }
 
-// The lines of a paragraph without the separator that closes it, and an empty one where there is none.
+// Returns the lines of a paragraph without the separator that ends it, or an empty one if there is none.
 fn layout_of<D: BidiDataSource>(
     alloc: Global,
     data_source: &D,
@@ -235,8 +235,10 @@ fn push_paragraphs<D: BidiDataSource>(
     Ok(())
 }
 
-/// What is printed of each paragraph of a text: where it stands and its level, the level of each of
-/// its characters, and its text from left to right; or its lines of at most so many characters.
+/// Returns what is printed of each paragraph of a text.
+///
+/// This is its range and its level, the level of each of its characters, and its text from left to right; or its lines
+/// of at most so many characters. `base_level` is at most 125. Returns an error if an allocation fails.
 pub fn show<D: BidiDataSource>(
     alloc: Global,
     data_source: &D,

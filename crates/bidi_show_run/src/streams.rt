@@ -1,5 +1,5 @@
-//! Ends over readers and writers. They tell their bytes where the reader or the writer does, as a
-//! list in memory; standard input and output leave it open.
+//! Ends over readers and writers. Clauses know the bytes of an end if they know those of the reader or the writer:
+//! those of a list in memory, but not those of standard input and output.
 ghost use Rattle.std.specs.Prelude.{◌≡◌, false, nat_lt};
 ghost use Rattle.bidi_show_run.specs.Ends.{Opens};
 
@@ -8,8 +8,7 @@ use std::io::{Read, Write};
 use std::sync::ledger::{Blank, Ledger};
 use unicode_bidi::prepare::Steps;
 
-/// A reader, and what its reads have met. Only a read of a [`StreamIn`] that failed, or that came to
-/// the end, changes that.
+/// A reader, and whether a read has failed or has come to the end. Only a read of a [`StreamIn`] changes that.
 #[derive(Drop)]
 pub struct WatchedReader<R> {
     reader: R,
@@ -20,7 +19,7 @@ pub struct WatchedReader<R> {
 impl<R> WatchedReader<R> {
     ghost use Rattle.bidi_show_run.specs.Streams.{reader_of, has_read_failed, has_read_ended};
 
-    // No read has met anything yet.
+    // Returns a reader of which no read has failed or come to the end yet.
     fn new(reader: R) -> WatchedReader<R>
         ensures reader { reader_of result ≡ reader }
         ensures failed { has_read_failed result ≡ false }
@@ -33,21 +32,21 @@ impl<R> WatchedReader<R> {
         }
     }
 
-    /// Whether a read has failed.
+    /// Returns whether a read has failed.
     pub fn has_failed(&self) -> bool
         ensures { result ≡ has_read_failed self.now }
     {
         self.has_failed
     }
 
-    /// Whether a read has come to the end: it gave no byte for a buffer with room.
+    /// Returns whether a read has come to the end: it returned no byte for a buffer with room.
     pub fn has_ended(&self) -> bool
         ensures { result ≡ has_read_ended self.now }
     {
         self.has_ended
     }
 
-    /// The reader.
+    /// Returns the reader.
     pub fn into_inner(self) -> R
         ensures { result ≡ reader_of self }
     {
@@ -55,8 +54,7 @@ impl<R> WatchedReader<R> {
     }
 }
 
-/// A writer, and whether a write to it has failed. Only a `put` of a [`StreamOut`] that failed
-/// changes that.
+/// A writer, and whether a write to it has failed. Only a `put` of a [`StreamOut`] that failed changes that.
 #[derive(Drop)]
 pub struct WatchedWriter<W> {
     writer: W,
@@ -66,7 +64,7 @@ pub struct WatchedWriter<W> {
 impl<W> WatchedWriter<W> {
     ghost use Rattle.bidi_show_run.specs.Streams.{writer_of, has_write_failed};
 
-    // No write has failed yet.
+    // Returns a writer of which no write has failed yet.
     fn new(writer: W) -> WatchedWriter<W>
         ensures writer { writer_of result ≡ writer }
         ensures failed { has_write_failed result ≡ false }
@@ -77,14 +75,14 @@ impl<W> WatchedWriter<W> {
         }
     }
 
-    /// Whether a write has failed.
+    /// Returns whether a write has failed.
     pub fn has_failed(&self) -> bool
         ensures { result ≡ has_write_failed self.now }
     {
         self.has_failed
     }
 
-    /// The writer.
+    /// Returns the writer.
     pub fn into_inner(self) -> W
         ensures { result ≡ writer_of self }
     {
@@ -105,8 +103,8 @@ pub struct StreamIn<R, F: Ledger, E: Ledger> {
 impl<R: Read, F: Ledger, E: Ledger> StreamIn<R, F, E> {
     ghost use Rattle.bidi_show_run.specs.Streams.{reader_of, read_end, failed_reads_of, ended_reads_of};
 
-    /// The end of this reader. No read has failed or come to the end yet. The blanks open the ledgers
-    /// that count such reads.
+    /// Returns an end over a reader. No read has failed or come to the end yet. The blanks open the ledgers that count
+    /// such reads.
     pub fn new(reader: R, failed: Blank, ended: Blank) -> StreamIn<R, F, E>
         requires failed { Opens failed F.name F.parts }
         requires ended { Opens ended E.name E.parts }
@@ -121,7 +119,7 @@ impl<R: Read, F: Ledger, E: Ledger> StreamIn<R, F, E> {
         }
     }
 
-    /// The reader, and what its reads have met.
+    /// Returns the reader, and whether a read has failed or has come to the end.
     pub fn into_watched(self) -> WatchedReader<R>
         ensures { result ≡ read_end self }
     {
@@ -152,8 +150,7 @@ impl<R: Read, F: Ledger, E: Ledger> ShowIn for StreamIn<R, F, E> {
     }
 }
 
-/// An end over a writer, which is flushed at each `put`. Its last parameter names the ledger of its
-/// count.
+/// An end over a writer, which is flushed at each `put`. Its last parameter names the ledger of its count.
 #[derive(Drop)]
 pub struct StreamOut<W, L: Ledger> {
     watched: WatchedWriter<W>,
@@ -164,8 +161,7 @@ pub struct StreamOut<W, L: Ledger> {
 impl<W: Write, L: Ledger> StreamOut<W, L> {
     ghost use Rattle.bidi_show_run.specs.Streams.{writer_of, written_end, failed_writes_of};
 
-    /// The end of this writer. No write has failed yet. The blank opens the ledger that counts such
-    /// writes.
+    /// Returns an end over a writer. No write has failed yet. The blank opens the ledger that counts such writes.
     pub fn new(writer: W, failed: Blank) -> StreamOut<W, L>
         requires { Opens failed L.name L.parts }
         ensures writer { writer_of (written_end result) ≡ writer }
@@ -177,7 +173,7 @@ impl<W: Write, L: Ledger> StreamOut<W, L> {
         }
     }
 
-    /// The writer, and whether a write to it has failed.
+    /// Returns the writer, and whether a write to it has failed.
     pub fn into_watched(self) -> WatchedWriter<W>
         ensures { result ≡ written_end self }
     {

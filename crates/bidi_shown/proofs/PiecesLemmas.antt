@@ -1,4 +1,4 @@
--- In whatever pieces a text comes, the same is shown.
+-- What is shown does not depend on the pieces in which a text comes.
 use Rattle.bidi_base.proofs.Common.{◌≡◌, ◌≢◌, ◌∙◌, ℕ, suc, if◌then◌else◌, length-take, take_more, ◌+◌, ◌-◌, ◌<◌, ◌≤◌, ◌++◌, ◌==◌, nat_lt, true, false, List, [], ◌∷◌, length, take, drop, get_or}
 use Rattle.bidi_base.proofs.Common.{flat_map, refl, sym, ap, subst, arith, nat_tests, eqb-true, cases_Bool, inl, inr, append_assoc, append-nil, take-append-drop, take-append_seam}
 use Rattle.bidi_base.proofs.Common.{drop-append_seam, flat_map-append, length-append, get_or-append_seam, chars, chars-nil, encode_utf8, IsUtf8, IsUtf8-past_char, IsCharBoundary, Source}
@@ -55,7 +55,7 @@ shown_text-append view cs ds =
     let shown = λ (p : List ℕ). shown_paragraph unicode_source view (own_chars unicode_source p) in
     ap (flat_map shown) (paragraphs-append unicode_source feed-separates cs ds) ∙ flat_map-append shown (paragraphs_in unicode_source (cs ++ 0x0A ∷ [])) (paragraphs_in unicode_source ds)
 
--- ---- the same of bytes
+-- ---- the same for bytes
 
 feed-chars : (rest : List ℕ) → IsUtf8 (0x0A ∷ rest) → (chars (0x0A ∷ rest) ≡ 0x0A ∷ chars rest) × IsUtf8 rest
 feed-chars rest utf8 =
@@ -138,7 +138,7 @@ IsShownTo-more view held piece came shown lines_utf8 was = elim (cases_Bool (who
       ))
 ]
 
--- The same, where what is shown stands after something.
+-- The same, if what is shown follows something.
 pub IsShownTo-pushed : (view : View) (held piece came before out out' held' : List ℕ) → (0 < whole_lines piece → IsUtf8 (held ++ take (whole_lines piece) piece))
     → out' ≡ out ++ shown_now view held piece → held' ≡ pending_after held piece → IsShownTo view held came (before ++ out) → IsShownTo view held' (came ++ piece) (before ++ out')
 IsShownTo-pushed view held piece came before out out' held' lines_utf8 out_is held_is was =

@@ -10,7 +10,7 @@ abbrev pub ReportsBytes : List ℕ → StreamFault → Type 0
 ReportsBytes bytes (NotUtf8 at) = (at ≡ utf8_valid_len bytes) × (IsUtf8 bytes → ⊥)
 ReportsBytes bytes Memory = ⊤
 
--- the index in a text of a byte that has so many others before it, or the greatest `usize` if that is less
+-- the index in a text of a byte that has so many others before it, or the maximum `usize` if that is less
 abbrev pub index_after : ℕ → ℕ → ℕ
 index_after before at = min (before + at) (2 ^ 64 - 1)
 

@@ -9,7 +9,7 @@ use Rattle.bidi_shown.specs.Faults.{ReportsBytesAfter, index_after}
 use Rattle.bidi_shown.specs.declared.stream.Stream.{Stream}
 use Rattle.bidi_shown.specs.declared.stream.StreamFault.{StreamFault}
 
--- the number of bytes up to the last line feed, this included; 0 where there is none
+-- the number of bytes up to the last line feed, this included; 0 if there is none
 abbrev pub whole_lines : List ℕ → ℕ
 whole_lines [] = 0
 whole_lines (b ∷ bs) = if nat_lt 0 (whole_lines bs) then whole_lines bs + 1 else (if b == 0x0A then 1 else 0)
@@ -18,7 +18,7 @@ whole_lines (b ∷ bs) = if nat_lt 0 (whole_lines bs) then whole_lines bs + 1 el
 abbrev pub pending : Stream → List ℕ
 pending s = s.pending.items
 
--- how many bytes were shown, or the greatest `usize` if that is less
+-- how many bytes were shown, or the maximum `usize` if that is less
 abbrev pub shown_len : Stream → ℕ
 shown_len s = s.before
 
@@ -57,8 +57,9 @@ shown_now view held piece =
 abbrev pub pending_after : List ℕ → List ℕ → List ℕ
 pending_after held piece = if whole_lines piece == 0 then held ++ piece else drop (whole_lines piece) piece
 
--- The bytes `came`, those of `held` last; the others were shown, as `shown`. For any bytes `rest` after them: if `held` and
--- `rest` together are UTF-8, then so are all bytes, and `shown` and what `held` and `rest` show are what all bytes show.
+-- The bytes `came`, those of `held` last; the others were shown, as `shown`. For any bytes `rest` after them: if `held`
+-- and `rest` together are UTF-8, then so are all bytes, and what all bytes show is `shown` and then what `held` and
+-- `rest` show.
 abbrev pub IsShownTo : View → List ℕ → List ℕ → List ℕ → Type 0
 IsShownTo view held came shown =
     (rest : List ℕ) → IsUtf8 (held ++ rest) → IsUtf8 (came ++ rest)

@@ -159,6 +159,8 @@ fn lines_of<D: BidiDataSource>(
 }
 
 /// Appends the lines of a paragraph without separators, each from left to right and ended by a line feed.
+///
+/// Returns an error if an allocation fails. Then `out` may have some of the lines.
 pub fn push_paragraph<D: BidiDataSource>(
     alloc: Global,
     out: &mut String,

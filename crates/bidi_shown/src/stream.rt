@@ -1,4 +1,4 @@
-//! A text that comes in pieces, of which whole lines are shown at once.
+//! A text that comes in pieces. Its lines are shown as soon as they are whole.
 ghost use Rattle.std.specs.Prelude.{◌≡◌, ℕ, ◌++◌, ◌≤◌, List, [], length, OnOk, IfErr, string_bytes};
 ghost use Rattle.std.specs.Str.{chars, IsUtf8};
 ghost use Rattle.bidi_unicode.specs.Unicode.{unicode_source};
@@ -15,7 +15,7 @@ use std::alloc::{AllocError, Global};
 /// Why a text is not shown to its end.
 #[derive(Clone, Copy, Debug, PartialEq, Drop)]
 pub enum StreamFault {
-    /// It is UTF-8 up to this byte, counted from 0, and no further.
+    /// The index of its first byte that is not UTF-8, counted from 0.
     NotUtf8(usize),
     /// An allocation failed.
     Memory,
@@ -35,7 +35,7 @@ impl From<AllocError> for StreamFault {
 impl StreamFault {
     ghost use Rattle.bidi_shown.specs.Faults.{ReportsBytesAfter};
 
-    // Returns the fault of a text that has so many bytes before those in which it was found.
+    // Returns the fault of a text that has `before` bytes before those in which the fault was found.
     fn after(self, before: usize) -> StreamFault
         ensures { (bytes : List ℕ) → ReportsBytes bytes self → ReportsBytesAfter before bytes result }
     {
@@ -48,8 +48,8 @@ impl StreamFault {
 
 /// A text that comes in pieces.
 ///
-/// It keeps the bytes after the last line feed that has come, and shows the lines before. In whatever pieces a text of
-/// UTF-8 comes, the same is shown.
+/// Keeps the bytes after the last line feed that has come, and shows the lines before it. What is shown of a text of
+/// UTF-8 does not depend on its pieces.
 #[derive(Drop)]
 pub struct Stream {
     memory: Memory,
@@ -104,7 +104,7 @@ impl Stream {
     ghost use Rattle.bidi_shown.specs.Faults.{ReportsBytesAfter};
     ghost use Rattle.bidi_shown.specs.Streams.{pending as pending_of, shown_len as shown_len_of, shown_now, pending_after, lines_with, shown_len_after, HasShownPending, IsShownTo, ShowsPending, ReportsPending};
 
-    /// Returns a text of which nothing has come. Does not allocate.
+    /// Returns a text without pieces so far. Does not allocate.
     pub fn new(alloc: Global) -> Stream
         ensures pending { pending_of result ≡ [] }
         ensures shown_len { shown_len_of result ≡ 0 }
@@ -119,9 +119,10 @@ impl Stream {
 
     /// Takes the next piece of the text, and appends the whole lines that have come with it to `out`.
     ///
-    /// A piece that has no line feed is only kept. If the lines are not UTF-8, appends the whole lines before the first
-    /// byte that is not, and returns `NotUtf8` with the index of that byte in the text. The bytes after the last line feed
-    /// are tested with the next one, or by `finish`. After an error, nothing is promised of the stream.
+    /// A piece that has no line feed is only kept. If the lines are not UTF-8, returns `NotUtf8` with the index in the
+    /// text of the first byte that is not. Returns `Memory` if an allocation fails. The bytes after the last line feed
+    /// are tested with the next one, or by `finish`. After an error, `out` may have some of the lines, and nothing is
+    /// promised of the stream.
     pub fn push(
         &mut self,
         alloc: Global,
@@ -152,6 +153,9 @@ impl Stream {
     }
 
     /// Ends the text: appends the last line to `out`, if it has no line feed.
+    ///
+    /// Returns `NotUtf8` with the index in the text of the first byte that is not UTF-8, or `Memory` if an allocation
+    /// fails.
     pub fn finish(&mut self, alloc: Global, view: View, out: &mut String) -> Result<(), StreamFault>
         ensures utf8 { OnOk result (IsUtf8 (pending_of self.old)) }
         ensures shown { OnOk result (ShowsPending view self.old out.old out.new) }

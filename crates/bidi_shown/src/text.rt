@@ -39,7 +39,8 @@ fn push_first<'t>(
 
 /// Appends the lines of a text, each from left to right and ended by a line feed.
 ///
-/// Each paragraph of the text (P1) begins a new line, and is cut into several lines if the view has a width.
+/// Each paragraph of the text (P1) begins a new line, and is cut into several lines if the view has a width. Returns an
+/// error if an allocation fails. Then `out` may have some of the lines.
 pub fn push_text(
     alloc: Global,
     out: &mut String,

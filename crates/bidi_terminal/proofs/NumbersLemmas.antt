@@ -1,4 +1,4 @@
--- What `parse` answers for a word of digits.
+-- What `parse` returns for a word of digits.
 use Rattle.bidi_base.proofs.Common.{◌≡◌, ℕ, ◌<◌, ◌≤◌, ◌^◌, List, length, Some, None, Result, Ok, Err, Bool, true, nat_le, ◌&&◌, if◌then◌else◌, sym, arith, rules, list_all, result_ok, nat_tests}
 use Rattle.bidi_base.proofs.Common.{is_ascii_digit, digits_value, IsNumeralModel, numerals_by_value, digits_value_short}
 use Rattle.std.specs.Result.{OkIff}
@@ -21,6 +21,6 @@ value_of : {E : Type 0} (word : List ℕ) (result : Result ℕ E) → list_all i
 value_of word (Ok number) all short small parsed = rw parsed.1 (sym (tested (length word) _ (digits_value 10 word) parsed.0.0 short all))
 value_of word (Err fault) all short small parsed = sym (tested_empty (length word) _ (digits_value 10 word) (λ some. parsed (some, omega arith)))
 
--- a word of at most three digits is refused only where it is empty
+-- a word of at most three digits is rejected only if it is empty
 pub parse_short : {E : Type 0} (word : List ℕ) (result : Result ℕ E) → ParsesUnsigned 16 10 word result → list_all is_ascii_digit word ≡ true → length word ≤ 3 → result_ok result ≡ number_of word
 parse_short word result parsed all short = value_of word result all short (digits_value_short digits word 3 all short) (parse_digits digits 16 word result parsed all)

@@ -12,7 +12,7 @@ base_named word =
     else if bytes_eq word (codes "rtl") then Some Rtl
     else None
 
--- the base level, where there is one
+-- the base level, if there is one
 abbrev pub level_of_base : Base → Option ℕ
 level_of_base Auto = None
 level_of_base Ltr = Some 0

@@ -8,6 +8,6 @@ use Rattle.bidi_terminal.specs.declared.uri.TheConstants.{NOT_IN_PATHS}
 abbrev pub plain_path : List ℕ → List ℕ
 plain_path path = if starts_with nat_eq path (codes "./") then drop 2 path else path
 
--- a path as a reference: letters, digits, `-`, `.`, `_`, `~` and `/` stand for themselves, every other byte is escaped
+-- a path as a reference: letters, digits, `-`, `.`, `_`, `~` and `/` are unchanged, every other byte is escaped
 abbrev pub uri_of : List ℕ → List ℕ
 uri_of path = percent_encode NOT_IN_PATHS (plain_path path)

@@ -37,7 +37,7 @@ fn push_chars(out: &mut String, chars: &[char]) -> Result<(), AllocError>
 
 /// Appends a text as a string of JSON, with its quotes.
 ///
-/// Besides the characters that JSON has to escape, hidden characters are written as `\u202E`.
+/// Besides the characters that JSON must escape, hidden characters are escaped, as in `\u202E`.
 #[tactic(auto, unfolding(crate::specs::Json::json_string))]
 pub fn push_json_string(alloc: Global, out: &mut String, text: &str) -> Result<(), AllocError>
     ensures { OnOk result (string_bytes out.new ≡ string_bytes out.old ++ json_string text.now) }

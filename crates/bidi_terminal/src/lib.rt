@@ -1,6 +1,6 @@
-//! Shared code of terminal programs: base levels and numbers in arguments, decimal numbers, and hexadecimal digits. Also how
-//! reports write names and texts: with hidden characters escaped ([`names`]), as strings of JSON ([`json_text`]), and as
-//! references of URIs ([`uri`]).
+//! Shared code of terminal programs: base levels and numbers in arguments, decimal numbers, and hexadecimal digits.
+//! Also how reports write names and texts: with hidden characters escaped ([`names`]), as strings of JSON
+//! ([`json_text`]), and as references of URIs ([`uri`]).
 #![tactic(auto)]
 
 mod base;

@@ -6,7 +6,7 @@ ghost use Rattle.bidi_terminal.specs.Names.{is_hidden, four_hex_digits, code_esc
 use crate::push_hex_digit;
 use std::alloc::{AllocError, Global};
 
-/// Returns whether a character could end a line, control a terminal or change the order of a line.
+/// Returns whether a character is hidden: it could end a line, control a terminal or change the order of a line.
 pub fn is_hidden(c: char) -> bool
     ensures { result ≡ is_hidden c }
 {
@@ -82,8 +82,8 @@ fn push_name(out: &mut String, chars: &[char]) -> Result<(), AllocError>
     Ok(())
 }
 
-/// A name for a report. A character that could end a line, control a terminal or change the order of
-/// a line is written as its code point, as in `\u{202E}`, and a backslash is doubled.
+/// Returns a name for a report. Each hidden character is written by its code point, as in `\u{202E}`, and each
+/// backslash is doubled. Returns an error if an allocation fails.
 pub fn shown_name(alloc: Global, name: &str) -> Result<String, AllocError>
     ensures { IfOk result (λ out. string_bytes out ≡ shown_name_of (chars name.now)) }
 {
@@ -107,8 +107,8 @@ fn push_byte(out: &mut String, byte: u8) -> Result<(), AllocError>
     push_number_of_byte(out, byte)
 }
 
-/// A name that is not UTF-8, for a report. A byte that is not a visible character of ASCII or a space
-/// is written as in `\xFF`, and a backslash is doubled.
+/// Returns a name that is not UTF-8, for a report. Each byte that is not a visible character of ASCII or a space is
+/// written as in `\xFF`, and each backslash is doubled. Returns an error if an allocation fails.
 pub fn shown_bytes(alloc: Global, bytes: &[u8]) -> Result<String, AllocError>
     ensures { IfOk result (λ out. string_bytes out ≡ shown_bytes_of bytes.now) }
 {
@@ -119,9 +119,8 @@ pub fn shown_bytes(alloc: Global, bytes: &[u8]) -> Result<String, AllocError>
     Ok(out)
 }
 
-/// Appends a character of a line. Unlike in a name, a backslash is not doubled, since lines of source code have many. A
-/// character that could end a line, control a terminal or change the order of a line is written as in `<U+202E>`, and a
-/// tab as a space.
+/// Appends a character of a line. A hidden character is written as in `<U+202E>`, and a tab as a space. Unlike in a
+/// name, a backslash is not doubled, since lines of source code have many.
 pub fn push_quoted(out: &mut String, c: char) -> Result<(), AllocError>
     ensures { OnOk result (string_bytes out.new ≡ string_bytes out.old ++ quoted_char c) }
 {

@@ -5,7 +5,7 @@ ghost use Rattle.bidi_terminal.specs.Uris.{plain_path, uri_of};
 use percent_encoding::{AsciiSet, NON_ALPHANUMERIC, ascii_set, percent_encode};
 use std::alloc::AllocError;
 
-/// The ASCII characters that a path has to escape in a URI: all but letters, digits, `-`, `.`, `_`, `~` and `/`.
+/// The ASCII characters that are escaped in a path of a URI: all but letters, digits, `-`, `.`, `_`, `~` and `/`.
 const NOT_IN_PATHS: AsciiSet = ascii_set!(
     NON_ALPHANUMERIC
         .remove(b'-')
@@ -27,8 +27,8 @@ fn plain_path(path: &[u8]) -> &[u8]
 
 /// Appends a path as a reference of a URI, without the `./` that it may begin with.
 ///
-/// A relative path becomes a relative reference. Other bytes than letters, digits, `-`, `.`, `_`, `~` and `/` are written
-/// as in `%20`.
+/// A relative path becomes a relative reference. Bytes other than letters, digits, `-`, `.`, `_`, `~` and `/` are
+/// written as in `%20`.
 pub fn push_uri(out: &mut String, path: &str) -> Result<(), AllocError>
     ensures { OnOk result (string_bytes out.new ≡ string_bytes out.old ++ uri_of path.now) }
 {

@@ -82,7 +82,7 @@ fn check_utf16(
 
 /// Runs a row of a text that is one paragraph.
 ///
-/// The row says whether no class can turn the direction, whether some level is odd, and the direction of the levels.
+/// The row says whether no class can change the direction, whether some level is odd, and the direction of the levels.
 pub fn run_levels(
     alloc: Global,
     tables: &Tables,

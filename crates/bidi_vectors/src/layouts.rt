@@ -1,4 +1,4 @@
-//! Rows of lines of given width, and of the places of their characters on the screen.
+//! Rows of lines of given width, and of the visual indexes of their characters.
 
 use bidi_base::data_source::TableBidiData;
 use bidi_base::level::Level;
@@ -132,7 +132,7 @@ fn map_of_row(
     map_of(alloc, &info, range)
 }
 
-// Returns the character at each visual index, up to two after the last, and the place of each character.
+// Returns the character at each visual index, up to two after the last, and the visual index of each character.
 fn entries_of(alloc: Global, map: &LineMap) -> Result<(Vec<usize>, Vec<usize>), RowFault> {
     let mut order = Vec::new(alloc);
     let mut places = Vec::new(alloc);
@@ -147,7 +147,7 @@ fn entries_of(alloc: Global, map: &LineMap) -> Result<(Vec<usize>, Vec<usize>), 
     Ok((order, places))
 }
 
-/// Runs a row of a text, a line of it, the character at each visual index, and the place of each character.
+/// Runs a row of a text, a line of it, the character at each visual index, and the visual index of each character.
 pub fn run_map(
     alloc: Global,
     tables: &Tables,

@@ -24,7 +24,7 @@ fn check_order(
     }
 }
 
-/// Runs a row of levels, and the index of the level at each place from the left.
+/// Runs a row of levels, and the index of the level at each visual index.
 pub fn run_order(alloc: Global, row: &Row<'_>, tally: &mut Tally) -> Result<(), RowFault> {
     row.has_only(&["levels", "order"])?;
     let levels = levels(alloc, row.field("levels")?)?;

@@ -8,8 +8,8 @@ use bidi_vectors_format::source::Tables;
 use bidi_vectors_format::tally::Tally;
 use std::alloc::Global;
 
-// Makes the calls of a row of a text, a line, a visual order or a layout over this source. Returns whether the row is of
-// such a kind.
+// Makes the calls of a row of a text, a line, a visual order or a layout over this source. Returns whether the row is
+// of such a kind.
 fn run_text(
     alloc: Global,
     tables: &Tables,

@@ -76,6 +76,7 @@ fn check_neighbour(
 }
 
 impl Sources {
+    /// Returns no sources.
     pub fn new(alloc: Global) -> Sources {
         Sources {
             sources: Vec::new(alloc),

@@ -10,7 +10,7 @@ use std::test::Fail;
 // A line with an override in it.
 const LINE: [char; 7] = ['i', '\u{202E}', 'a', '(', 'b', '\u{202C}', '!'];
 
-// Each base direction, and what is displayed of the line.
+// Each base level, and what is displayed of the line.
 const DISPLAYED: [(Base, [char; 5]); 2] = [
     (Base::Ltr, ['i', 'b', '(', 'a', '!']),
     (Base::Rtl, ['!', 'i', 'b', '(', 'a']),
@@ -37,7 +37,7 @@ fn a_line_without_its_controls(rt: HostRuntime) -> Result<(), Fail> {
     check_displayed(&rt, &mut displayed, &mut out)
 }
 
-// Compares a line whose text is swapped and one whose text is kept with how they read.
+// Compares two lines with how they read: one is displayed in another order, and the other is not.
 fn check_comparison(
     rt: &(impl Abort + AllocGlobal),
     comparison: &mut DisplayComparison,

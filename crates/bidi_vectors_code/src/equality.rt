@@ -9,7 +9,7 @@ use std::alloc::Global;
 use std::test::Fail;
 use unicode_bidi::{BidiInfo, InitialInfo};
 
-// A text with its base direction, and whether its result is equal to that of "a b" without one.
+// A text with its base level, and whether its result is equal to that of "a b" without one.
 #[derive(Clone, Copy)]
 struct Compared(&'static str, Base, bool);
 

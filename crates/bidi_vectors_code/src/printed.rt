@@ -8,8 +8,8 @@ use std::process::Abort;
 use std::test::Fail;
 use unicode_bidi::{BidiInfo, InitialInfo, Paragraph, ParagraphBidiInfo, utf16};
 
-// A value whose `fmt` calls that of an info. A function that formats this value is proved. The kit proves none that passes
-// the info itself to a format.
+// A value whose `fmt` calls that of an info. A function that formats this value is proved. The kit proves none that
+// passes the info itself to a format.
 #[derive(Drop)]
 enum Printed<'a, 't> {
     Info(&'a BidiInfo<'t>),

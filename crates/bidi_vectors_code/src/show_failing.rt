@@ -6,7 +6,7 @@ use std::io::{self, ErrorKind, Read, Write};
 use std::process::Abort;
 use std::test::Fail;
 
-// A reader over a slice that gives one byte a read, and fails once it has been read so many times.
+// A reader over a slice. Each read returns one byte, and fails after so many reads.
 #[derive(Drop)]
 struct FailingReader<'i> {
     rest: &'i [u8],
@@ -30,7 +30,7 @@ impl<'i> Read for FailingReader<'i> {
     }
 }
 
-// A writer that counts the bytes that it takes, and fails once it has taken so many.
+// A writer that counts the bytes that it takes, and fails after so many.
 #[derive(Drop)]
 struct FailingWriter {
     bytes_left: usize,
@@ -56,8 +56,8 @@ const INPUT: &[u8] = b"a\nb";
 const OUTPUT: &[u8] = b"paragraph 0..2 level 0\nlevels 0 0\ntext a\n\
     paragraph 2..3 level 0\nlevels 0\ntext b\n";
 
-// How a run ends whose reader fails once it has been read so many times, and what it wrote. The input has three bytes,
-// so the fourth read comes to the end.
+// Tests how a run ends if its reader fails after so many reads, and what it wrote. The input has three bytes, so the
+// fourth read comes to the end.
 fn check_reader(rt: &(impl Abort + AllocGlobal), reads: usize) -> Result<(), Fail> {
     let reader = FailingReader {
         rest: INPUT,
@@ -85,7 +85,7 @@ fn a_failed_read_is_told_and_nothing_is_written(rt: HostRuntime) -> Result<(), F
     Ok(())
 }
 
-// How a run ends whose writer fails once it has taken so many bytes.
+// Tests how a run ends if its writer fails after so many bytes.
 fn check_writer(rt: &(impl Abort + AllocGlobal), bytes: usize) -> Result<(), Fail> {
     let writer = FailingWriter { bytes_left: bytes };
     let run = run_with(rt.alloc(), &["show", "auto"], INPUT, writer)?;

@@ -1,5 +1,5 @@
-//! Runs of `bidi_show` over a writer that holds bytes back until it is flushed, as standard output may. No contract of `Write`
-//! tells whether a writer was flushed.
+//! Runs of `bidi_show` over a writer that holds bytes back until it is flushed, as standard output may. No contract of
+//! `Write` says whether a writer was flushed.
 
 use crate::show_run::run_with;
 use bidi_show_run::{Finished, ShowFault};
@@ -12,7 +12,7 @@ use std::test::Fail;
 struct Holding {
     held: usize,
     handed_on: usize,
-    // Whether it fails to hand bytes on.
+    // Whether it fails to pass bytes on.
     is_full: bool,
 }
 
@@ -31,7 +31,7 @@ impl Write for Holding {
     }
 }
 
-// A run of `map 0`, which writes two bytes.
+// Runs `map 0`, which writes two bytes.
 fn run_map(alloc: Global, is_full: bool) -> Result<Finished<&'static [u8], Holding>, AllocError> {
     let writer = Holding {
         held: 0,

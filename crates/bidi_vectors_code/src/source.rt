@@ -1,4 +1,4 @@
-//! The sample table as a source, and what the algorithm finds in texts over it.
+//! The sample table as a data source, and what the algorithm finds in texts over it.
 
 use bidi_base::data_source::TableBidiData;
 use bidi_base::sample;

@@ -19,12 +19,12 @@ static CLASSES: [(&str, BidiClass, char); 23] = [
     ("RLI", RLI, '\u{2067}'), ("FSI", FSI, '\u{2068}'), ("PDI", PDI, '\u{2069}'),
 ];
 
-/// Each class with its name and its character in the sample table.
+/// Returns each class with its name and its character in the sample table.
 pub fn classes() -> &'static [(&'static str, BidiClass, char)] {
     CLASSES.as_slice()
 }
 
-// The class with this name, and its character in the sample table.
+// Returns the class with this name, and its character in the sample table.
 fn entry_of(name: &str, line: usize) -> Result<(BidiClass, char), RowFault> {
     for (known, class, c) in classes() {
         if *known == name {
@@ -34,13 +34,13 @@ fn entry_of(name: &str, line: usize) -> Result<(BidiClass, char), RowFault> {
     Err(RowFault::Line(line, Why::Class))
 }
 
-/// The class with this name.
+/// Returns the class with this name.
 pub fn class_of(name: &str, line: usize) -> Result<BidiClass, RowFault> {
     let (class, _) = entry_of(name, line)?;
     Ok(class)
 }
 
-/// A character that has the class with this name in the sample table.
+/// Returns a character that has the class with this name in the sample table.
 pub fn character_of(name: &str, line: usize) -> Result<char, RowFault> {
     let (_, c) = entry_of(name, line)?;
     Ok(c)

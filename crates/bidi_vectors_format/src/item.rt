@@ -58,7 +58,7 @@ pub fn number_of(word: &str, line: usize) -> Result<usize, RowFault> {
     }
 }
 
-/// The number of a field, or `usize::MAX` for `greatest`.
+/// Returns the number of a field, or `usize::MAX` for `greatest`.
 pub fn number(field: Field<'_>) -> Result<usize, RowFault> {
     if field.value == "greatest" {
         return Ok(usize::MAX);
@@ -66,7 +66,7 @@ pub fn number(field: Field<'_>) -> Result<usize, RowFault> {
     number_of(field.value, field.line)
 }
 
-/// The numbers of a field.
+/// Returns the numbers of a field.
 pub fn numbers(alloc: Global, field: Field<'_>) -> Result<Vec<usize>, RowFault> {
     let mut numbers = Vec::new(alloc);
     for item in items_of(alloc, field)? {
@@ -84,7 +84,7 @@ pub fn level_of(word: &str, line: usize) -> Result<Level, RowFault> {
     level.ok_or(RowFault::Line(line, Why::Level))
 }
 
-/// The levels of a field.
+/// Returns the levels of a field.
 pub fn levels(alloc: Global, field: Field<'_>) -> Result<Vec<Level>, RowFault> {
     let items = items_of(alloc, field)?;
     let mut levels = Vec::new(alloc);
@@ -103,7 +103,7 @@ pub fn range_of(word: &str, line: usize) -> Result<(usize, usize), RowFault> {
     }
 }
 
-/// The ranges of a field.
+/// Returns the ranges of a field.
 pub fn ranges(alloc: Global, field: Field<'_>) -> Result<Vec<(usize, usize)>, RowFault> {
     let mut ranges = Vec::new(alloc);
     for word in field.value.split_whitespace() {
@@ -112,7 +112,7 @@ pub fn ranges(alloc: Global, field: Field<'_>) -> Result<Vec<(usize, usize)>, Ro
     Ok(ranges)
 }
 
-/// Whether a field says yes.
+/// Returns whether a field says yes.
 pub fn flag(field: Field<'_>) -> Result<bool, RowFault> {
     match field.value {
         "yes" => Ok(true),

@@ -78,7 +78,7 @@ fn head_of(line: &str) -> Option<(&str, &str)> {
     Some((kind, name.trim()))
 }
 
-/// The rows of a file, in order.
+/// Returns the rows of a file, in order.
 pub fn rows_of<'t>(alloc: Global, text: &'t str) -> Result<Vec<Row<'t>>, RowFault> {
     let mut rows: Vec<Row<'t>> = Vec::new(alloc);
     for (index, line) in text.lines().enumerate() {

@@ -15,7 +15,7 @@ pub struct Tally {
     fault: Option<RowFault>,
 }
 
-// Whether the words are the wanted ones. The word [`ANY`] matches any word.
+// Returns whether the words are the wanted ones. The word [`ANY`] matches any word.
 fn are_words(wanted: &[&str], came: &str) -> bool {
     let mut words = came.split(" ");
     if wanted.is_empty() {
@@ -31,6 +31,7 @@ fn are_words(wanted: &[&str], came: &str) -> bool {
 }
 
 impl Tally {
+    /// Returns the tally of no rows.
     pub fn new(alloc: Global) -> Tally {
         Tally {
             calls: Vec::new(alloc),

@@ -1,5 +1,5 @@
--- The records of an analysed text, and the clauses that they stand for, in the words of the definitions; and that they
--- say all that the earlier records said.
+-- The records of an analysed text, and the clauses that they mean, in the words of the definitions. They say all that
+-- the earlier records said.
 use Rattle.bidi_base.proofs.Common.{◌≡◌, ◌≤◌, ◌↔◌, ◌∙◌, ℕ, Bool, true, false, ◌||◌, List, [], ◌∷◌, map, length, refl, ap, sym, arith, All, All-cons, All-head, All-nil, All-tail, IsTrue, IfSome, Option, Some, None, then_some, slice_range, take_all}
 use Rattle.bidi_base.proofs.Common.{cr_lf_together, each_separator, is_per_char, is_paragraph_separator, paragraph_levels, per_char, per_unit, pieces_by, ranges_from, stored_levels, subrange, text_classes, text_levels, text_len}
 use Rattle.bidi_base.proofs.Common.{AnalysedText, AreLevelsFrom, AreParagraphs, IsAnalysis, Source}

@@ -20,7 +20,7 @@ has_inner_separator source [] = false
 has_inner_separator source (c ∷ []) = false
 has_inner_separator source (c ∷ d ∷ cs) = is_paragraph_separator (source.class_of c) || has_inner_separator source (d ∷ cs)
 
--- where each separator ends a paragraph
+-- the ranges of paragraphs, if each separator ends one
 pub record AreSeparatedRanges (source : Source) (len_of : ℕ → ℕ) (chars : List ℕ) (ranges : List (ℕ × ℕ)) : Type 0 where
   pub partition : IsPartition 0 (text_len len_of chars) ranges
   pub lines : All (λ r. IsLine len_of chars r.0 r.1) ranges
@@ -39,7 +39,7 @@ has_unpaired_separator source (c ∷ []) = false
 has_unpaired_separator source (c ∷ d ∷ cs) =
     (is_paragraph_separator (source.class_of c) && not (c == 0x0D && is_line_feed_alone source (d ∷ cs))) || has_unpaired_separator source (d ∷ cs)
 
--- where a carriage return and the line feed after it stay together
+-- the same, if a carriage return and the line feed after it stay together
 pub record AreCrLfParagraphRanges (source : Source) (len_of : ℕ → ℕ) (chars : List ℕ) (ranges : List (ℕ × ℕ)) : Type 0 where
   pub partition : IsPartition 0 (text_len len_of chars) ranges
   pub lines : All (λ r. IsLine len_of chars r.0 r.1) ranges
@@ -61,8 +61,8 @@ pub record HasCharValues (a : AnalysedText) (char_classes : List BidiClass) (cha
   pub classes : per_char L a.len_of a.chars a.classes ≡ char_classes
   pub levels : per_char 0 a.len_of a.chars a.levels ≡ char_levels
 
--- a text that is cut into these pieces has its stored classes and levels, and these are the ranges and the levels of its
--- paragraphs
+-- a text that is cut into these pieces has its stored classes and levels, and these are the ranges and the levels of
+-- its paragraphs
 pub record IsAnalysisOf (source : Source) (base_level : Option ℕ) (pieces : List (List ℕ)) (a : AnalysedText)
     (own_ranges : List (ℕ × ℕ)) (own_levels : List ℕ) : Type 0 where
   pub classes : a.classes ≡ per_unit a.len_of a.chars (text_classes source pieces)

@@ -1,4 +1,4 @@
--- The records of the passes over code units, and the clauses that they stand for, in the words of the definitions.
+-- The records of the passes over code units, and the clauses that they mean, in the words of the definitions.
 use Rattle.bidi_base.proofs.Common.{◌≡◌, ◌↔◌, ℕ, false, List, map, IsTrue, refl, Result, Ok, Err, OnOk, OnErr, explicit_levels, processing_classes, AreExplicitLevels, AreWeakTypesResolved}
 use Rattle.bidi_base.proofs.Common.{AreNeutralsResolved, neutral_classes, at_indexes, class_at, first_or, level_at, Source, is_per_char, per_char, per_unit, unit_index, in_runs, kept_in_place}
 use Rattle.bidi_base.proofs.Common.{level_run_ranges, weak_classes, Option}
@@ -33,7 +33,7 @@ module _ (len_of : ℕ → ℕ) (chars : List ℕ) where
     weak-clauses =
         (λ all. (all.kept, all.removed, all.outside, all.per_char), λ all. record { kept = all.0; removed = all.1; outside = all.2; per_char = all.3 })
 
-    -- the neutral pass: where an allocation fails, the classes stay, so that all clauses but the first hold then too
+    -- the neutral pass: if an allocation fails, the classes are unchanged, so that all clauses but the first hold too
     pub neutral-clauses : {A E : Type 0} (result : Result A E) (source : Source) (levels : List ℕ) (original_classes : List BidiClass)
         → IsTrue (is_per_char class_eq len_of chars old) → OnErr result (new ≡ old)
         → OnOk result (AreNeutralsResolved len_of chars source runs sos eos levels original_classes old new)

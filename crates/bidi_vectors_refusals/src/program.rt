@@ -34,8 +34,8 @@ impl Part {
     }
 }
 
-/// Returns the part that the first argument names, and how many allocations to make before its calls: the second argument,
-/// or 0 without one. Returns `None` without arguments.
+/// Returns the part that the first argument names, and how many allocations to make before its calls: the second
+/// argument, or 0 without one. Returns `None` without arguments.
 pub fn chosen(rt: &(impl Env + AllocGlobal)) -> Result<Option<(Part, u64)>, Fault> {
     let mut words = env::args(rt)?.skip(1);
     match (words.next(), words.next()) {

@@ -20,7 +20,7 @@ use bidi_vectors_format::tally::Tally;
 use bidi_vectors_format::text::RowText;
 use std::alloc::Global;
 
-// Returns a text with one character for each class, of one and two code units by turns.
+// Returns a text with one character for each class, alternately of one and of two code units.
 fn letters(alloc: Global, classes: &[BidiClass]) -> Result<String, RowFault> {
     let mut text = String::new(alloc);
     for index in 0..classes.len() {

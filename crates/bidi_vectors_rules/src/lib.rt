@@ -1,5 +1,5 @@
-//! Rows of the explicit levels, the sequences, the weak types, the neutrals and the implicit levels (X1 to I2), over lists
-//! and in place: makes the calls of each row, and compares their results.
+//! Rows of the explicit levels, the sequences, the weak types, the neutrals and the implicit levels (X1 to I2), over
+//! lists and in place: makes the calls of each row, and compares their results.
 #![tactic(auto)]
 
 mod bracket_pairs;

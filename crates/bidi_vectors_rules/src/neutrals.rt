@@ -74,8 +74,8 @@ impl OfUnits {
     }
 }
 
-// The input of a call that resolves the neutrals of a sequence: the text, its data source and the sequence, and for each
-// code unit the level and the class before the weak types.
+// The input of a call that resolves the neutrals of a sequence: the text, its data source and the sequence, and for
+// each code unit the level and the class before the weak types.
 #[derive(Clone, Copy)]
 struct Neutrals<'a> {
     text: StrText<'a>,

@@ -1,4 +1,4 @@
-//! Rows of isolating run sequences, and of the walks over their code units. Runs are ranges of code units here.
+//! Rows of isolating run sequences, and of the passes over their code units. Runs are ranges of code units here.
 
 use crate::unit_sequences::{sequence_of, whole_sequence_of};
 use crate::weak_types::class_field;

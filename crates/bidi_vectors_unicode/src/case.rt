@@ -32,6 +32,7 @@ impl Base {
         }
     }
 
+    /// Returns the name of the base level in messages.
     pub fn name(self) -> &'static str {
         match self {
             Base::Auto => "auto",
@@ -51,6 +52,7 @@ pub struct Text {
 }
 
 impl Text {
+    /// Returns an empty text.
     pub fn new(alloc: Global) -> Text {
         Text {
             utf8: String::new(alloc),
@@ -68,6 +70,7 @@ impl Text {
         self.removed.clear();
     }
 
+    /// Appends a character.
     pub fn push(&mut self, c: char) -> Result<(), Fault> {
         self.utf8.push(c)?;
         self.utf16.extend_from_slice(c.encode_utf16(&mut [0; 2]))?;
@@ -89,6 +92,7 @@ pub struct Wanted {
 }
 
 impl Wanted {
+    /// Returns the expected result for an empty text.
     pub fn new(alloc: Global) -> Wanted {
         Wanted {
             paragraph: None,

@@ -30,6 +30,7 @@ pub struct Counts {
 }
 
 impl Counts {
+    /// Returns the counts of no cases.
     pub fn new(alloc: Global) -> Counts {
         let none = Outcome {
             passed: 0,

@@ -31,6 +31,7 @@ pub const FORMS: [Form; 5] = [
 ];
 
 impl Form {
+    /// Returns the name of the form in messages.
     pub fn name(self) -> &'static str {
         match self {
             Form::Info => "UTF-8, BidiInfo",

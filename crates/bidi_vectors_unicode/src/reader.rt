@@ -1,5 +1,5 @@
 //! Reads the lines of BidiTest.txt, which has texts of classes, or of BidiCharacterTest.txt, which has texts of
-//! characters. The contents of a line tell which file it is from.
+//! characters. The contents of a line show which file it is from.
 
 use crate::case::{BASES, Base, Case, Text, Wanted};
 use crate::counts::Counts;
@@ -101,6 +101,7 @@ fn base_of(word: &str, line: usize) -> Result<Base, Fault> {
 }
 
 impl Reader {
+    /// Returns a reader that has read nothing.
     pub fn new(alloc: Global) -> Reader {
         Reader {
             alloc,

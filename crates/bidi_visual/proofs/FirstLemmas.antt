@@ -20,7 +20,7 @@ own-more source c xs ys same =
     ∙ ap (λ l. cond (not (is_paragraph_separator (source.class_of c))) (c ∷ l) []) same
     ∙ sym (take_while-cons (λ x. not (is_paragraph_separator (source.class_of x))) c ys)
 
--- from a separator on there are none
+-- a text that begins with a separator has none
 pub own-ended : (source : Source) (c : ℕ) (cs : List ℕ) → is_paragraph_separator (source.class_of c) ≡ true → own_chars source (c ∷ cs) ≡ []
 own-ended source c cs separator = take_while-cons (λ x. not (is_paragraph_separator (source.class_of x))) c cs ∙ simp separator
 

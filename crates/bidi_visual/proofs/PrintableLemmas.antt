@@ -27,7 +27,7 @@ use Rattle.bidi_visual.proofs.FirstLemmas.{own-ended, shown_text-first}
 
 -- ---- the classes of printable ASCII
 
--- neither separates paragraphs nor can turn the direction
+-- neither separates paragraphs nor can change the direction
 abbrev is_ordinary : BidiClass → Bool
 is_ordinary class = not (is_paragraph_separator class) && not (may_turn class)
 

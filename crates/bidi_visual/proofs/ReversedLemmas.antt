@@ -3,7 +3,7 @@ use Rattle.bidi_base.proofs.Common.{◌≡◌, ℕ, suc, ◌-◌, ◌<◌, ◌�
 use Rattle.bidi_visual.specs.Displayed.{with_marks}
 
 module _ (is_mark : ℕ → Bool) (chars : List ℕ) (start end x : ℕ) (some : 0 < start) (ordered : start ≤ end) (within : end ≤ length chars) (here : x ≡ get_or chars (start - 1) x) where
-  -- the characters before the place, last first
+  -- the characters before the index, reversed
   before : reverse (take start chars) ≡ x ∷ reverse (take (start - 1) chars)
   before = grind (arith, common_steps)
 

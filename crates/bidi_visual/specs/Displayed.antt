@@ -21,8 +21,8 @@ use Rattle.bidi_visual.specs.declared.view.View.{View}
 abbrev pub mirror : ℕ → ℕ
 mirror c = unwrap_or (mirrored_of c) c
 
--- characters read from the last one back, and the marks that wait for the character that they stand after:
--- each other character comes with its marks after it (L3)
+-- characters read from the last one back, and the marks that wait for the character that they follow: each other
+-- character comes with its marks after it (L3)
 abbrev pub with_marks : (ℕ → Bool) → List ℕ → List ℕ → List ℕ
 with_marks is_mark marks [] = marks
 with_marks is_mark marks (c ∷ before) =
@@ -32,8 +32,8 @@ with_marks is_mark marks (c ∷ before) =
 abbrev pub reversed_with_marks : Source → List ℕ → List ℕ
 reversed_with_marks source chars = with_marks (λ c. is_nsm (source.class_of c)) [] (reverse chars)
 
--- a run of a line as it is shown: at an odd level from right to left, mirrored and with its marks after their
--- letters, or plainly turned round
+-- a run of a line as it is shown: at an odd level from right to left, mirrored and with its marks after their letters,
+-- or only reversed if it is plain
 abbrev pub shown_run : Source → Bool → Bool → List ℕ → List ℕ
 shown_run source plain odd chars =
     if odd then (if plain then flat_map encode_utf8 (reverse chars)
@@ -47,8 +47,8 @@ run_at source plain chars levels run = shown_run source plain (is_odd (run_level
 unfoldable pub shown_line : Source → Bool → List ℕ → List ℕ → List ℕ
 shown_line source plain chars levels = flat_map (run_at source plain chars levels) (visual_runs 0 levels)
 
--- the same with spaces for tabs. Columns are counted in the order of the text, so from the side where the line begins:
--- tabs have the level of the paragraph (L1), so what lies between two of them keeps together
+-- the same with spaces for tabs. Columns are counted in the order of the text, so from the side where the line begins.
+-- Tabs have the level of the paragraph (L1), so what is between two of them stays together
 unfoldable pub tabbed_line : Source → Bool → List ℕ → List ℕ → List ℕ
 tabbed_line source plain chars levels = shown_line source plain (spread 0 chars) (spread_values 0 chars levels)
 
@@ -58,7 +58,7 @@ shown_levels source base_level chars start end =
     let classes = map source.class_of chars in
     levels_of_line (paragraph_level base_level classes) (stored_classes classes) (stored_levels source base_level chars) start end
 
--- the lines of a paragraph, as ranges of its bytes in UTF-8: all of it, or those of so many columns
+-- the lines of a paragraph, as ranges of its bytes in UTF-8: one, or those of at most so many columns
 abbrev pub shown_ranges : Source → Option ℕ → List ℕ → List Run
 shown_ranges source None chars = (0, text_len len_utf8 chars) ∷ []
 shown_ranges source (Some width) chars = lines_of_text source width (encode_utf8_all chars)

@@ -1,4 +1,4 @@
--- How lines are shown if nothing else is asked for.
+-- How lines are shown by default.
 use Rattle.std.specs.Prelude.{false, None}
 use Rattle.bidi_terminal.specs.declared.base.Base.TheVariants.{Auto}
 use Rattle.bidi_visual.specs.declared.view.View.{View}

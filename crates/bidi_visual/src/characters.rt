@@ -4,7 +4,7 @@ ghost use Rattle.std.specs.Str.{chars};
 
 use std::alloc::{AllocError, Global};
 
-/// Appends characters as they stand.
+/// Appends characters unchanged.
 pub fn push_chars(out: &mut String, chars: &[char]) -> Result<(), AllocError>
     ensures { OnOk result (string_bytes out.new ≡ string_bytes out.old ++ flat_map encode_utf8 chars.now) }
 {

@@ -36,11 +36,11 @@ fn push_tabbed<D: BidiDataSource>(
     push_line(alloc, out, data_source, plain, line.chars(), line.levels())
 }
 
-/// Appends the text of a line from left to right, given the level of each character after L1.
+/// Appends the text of a line from left to right, given one level for each character, that after L1.
 ///
 /// A tab becomes spaces up to the next multiple of eight columns from the side where the line begins. At odd levels
-/// characters are mirrored (L4), and nonspacing marks come after their letters (L3), unless `plain` is true. A line with
-/// neither a tab nor an odd level is copied.
+/// characters are mirrored (L4), and nonspacing marks come after their letters (L3), unless `plain` is true. A line
+/// with neither a tab nor an odd level is copied. Returns an error if an allocation fails.
 pub fn push_text<D: BidiDataSource>(
     alloc: Global,
     out: &mut String,

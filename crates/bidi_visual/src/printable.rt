@@ -1,4 +1,4 @@
-//! Lines that are shown unchanged, which most texts have.
+//! Lines that are shown unchanged. Most texts have some.
 ghost use Rattle.std.specs.Prelude.{◌≡◌, ◌≤◌, ◌++◌, ℕ, take, drop};
 ghost use Rattle.std.specs.Str.{chars, IsCharBoundary};
 ghost use Rattle.bidi_unicode.specs.Unicode.{unicode_source};
@@ -39,8 +39,8 @@ fn printable_lines(text: &str) -> usize
 
 /// Returns the number of bytes at the start of a text that are shown unchanged, by Unicode's data.
 ///
-/// They are whole lines of printable ASCII, as many as there are before the first other byte. There are none if the view
-/// has a width, or a base direction from right to left.
+/// They are whole lines of printable ASCII, as many as there are before the first other byte. The number is 0 if the
+/// view has a width, or base level 1.
 pub fn printable_len(view: View, text: &str) -> usize
     ensures boundary { IsCharBoundary text.now result }
     ensures lines { ArePrintableLines text.now result }

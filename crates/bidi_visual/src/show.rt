@@ -1,4 +1,4 @@
-//! A line as a terminal that does not know the algorithm has to be given it.
+//! A line from left to right, for a terminal without bidirectional support.
 ghost use Rattle.std.specs.Prelude.{◌≡◌, ◌++◌, flat_map, reverse, encode_utf8, length, All, OnOk, string_bytes};
 ghost use Rattle.bidi_visual.specs.Displayed.{mirror as mirror_of, reversed_with_marks, shown_run, run_at, shown_line};
 ghost use Rattle.bidi_base.specs.Display.{IsLevelRun, run_of};
@@ -12,14 +12,14 @@ use bidi_unicode::mirrored;
 use std::alloc::{AllocError, Global};
 use std::ops::Range;
 
-/// The character that is shown at an odd level (L4).
+/// Returns the character that is shown at an odd level (L4): its mirrored character, or itself if it has none.
 fn mirror(c: char) -> char
     ensures { result ≡ mirror_of c }
 {
     mirrored(c).unwrap_or(c)
 }
 
-/// Appends the mirrored partners of characters, or the characters that have none.
+/// Appends each character as it is shown at an odd level (L4).
 fn push_mirrored(out: &mut String, chars: &[char]) -> Result<(), AllocError>
     ensures { OnOk result (string_bytes out.new
         ≡ string_bytes out.old ++ flat_map (λ c. encode_utf8 (mirror_of c)) chars.now) }
@@ -30,7 +30,7 @@ fn push_mirrored(out: &mut String, chars: &[char]) -> Result<(), AllocError>
     Ok(())
 }
 
-/// Appends characters last first.
+/// Appends characters reversed.
 fn push_reversed(out: &mut String, chars: &[char]) -> Result<(), AllocError>
     ensures { OnOk result (string_bytes out.new
         ≡ string_bytes out.old ++ flat_map encode_utf8 (reverse chars.now)) }
@@ -43,8 +43,7 @@ fn push_reversed(out: &mut String, chars: &[char]) -> Result<(), AllocError>
     Ok(())
 }
 
-/// Appends the characters of a run of an odd level: last first, each with the marks after it (L3),
-/// and mirrored (L4).
+/// Appends the characters of a run of an odd level: reversed, each with its marks after it (L3), and mirrored (L4).
 fn push_reversed_run<D: BidiDataSource>(
     out: &mut String,
     data_source: &D,
@@ -123,8 +122,10 @@ fn push_runs<D: BidiDataSource>(
     Ok(())
 }
 
-/// Appends a line, from its characters and their levels after L1. At odd levels characters are
-/// mirrored (L4), and nonspacing marks stand after their letters (L3), unless it is to be `plain`.
+/// Appends a line from left to right, given its characters and their levels after L1, one for each.
+///
+/// At odd levels characters are mirrored (L4), and nonspacing marks come after their letters (L3), unless `plain` is
+/// true. Returns an error if an allocation fails.
 pub fn push_line<D: BidiDataSource>(
     alloc: Global,
     out: &mut String,

@@ -6,9 +6,9 @@ use bidi_terminal::Base;
 pub struct View {
     /// The base level of each line.
     pub base: Base,
-    /// At most how many columns of a terminal a line takes: longer ones are cut.
+    /// The maximum number of columns of a line: longer ones are cut. `None` cuts no line.
     pub width: Option<u16>,
-    /// Whether characters are neither mirrored (L4) nor marks put after their letters (L3).
+    /// Whether no character is mirrored (L4), and no mark is moved after its letter (L3).
     pub plain: bool,
 }
 
@@ -16,8 +16,8 @@ impl Default for View {
     ghost use Rattle.std.specs.Prelude.{◌≡◌};
     ghost use Rattle.bidi_visual.specs.Views.{first_view};
 
-    /// Lines of any length, mirrored and with marks after their letters, each of which finds its own
-    /// base level.
+    /// Lines of any length, mirrored and with marks after their letters. Each paragraph gets its level from its
+    /// characters.
     fn default() -> View
         ensures { result ≡ first_view }
     {

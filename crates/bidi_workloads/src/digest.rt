@@ -1,47 +1,51 @@
-//! One number for all that was answered.
+//! One number for all results.
 
 use bidi_base::char_data::BidiClass;
 use bidi_base::level::Level;
 use std::ops::Range;
 use unicode_bidi::layout::LineMap;
 
-/// The number so far.
+/// A digest: one number for all that was added to it.
 #[derive(Clone, Copy)]
 pub struct Digest {
     sum: u64,
 }
 
 impl Digest {
+    /// Returns the digest of nothing.
     pub fn new() -> Digest {
         Digest { sum: 1 }
     }
 
+    /// Returns the number.
     pub fn number(self) -> u64 {
         self.sum
     }
 
-    /// Takes in a number.
+    /// Adds a number.
     pub fn add(&mut self, number: u64) {
         let mixed = (self.sum ^ number).wrapping_mul(0x9E37_79B9_7F4A_7C15);
         self.sum = mixed ^ (mixed >> 29);
     }
 
+    /// Adds a length or an index.
     pub fn add_len(&mut self, len: usize) {
         self.add(len as u64);
     }
 
+    /// Adds the start and the end of a range.
     pub fn add_range(&mut self, range: &Range<usize>) {
         self.add_len(range.start);
         self.add_len(range.end);
     }
 
-    // Takes in a list's sum and length.
+    // Adds a list's sum and length.
     fn add_sum(&mut self, sum: u16, len: usize) {
         self.add_len(len);
         self.add(u64::from(sum));
     }
 
-    /// Takes in levels: each counts by its place.
+    /// Adds levels, weighted by their indexes.
     pub fn add_levels(&mut self, levels: &[Level]) {
         let mut sum = 0u16;
         let mut weight = 1u16;
@@ -52,7 +56,7 @@ impl Digest {
         self.add_sum(sum, levels.len());
     }
 
-    /// Takes in classes: each counts by its place.
+    /// Adds classes, weighted by their indexes.
     pub fn add_classes(&mut self, classes: &[BidiClass]) {
         let mut sum = 0u16;
         let mut weight = 1u16;
@@ -63,7 +67,7 @@ impl Digest {
         self.add_sum(sum, classes.len());
     }
 
-    /// Takes in bytes: each counts by its place.
+    /// Adds bytes, weighted by their indexes.
     pub fn add_bytes(&mut self, bytes: &[u8]) {
         let mut sum = 0u16;
         let mut weight = 1u16;
@@ -74,7 +78,7 @@ impl Digest {
         self.add_sum(sum, bytes.len());
     }
 
-    /// Takes in places: each counts by its own.
+    /// Adds indexes, weighted by their own indexes.
     pub fn add_places(&mut self, places: &[usize]) {
         let mut sum = 0u64;
         let mut weight = 1u64;
@@ -86,7 +90,7 @@ impl Digest {
         self.add(sum);
     }
 
-    /// Takes in the map of a line: each place counts by its own.
+    /// Adds the map of a line: the character at each visual index, weighted by that index.
     pub fn add_map(&mut self, map: &LineMap) {
         let mut sum = 0u64;
         let mut weight = 1u64;
@@ -100,5 +104,5 @@ impl Digest {
     }
 }
 
-/// By how much an entry counts more than the one before it.
+/// The difference between the weights of two entries, one after the other.
 const STEP: u16 = 0x9E6;

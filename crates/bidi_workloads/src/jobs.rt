@@ -17,16 +17,16 @@ use std::ops::Range;
 use unicode_bidi::layout::{CharWidth, LineMap, lines};
 use unicode_bidi::{BidiInfo, ParagraphBidiInfo, ParagraphInfo, utf16};
 
-/// How much there is to do.
+/// The size of a job.
 #[derive(Clone, Copy)]
 pub struct Amount {
-    /// How many inputs there are.
+    /// The number of inputs.
     pub count: usize,
-    /// How large each is, in paragraphs, messages, lines or pieces.
+    /// The size of each, in paragraphs, messages, lines or pieces.
     pub size: usize,
 }
 
-/// A job that somebody waits for.
+/// A job that users of the library wait for.
 #[derive(Clone, Copy)]
 pub enum Job {
     Documents,
@@ -38,6 +38,7 @@ pub enum Job {
     Shown,
 }
 
+/// All jobs.
 pub const ALL: [Job; 7] = [
     Job::Documents,
     Job::Lines,
@@ -49,6 +50,7 @@ pub const ALL: [Job; 7] = [
 ];
 
 impl Job {
+    /// Returns the name of the job in an argument.
     pub fn name(self) -> &'static str {
         match self {
             Job::Documents => "documents",
@@ -61,7 +63,7 @@ impl Job {
         }
     }
 
-    /// Does the job, and answers the digest of all results.
+    /// Does the job, and returns the digest of all results.
     pub fn run(self, alloc: Global, amount: Amount, seed: u32) -> Result<u64, AllocError> {
         let mut digest = Digest::new();
         let mut random = Random::new(seed);
@@ -78,7 +80,7 @@ impl Job {
     }
 }
 
-// The sentences of each language of documents.
+// Returns the sentences of each language of documents.
 fn all_sentences(alloc: Global, random: &mut Random) -> Result<Vec<Sentences>, AllocError> {
     let mut all = Vec::new(alloc);
     for language in languages::of_documents() {
@@ -87,7 +89,7 @@ fn all_sentences(alloc: Global, random: &mut Random) -> Result<Vec<Sentences>, A
     Ok(all)
 }
 
-// The sentences whose turn it is.
+// Returns the sentences of the document with this index: the languages take turns.
 fn turn(all: &[Sentences], index: usize) -> Option<&Sentences> {
     if all.is_empty() {
         return None;
@@ -118,7 +120,7 @@ fn analyse_utf16(alloc: Global, text: &[u16], digest: &mut Digest) -> Result<(),
     Ok(())
 }
 
-// Documents are opened: a fourth of them in UTF-16.
+// Opens documents, a fourth of them in UTF-16.
 fn documents(
     alloc: Global,
     random: &mut Random,
@@ -151,7 +153,7 @@ impl CharWidth for One {
     }
 }
 
-// Lays a document out in lines, and asks of each line what an engine asks.
+// Lays a document out in lines, and makes the calls for each line that a layout engine makes.
 fn lay_out_text(
     alloc: Global,
     text: &str,
@@ -196,7 +198,7 @@ fn lay_out(
     Ok(())
 }
 
-// A short text is analysed as a paragraph, and shown in one line.
+// Analyses a short text as one paragraph, and shows it in one line.
 fn show_paragraph(
     alloc: Global,
     text: &str,
@@ -215,7 +217,7 @@ fn show_paragraph(
     Ok(())
 }
 
-// A text is analysed, and each of its paragraphs shown in one line.
+// Analyses a text, and shows each of its paragraphs in one line.
 fn show_text(
     alloc: Global,
     text: &str,
@@ -233,7 +235,7 @@ fn show_text(
     Ok(())
 }
 
-// The base level whose turn it is.
+// Returns the base level of the text with this index: the base levels take turns.
 fn base_level(index: usize) -> Option<Level>
     ensures { IfSome result (λ level. level ≤ 125) }
 {
@@ -249,7 +251,7 @@ fn language_of_message(random: &mut Random) -> &'static Language {
     languages[random.below(languages.len())]
 }
 
-// Lists of short texts, each an analysis and a line of its own.
+// Analyses lists of short texts, and shows each text in one line.
 fn messages(
     alloc: Global,
     random: &mut Random,
@@ -271,7 +273,7 @@ fn messages(
     Ok(())
 }
 
-// Pages that programs put together, with controls in them.
+// Analyses pages that programs put together, with controls in them.
 fn controls(
     alloc: Global,
     random: &mut Random,
@@ -286,7 +288,7 @@ fn controls(
     Ok(())
 }
 
-// Sources are checked for controls.
+// Checks source files for controls.
 fn sources(
     alloc: Global,
     random: &mut Random,
@@ -320,7 +322,7 @@ fn add_runs(
     Ok(())
 }
 
-// What strangers send to a server: one paragraph each, analysed and shown in one line.
+// Analyses texts that strangers send to a server, one paragraph each, and shows each in one line.
 fn hostile(
     alloc: Global,
     random: &mut Random,
@@ -343,16 +345,16 @@ fn hostile(
     Ok(())
 }
 
-/// The widths of a window that somebody makes wider, in characters.
+/// The widths of a window that is made wider, in characters.
 const WINDOW_WIDTHS: [usize; 6] = [24, 36, 50, 64, 80, 100];
 
 /// The widths of a list that is shown in a narrow column and in a wide one, in characters.
 const COLUMN_WIDTHS: [usize; 2] = [16, 40];
 
-/// How many short texts come with each paragraph of a document.
+/// The number of short texts for each paragraph of a document.
 const TEXTS_PER_PARAGRAPH: usize = 8;
 
-// Asks of a line what a screen needs to draw it.
+// Makes the calls that drawing a line needs.
 fn draw_line(
     alloc: Global,
     info: &BidiInfo<'_>,
@@ -390,7 +392,7 @@ fn draw_lines(
     Ok(())
 }
 
-// A document is analysed once, and drawn again whenever its window gets wider.
+// Analyses a document once, and draws it again whenever its window gets wider.
 fn draw_document(alloc: Global, text: &str, digest: &mut Digest) -> Result<(), AllocError> {
     let info = BidiInfo::new_with_data_source(alloc, &UnicodeData, text, None)?;
     for width in WINDOW_WIDTHS {
@@ -399,7 +401,7 @@ fn draw_document(alloc: Global, text: &str, digest: &mut Digest) -> Result<(), A
     Ok(())
 }
 
-// Short texts are analysed once for each base direction, and the text of their lines is shown at two widths.
+// Analyses short texts once for each base level, and shows the text of their lines at two widths.
 fn show_list(
     alloc: Global,
     random: &mut Random,
@@ -437,7 +439,7 @@ fn show_in_columns(
     Ok(())
 }
 
-// Documents in a window that changes its width, and lists of short texts.
+// Shows documents in a window that changes its width, and lists of short texts.
 fn shown(
     alloc: Global,
     random: &mut Random,

@@ -2,9 +2,9 @@
 
 /// How the texts of a language are written.
 pub struct Language {
-    /// The words, in the forms in which they stand in a sentence.
+    /// The words, as they are in a sentence.
     pub words: &'static [&'static str],
-    /// What is among them: names in other letters, numbers, brackets, quotations.
+    /// What comes between them: names in other letters, numbers, brackets, quotations.
     pub inserts: &'static [&'static str],
     /// What is between two words.
     pub gap: &'static str,
@@ -461,7 +461,7 @@ pub fn of_messages() -> [&'static Language; 6] {
     [&CHAT, &ENGLISH, &HEBREW, &ARABIC, &CHAT, &THAI]
 }
 
-/// Lines of sources without what is in front of them.
+/// Lines of source files without their indentation.
 pub static CODE: [&str; 24] = [
     "let mut total = 0;",
     "for item in items.iter() {",
@@ -489,7 +489,7 @@ pub static CODE: [&str; 24] = [
     "while let Some(next) = stack.pop() {",
 ];
 
-/// Pieces of lines in which a direction control stands.
+/// Pieces of lines with a direction control.
 pub static CODE_WITH_CONTROLS: [&str; 6] = [
     "let name = \"\u{2067}שם\u{2069}\"; ",
     "// \u{202E} reversed ",

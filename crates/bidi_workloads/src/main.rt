@@ -1,5 +1,5 @@
-//! Does jobs that users of the library wait for, on texts that a seed makes, and prints a digest of all
-//! that was answered: `bidi_workloads documents 100 400 7`.
+//! Does jobs that users of the library wait for, on texts that a seed determines, and prints a digest of all results:
+//! `bidi_workloads documents 100 400 7`.
 #![tactic(auto)]
 
 mod digest;
@@ -19,12 +19,12 @@ JOB is documents, lines, messages, controls, sources, hostile, shown, or all of 
 inputs a job has, SIZE how large each is: in paragraphs, messages, lines of a source, or pieces of a hostile
 text. SEED, a number below 4294967296, makes them.";
 
-// The jobs of a name.
+// Returns whether a name means a job.
 fn are_meant(name: &str, job: Job) -> bool {
     name == "all" || name == job.name()
 }
 
-// How much there is to do, by two words.
+// Returns the size of a job, given two arguments.
 fn amount_of(count: &str, size: &str) -> Option<Amount> {
     Some(Amount {
         count: count.parse::<usize>().ok()?,
@@ -32,7 +32,7 @@ fn amount_of(count: &str, size: &str) -> Option<Amount> {
     })
 }
 
-// Does the jobs that the words ask for. Answers whether the words could be read.
+// Does the jobs that the arguments ask for. Returns whether the arguments are valid.
 fn serve(rt: &(impl Env + Print + AllocGlobal)) -> io::Result<bool> {
     let words: Vec<String> = env::args(rt)?.skip(1).collect(rt.alloc())?;
     let [name, count, size, seed] = words.as_slice() else {

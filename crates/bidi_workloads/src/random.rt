@@ -4,20 +4,21 @@ ghost use Rattle.std.specs.Prelude.{◌<◌};
 use rand_core::utils::NextWord;
 use rand_pcg::Pcg32;
 
-/// A row of such numbers.
+/// A sequence of such numbers.
 #[derive(Drop)]
 pub struct Random {
     generator: Pcg32,
 }
 
 impl Random {
+    /// Returns the sequence of this seed.
     pub fn new(seed: u32) -> Random {
         Random {
             generator: Pcg32::new(u64::from(seed), 54),
         }
     }
 
-    /// The next number, below the limit.
+    /// Returns the next number, below the limit, which must not be 0.
     pub fn below(&mut self, limit: usize) -> usize
         requires { 0 < limit }
         ensures { result < limit }
@@ -25,14 +26,14 @@ impl Random {
         self.generator.next_word() as usize % limit
     }
 
-    /// Whether the next throw of a die with so many sides is a 1.
+    /// Returns whether the next throw of a die with so many sides is a 1.
     pub fn one_in(&mut self, sides: usize) -> bool
         requires { 0 < sides }
     {
         self.below(sides) == 0
     }
 
-    /// One of some pieces of text, and none where there are none.
+    /// Returns one of some pieces of text, or an empty text if there are none.
     pub fn piece(&mut self, pieces: &[&'static str]) -> &'static str {
         if pieces.is_empty() {
             return "";

@@ -1,10 +1,10 @@
-//! Texts put together by chance from words and sentences.
+//! Texts put together at random from words and sentences.
 
 use crate::languages::{CODE, CODE_WITH_CONTROLS, Language};
 use crate::random::Random;
 use std::alloc::{AllocError, Global};
 
-/// How many sentences of a language there are.
+/// The number of sentences of a language.
 const SENTENCES: usize = 1_024;
 
 /// A sentence in both encodings.
@@ -21,6 +21,7 @@ pub struct Sentences {
 }
 
 impl Sentences {
+    /// Returns random sentences of a language.
     pub fn new(
         alloc: Global,
         random: &mut Random,
@@ -36,7 +37,7 @@ impl Sentences {
         Ok(Sentences { sentences })
     }
 
-    // One of them, if there are any.
+    // Returns one of them, if there are any.
     fn one(&self, random: &mut Random) -> Option<&Sentence> {
         if self.sentences.is_empty() {
             return None;
@@ -59,7 +60,7 @@ fn push_sentence(
     text.push_str(language.stop)
 }
 
-// Appends a word, or now and then what is among words.
+// Appends a word, or now and then what comes between words.
 fn push_word(
     text: &mut String,
     random: &mut Random,
@@ -73,7 +74,7 @@ fn push_word(
     text.push_str(random.piece(pieces))
 }
 
-// How many sentences a paragraph has: mostly one to nine, now and then up to forty.
+// Returns how many sentences a paragraph has: mostly one to nine, now and then up to forty.
 fn sentences_in_paragraph(random: &mut Random) -> usize {
     if random.one_in(16) {
         random.below(40)
@@ -82,7 +83,7 @@ fn sentences_in_paragraph(random: &mut Random) -> usize {
     }
 }
 
-/// A document of so many paragraphs.
+/// Returns a document of so many paragraphs.
 pub fn document(
     alloc: Global,
     random: &mut Random,
@@ -101,7 +102,7 @@ pub fn document(
     Ok(text)
 }
 
-/// A document of so many paragraphs in UTF-16.
+/// Returns a document of so many paragraphs in UTF-16.
 pub fn document_utf16(
     alloc: Global,
     random: &mut Random,
@@ -120,7 +121,7 @@ pub fn document_utf16(
     Ok(text)
 }
 
-/// A short text in place of what `text` holds: a word to some sentences.
+/// Replaces `text` by a short text: one to six words, or sometimes a sentence.
 pub fn write_message(
     text: &mut String,
     random: &mut Random,
@@ -138,7 +139,7 @@ pub fn write_message(
     Ok(())
 }
 
-// What is in front of a piece that a program puts in, and after it.
+// What is before and after a piece that a program inserts.
 static AROUND: [(&str, &str); 6] = [
     ("\u{2068}", "\u{2069}"),
     ("\u{2068}", "\u{2069}"),
@@ -148,7 +149,7 @@ static AROUND: [(&str, &str); 6] = [
     ("[\u{2066}", "\u{2069}]"),
 ];
 
-// Appends a piece of one language among text of another, with what is around it.
+// Appends a piece of one language, with what is around it.
 fn push_inserted(
     text: &mut String,
     random: &mut Random,
@@ -160,8 +161,8 @@ fn push_inserted(
     text.push_str(behind)
 }
 
-/// A page of so many paragraphs, in each of which a program has put pieces of one language among
-/// words of another, with isolates, embeddings, marks and brackets around them.
+/// Returns a page of so many paragraphs. In each, a program has inserted pieces of one language among words of another,
+/// with isolates, embeddings, marks and brackets around them.
 pub fn page(
     alloc: Global,
     random: &mut Random,
@@ -188,7 +189,7 @@ pub fn page(
     Ok(text)
 }
 
-/// A source file of so many lines.
+/// Returns a source file of so many lines.
 pub fn source_file(
     alloc: Global,
     random: &mut Random,
@@ -216,7 +217,7 @@ fn push_chars(file: &mut Vec<char>, piece: &str) -> Result<(), AllocError> {
     Ok(())
 }
 
-// A text of a stranger: what it begins with, and two pieces of which it goes on.
+// The shape of a hostile text: what it begins with, and two pieces that are repeated, one often and one seldom.
 struct Shape {
     front: &'static str,
     often: &'static str,
@@ -296,8 +297,7 @@ static SHAPES: [Shape; 14] = [
     },
 ];
 
-/// One paragraph as a stranger would write it who means harm, of so many pieces. Texts of one shape are
-/// alike, and not the same.
+/// Returns a hostile text: one paragraph of so many pieces. Texts of one shape are alike, but not the same.
 pub fn hostile(
     alloc: Global,
     random: &mut Random,
@@ -318,7 +318,7 @@ pub fn hostile(
     Ok(text)
 }
 
-/// How many shapes there are.
+/// Returns the number of shapes.
 pub fn shapes() -> usize {
     SHAPES.len()
 }

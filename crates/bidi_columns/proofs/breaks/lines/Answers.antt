@@ -12,7 +12,7 @@ or_empty-some : (lines : List (Range ℕ)) (all : List Run) → 0 < length lines
 or_empty-some [] all some is = absurd (omega arith)
 or_empty-some (line ∷ lines) all some is = simp (sym is)
 
--- lines, and the one empty line that stands for none
+-- lines, or one empty line if there are none
 or_empty-none : (lines : List (Range ℕ)) (out : List (Range ℕ)) (all : List Run) → length lines ≡ 0 → map run_of lines ≡ all → out ≡ lines ++ record { start = 0; end = 0 } ∷ []
     → map run_of out ≡ or_empty all
 or_empty-none [] out all none is e = simp (e, sym is)

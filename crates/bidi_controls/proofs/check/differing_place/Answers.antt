@@ -7,7 +7,7 @@ use Rattle.bidi_controls.specs.Matches.{is_control}
 use Rattle.bidi_controls.specs.declared.finding.Wanted.{Wanted}
 use Rattle.bidi_controls.proofs.check.differing_place.Goals as goal
 
--- a line that is displayed differently tells so at its first control
+-- the finding that a line is displayed differently is at its first control
 at_first_control : (source : Source) (wanted : Wanted) (line own : List ℕ) (place : Option ℕ) → wants_lines wanted ≡ true → own ≡ own_chars source line → is_displayed_differently source own ≡ true
     → place ≡ position (λ c. is_control (source.class_of c)) line → place ≡ differing_place source wanted line
 at_first_control source wanted line own place wants own_is differs place_is = simp (← own_is, wants, differs) place_is

@@ -7,7 +7,7 @@ use Rattle.bidi_controls.proofs.LinesWithoutControls.{HaveNoControls-more, HaveN
 use Rattle.bidi_controls.proofs.lines.first_file_line.Goals as goal
 use Rattle.bidi_controls.proofs.lines.first_file_line.Goals.{then-is_sign, else-is_sign}
 
--- what is after a place
+-- what is after an index
 behind : (n : ℕ) (chars : List ℕ) → drop n chars ≡ take (length chars - n) (drop n chars)
 behind n chars = sym (take_all (length chars - n) (drop n chars) (omega (arith, length-drop n chars)))
 

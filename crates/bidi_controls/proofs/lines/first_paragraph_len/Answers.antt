@@ -2,7 +2,7 @@ use Rattle.bidi_base.proofs.Common.{◌≡◌, ℕ, ◌-◌, List, length, take,
 use Rattle.bidi_controls.proofs.LinesLemmas.{IsUnbroken-more, IsUnbroken-ended, IsUnbroken-whole}
 use Rattle.bidi_controls.proofs.lines.first_paragraph_len.Goals as goal
 
--- what is after a place
+-- what is after an index
 behind : (n : ℕ) (chars : List ℕ) → drop n chars ≡ take (length chars - n) (drop n chars)
 behind n chars = sym (take_all (length chars - n) (drop n chars) (omega (arith, length-drop n chars)))
 

@@ -5,7 +5,7 @@ use Rattle.unicode_bidi.specs.ParagraphInfo.{range_of}
 use Rattle.bidi_show_run.proofs.shown.layout_of.Goals as goal
 use Rattle.bidi_show_run.proofs.shown.layout_of.Goals.{then-is_empty+in_ok-push, else-is_empty}
 
--- where no line was found an empty one stands
+-- if no line was found, there is an empty one
 none_found : (start : ℕ) (lines : List (Range ℕ)) (ranges : List Run) → length lines ≡ 0 → map run_of lines ≡ ranges
     → map run_of (lines ++ (record { start = start; end = start }) ∷ []) ≡ one_at_least start ranges
 none_found start lines ranges none found = grind (arith, common_steps)

@@ -4,7 +4,7 @@ use Rattle.bidi_visual.specs.Displayed.{shown_text}
 use Rattle.bidi_visual.specs.declared.view.View.{View}
 use Rattle.bidi_shown.proofs.text.push_text.Goals as goal
 
--- of no text nothing
+-- nothing is shown of an empty text
 nothing-shown : (view : View) → shown_text unicode_source view (chars []) ≡ []
 unfolding shown_text
 nothing-shown view = simp chars-nil

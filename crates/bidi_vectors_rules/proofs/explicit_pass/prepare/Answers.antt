@@ -1,4 +1,4 @@
--- What `compute` leaves is what `isolating_run_sequences` asks.
+-- What `compute` leaves is what `isolating_run_sequences` requires.
 use Rattle.bidi_base.proofs.Common.{ℕ, List, sym, ap, ◌∙◌, len_utf8, chars, per_char, level_run_ranges, map, bounds}
 use Rattle.bidi_base.specs.declared.char_data.BidiClass.{BidiClass}
 use Rattle.bidi_base.specs.declared.char_data.BidiClass.TheVariants.{L}

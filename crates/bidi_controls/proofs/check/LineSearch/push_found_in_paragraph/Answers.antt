@@ -4,7 +4,7 @@ use Rattle.bidi_controls.specs.declared.finding.Finding.{Finding}
 use Rattle.bidi_controls.specs.declared.finding.Wanted.{Wanted}
 use Rattle.bidi_controls.proofs.check.LineSearch.push_found_in_paragraph.Goals as goal
 
--- the findings in a line, where what they are made of is read one by one
+-- the findings in a line, if what they are made of is read one by one
 line_found : (source : Source) (wanted : Wanted) (number from : ℕ) (line own : List ℕ) (any : Bool) (differing : Option ℕ) (old new : List Finding) → own ≡ line → any ≡ wants_every_control wanted
     → differing ≡ differing_place source wanted own → new ≡ old ++ flat_map (findings_at any differing number from (map source.class_of own) own) (indexes own)
     → new ≡ old ++ findings_in_paragraph source wanted number from line

@@ -20,7 +20,7 @@ alone : (g : Over) (c : In_ok-analyse g) → IsAnalysis (g.D.BidiDataSource.sour
     (ranges_of c.analyse.new.self.found.paragraphs.items) (levels_of c.analyse.new.self.found.paragraphs.items)
 alone g c = grind arith
 
--- what was written stands at the front
+-- what was written is at the front
 front : {X : Type 0} (n : ℕ) (new rest : List X) → length new ≡ n → take n (new ++ rest) ≡ new
 front n new rest e = rw (← e) (take-append_seam new rest)
 

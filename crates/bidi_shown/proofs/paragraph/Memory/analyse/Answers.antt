@@ -7,7 +7,7 @@ use Rattle.bidi_shown.specs.Paragraph.{analysed}
 use Rattle.bidi_shown.proofs.ParagraphLemmas.{analysed-whole}
 use Rattle.bidi_shown.proofs.paragraph.Memory.analyse.Goals as goal
 
--- what was written stands at the front
+-- what was written is at the front
 front : {X : Type 0} (n : ℕ) (new rest : List X) → length new ≡ n → take n (new ++ rest) ≡ new
 front n new rest e = rw (← e) (take-append_seam new rest)
 
