@@ -71,7 +71,7 @@ pub record IsTaken (before : BidiClass) (runs : List (ℕ × ℕ)) (classes : Li
   pub embedding : Bool
   pub opposite : Bool
   pub context : BidiClass
-  pub asked : IsSearched walk.embedding.direction runs classes pair walk.embedding.unit new.embedding.unit embedding
+  pub searched : IsSearched walk.embedding.direction runs classes pair walk.embedding.unit new.embedding.unit embedding
   pub searched_opposite : embedding ≡ false
       → IsSearched walk.opposite.direction runs classes pair walk.opposite.unit new.opposite.unit opposite
   pub idle : embedding ≡ true → new.opposite.unit ≡ walk.opposite.unit

@@ -67,7 +67,7 @@ returns-then-stands_alone g c =
     }
 
 pub gather-requires-clause-are_lines : goal.gather-requires-clause-are_lines
-gather-requires-clause-are_lines g c = (ready g (goal.at.gather-requires-clause-are_lines g c).After-sos-sos).lines
+gather-requires-clause-are_lines g c = (ready g (goal.at.gather-requires-clause-are_lines g c).After-sos-sos).are_lines
 
 pub gather-requires-clause-same_len : goal.gather-requires-clause-same_len
 gather-requires-clause-same_len g c = units_long g (goal.at.gather-requires-clause-same_len g c).After-sos-sos
