@@ -7,8 +7,8 @@ loop-at-preserved c =
     let w = inv.written in
     let at = c.loop-at.at in
     record {
-      advances = omega (arith, inv.begins);
-      within = grind arith;
+      begins = omega (arith, inv.begins);
+      ends = grind arith;
       removed = λ u a b. elim (cases_lt u at) [ inl under ↦ inv.removed u a under | inr same ↦ grind arith ];
       written = record {
         long = length-set c.loop-at.levels at c.args.before ∙ w.long;

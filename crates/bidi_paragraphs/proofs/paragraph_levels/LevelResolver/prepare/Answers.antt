@@ -1,4 +1,4 @@
-use Rattle.bidi_base.proofs.Common.{◌≡◌, ◌∙◌, List, ℕ, length, map, ap, arith, explicit_levels, per_char, bounds, AreExplicitLevels}
+use Rattle.bidi_base.proofs.Common.{◌≡◌, ◌∙◌, List, ℕ, ◌×◌, subst, length, map, ap, arith, explicit_levels, per_char, bounds, AreExplicitLevels}
 use Rattle.bidi_base.specs.declared.char_data.BidiClass.{BidiClass}
 use Rattle.bidi_base.specs.declared.char_data.BidiClass.TheVariants.{L}
 use Rattle.bidi_laws.proofs.ExplicitLemmas.{length-explicit_levels}
@@ -18,7 +18,17 @@ new-stored-requires-clause-per_char g c = grind (arith, stored-is_per_char)
 -- what was found in the paragraph that was made is found in this one
 found : (g : Over) (c : In_ok-find_levels_counted g) → AreExplicitLevels g.T.TextSource.encoding.len_of (g.T.TextSource.text c.args.paragraph.now.text).chars c.args.paragraph.now.level
     c.args.paragraph.now.original_classes.now c.find_levels_counted.new.levels c.find_levels_counted.new.classes (map bounds c.find_levels_counted.new.runs.items)
-found g c = rw (c.new-stored.ensures.text, c.new-stored.ensures.level, c.new-stored.ensures.classes) at c.in_ok-find_levels_counted.ensures.found
+found g c =
+    let len_of = g.T.TextSource.encoding.len_of in
+    let made = c.new-stored.result in
+    let p = c.args.paragraph.now in
+    let levels : List ℕ = c.find_levels_counted.new.levels in
+    let classes : List BidiClass = c.find_levels_counted.new.classes in
+    let runs : List (ℕ × ℕ) = map bounds c.find_levels_counted.new.runs.items in
+    subst (λ t. AreExplicitLevels len_of (g.T.TextSource.text t).chars p.level p.original_classes.now levels classes runs) c.new-stored.ensures.text
+    (subst (λ (l : ℕ). AreExplicitLevels len_of (g.T.TextSource.text made.text).chars l p.original_classes.now levels classes runs) c.new-stored.ensures.level
+    (subst (λ (s : List BidiClass). AreExplicitLevels len_of (g.T.TextSource.text made.text).chars made.level s levels classes runs) c.new-stored.ensures.classes
+    c.in_ok-find_levels_counted.ensures.found))
 
 -- the levels, read by characters
 read : (g : Over) (c : In_ok-find_levels_counted g) → let cs = (g.T.TextSource.text c.args.paragraph.now.text).chars in
