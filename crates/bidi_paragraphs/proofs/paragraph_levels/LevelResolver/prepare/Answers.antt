@@ -1,4 +1,4 @@
-use Rattle.bidi_base.proofs.Common.{◌≡◌, ◌∙◌, List, ℕ, ◌×◌, subst, length, map, ap, arith, explicit_levels, per_char, bounds, AreExplicitLevels}
+use Rattle.bidi_base.proofs.Common.{◌≡◌, ◌∙◌, List, ℕ, subst, length, map, ap, arith, explicit_levels, per_char, bounds, AreExplicitLevels}
 use Rattle.bidi_base.specs.declared.char_data.BidiClass.{BidiClass}
 use Rattle.bidi_base.specs.declared.char_data.BidiClass.TheVariants.{L}
 use Rattle.bidi_laws.proofs.ExplicitLemmas.{length-explicit_levels}
