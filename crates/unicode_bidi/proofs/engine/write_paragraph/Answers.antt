@@ -13,7 +13,7 @@ pub invariant_of-own : goal.invariant_of-own
 invariant_of-own g c =
     let len = g.T.TextSource.encoding.len_of in
     let cs : List ℕ = (g.T.TextSource.text c.args.text.now.text).chars in
-    let piece : (g.T.TextSource.text c.subrange.result).chars ≡ chars_of len cs c.args.paragraph.now = c.subrange.ensures ∙ ap (λ (r : Range ℕ). subrange len cs r.start r.end) c.range-units.ensures in
+    let piece : (g.T.TextSource.text c.subrange.result).chars ≡ chars_of len cs c.args.paragraph.now = ap (λ t. t.chars) c.subrange.ensures ∙ ap (λ (r : Range ℕ). subrange len cs r.start r.end) c.range-units.ensures in
     record {
       low = rw c.level.ensures c.requires.paragraph.level;
       own_flags = rw piece c.requires.flags;
