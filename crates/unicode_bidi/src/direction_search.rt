@@ -1,5 +1,5 @@
 //! The search for a base direction (P2, P3), in a text or in its pieces one after another.
-ghost use Rattle.std.specs.Prelude.{◌≡◌, ◌+◌, ◌<◌, ◌^◌, [], ◌∷◌, map, Some};
+ghost use Rattle.std.specs.Prelude.{◌≡◌, ◌+◌, ◌<◌, ◌^◌, if◌then◌else◌, [], ◌∷◌, map, Some};
 ghost use Rattle.bidi_base.specs.Direction.{direction_by, base_direction, full_base_direction};
 ghost use Rattle.bidi_base.specs.Paragraphs.{paragraphs_of, each_separator};
 ghost use Rattle.bidi_base.specs.Texts.{text_len};

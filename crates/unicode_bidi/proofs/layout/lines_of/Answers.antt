@@ -1,4 +1,4 @@
-use Rattle.bidi_base.proofs.Common.{◌≡◌, ◌+◌, ℕ, List, arith, map-append, append_assoc, append-nil}
+use Rattle.bidi_base.proofs.Common.{◌≡◌, ◌+◌, ℕ, ap, List, arith, map-append, append_assoc, append-nil}
 use Rattle.bidi_laws.proofs.LayoutLemmas.{FirstLine, first_line, line_ranges-none, line_ranges-IsPartition}
 use Rattle.unicode_bidi.proofs.layout.lines_of.Goals as goal
 use Rattle.unicode_bidi.proofs.layout.lines_of.Goals.{After-first_line_len}
@@ -8,7 +8,7 @@ use Rattle.unicode_bidi.proofs.layout.lines_of.Given.{Over}
 line_here : (g : Over) (c : After-first_line_len g)
     → FirstLine (g.W.CharWidth.width_of c.args.widths.now) c.args.limit g.T.TextSource.encoding.len_of g.T.TextSource.encoding.positive (g.T.TextSource.text c.args.text).chars c.loop-start.start c.args.range.end (c.loop-start.start + c.first_line_len.result)
 line_here g c =
-    first_line _ _ _ g.T.TextSource.encoding.positive _ _ _ _ c.loop-start.invariant.0 c.loop-start-test.true (cc (c.first_line_len.ensures, c.subrange-rest.ensures))
+    first_line _ _ _ g.T.TextSource.encoding.positive _ _ _ _ c.loop-start.invariant.0 c.loop-start-test.true (ap (λ (n : ℕ). c.loop-start.start + n) (rw c.subrange-rest.ensures at c.first_line_len.ensures))
 
 pub overflow_add-end : goal.overflow_add-end
 overflow_add-end g c = grind (arith, line_here)
