@@ -14,12 +14,12 @@ loop-place-init g c =
 
 pub note_character-requires : goal.note_character-requires
 note_character-requires g c =
-    let h = here (g.D.BidiDataSource.source c.args.data_source.now).class_of c.args.line.now _ _ _ c.loop-place-test.true c.index-line-unit_index.is c.bidi_class-class.ensures in
+    let h = here (g.D.BidiDataSource.source c.args.data_source.now).class_of c.args.line.now _ _ _ c.loop-place-test.true c.index-line-place.is c.bidi_class-class.ensures in
     λ q some. omega (arith, IsReadSoFar-room _ _ _ _ c.close-closed.result h.0 c.loop-place.invariant (rw h.1 c.close-closed.ensures.place) q some)
 
 pub loop-place-preserved : goal.loop-place-preserved
 loop-place-preserved g c =
-    let h = here (g.D.BidiDataSource.source c.args.data_source.now).class_of c.args.line.now _ _ _ c.loop-place-test.true c.index-line-unit_index.is c.bidi_class-class.ensures in
+    let h = here (g.D.BidiDataSource.source c.args.data_source.now).class_of c.args.line.now _ _ _ c.loop-place-test.true c.index-line-place.is c.bidi_class-class.ensures in
     IsReadSoFar-more _ _ _ _ _ _ _ _ _ h.0 h.1 c.loop-place.invariant c.close-closed.ensures.place c.close-closed.ensures.left c.in_ok-open.ensures c.in_ok-note_character.ensures
 
 pub returns : goal.returns
