@@ -1,5 +1,5 @@
 -- Which arguments are options.
-use Rattle.std.specs.Prelude.{ℕ, Bool, not, ◌&&◌, List, codes, nat_eq}
+use Rattle.std.specs.Prelude.{ℕ, Bool, not, ◌&&◌, ◌||◌, List, codes, nat_eq}
 use Rattle.std.specs.List.{starts_with}
 use Rattle.std.specs.Str.{bytes_eq}
 
