@@ -30,6 +30,13 @@ pub record IsPerCharText (a : AnalysedText) : Type 0 where
   pub classes : HaveClass a.len_of a.chars a.classes
   pub levels : HaveLevel a.len_of a.chars a.levels
 
+-- a class, or a level, for each code unit of the text, equal within each character
+abbrev pub HasClassPerChar : AnalysedText → List BidiClass → Type 0
+HasClassPerChar a classes = HaveClass a.len_of a.chars classes
+
+abbrev pub HasLevelPerChar : AnalysedText → List ℕ → Type 0
+HasLevelPerChar a levels = HaveLevel a.len_of a.chars levels
+
 -- ---- what the algorithm finds in a text that a split rule cuts into paragraphs; without one, it is one paragraph
 
 module _ (source : Source) (base_level : Option ℕ) (rule : Option SplitRule) where
@@ -82,7 +89,7 @@ pub record AreLevelsOfLine (a : AnalysedText) (level : ℕ) (line : Range ℕ) (
       ≡ per_unit a.len_of (subrange a.len_of a.chars line.start line.end)
       (char_levels_of_line a.len_of a.chars level a.classes a.levels line.start line.end)
   pub units : shown ≡ levels_of_line level a.classes a.levels line.start line.end
-  pub one_a_unit : length shown + line.start ≡ line.end
+  pub one_per_unit : length shown + line.start ≡ line.end
 
 -- these levels, one for each character of the line
 abbrev pub line_levels_per_char : AnalysedText → ℕ → Range ℕ → List ℕ

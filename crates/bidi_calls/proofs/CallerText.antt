@@ -14,12 +14,12 @@ use Rattle.unicode_bidi.proofs.WholeText.{whole-IsLine}
 use Rattle.bidi_calls.proofs.CallerLines.{length-own_levels, length-caller_line_levels, caller_line_levels-own}
 use Rattle.bidi_calls.specs.declared.line.CallerLine.{CallerLine}
 use Rattle.bidi_calls.specs.CallerLine.{IsValid, own_levels, caller_line_levels}
-use Rattle.bidi_calls.specs.LineText.{is_even, line_classes, reordered, reordered_fault}
+use Rattle.bidi_calls.specs.LineText.{are_entries_per_char, line_classes, reordered, reordered_fault}
 use Rattle.bidi_numbers.specs.Faults.{fault_unless}
 use Rattle.bidi_numbers.specs.declared.fault.Fault.TheVariants.{UnevenCharacter, NoRoom}
 
 module _ (len_of : ℕ → ℕ) (some : HasUnits len_of) (chars : List ℕ) (l : CallerLine) (valid : IsValid l)
-    (even : is_even len_of chars l ≡ true) (long : text_len len_of chars + l.start ≡ l.end) where
+    (equal : are_entries_per_char len_of chars l ≡ true) (long : text_len len_of chars + l.start ≡ l.end) where
   of_classes : IsPerChar len_of chars (line_classes l)
   of_classes = classes_IsPerChar len_of some chars (line_classes l) (grind arith)
 
@@ -37,8 +37,8 @@ module _ (len_of : ℕ → ℕ) (some : HasUnits len_of) (chars : List ℕ) (l :
       (visual_runs_at_boundaries len_of some chars l.paragraph.now.level (line_classes l) (own_levels l) 0 (text_len len_of chars) of_classes of_levels caller-is_line)
 
   -- the levels after L1 are equal within each character too
-  pub caller-even : IsPerChar len_of chars (caller_line_levels l)
-  caller-even =
+  pub caller-per_char : IsPerChar len_of chars (caller_line_levels l)
+  caller-per_char =
       let level : ℕ = l.paragraph.now.level in
       let n : ℕ = text_len len_of chars in
       let first : char_index len_of chars 0 ≡ 0 = grind (arith, unit_index-zero len_of chars, char_index-unit_index len_of chars some 0) in
@@ -74,9 +74,9 @@ module _ (len_of : ℕ → ℕ) (some : HasUnits len_of) (chars : List ℕ) (l :
 
 -- what a call for the text of a line reports, by what it finds
 module _ (len_of : ℕ → ℕ) (encode : ℕ → List ℕ) (chars units : List ℕ) (l : CallerLine) (room : ℕ) where
-  pub reported-uneven : is_even len_of chars l ≡ false → reordered_fault len_of encode chars units l room ≡ Some UnevenCharacter
-  reported-uneven uneven = simp (uneven)
+  pub reported-uneven : are_entries_per_char len_of chars l ≡ false → reordered_fault len_of encode chars units l room ≡ Some UnevenCharacter
+  reported-uneven fails = simp (fails)
 
-  pub reported-room : (count : ℕ) → is_even len_of chars l ≡ true → length (reordered len_of encode chars units l) ≡ count
+  pub reported-room : (count : ℕ) → are_entries_per_char len_of chars l ≡ true → length (reordered len_of encode chars units l) ≡ count
       → reordered_fault len_of encode chars units l room ≡ fault_unless (nat_le count room) NoRoom
-  reported-room count even e = simp (even, e)
+  reported-room count equal e = simp (equal, e)

@@ -78,7 +78,7 @@ module _ (len_of : ℕ → ℕ) (some : HasUnits len_of) (chars : List ℕ) wher
         unit_index-plain plain (char_index len_of chars end) at.within,
       )
 
-  module _ (levels : List ℕ) (even : IsPerChar len_of chars levels) where
+  module _ (levels : List ℕ) (equal : IsPerChar len_of chars levels) where
     -- the levels of the characters
     abbrev own : List ℕ
     own = per_char 0 len_of chars levels
@@ -87,7 +87,7 @@ module _ (len_of : ℕ → ℕ) (some : HasUnits len_of) (chars : List ℕ) wher
     own_long = length-per_char 0 len_of chars levels
 
     own-units : levels ≡ per_unit len_of chars own
-    own-units = per_unit-from_IsPerChar 0 len_of some chars levels even
+    own-units = per_unit-from_IsPerChar 0 len_of some chars levels equal
 
     -- the runs of the units are those of the characters
     own-runs : visual_runs 0 levels ≡ map (units_of (place_from 0 len_of chars)) (visual_runs 0 own)

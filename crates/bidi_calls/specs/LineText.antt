@@ -1,5 +1,5 @@
 -- The text and the order of a line, from the classes and levels that the caller passes.
-use Rattle.std.specs.Prelude.{ℕ, Bool, not, ◌&&◌, ◌||◌, ◌==◌, nat_le, List, length, map, slice_range, get_or, Option, Some, Result, IsUtf8}
+use Rattle.std.specs.Prelude.{◌≡◌, ℕ, Bool, true, not, ◌&&◌, ◌||◌, ◌==◌, nat_le, List, length, map, slice_range, get_or, Option, Some, Result, IsUtf8}
 use Rattle.std.specs.List.{list_all}
 use Rattle.std.specs.Option.{option_or}
 use Rattle.bidi_base.specs.contracts.char_data.BidiClassPartialEq.TheImpl.{ghosts as class_test}
@@ -9,6 +9,7 @@ use Rattle.bidi_base.specs.declared.char_data.BidiClass.TheVariants.{L}
 use Rattle.bidi_base.specs.Display.{line_text}
 use Rattle.bidi_base.specs.Order.{visual_order}
 use Rattle.bidi_base.specs.Text.{per_char, is_per_char, is_boundary}
+use Rattle.bidi_base.specs.Texts.{Encoding, Text}
 use Rattle.bidi_base.specs.Utf16.{utf16_text, utf16_len}
 use Rattle.bidi_numbers.specs.declared.fault.Fault.{Fault}
 use Rattle.bidi_numbers.specs.declared.fault.Fault.TheVariants.{UnequalLengths, CutCharacter, UnevenCharacter, NoRoom, NotScalar, NotUtf8}
@@ -55,14 +56,18 @@ ReportsNotUtf8 result text l =
     ¬ (IsUtf8 (own_units text l)) → FaultsAs result (fault_of_line text l (cuts_utf8 text l) (Some NotUtf8))
 
 -- the classes and the levels are equal within each character
-abbrev pub is_even : (ℕ → ℕ) → List ℕ → CallerLine → Bool
-is_even len_of chars l =
+abbrev pub are_entries_per_char : (ℕ → ℕ) → List ℕ → CallerLine → Bool
+are_entries_per_char len_of chars l =
     is_per_char class_test.eq len_of chars (line_classes l) && is_per_char level_test.eq len_of chars (own_levels l)
+
+-- the same, as a condition of a call
+abbrev pub HasEntriesPerChar : {encoding : Encoding} → Text encoding → CallerLine → Type 0
+HasEntriesPerChar {encoding} text l = are_entries_per_char encoding.len_of text.chars l ≡ true
 
 -- the first fault of the code units of a line, and of the room for its text
 abbrev pub reordered_fault : (ℕ → ℕ) → (ℕ → List ℕ) → List ℕ → List ℕ → CallerLine → ℕ → Option Fault
 reordered_fault len_of encode chars units l room =
-    option_or (fault_unless (is_even len_of chars l) UnevenCharacter)
+    option_or (fault_unless (are_entries_per_char len_of chars l) UnevenCharacter)
     (fault_unless (nat_le (length (reordered len_of encode chars units l)) room) NoRoom)
 
 -- the index in the line of the character at each visual index (L2)

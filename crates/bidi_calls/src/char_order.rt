@@ -117,7 +117,7 @@ pub fn write_char_order<T: CountedText>(
     runs: &[Range<usize>],
     out: &mut [usize],
 )
-    requires even { IsPerChar (T.text text) levels.now }
+    requires per_char { IsPerChar (T.text text) levels.now }
     requires runs { map run_of runs.now ≡ visual_runs 0 levels.now }
     requires room { length out.old ≡ length (T.text text).chars }
     ensures { out.new ≡ visual_order (per_char 0 (T.text text) levels.now) }

@@ -1,5 +1,5 @@
 //! The calls over a line, given the classes and levels that the caller passes.
-ghost use Rattle.std.specs.Prelude.{◌≡◌, ◌+◌, ◌-◌, ◌<◌, ◌&&◌, true, length, map, nat_le, OnOk, OnErr, IfOk};
+ghost use Rattle.std.specs.Prelude.{◌≡◌, ◌+◌, ◌-◌, ◌<◌, ◌&&◌, length, map, nat_le, OnOk, OnErr, IfOk};
 ghost use Rattle.std.specs.Result.{result_err};
 ghost use Rattle.bidi_base.specs.Display.{visual_runs};
 ghost use Rattle.bidi_base.specs.Order.{visual_order as visual_order_of};
@@ -8,7 +8,7 @@ ghost use Rattle.bidi_lines.specs.LineLevels.{levels as levels_of};
 ghost use Rattle.bidi_numbers.specs.Faults.{FaultsAs, fault_unless};
 ghost use Rattle.bidi_calls.specs.Buffers.{written, written_if_room, WritesList};
 ghost use Rattle.bidi_calls.specs.CallerLine.{lies_in, IsValid, IsAsLongAs, own_classes, own_levels, line_fault, levels_fault, runs_fault, order_fault, caller_line_levels};
-ghost use Rattle.bidi_calls.specs.LineText.{is_even, order_of_line, map_fault};
+ghost use Rattle.bidi_calls.specs.LineText.{HasEntriesPerChar, order_of_line, map_fault};
 ghost use Rattle.bidi_lines.specs.InText.{visual_units};
 ghost use Rattle.bidi_numbers.specs.Structs.{run_struct};
 
@@ -124,7 +124,7 @@ pub fn write_text<T: LineText>(
     out: &mut [T::Unit],
 ) -> Result<(), AllocError>
     requires valid { IsValid line.now }
-    requires even { is_even T.encoding.len_of (T.text text).chars line.now ≡ true }
+    requires per_char { HasEntriesPerChar (T.text text) line.now }
     requires same_len { IsAsLongAs T.encoding.len_of (T.text text).chars line.now }
     requires room { length out.old ≡ text_len (T.text text) }
     ensures text { OnOk result (out.new ≡ visual_units (T.text text) T.encode (T.units_of text) 0 (caller_line_levels line.now)) }

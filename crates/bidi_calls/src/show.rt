@@ -1,14 +1,14 @@
 //! All parts of a line in one call: its levels, its visual runs, the order of its characters, and its text from left to
 //! right.
-ghost use Rattle.std.specs.Prelude.{◌≡◌, ℕ, ◌+◌, ◌-◌, ◌<◌, ◌≤◌, ◌&&◌, if◌then◌else◌, IsTrue, true, length, map, flat_map, reverse, sum_by, All};
+ghost use Rattle.std.specs.Prelude.{◌≡◌, ℕ, ◌+◌, ◌-◌, ◌<◌, ◌≤◌, ◌&&◌, if◌then◌else◌, IsTrue, length, map, flat_map, reverse, sum_by, All};
 ghost use Rattle.bidi_base.specs.Display.{run_of, visual_runs, AreVisualRuns};
 ghost use Rattle.bidi_base.specs.Order.{visual_order as visual_order_of};
 ghost use Rattle.bidi_base.specs.Text.{IsLine};
 ghost use Rattle.bidi_base.specs.Texts.{text_len, per_char, IsPerChar};
-ghost use Rattle.bidi_calls.specs.LineParts.{everything_of_chars, line_parts, room_fault, WritesLine, AreWithin};
+ghost use Rattle.bidi_calls.specs.LineParts.{parts_of_chars, line_parts, room_fault, WritesLine, AreWithin};
 ghost use Rattle.bidi_calls.specs.Buffers.{written_if_room, HasRoomOrNone};
 ghost use Rattle.bidi_calls.specs.CallerLine.{IsValid, IsAsLongAs, caller_line_levels};
-ghost use Rattle.bidi_calls.specs.LineText.{is_even, chars_at};
+ghost use Rattle.bidi_calls.specs.LineText.{HasEntriesPerChar, chars_at};
 ghost use Rattle.bidi_numbers.specs.Faults.{FaultsAs, has_room_or_none};
 ghost use Rattle.bidi_lines.specs.LineLevels.{levels as levels_of};
 ghost use Rattle.bidi_lines.specs.InText.{run_units, visual_units};
@@ -103,7 +103,7 @@ fn write_order<T: CountedText>(
     after_l1: &mut LineLevels,
     out: &mut [usize],
 )
-    requires even { IsPerChar (T.text text) (levels_of after_l1.old) }
+    requires per_char { IsPerChar (T.text text) (levels_of after_l1.old) }
     requires runs { map run_of runs.now ≡ visual_runs 0 (levels_of after_l1.old) }
     requires room { length out.old ≡ length (T.text text).chars }
     ensures { out.new ≡ visual_order_of (per_char 0 (T.text text) (levels_of after_l1.old)) }
@@ -124,7 +124,7 @@ fn put_order_of<T: CountedText>(
     runs: &[Range<usize>],
     after_l1: &mut LineLevels,
 )
-    requires even { IsPerChar (T.text text) (levels_of after_l1.old) }
+    requires per_char { IsPerChar (T.text text) (levels_of after_l1.old) }
     requires runs { map run_of runs.now ≡ visual_runs 0 (levels_of after_l1.old) }
     requires same_len { len ≡ length (T.text text).chars }
     requires room { IsTrue (has_room_or_none len (length out.old)) }
@@ -149,7 +149,7 @@ pub fn show_text<T: CountedText>(
     out: &mut LineBuffers<'_, T::Unit>,
 ) -> Result<usize, Fault>
     requires valid { IsValid line.now }
-    requires even { is_even T.encoding.len_of (T.text text).chars line.now ≡ true }
+    requires per_char { HasEntriesPerChar (T.text text) line.now }
     requires units_same_len { IsAsLongAs T.encoding.len_of (T.text text).chars line.now }
     requires same_len { length (T.units_of text) ≡ text_len (T.text text) }
     requires encoded { (c : ℕ) → length (T.encode c) ≡ T.encoding.len_of c }
@@ -247,8 +247,8 @@ pub fn show_chars(
 ) -> Result<usize, Fault>
     requires valid { IsValid line.now }
     requires same_len { length chars.now + line.now.start ≡ line.now.end }
-    ensures fault { FaultsAs result (room_fault (everything_of_chars chars.now line.now) out.old) }
-    ensures writes { WritesLine (everything_of_chars chars.now line.now) result out.old out.new }
+    ensures fault { FaultsAs result (room_fault (parts_of_chars chars.now line.now) out.old) }
+    ensures writes { WritesLine (parts_of_chars chars.now line.now) result out.old out.new }
 {
     let after_l1 = line.after_l1(alloc)?;
     let mut found = LineRuns::new(alloc);

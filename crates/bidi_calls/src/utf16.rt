@@ -4,7 +4,7 @@ ghost use Rattle.std.specs.Char.Escape.{encode_utf16};
 ghost use Rattle.bidi_base.specs.Text.{is_boundary};
 ghost use Rattle.bidi_base.specs.Utf16.{utf16_text, utf16_len};
 ghost use Rattle.bidi_numbers.specs.Faults.{FaultsAs};
-ghost use Rattle.bidi_calls.specs.LineParts.{everything, everything_fault, WritesLine};
+ghost use Rattle.bidi_calls.specs.LineParts.{parts_of_line, fault_of_parts, WritesLine};
 ghost use Rattle.bidi_calls.specs.Buffers.{analysis_by, analysis_fault, WritesAnalysis, WritesList};
 ghost use Rattle.bidi_calls.specs.CallerLine.{IsValid};
 ghost use Rattle.bidi_numbers.specs.Numbers.{direction_in};
@@ -14,7 +14,7 @@ ghost use Rattle.std.specs.Result.{result_err};
 use crate::analysis;
 use crate::buffers::{AnalysisBuffers, LineBuffers, Settings};
 use crate::line::{CallerLine, map_characters, write_text};
-use crate::per_char::is_even_utf16;
+use crate::per_char::is_per_char_utf16;
 use crate::show::show_text;
 use bidi_numbers::fault::{Fault, check};
 use std::alloc::Global;
@@ -83,8 +83,8 @@ fn reorder(
     ensures writes { WritesList (reordered utf16_len encode_utf16 (utf16_text text.now) text.now line.now)
         result out.old out.new }
 {
-    let even = is_even_utf16(text, line.class_numbers(), line.level_numbers());
-    check(even, Fault::UnevenCharacter)?;
+    let per_char = is_per_char_utf16(text, line.class_numbers(), line.level_numbers());
+    check(per_char, Fault::UnevenCharacter)?;
     let count = text.len();
     check(count <= out.len(), Fault::NoRoom)?;
     write_text(alloc, Utf16Text::new(text), line, &mut out[..count])?;
@@ -146,13 +146,13 @@ fn show(
 ) -> Result<usize, Fault>
     requires valid { IsValid line.now }
     requires same_len { length text.now + line.now.start ≡ line.now.end }
-    ensures fault { FaultsAs result (everything_fault utf16_len encode_utf16 (utf16_text text.now) text.now
+    ensures fault { FaultsAs result (fault_of_parts utf16_len encode_utf16 (utf16_text text.now) text.now
         line.now out.old) }
-    ensures writes { WritesLine (everything utf16_len encode_utf16 (utf16_text text.now) text.now line.now)
+    ensures writes { WritesLine (parts_of_line utf16_len encode_utf16 (utf16_text text.now) text.now line.now)
         result out.old out.new }
 {
-    let even = is_even_utf16(text, line.class_numbers(), line.level_numbers());
-    check(even, Fault::UnevenCharacter)?;
+    let per_char = is_per_char_utf16(text, line.class_numbers(), line.level_numbers());
+    check(per_char, Fault::UnevenCharacter)?;
     let own = Utf16Text::new(text);
     show_text(alloc, own, line, out)
 }
@@ -170,10 +170,10 @@ pub fn show_line(
 ) -> Result<usize, Fault>
     ensures fault { let units = own_units text.now line.now in
         let fault = fault_of_line text.now line.now (cuts_utf16 text.now line.now)
-        (everything_fault utf16_len encode_utf16 (utf16_text units) units line.now out.old) in
+        (fault_of_parts utf16_len encode_utf16 (utf16_text units) units line.now out.old) in
         FaultsAs result fault }
     ensures writes { let units = own_units text.now line.now in
-        WritesLine (everything utf16_len encode_utf16 (utf16_text units) units line.now) result out.old out.new }
+        WritesLine (parts_of_line utf16_len encode_utf16 (utf16_text units) units line.now) result out.old out.new }
 {
     line.check()?;
     check_text(text, line)?;

@@ -4,7 +4,7 @@ ghost use Rattle.std.specs.List.{list_all};
 ghost use Rattle.std.specs.Option.{option_or};
 ghost use Rattle.bidi_base.specs.Text.{one_unit};
 ghost use Rattle.bidi_numbers.specs.Faults.{FaultsAs, fault_unless};
-ghost use Rattle.bidi_calls.specs.LineParts.{everything_of_chars, room_fault, WritesLine};
+ghost use Rattle.bidi_calls.specs.LineParts.{parts_of_chars, room_fault, WritesLine};
 ghost use Rattle.bidi_calls.specs.Buffers.{written, analysis_by, analysis_fault, WritesAnalysis, WritesList};
 ghost use Rattle.bidi_calls.specs.CallerLine.{IsValid};
 ghost use Rattle.bidi_numbers.specs.Numbers.{direction_in};
@@ -149,8 +149,8 @@ pub fn show_line(
     ensures fault { let chars = own_units text.now line.now in
         FaultsAs result (fault_of_line text.now line.now false
         (option_or (fault_unless (list_all is_scalar chars) Fault.NotScalar)
-        (room_fault (everything_of_chars chars line.now) out.old))) }
-    ensures writes { WritesLine (everything_of_chars (own_units text.now line.now) line.now) result out.old out.new }
+        (room_fault (parts_of_chars chars line.now) out.old))) }
+    ensures writes { WritesLine (parts_of_chars (own_units text.now line.now) line.now) result out.old out.new }
 {
     line.check()?;
     check(text.len() == line.levels.len(), Fault::UnequalLengths)?;

@@ -3,7 +3,7 @@ ghost use Rattle.std.specs.Prelude.{◌≡◌, ◌+◌, ◌-◌, length, IsUtf8,
 ghost use Rattle.std.specs.Char.{len_utf8};
 ghost use Rattle.std.specs.Str.{chars};
 ghost use Rattle.bidi_numbers.specs.Faults.{FaultsAs};
-ghost use Rattle.bidi_calls.specs.LineParts.{everything, everything_fault, WritesLine};
+ghost use Rattle.bidi_calls.specs.LineParts.{parts_of_line, fault_of_parts, WritesLine};
 ghost use Rattle.bidi_calls.specs.Buffers.{analysis_by, analysis_fault, WritesAnalysis, WritesList};
 ghost use Rattle.bidi_calls.specs.CallerLine.{IsValid};
 ghost use Rattle.bidi_numbers.specs.Numbers.{direction_in};
@@ -13,7 +13,7 @@ ghost use Rattle.std.specs.Result.{result_err};
 use crate::analysis;
 use crate::buffers::{AnalysisBuffers, LineBuffers, Settings};
 use crate::line::{CallerLine, map_characters, write_text};
-use crate::per_char::is_even_utf8;
+use crate::per_char::is_per_char_utf8;
 use crate::show::show_text;
 use bidi_numbers::fault::{Fault, check};
 use bidi_numbers::texts::{goes_on, utf8};
@@ -80,8 +80,8 @@ fn reorder(alloc: Global, text: &str, line: &CallerLine<'_>, out: &mut [u8]) -> 
     ensures writes { WritesList (reordered len_utf8 encode_utf8 (chars text.now) text.now line.now)
         result out.old out.new }
 {
-    let even = is_even_utf8(text, line.class_numbers(), line.level_numbers());
-    check(even, Fault::UnevenCharacter)?;
+    let per_char = is_per_char_utf8(text, line.class_numbers(), line.level_numbers());
+    check(per_char, Fault::UnevenCharacter)?;
     let count = text.len();
     check(count <= out.len(), Fault::NoRoom)?;
     write_text(alloc, StrText::new(text), line, &mut out[..count])?;
@@ -145,13 +145,13 @@ fn show(
 ) -> Result<usize, Fault>
     requires valid { IsValid line.now }
     requires same_len { length text.now + line.now.start ≡ line.now.end }
-    ensures fault { FaultsAs result (everything_fault len_utf8 encode_utf8 (chars text.now) text.now
+    ensures fault { FaultsAs result (fault_of_parts len_utf8 encode_utf8 (chars text.now) text.now
         line.now out.old) }
-    ensures writes { WritesLine (everything len_utf8 encode_utf8 (chars text.now) text.now line.now)
+    ensures writes { WritesLine (parts_of_line len_utf8 encode_utf8 (chars text.now) text.now line.now)
         result out.old out.new }
 {
-    let even = is_even_utf8(text, line.class_numbers(), line.level_numbers());
-    check(even, Fault::UnevenCharacter)?;
+    let per_char = is_per_char_utf8(text, line.class_numbers(), line.level_numbers());
+    check(per_char, Fault::UnevenCharacter)?;
     let own = StrText::new(text);
     show_text(alloc, own, line, out)
 }
@@ -170,10 +170,10 @@ pub fn show_line(
     ensures not_utf8 { ReportsNotUtf8 result text.now line.now }
     ensures fault { let units = own_units text.now line.now in
         let fault = fault_of_line text.now line.now (cuts_utf8 text.now line.now)
-        (everything_fault len_utf8 encode_utf8 (chars units) units line.now out.old) in
+        (fault_of_parts len_utf8 encode_utf8 (chars units) units line.now out.old) in
         IsUtf8 units → FaultsAs result fault }
     ensures writes { let units = own_units text.now line.now in
-        WritesLine (everything len_utf8 encode_utf8 (chars units) units line.now) result out.old out.new }
+        WritesLine (parts_of_line len_utf8 encode_utf8 (chars units) units line.now) result out.old out.new }
 {
     line.check()?;
     check_text(text, line)?;

@@ -40,7 +40,7 @@ module _ (len_of : ℕ → ℕ) (chars : List ℕ) (start end : ℕ) (begins : s
 
 pub empty-levels : (a : AnalysedText) (level : ℕ) → AreLevelsOfLine a level (record { start = 0; end = 0 }) []
 unfolding line_levels line_levels_after
-empty-levels a level = record { characters = grind arith; units = refl; one_a_unit = refl }
+empty-levels a level = record { characters = grind arith; units = refl; one_per_unit = refl }
 
 -- ---- a line of a text with stored classes and levels
 
@@ -51,7 +51,7 @@ module _ (len_of : ℕ → ℕ) (some : HasUnits len_of) (chars : List ℕ) (lev
   stored-levels = of_line len_of some chars level classes levels line of_classes of_levels is_line shown is
 
   pub stored-all : take (line.end - line.start) shown ≡ shown
-  stored-all = take_all (line.end - line.start) shown (omega (arith, stored-levels.one_a_unit))
+  stored-all = take_all (line.end - line.start) shown (omega (arith, stored-levels.one_per_unit))
 
   pub stored-runs_of_chars : AreRunsOfChars len_of chars line.start shown
   stored-runs_of_chars =
@@ -90,7 +90,7 @@ module _ (a : AnalysedText) (some : HasUnits a.len_of) (level : ℕ) (line : Ran
             record {
               begins = run.starts_within;
               not_empty = run.not_empty;
-              ends = omega (arith, run.ends_within, long, levels.one_a_unit, is_line.ordered);
+              ends = omega (arith, run.ends_within, long, levels.one_per_unit, is_line.ordered);
               is_line = lines k d fits;
             };
       }

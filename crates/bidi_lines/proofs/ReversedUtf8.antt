@@ -140,9 +140,9 @@ backwards-utf8 (c ∷ cs) h =
     (IsUtf8-append (flat_map encode_utf8 (reverse cs)) (encode_utf8 c) (backwards-utf8 cs parts.1) (IsUtf8-encode c parts.0))
 
 -- bytes that were turned one by one are the text's characters, last first
-pub turned-chars : (text out : List ℕ) → IsUtf8 text → all_short text ≡ true → length out ≡ length text
+pub reversed-chars : (text out : List ℕ) → IsUtf8 text → all_short text ≡ true → length out ≡ length text
     → ((j : ℕ) → j < length out → get_or out (length out - 1 - j) 0 ≡ reversed_byte_at (behind_two text) j) → out ≡ flat_map encode_utf8 (reverse (chars text))
-turned-chars text out u short same turned =
+reversed-chars text out u short same turned =
     let bytes = encodes-chars text u in
     let whole : reversed_bytes 0 0 text ≡ flat_map (λ c. reverse (encode_utf8 c)) (chars text) =
     subst (λ bs. reversed_bytes 0 0 bs ≡ flat_map (λ c. reverse (encode_utf8 c)) (chars text)) bytes

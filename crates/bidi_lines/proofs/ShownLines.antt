@@ -39,7 +39,7 @@ same_chars len len' chars chars' start start' end end' shown of_chars e f g h is
 pub still_shown : {T C I L : Type 0} {t : _} {c : _} {i : _} {l : _} (s : ShownLine T C I L t c i l) {X : Type 0} (encode : ℕ → List X) (units : List X) → s.has_rtl ≡ false
     → visual_units t.encoding.len_of encode (t.text (text_of s)).chars units s.start (levels s) ≡ slice_range units s.start s.end
 still_shown {t = t} s encode units even =
-    let end : s.start + length (levels s) ≡ s.end = omega (arith, s.is_line.ordered, s.one_a_unit, length-take-le (s.end - s.start) (levels_in s.levels) s.one_a_unit) in
+    let end : s.start + length (levels s) ≡ s.end = omega (arith, s.is_line.ordered, s.one_per_unit, length-take-le (s.end - s.start) (levels_in s.levels) s.one_per_unit) in
     visual_units-still s.start (levels s) (sym s.of_levels ∙ even) t.encoding.len_of encode (t.text (text_of s)).chars units ∙ ap (slice_range units s.start) end
 
 module _ {T C I L : Type 0} {t : _} {c : _} {i : _} {l : _} (s : ShownLine T C I L t c i l) (some : HasUnits t.encoding.len_of)

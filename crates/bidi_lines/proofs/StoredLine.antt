@@ -27,8 +27,8 @@ module _ (len_of : ℕ → ℕ) (some : HasUnits len_of) (chars : List ℕ) wher
     pub within : line.end ≤ length levels
     within = line_of.line-within len_of some chars level classes levels line.start line.end (classes_IsPerChar classes of_classes) (levels_IsPerChar levels of_levels) is_line
 
-    pub one_a_unit : length levels ≡ text_len len_of chars
-    one_a_unit = length-from_IsPerChar len_of chars levels (levels_IsPerChar levels of_levels)
+    pub one_per_unit : length levels ≡ text_len len_of chars
+    one_per_unit = length-from_IsPerChar len_of chars levels (levels_IsPerChar levels of_levels)
 
     pub of_units : (shown : List ℕ) → shown ≡ levels_with_line level classes levels line.start line.end
         → AreLevelsWithLine (record { len_of = len_of; chars = chars; classes = classes; levels = levels }) level line shown
@@ -80,7 +80,7 @@ module _ (a : AnalysedText) (some : HasUnits a.len_of) (level : ℕ) (line : Ran
   module _ (shown : List ℕ) (levels : AreLevelsOfLine a level line shown) where
     -- one level for each code unit of the line's text
     pub length-shown : length shown ≡ text_len a.len_of (subrange a.len_of a.chars line.start line.end)
-    length-shown = omega (arith, levels.one_a_unit, text_len-subrange a.len_of some a.chars line.start line.end is_line)
+    length-shown = omega (arith, levels.one_per_unit, text_len-subrange a.len_of some a.chars line.start line.end is_line)
 
     -- read by characters
     pub per_char-shown : per_char 0 a.len_of (subrange a.len_of a.chars line.start line.end) shown ≡ line_levels_per_char a level line

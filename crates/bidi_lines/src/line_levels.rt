@@ -356,7 +356,7 @@ pub fn levels_per_char<T: TextSource>(
     levels: &[Level],
     line: Range<usize>,
 ) -> Result<Vec<Level>, AllocError>
-    requires one_a_unit { length levels.now ≡ text_len (T.text text) }
+    requires one_per_unit { length levels.now ≡ text_len (T.text text) }
     requires same_len { length levels.now ≡ length classes.now }
     requires ordered { line.start ≤ line.end }
     requires within { line.end ≤ length levels.now }

@@ -112,7 +112,7 @@ fn write_line_units<T: LineText>(
         return Ok(());
     }
     let mut runs = LineRuns::new(alloc);
-    runs.find_behind(levels, start, first)?;
+    runs.find_after(levels, start, first)?;
     write_runs(text, start, levels, runs.as_slice(), out);
     Ok(())
 }

@@ -69,7 +69,7 @@ pub struct ShownLine<T: TextSource> {
     // A buffer for the levels of the line's characters.
     of_chars: Vec<Level>,
     ghost is_line: { IsLine (T.text text) start end },
-    ghost one_a_unit: { end - start ≤ length (levels_in levels) },
+    ghost one_per_unit: { end - start ≤ length (levels_in levels) },
     ghost runs_of_levels: { runs_in runs ≡ visual_runs start (take (end - start) (levels_in levels)) },
     ghost runs_of_chars: { AreRunsOfChars (T.text text) start (take (end - start) (levels_in levels)) },
     ghost of_levels: { has_rtl ≡ has_rtl_of (take (end - start) (levels_in levels)) },

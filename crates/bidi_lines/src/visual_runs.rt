@@ -150,14 +150,14 @@ impl LineRuns {
             self.ordered.clear();
             return Ok(());
         }
-        self.find_behind(levels, start, first_run_end(levels))
+        self.find_after(levels, start, first_run_end(levels))
     }
 
     /// Finds the visual runs of a line, given the end of its first level run.
     ///
     /// [`first_run_end`] returns that end. The line starts at the code unit `start` of a text, and `levels` has the
     /// level of each code unit after L1. If an allocation fails, there are no runs.
-    pub(crate) fn find_behind(
+    pub(crate) fn find_after(
         &mut self,
         levels: &[Level],
         start: usize,
@@ -244,7 +244,7 @@ pub fn visual_runs_of(
         return Ok(vec![in alloc; start..start + first]?);
     }
     let mut runs = LineRuns::new(alloc);
-    runs.find_behind(levels, start, first)?;
+    runs.find_after(levels, start, first)?;
     if runs.as_slice().len() <= FEW_RUNS {
         copied(alloc, runs.as_slice())
     } else {

@@ -8,6 +8,7 @@ use Rattle.bidi_base.specs.Isolates.{level_by, resolved_fsi}
 use Rattle.bidi_base.specs.OpenIsolates.{innermost, outer, is_fsi, filled}
 use Rattle.bidi_base.specs.Source.{Source}
 use Rattle.bidi_base.specs.Text.{text_len, char_index, is_boundary, per_unit}
+use Rattle.bidi_base.specs.Texts.{Encoding}
 use Rattle.bidi_paragraphs.specs.ClassSet.{has, with}
 use Rattle.bidi_paragraphs.specs.ParagraphFlags.{with_class, with_classes, flags_of}
 use Rattle.bidi_paragraphs.specs.ParagraphInfo.{ranges_of, levels_of}
@@ -109,8 +110,9 @@ pub record IsClosed (base_level : Option ℕ) (r : ParagraphState) (end : ℕ) (
   pub flags : new_flags ≡ old_flags ++ r.flags ∷ []
 
 -- a character's class was written to each of its code units, from `start` on, and the classes before them are unchanged
-abbrev pub IsPut : (ℕ → ℕ) → ℕ → BidiClass → ℕ → List BidiClass → List BidiClass → Type 0
-IsPut len_of c class start old new = take (start + len_of c) new ≡ take start old ++ replicate (len_of c) class
+abbrev pub IsPut : Encoding → ℕ → BidiClass → ℕ → List BidiClass → List BidiClass → Type 0
+IsPut encoding c class start old new =
+    take (start + encoding.len_of c) new ≡ take start old ++ replicate (encoding.len_of c) class
 
 -- the characters from a boundary on
 abbrev pub ahead : (ℕ → ℕ) → List ℕ → ℕ → List ℕ

@@ -79,8 +79,8 @@ fn check_visual<T: TextSource>(
 // Compares the results of the calls on a line with a row: the levels of all code units and of all characters of the
 // text, the levels of the line, and its runs. `visual_runs` requires a line that is not empty.
 macro_rules! check_line {
-    ($asked:expr, $text:expr, $tally:expr, $info:expr, $line:expr $(, $para:expr)?) => {{
-        let (alloc, row, (start, end)) = ($asked.alloc, $asked.row, $line);
+    ($case:expr, $text:expr, $tally:expr, $info:expr, $line:expr $(, $para:expr)?) => {{
+        let (alloc, row, (start, end)) = ($case.alloc, $case.row, $line);
         let levels = $info.reordered_levels(alloc, $($para,)? start..end);
         $tally.agree(row, "after", "reordered_levels", all_levels(alloc, $text, levels));
         let levels = $info.reordered_levels_per_char(alloc, $($para,)? start..end);
@@ -182,14 +182,14 @@ fn words_of_kept_line(
 
 // A row of a line: the line in characters, and the level of the paragraph if the row has one.
 #[derive(Drop)]
-struct Asked<'r> {
+struct Case<'r> {
     alloc: Global,
     row: &'r Row<'r>,
     line: (usize, usize),
     own_level: Option<Level>,
 }
 
-impl Asked<'_> {
+impl Case<'_> {
     // Returns the line in code units of a text.
     fn units<T: TextSource>(&self, text: T) -> Result<(usize, usize), RowFault> {
         let places = places_of(self.alloc, text)?;
@@ -389,36 +389,36 @@ pub fn run(
     ])?;
     let source = tables.source(row.line)?;
     let text = RowText::of_row(alloc, row)?;
-    let asked = Asked {
+    let case = Case {
         alloc,
         row,
         line: line_of(row, count_of(alloc, &text)?)?,
         own_level: own_level(row)?,
     };
-    check_infos(&asked, &source, &text, tally)?;
-    if asked.own_level.is_none() {
-        asked.check_paragraphs(&source, &text, tally)?;
+    check_infos(&case, &source, &text, tally)?;
+    if case.own_level.is_none() {
+        case.check_paragraphs(&source, &text, tally)?;
     }
     Ok(())
 }
 
 // Tests the calls of a text that may have several paragraphs, in each encoding that it has.
 fn check_infos(
-    asked: &Asked<'_>,
+    case: &Case<'_>,
     source: &TableBidiData<'_>,
     text: &RowText,
     tally: &mut Tally,
 ) -> Result<(), RowFault> {
-    let (alloc, row, units) = (asked.alloc, asked.row, text.utf16.as_slice());
+    let (alloc, row, units) = (case.alloc, case.row, text.utf16.as_slice());
     let info = utf16::BidiInfo::new_with_data_source(alloc, source, units, base_of(row)?)?;
-    asked.check_utf16(&info, tally)?;
-    asked.check_text(source, Utf16Text::new(units), tally)?;
+    case.check_utf16(&info, tally)?;
+    case.check_text(source, Utf16Text::new(units), tally)?;
     if text.is_unicode {
         let units = text.utf8.as_str();
         let info = BidiInfo::new_with_data_source(alloc, source, units, base_of(row)?)?;
-        asked.check_utf8(&info, tally)?;
-        asked.check_text(source, StrText::new(units), tally)?;
-        asked.check_text(source, CharsText::new(text.chars.as_slice()), tally)?;
+        case.check_utf8(&info, tally)?;
+        case.check_text(source, StrText::new(units), tally)?;
+        case.check_text(source, CharsText::new(text.chars.as_slice()), tally)?;
     }
     Ok(())
 }

@@ -30,8 +30,8 @@ struct Found<'a, T: TextSource> {
 
 impl<T: TextSource> Found<'_, T> {
     // Compares this with a row.
-    fn check(&self, asked: &Asked<'_>, tally: &mut Tally, call: &'static str) {
-        let (alloc, row) = (asked.alloc, asked.row);
+    fn check(&self, case: &Case<'_>, tally: &mut Tally, call: &'static str) {
+        let (alloc, row) = (case.alloc, case.row);
         let words = classes_in(alloc, self.text, self.classes);
         tally.agree(row, "classes", call, words);
         let words = paragraphs_in(alloc, self.text, self.paragraphs);
@@ -88,7 +88,7 @@ impl Split {
 
 // A row of a text: its source, and how it is split into paragraphs.
 #[derive(Clone, Copy)]
-struct Asked<'r> {
+struct Case<'r> {
     alloc: Global,
     row: &'r Row<'r>,
     source: &'r TableBidiData<'r>,
@@ -97,25 +97,25 @@ struct Asked<'r> {
 
 // Compares what a constructor found, without its levels, with a row.
 macro_rules! check_found {
-    ($asked:expr, $tally:expr, $call:expr, $text:expr, $info:expr) => {
+    ($case:expr, $tally:expr, $call:expr, $text:expr, $info:expr) => {
         Found {
             text: $text,
             classes: $info.original_classes(),
             paragraphs: $info.paragraphs(),
         }
-        .check($asked, $tally, $call)
+        .check($case, $tally, $call)
     };
 }
 
 // Compares what a constructor found, with its levels, with a row.
 macro_rules! check_info {
-    ($asked:expr, $tally:expr, $call:expr, $text:expr, $info:expr) => {{
-        check_found!($asked, $tally, $call, $text, $info);
-        $asked.check_levels($text, $info.levels(), $tally, $call);
+    ($case:expr, $tally:expr, $call:expr, $text:expr, $info:expr) => {{
+        check_found!($case, $tally, $call, $text, $info);
+        $case.check_levels($text, $info.levels(), $tally, $call);
     }};
 }
 
-impl Asked<'_> {
+impl Case<'_> {
     // Compares the levels that a call returns, one for each code unit of the text, with the row.
     fn check_levels<T: TextSource>(
         &self,
@@ -398,19 +398,19 @@ pub fn run(
     ])?;
     let source = tables.source(row.line)?;
     let text = RowText::of_row(alloc, row)?;
-    let asked = Asked {
+    let case = Case {
         alloc,
         row,
         source: &source,
         split: Split::of_row(row)?,
     };
     let chars = text.chars.as_slice();
-    asked.check_engine(CharsText::new(chars), tally)?;
-    asked.check_engine(StrText::new(text.utf8.as_str()), tally)?;
-    asked.check_engine(Utf16Text::new(text.utf16.as_slice()), tally)?;
-    asked.check_infos(&text, tally)?;
-    asked.check_soft_hyphens(chars, tally);
-    asked.check_rules(chars, tally)
+    case.check_engine(CharsText::new(chars), tally)?;
+    case.check_engine(StrText::new(text.utf8.as_str()), tally)?;
+    case.check_engine(Utf16Text::new(text.utf16.as_slice()), tally)?;
+    case.check_infos(&text, tally)?;
+    case.check_soft_hyphens(chars, tally);
+    case.check_rules(chars, tally)
 }
 
 // Returns whether a row says that its text is one paragraph, or none.
@@ -440,7 +440,7 @@ pub fn run_initial(
     row.has_only(&["text", "source", "base", "classes", "paragraphs"])?;
     let source = tables.source(row.line)?;
     let text = RowText::of_row(alloc, row)?;
-    let asked = Asked {
+    let case = Case {
         alloc,
         row,
         source: &source,
@@ -449,6 +449,6 @@ pub fn run_initial(
     let (units, base) = (StrText::new(text.utf8.as_str()), any_base_of(row)?);
     let info = InitialInfo::new_with_data_source(alloc, &source, text.utf8.as_str(), base)?;
     let call = "InitialInfo::new_with_data_source";
-    check_found!(&asked, tally, call, units, info);
+    check_found!(&case, tally, call, units, info);
     Ok(())
 }

@@ -1,7 +1,9 @@
 -- What the accessors of `ParagraphBidiInfo` return.
-use Rattle.std.specs.Prelude.{ℕ, Bool, List}
+use Rattle.std.specs.Prelude.{◌≡◌, ℕ, Bool, List, map}
 use Rattle.bidi_base.specs.AnalysedText.{AnalysedText}
 use Rattle.bidi_base.specs.declared.char_data.BidiClass.{BidiClass}
+use Rattle.bidi_base.specs.Direction.{is_pure_ltr as is_pure_ltr_of}
+use Rattle.bidi_base.specs.Source.{Source}
 use Rattle.bidi_text.specs.declared.text.str_text.StrText.{StrText}
 use Rattle.bidi_text.specs.declared.text.utf16_text.Utf16Text.{Utf16Text}
 use Rattle.bidi_lines.specs.Analysed as of
@@ -32,3 +34,7 @@ module _ {T C I L : Type 0} {t : _} {c : _} {i : _} {l : _} (info : ParagraphBid
 
   abbrev pub is_pure_ltr : Bool
   is_pure_ltr = info.is_pure_ltr
+
+  -- `i.is_pure_ltr()` is exactly whether the source classes of its text let nothing change the direction
+  abbrev pub IsPureLtrBy : Source → Type 0
+  IsPureLtrBy source = is_pure_ltr ≡ is_pure_ltr_of (map source.class_of analysed.chars)

@@ -1,12 +1,11 @@
 // The result of the algorithm for a text.
 ghost use Rattle.std.specs.Prelude.{◌≡◌, ◌<◌, ◌≤◌, IfOk, IfSome, OnOk, OnErr, All, Some, map};
-ghost use Rattle.bidi_base.specs.AnalysedText.{IsAnalysis, IsLineOf, AreLevelsWithLine, AreLevelsOfLine, AreRunsOfLine, levels_with_line_per_char};
+ghost use Rattle.bidi_base.specs.AnalysedText.{IsAnalysis, IsLineOf, AreLevelsWithLine, AreLevelsOfLine, AreRunsOfLine, HasClassPerChar, HasLevelPerChar, levels_with_line_per_char};
 ghost use Rattle.bidi_base.specs.Display.{run_of};
 ghost use Rattle.bidi_base.specs.Levels.{has_rtl as has_rtl_of};
 ghost use Rattle.bidi_base.specs.Texts.{IsLine};
 ghost use Rattle.bidi_paragraphs.specs.ParagraphInfo.{level_of, range_of, ranges_of, levels_of};
 ghost use Rattle.bidi_lines.specs.LineOrder.{IsLineOrder};
-ghost use Rattle.bidi_base.specs.PerChar.{HaveClass, HaveLevel};
 ghost use Rattle.unicode_bidi.specs.Analysis.{ObeysLaws};
 
 use crate::engine;
@@ -79,7 +78,7 @@ impl<T: TextSource> BidiInfo<T> {
     /// An FSI is RLI or LRI here if a character decides its direction (X5c).
     pub fn original_classes(&self) -> &[BidiClass]
         ensures classes { result.now ≡ original_classes self.now }
-        ensures per_char { let a = analysed_of self.now in HaveClass a.len_of a.chars result.now }
+        ensures per_char { HasClassPerChar (analysed_of self.now) result.now }
     {
         self.analysed.original_classes()
     }
@@ -90,7 +89,7 @@ impl<T: TextSource> BidiInfo<T> {
     /// the paragraph level.
     pub fn levels(&self) -> &[Level]
         ensures levels { result.now ≡ levels_of_info self.now }
-        ensures per_char { let a = analysed_of self.now in HaveLevel a.len_of a.chars result.now }
+        ensures per_char { HasLevelPerChar (analysed_of self.now) result.now }
     {
         self.analysed.levels()
     }

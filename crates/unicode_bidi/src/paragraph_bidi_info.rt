@@ -1,11 +1,10 @@
 // The result of the algorithm for a text that is one paragraph.
 ghost use Rattle.std.specs.Prelude.{◌≡◌, ◌<◌, ◌≤◌, IfOk, IfSome, None, [], ◌∷◌, OnOk, OnErr, map};
-ghost use Rattle.bidi_base.specs.AnalysedText.{IsAnalysis, IsLineOf, AreLevelsWithLine, AreLevelsOfLine, AreRunsOfLine, levels_with_line_per_char};
-ghost use Rattle.bidi_base.specs.Direction.{direction_of_levels, is_pure_ltr as is_pure_ltr_of};
+ghost use Rattle.bidi_base.specs.AnalysedText.{IsAnalysis, IsLineOf, AreLevelsWithLine, AreLevelsOfLine, AreRunsOfLine, HasClassPerChar, HasLevelPerChar, levels_with_line_per_char};
+ghost use Rattle.bidi_base.specs.Direction.{direction_of_levels};
 ghost use Rattle.bidi_base.specs.Display.{run_of};
 ghost use Rattle.bidi_base.specs.Levels.{has_rtl as has_rtl_of};
 ghost use Rattle.bidi_lines.specs.LineOrder.{IsLineOrder};
-ghost use Rattle.bidi_base.specs.PerChar.{HaveClass, HaveLevel};
 ghost use Rattle.bidi_base.specs.Text.{text_len};
 ghost use Rattle.unicode_bidi.specs.Analysis.{ObeysLaws};
 
@@ -47,7 +46,7 @@ impl<T: TextSource + fmt::Debug> fmt::Debug for ParagraphBidiInfo<T> {
 impl<T: TextSource> ParagraphBidiInfo<T> {
     ghost use Rattle.bidi_lines.specs.Analysed.{text_of as analysed_text};
     ghost use Rattle.bidi_lines.specs.ShownLine.{text_of as shown_text, Shows};
-    ghost use Rattle.unicode_bidi.specs.ParagraphBidiInfo.{analysed as analysed_of, original_classes, levels as levels_of_info, paragraph_level, is_pure_ltr};
+    ghost use Rattle.unicode_bidi.specs.ParagraphBidiInfo.{analysed as analysed_of, original_classes, levels as levels_of_info, paragraph_level, is_pure_ltr, IsPureLtrBy};
 
     // Finds the level of a text in any encoding that is one paragraph, and the class and the level of each character
     // (P2 to I2).
@@ -62,8 +61,7 @@ impl<T: TextSource> ParagraphBidiInfo<T> {
         ensures analysis { IfOk result (λ i. let a = analysed_of i in
             IsAnalysis (D.source data_source.now) default_para_level None a ((0, text_len a.len_of a.chars) ∷ [])
             (paragraph_level i ∷ [])) }
-        ensures pure_ltr { IfOk result (λ i. is_pure_ltr i
-            ≡ is_pure_ltr_of (map (D.source data_source.now).class_of (analysed_of i).chars)) }
+        ensures pure_ltr { IfOk result (λ i. IsPureLtrBy i (D.source data_source.now)) }
         ensures laws { ObeysLaws (D.source data_source.now) default_para_level }
     {
         let found = engine::analyse_by(alloc, data_source, text, default_para_level, None)?;
@@ -81,7 +79,7 @@ impl<T: TextSource> ParagraphBidiInfo<T> {
     /// An FSI is RLI or LRI here if a character decides its direction (X5c).
     pub fn original_classes(&self) -> &[BidiClass]
         ensures classes { result.now ≡ original_classes self.now }
-        ensures per_char { let a = analysed_of self.now in HaveClass a.len_of a.chars result.now }
+        ensures per_char { HasClassPerChar (analysed_of self.now) result.now }
     {
         self.paragraph.original_classes()
     }
@@ -92,7 +90,7 @@ impl<T: TextSource> ParagraphBidiInfo<T> {
     /// the paragraph level.
     pub fn levels(&self) -> &[Level]
         ensures levels { result.now ≡ levels_of_info self.now }
-        ensures per_char { let a = analysed_of self.now in HaveLevel a.len_of a.chars result.now }
+        ensures per_char { HasLevelPerChar (analysed_of self.now) result.now }
     {
         self.paragraph.levels()
     }

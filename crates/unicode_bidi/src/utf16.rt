@@ -3,11 +3,10 @@
 //! A high surrogate directly followed by a low one is one character, two code units long. Any other
 //! surrogate is the character U+FFFD, one code unit long.
 
-ghost use Rattle.std.specs.Prelude.{◌≡◌, ◌≤◌, ◌↔◌, IfOk, IfSome, Some, None, [], ◌∷◌, map};
+ghost use Rattle.std.specs.Prelude.{◌≡◌, ◌≤◌, ◌↔◌, IfOk, IfSome, Some, None, [], ◌∷◌};
 ghost use Rattle.std.specs.Char.Escape.{encode_utf16};
 ghost use Rattle.std.specs.Cow.{cow_slice_items, IsBorrowedSlice};
 ghost use Rattle.bidi_base.specs.AnalysedText.{AreParagraphs, IsAnalysis, IsLineOf, IsTextOfLine, StaysInOrder};
-ghost use Rattle.bidi_base.specs.Direction.{is_pure_ltr as is_pure_ltr_of};
 ghost use Rattle.bidi_paragraphs.specs.ParagraphInfo.{level_of, ranges_of, levels_of};
 ghost use Rattle.bidi_base.specs.Text.{text_len};
 ghost use Rattle.unicode_bidi.specs.Analysis.{Constructs};
@@ -124,7 +123,7 @@ impl<'t> info::BidiInfo<Utf16Text<'t>> {
 }
 
 impl<'t> paragraph_bidi_info::ParagraphBidiInfo<Utf16Text<'t>> {
-    ghost use Rattle.unicode_bidi.specs.ParagraphBidiInfo.{units as text_of, analysed as analysed_of, paragraph_level, is_pure_ltr};
+    ghost use Rattle.unicode_bidi.specs.ParagraphBidiInfo.{units as text_of, analysed as analysed_of, paragraph_level, IsPureLtrBy};
 
     /// Finds the level of a text that is one paragraph, and the class and the level of each character (P2 to
     /// I2).
@@ -143,8 +142,7 @@ impl<'t> paragraph_bidi_info::ParagraphBidiInfo<Utf16Text<'t>> {
             (λ i. let a = analysed_of i in
             IsAnalysis (D.source data_source.now) default_para_level None a ((0, text_len a.len_of a.chars) ∷ [])
             (paragraph_level i ∷ [])) result }
-        ensures pure_ltr { IfOk result (λ i. is_pure_ltr i
-            ≡ is_pure_ltr_of (map (D.source data_source.now).class_of (analysed_of i).chars)) }
+        ensures pure_ltr { IfOk result (λ i. IsPureLtrBy i (D.source data_source.now)) }
     {
         paragraph_bidi_info::ParagraphBidiInfo::of_text(
             alloc,

@@ -1,9 +1,8 @@
 //! Texts of UTF-8, analysed (P1 to I2) and shown line by line (L1, L2). A code unit is a byte.
 
-ghost use Rattle.std.specs.Prelude.{◌≡◌, ◌≤◌, ◌↔◌, IfOk, IfSome, Some, None, [], ◌∷◌, map, encode_utf8};
+ghost use Rattle.std.specs.Prelude.{◌≡◌, ◌≤◌, ◌↔◌, IfOk, IfSome, Some, None, [], ◌∷◌, encode_utf8};
 ghost use Rattle.std.specs.Cow.{cow_str_bytes, IsBorrowedStr};
 ghost use Rattle.bidi_base.specs.AnalysedText.{AreParagraphs, IsAnalysis, IsLineOf, IsTextOfLine, StaysInOrder};
-ghost use Rattle.bidi_base.specs.Direction.{is_pure_ltr as is_pure_ltr_of};
 ghost use Rattle.bidi_paragraphs.specs.ParagraphInfo.{level_of, ranges_of, levels_of};
 ghost use Rattle.bidi_base.specs.Text.{text_len};
 ghost use Rattle.unicode_bidi.specs.Analysis.{Constructs};
@@ -121,7 +120,7 @@ impl<'t> info::BidiInfo<StrText<'t>> {
 }
 
 impl<'t> paragraph_bidi_info::ParagraphBidiInfo<StrText<'t>> {
-    ghost use Rattle.unicode_bidi.specs.ParagraphBidiInfo.{text as text_of, analysed as analysed_of, paragraph_level, is_pure_ltr};
+    ghost use Rattle.unicode_bidi.specs.ParagraphBidiInfo.{text as text_of, analysed as analysed_of, paragraph_level, IsPureLtrBy};
 
     /// Finds the level of a text that is one paragraph, and the class and the level of each character (P2 to
     /// I2).
@@ -140,8 +139,7 @@ impl<'t> paragraph_bidi_info::ParagraphBidiInfo<StrText<'t>> {
             (λ i. let a = analysed_of i in
             IsAnalysis (D.source data_source.now) default_para_level None a ((0, text_len a.len_of a.chars) ∷ [])
             (paragraph_level i ∷ [])) result }
-        ensures pure_ltr { IfOk result (λ i. is_pure_ltr i
-            ≡ is_pure_ltr_of (map (D.source data_source.now).class_of (analysed_of i).chars)) }
+        ensures pure_ltr { IfOk result (λ i. IsPureLtrBy i (D.source data_source.now)) }
     {
         paragraph_bidi_info::ParagraphBidiInfo::of_text(
             alloc,

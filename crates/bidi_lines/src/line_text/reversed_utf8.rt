@@ -43,10 +43,10 @@ fn reversed_byte(far: u8, near: u8, byte: u8, next: u8, later: u8) -> u8
 }
 
 // Reverses a text except for its first two and its last two bytes.
-fn turn_middle(bytes: &[u8], out: &mut [u8])
+fn reverse_middle(bytes: &[u8], out: &mut [u8])
     requires same_len { length out.old ≡ length bytes.now }
     requires long { 4 ≤ length bytes.now }
-    ensures turned { (j : ℕ) → 2 ≤ j → j + 2 < length out.old
+    ensures reversed { (j : ℕ) → 2 ≤ j → j + 2 < length out.old
         → slice_index out.new (length out.old - 1 - j) ≡ reversed_byte_at (behind_two bytes.now) j }
 {
     let len = bytes.len();
@@ -74,7 +74,7 @@ fn byte_before(bytes: &[u8], at: usize, by: usize) -> u8
 }
 
 // Returns the byte `by` bytes after an index, or 0 if there is none.
-fn byte_behind(bytes: &[u8], at: usize, by: usize) -> u8
+fn byte_after(bytes: &[u8], at: usize, by: usize) -> u8
     requires at { at < length bytes.now }
     requires by { by ≤ 2 }
     ensures { result ≡ slice_index_or (behind_two bytes.now) (at + 2 + by) 0 }
@@ -86,11 +86,11 @@ fn byte_behind(bytes: &[u8], at: usize, by: usize) -> u8
 }
 
 // Reverses the bytes of a text with indexes from `from` up to `to`.
-fn turn_ends(bytes: &[u8], out: &mut [u8], from: usize, to: usize)
+fn reverse_ends(bytes: &[u8], out: &mut [u8], from: usize, to: usize)
     requires same_len { length out.old ≡ length bytes.now }
     requires ordered { from ≤ to }
     requires ends { to ≤ length bytes.now }
-    ensures turned { (j : ℕ) → from ≤ j → j < to
+    ensures reversed { (j : ℕ) → from ≤ j → j < to
         → slice_index out.new (length out.old - 1 - j) ≡ reversed_byte_at (behind_two bytes.now) j }
     ensures outside_before { (j : ℕ) → j < from → j < length out.old
         → slice_index out.new (length out.old - 1 - j) ≡ slice_index out.old (length out.old - 1 - j) }
@@ -103,23 +103,23 @@ fn turn_ends(bytes: &[u8], out: &mut [u8], from: usize, to: usize)
             byte_before(bytes, at, 2),
             byte_before(bytes, at, 1),
             bytes[at],
-            byte_behind(bytes, at, 1),
-            byte_behind(bytes, at, 2),
+            byte_after(bytes, at, 1),
+            byte_after(bytes, at, 2),
         );
     }
 }
 
 // Writes the characters of a text in reverse order. No character may have four bytes.
-pub(super) fn turn_round(bytes: &[u8], out: &mut [u8])
+pub(super) fn reverse_text(bytes: &[u8], out: &mut [u8])
     requires { length out.old ≡ length bytes.now }
     ensures { (j : ℕ) → j < length out.old
         → slice_index out.new (length out.old - 1 - j) ≡ reversed_byte_at (behind_two bytes.now) j }
 {
     let len = bytes.len();
     if len <= 4 {
-        return turn_ends(bytes, out, 0, len);
+        return reverse_ends(bytes, out, 0, len);
     }
-    turn_middle(bytes, out);
-    turn_ends(bytes, out, 0, 2);
-    turn_ends(bytes, out, len - 2, len);
+    reverse_middle(bytes, out);
+    reverse_ends(bytes, out, 0, 2);
+    reverse_ends(bytes, out, len - 2, len);
 }

@@ -72,7 +72,7 @@ impl<'t> Analysed<Utf16Text<'t>> {
         let text = self.text().units();
         let units = line.start..line.end;
         match self.reversed_line(alloc, para_level, units, 0)? {
-            Some(turned) => Ok(CowSlice::Owned(turned)),
+            Some(reversed) => Ok(CowSlice::Owned(reversed)),
             None => Ok(CowSlice::Borrowed(&text[line])),
         }
     }

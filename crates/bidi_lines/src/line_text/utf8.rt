@@ -5,7 +5,7 @@ ghost use Rattle.std.specs.Str.{chars};
 ghost use Rattle.bidi_base.specs.AnalysedText.{IsLineOf, IsTextOfLine, StaysInOrder};
 
 use super::LineText;
-use super::reversed_utf8::{are_short, turn_round};
+use super::reversed_utf8::{are_short, reverse_text};
 use crate::analysed::Analysed;
 use bidi_base::level::Level;
 use bidi_text::text::{StrText, TextSource};
@@ -42,7 +42,7 @@ impl<'t> LineText for StrText<'t> {
         let text = self.subrange(run).as_str();
         let bytes = text.as_bytes();
         if are_short(bytes) {
-            turn_round(bytes, out);
+            reverse_text(bytes, out);
         } else {
             write_chars_reversed(text, out);
         }
@@ -71,7 +71,7 @@ impl<'t> Analysed<StrText<'t>> {
         let units = line.start..line.end;
         match self.reversed_line(alloc, para_level, units, 0)? {
             // This skips the test for UTF-8: the proof shows that the bytes are UTF-8.
-            Some(turned) => Ok(CowStr::Owned(unsafe { String::from_utf8_unchecked(turned) })),
+            Some(reversed) => Ok(CowStr::Owned(unsafe { String::from_utf8_unchecked(reversed) })),
             None => Ok(CowStr::Borrowed(&text[line])),
         }
     }

@@ -9,7 +9,7 @@ use bidi_text::text::TextSource;
 // Writes a character's class to each of its code units, from `start` on.
 fn write_each<T: TextSource>(classes: &mut [BidiClass], start: usize, c: char, class: BidiClass)
     requires { start + T.encoding.len_of c ≤ length classes.old }
-    ensures { IsPut T.encoding.len_of c class start classes.old classes.new }
+    ensures { IsPut T.encoding c class start classes.old classes.new }
 {
     classes[start..start + T::char_len(c)].fill(class);
 }
@@ -27,7 +27,7 @@ pub(super) fn write_at_once<T: TextSource>(
 )
     requires fits { start + T.encoding.len_of c ≤ length classes.old }
     requires room { start + AT_ONCE ≤ length classes.old }
-    ensures { IsPut T.encoding.len_of c class start classes.old classes.new }
+    ensures { IsPut T.encoding c class start classes.old classes.new }
 {
     if T::char_len(c) <= AT_ONCE {
         classes[start] = class;
@@ -47,7 +47,7 @@ pub(super) fn write<T: TextSource>(
     class: BidiClass,
 )
     requires { start + T.encoding.len_of c ≤ length classes.old }
-    ensures { IsPut T.encoding.len_of c class start classes.old classes.new }
+    ensures { IsPut T.encoding c class start classes.old classes.new }
 {
     if classes.len() - start >= AT_ONCE {
         write_at_once::<T>(classes, start, c, class);

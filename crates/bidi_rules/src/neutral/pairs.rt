@@ -148,7 +148,7 @@ impl Next {
         requires ordered { IsTrue (are_ordered (map bounds runs.now)) }
         requires closing { pair.closing ≤ length classes.now }
         ensures direction { self.new.direction ≡ self.old.direction }
-        ensures asked { IsSearched self.old.direction (map bounds runs.now) classes.now pair self.old.unit self.new.unit result }
+        ensures found { IsSearched self.old.direction (map bounds runs.now) classes.now pair self.old.unit self.new.unit result }
     {
         if pair.is_marked {
             let found = first_for(self.direction, runs, classes, pair.inside, pair.closing);

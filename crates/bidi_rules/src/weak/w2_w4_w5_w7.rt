@@ -174,7 +174,7 @@ impl Walk {
         ensures other { is_other self.new.before ≡ true }
         ensures first_run { self.new.first_run ≡ self.old.first_run }
         ensures passes { Passes at result end self.old self.new classes.now }
-        ensures asked { result < end → is_number_or_terminator (class_at classes.now result) ≡ true }
+        ensures stops { result < end → is_number_or_terminator (class_at classes.now result) ≡ true }
         ensures steps_at_least { steps.old ≤ steps.new }
         ensures steps_at_most { steps.new + (at + 1) + at ≤ steps.old + min (result + 1) end + result }
     {

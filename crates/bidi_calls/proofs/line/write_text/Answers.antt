@@ -4,13 +4,13 @@ use Rattle.bidi_calls.proofs.line.write_text.Goals as goal
 
 pub write_line-requires-clause-is_line : goal.write_line-requires-clause-is_line
 write_line-requires-clause-is_line g c =
-    rw c.requires.room (caller-is_line g.T.TextSource.encoding.len_of g.T.TextSource.encoding.positive (g.T.TextSource.text c.args.text).chars c.args.line.now c.requires.valid c.requires.even c.requires.same_len)
+    rw c.requires.room (caller-is_line g.T.TextSource.encoding.len_of g.T.TextSource.encoding.positive (g.T.TextSource.text c.args.text).chars c.args.line.now c.requires.valid c.requires.per_char c.requires.same_len)
 
 pub write_line-requires-clause-runs : goal.write_line-requires-clause-runs
 unfolding caller_line_levels
 write_line-requires-clause-runs g c =
     rw (c.level.ensures, c.new-classes.ensures, c.class_numbers.ensures, c.level_numbers-levels.ensures)
-    (caller-runs g.T.TextSource.encoding.len_of g.T.TextSource.encoding.positive (g.T.TextSource.text c.args.text).chars c.args.line.now c.requires.valid c.requires.even c.requires.same_len)
+    (caller-runs g.T.TextSource.encoding.len_of g.T.TextSource.encoding.positive (g.T.TextSource.text c.args.text).chars c.args.line.now c.requires.valid c.requires.per_char c.requires.same_len)
 
 pub returns-clause-text : goal.returns-clause-text
 unfolding caller_line_levels

@@ -1,7 +1,7 @@
 use Rattle.bidi_base.proofs.Common.{rules, ◌≡◌, List, ℕ, map, length, sym, ap, ap₂, ◌∙◌, flat_map, length-map, arith, run_of, visual_runs, visual_order, subst, per_char, IsPerChar}
 use Rattle.bidi_lines.proofs.WrittenRuns.{ranges_at_boundaries}
 use Rattle.bidi_lines.specs.LineUnits.{run_units, visual_units}
-use Rattle.bidi_calls.proofs.CallerText.{caller-runs, caller-even, length-after_l1}
+use Rattle.bidi_calls.proofs.CallerText.{caller-runs, caller-per_char, length-after_l1}
 use Rattle.bidi_calls.proofs.PartsOfLine.{length-order, reported-room}
 use Rattle.bidi_calls.proofs.RunStructs.{length-structs}
 use Rattle.bidi_calls.specs.Buffers.{written_if_room}
@@ -19,7 +19,7 @@ returns-in_err-check-clause-fault g c =
     let runs = c.as_slice-count.ensures ∙ c.in_ok-find.ensures.runs ∙ ap (visual_runs 0) (c.as_slice.ensures ∙ c.in_ok-after_l1.ensures.levels) in
     let count = length-structs l.start (caller_line_levels l) c.as_slice-count.result.now runs in
     let text = visual_units len g.T.LineText.encode cs (g.T.LineText.units_of c.args.text) 0 (caller_line_levels l) in
-    let long = length-after_l1 len g.T.TextSource.encoding.positive cs l c.requires.valid c.requires.even c.requires.units_same_len g.T.LineText.encode (g.T.LineText.units_of c.args.text) c.requires.same_len c.requires.encoded in
+    let long = length-after_l1 len g.T.TextSource.encoding.positive cs l c.requires.valid c.requires.per_char c.requires.units_same_len g.T.LineText.encode (g.T.LineText.units_of c.args.text) c.requires.same_len c.requires.encoded in
     rw (reported-room len cs l text c.args.out.now (length c.as_slice-units.result.now) (length c.as_slice-count.result.now) c.count_characters-len.result c.have_room-fits.result
     (ap length (sym levels)) count (long ∙ ap length (sym levels)) c.count_characters-len.ensures c.have_room-fits.ensures)
     (grind arith)
@@ -36,13 +36,13 @@ put_text-requires-clause-are_lines g c =
     let cs : List ℕ = (g.T.TextSource.text c.args.text).chars in
     let l = c.args.line.now in
     let runs = c.as_slice-6.ensures ∙ c.in_ok-find.ensures.runs ∙ ap (visual_runs 0) (c.as_slice.ensures ∙ c.in_ok-after_l1.ensures.levels) in
-    ranges_at_boundaries len cs c.as_slice-6.result.now _ runs (caller-runs len g.T.TextSource.encoding.positive cs l c.requires.valid c.requires.even c.requires.units_same_len)
+    ranges_at_boundaries len cs c.as_slice-6.result.now _ runs (caller-runs len g.T.TextSource.encoding.positive cs l c.requires.valid c.requires.per_char c.requires.units_same_len)
 
-pub put_order_of-requires-clause-even : goal.put_order_of-requires-clause-even
-put_order_of-requires-clause-even g c =
+pub put_order_of-requires-clause-per_char : goal.put_order_of-requires-clause-per_char
+put_order_of-requires-clause-per_char g c =
     let len = g.T.TextSource.encoding.len_of in
     let cs : List ℕ = (g.T.TextSource.text c.args.text).chars in
-    subst (IsPerChar len cs) (sym c.in_ok-after_l1.ensures.levels) (caller-even len g.T.TextSource.encoding.positive cs c.args.line.now c.requires.valid c.requires.even c.requires.units_same_len)
+    subst (IsPerChar len cs) (sym c.in_ok-after_l1.ensures.levels) (caller-per_char len g.T.TextSource.encoding.positive cs c.args.line.now c.requires.valid c.requires.per_char c.requires.units_same_len)
 
 pub returns-clause-fault : goal.returns-clause-fault
 returns-clause-fault g c =
@@ -53,7 +53,7 @@ returns-clause-fault g c =
     let runs = c.as_slice-count.ensures ∙ c.in_ok-find.ensures.runs ∙ ap (visual_runs 0) (c.as_slice.ensures ∙ c.in_ok-after_l1.ensures.levels) in
     let count = length-structs l.start (caller_line_levels l) c.as_slice-count.result.now runs in
     let text = visual_units len g.T.LineText.encode cs (g.T.LineText.units_of c.args.text) 0 (caller_line_levels l) in
-    let long = length-after_l1 len g.T.TextSource.encoding.positive cs l c.requires.valid c.requires.even c.requires.units_same_len g.T.LineText.encode (g.T.LineText.units_of c.args.text) c.requires.same_len c.requires.encoded in
+    let long = length-after_l1 len g.T.TextSource.encoding.positive cs l c.requires.valid c.requires.per_char c.requires.units_same_len g.T.LineText.encode (g.T.LineText.units_of c.args.text) c.requires.same_len c.requires.encoded in
     rw (reported-room len cs l text c.args.out.now (length c.as_slice-units.result.now) (length c.as_slice-count.result.now) c.count_characters-len.result c.have_room-fits.result
     (ap length (sym levels)) count (long ∙ ap length (sym levels)) c.count_characters-len.ensures c.have_room-fits.ensures)
     (grind arith)

@@ -5,7 +5,7 @@ use Rattle.bidi_lines.specs.LineLevels.{levels as levels_of}
 use Rattle.bidi_calls.proofs.show.write_order.Goals as goal
 
 pub keep_characters-requires-clause-units_same_len : goal.keep_characters-requires-clause-units_same_len
-keep_characters-requires-clause-units_same_len g c = length-from_IsPerChar g.T.TextSource.encoding.len_of (g.T.TextSource.text c.args.text).chars (levels_of c.args.after_l1.now) c.requires.even
+keep_characters-requires-clause-units_same_len g c = length-from_IsPerChar g.T.TextSource.encoding.len_of (g.T.TextSource.text c.args.text).chars (levels_of c.args.after_l1.now) c.requires.per_char
 
 pub write_visual_order-requires : goal.write_visual_order-requires
 write_visual_order-requires g c =

@@ -1,8 +1,8 @@
 use Rattle.bidi_base.proofs.Common.{◌≡◌, ◌+◌, true, sym, ap, ◌∙◌, arith, utf16_text, utf16_len, encode_utf16}
 use Rattle.bidi_text.proofs.Utf16Lemmas.{has_units, text_len-utf16}
 use Rattle.bidi_calls.proofs.CallerText.{caller-text}
-use Rattle.bidi_calls.proofs.PartsOfLine.{reported-even}
-use Rattle.bidi_calls.specs.LineText.{is_even}
+use Rattle.bidi_calls.proofs.PartsOfLine.{reported-per_char}
+use Rattle.bidi_calls.specs.LineText.{are_entries_per_char}
 use Rattle.bidi_calls.proofs.utf16.show.Goals as goal
 
 pub show_text-requires-clause-units_same_len : goal.show_text-requires-clause-units_same_len
@@ -13,18 +13,18 @@ show_text-requires-clause-same_len c = rw c.new-own.ensures (sym (text_len-utf16
 
 pub returns-clause-fault : goal.returns-clause-fault
 returns-clause-fault c =
-    let even = rw (c.class_numbers.ensures, c.level_numbers.ensures) at c.is_even_utf16-even.ensures in
-    let holds : is_even utf16_len (utf16_text c.args.text.now) c.args.line.now ≡ true = grind arith in
+    let equal = rw (c.class_numbers.ensures, c.level_numbers.ensures) at c.is_per_char_utf16-per_char.ensures in
+    let holds : are_entries_per_char utf16_len (utf16_text c.args.text.now) c.args.line.now ≡ true = grind arith in
     let long = text_len-utf16 c.args.text.now in
     let units = ap (λ n. n + c.args.line.now.start) long ∙ c.requires.same_len in
     let text = caller-text utf16_len has_units (utf16_text c.args.text.now) c.args.line.now c.requires.valid holds units encode_utf16 c.args.text.now (sym long) in
     let found = rw (c.new-own.ensures, text) at c.show_text.ensures.fault in
-    rw (reported-even utf16_len encode_utf16 (utf16_text c.args.text.now) c.args.text.now c.args.line.now c.args.out.now holds) found
+    rw (reported-per_char utf16_len encode_utf16 (utf16_text c.args.text.now) c.args.text.now c.args.line.now c.args.out.now holds) found
 
 pub returns-clause-writes : goal.returns-clause-writes
 returns-clause-writes c =
-    let even = rw (c.class_numbers.ensures, c.level_numbers.ensures) at c.is_even_utf16-even.ensures in
-    let holds : is_even utf16_len (utf16_text c.args.text.now) c.args.line.now ≡ true = grind arith in
+    let equal = rw (c.class_numbers.ensures, c.level_numbers.ensures) at c.is_per_char_utf16-per_char.ensures in
+    let holds : are_entries_per_char utf16_len (utf16_text c.args.text.now) c.args.line.now ≡ true = grind arith in
     let long = text_len-utf16 c.args.text.now in
     let units = ap (λ n. n + c.args.line.now.start) long ∙ c.requires.same_len in
     let text = caller-text utf16_len has_units (utf16_text c.args.text.now) c.args.line.now c.requires.valid holds units encode_utf16 c.args.text.now (sym long) in

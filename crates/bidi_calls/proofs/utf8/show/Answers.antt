@@ -2,8 +2,8 @@ use Rattle.bidi_base.proofs.Common.{◌≡◌, ◌+◌, true, sym, ap, ◌∙◌
 use Rattle.std.specs.Char.{encode_utf8}
 use Rattle.bidi_text.proofs.StrLemmas.{has_units, text_len-chars}
 use Rattle.bidi_calls.proofs.CallerText.{caller-text}
-use Rattle.bidi_calls.proofs.PartsOfLine.{reported-even}
-use Rattle.bidi_calls.specs.LineText.{is_even}
+use Rattle.bidi_calls.proofs.PartsOfLine.{reported-per_char}
+use Rattle.bidi_calls.specs.LineText.{are_entries_per_char}
 use Rattle.bidi_calls.proofs.utf8.show.Goals as goal
 
 pub show_text-requires-clause-units_same_len : goal.show_text-requires-clause-units_same_len
@@ -17,18 +17,18 @@ show_text-requires-clause-encoded c = length-encode
 
 pub returns-clause-fault : goal.returns-clause-fault
 returns-clause-fault c =
-    let even = rw (c.class_numbers.ensures, c.level_numbers.ensures) at c.is_even_utf8-even.ensures in
-    let holds : is_even len_utf8 (chars c.args.text.now) c.args.line.now ≡ true = grind arith in
+    let equal = rw (c.class_numbers.ensures, c.level_numbers.ensures) at c.is_per_char_utf8-per_char.ensures in
+    let holds : are_entries_per_char len_utf8 (chars c.args.text.now) c.args.line.now ≡ true = grind arith in
     let long = text_len-chars c.args.text.now c.utf8.text in
     let units = ap (λ n. n + c.args.line.now.start) long ∙ c.requires.same_len in
     let text = caller-text len_utf8 has_units (chars c.args.text.now) c.args.line.now c.requires.valid holds units encode_utf8 c.args.text.now (sym long) in
     let found = rw (c.new-own.ensures, text) at c.show_text.ensures.fault in
-    rw (reported-even len_utf8 encode_utf8 (chars c.args.text.now) c.args.text.now c.args.line.now c.args.out.now holds) found
+    rw (reported-per_char len_utf8 encode_utf8 (chars c.args.text.now) c.args.text.now c.args.line.now c.args.out.now holds) found
 
 pub returns-clause-writes : goal.returns-clause-writes
 returns-clause-writes c =
-    let even = rw (c.class_numbers.ensures, c.level_numbers.ensures) at c.is_even_utf8-even.ensures in
-    let holds : is_even len_utf8 (chars c.args.text.now) c.args.line.now ≡ true = grind arith in
+    let equal = rw (c.class_numbers.ensures, c.level_numbers.ensures) at c.is_per_char_utf8-per_char.ensures in
+    let holds : are_entries_per_char len_utf8 (chars c.args.text.now) c.args.line.now ≡ true = grind arith in
     let long = text_len-chars c.args.text.now c.utf8.text in
     let units = ap (λ n. n + c.args.line.now.start) long ∙ c.requires.same_len in
     let text = caller-text len_utf8 has_units (chars c.args.text.now) c.args.line.now c.requires.valid holds units encode_utf8 c.args.text.now (sym long) in

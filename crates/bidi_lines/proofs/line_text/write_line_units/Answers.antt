@@ -30,15 +30,15 @@ write_runs-requires-clause-are_lines g c =
 
 pub write_runs-requires-2-clause-within : goal.write_runs-requires-2-clause-within
 write_runs-requires-2-clause-within g c =
-    runs_begin c.args.line.start c.args.levels.now c.as_slice.result.now (rw c.as_slice.ensures c.in_ok-find_behind.ensures.visual)
+    runs_begin c.args.line.start c.args.levels.now c.as_slice.result.now (rw c.as_slice.ensures c.in_ok-find_after.ensures.visual)
 
 pub write_runs-requires-2-clause-whole : goal.write_runs-requires-2-clause-whole
 write_runs-requires-2-clause-whole g c =
-    visual_runs-whole c.args.line.start c.args.levels.now c.as_slice.result.now (rw c.as_slice.ensures c.in_ok-find_behind.ensures.visual)
+    visual_runs-whole c.args.line.start c.args.levels.now c.as_slice.result.now (rw c.as_slice.ensures c.in_ok-find_after.ensures.visual)
 
 pub write_runs-requires-2-clause-are_lines : goal.write_runs-requires-2-clause-are_lines
 write_runs-requires-2-clause-are_lines g c =
-    ranges_at_boundaries g.T.TextSource.encoding.len_of (g.T.TextSource.text c.args.text).chars c.as_slice.result.now _ (c.as_slice.ensures ∙ c.in_ok-find_behind.ensures.runs) c.requires.runs
+    ranges_at_boundaries g.T.TextSource.encoding.len_of (g.T.TextSource.text c.args.text).chars c.as_slice.result.now _ (c.as_slice.ensures ∙ c.in_ok-find_after.ensures.runs) c.requires.runs
 
 pub returns-then-first-levels-clause-text : goal.returns-then-first-levels-clause-text
 returns-then-first-levels-clause-text g c =
@@ -46,7 +46,7 @@ returns-then-first-levels-clause-text g c =
     c.write_runs.ensures ∙ ap (flat_map units) (one g (goal.at.returns-then-first-levels-clause-text g c).Then-first-levels)
 
 pub returns-clause-text : goal.returns-clause-text
-returns-clause-text g c = rw (c.as_slice.ensures ∙ c.in_ok-find_behind.ensures.runs) at c.write_runs-2.ensures
+returns-clause-text g c = rw (c.as_slice.ensures ∙ c.in_ok-find_after.ensures.runs) at c.write_runs-2.ensures
 
 pub returns-then-is_empty-clause-text : goal.returns-then-is_empty-clause-text
 returns-then-is_empty-clause-text g c =

@@ -32,7 +32,7 @@ overflow_sub-run c =
 pub index-requires : goal.index-requires
 index-requires c =
     let part = part_at _ _ _ _ _ c.in_ok-line_runs.ensures.parts c.deref-run-items.ensures.value c.loop-run-test.true in
-    omega (arith, part.begins, part.not_empty, part.ends, c.in_ok-levels.ensures.one_a_unit)
+    omega (arith, part.begins, part.not_empty, part.ends, c.in_ok-levels.ensures.one_per_unit)
 
 pub range-requires : goal.range-requires
 range-requires c =
@@ -48,7 +48,7 @@ loop-run-preserved c =
     let part = part_at _ _ _ _ _ c.in_ok-line_runs.ensures.parts c.deref-run-items.ensures.value c.loop-run-test.true in
     one_more (λ r. (r.0.now, r.1)) _ _ _ _ _ (record { start = 0; end = 0 }) _ _ _ c.loop-run.invariant c.loop-run-test.true c.in_ok-push.ensures.items
     (shown_at-is c.text-text.result.now c.in_ok-levels.levels.items c.args.line.start (get_or c.deref-run-items.result.now c.loop-run.run-index (record { start = 0; end = 0 })) _ _ _
-    c.range.ensures.value c.number-level.ensures.number c.index.ensures (omega (arith, part.begins, part.not_empty, part.ends, c.in_ok-levels.ensures.one_a_unit)))
+    c.range.ensures.value c.number-level.ensures.number c.index.ensures (omega (arith, part.begins, part.not_empty, part.ends, c.in_ok-levels.ensures.one_per_unit)))
 
 pub returns : goal.returns
 returns c =

@@ -11,7 +11,7 @@ overflow_sub-run g c =
 pub index-requires : goal.index-requires
 index-requires g c =
     let part = part_at _ _ _ _ _ c.in_ok-line_runs.ensures.parts c.deref-run-items.ensures.value c.loop-run-test.true in
-    omega (arith, part.begins, part.not_empty, part.ends, c.in_ok-levels.ensures.one_a_unit)
+    omega (arith, part.begins, part.not_empty, part.ends, c.in_ok-levels.ensures.one_per_unit)
 
 pub range-run_text-requires : goal.range-run_text-requires
 range-run_text-requires g c =

@@ -16,7 +16,7 @@ visual_runs_of-requires g c =
     let a = c.args.self.now in
     let is : levels_in c.show.new.self ≡ levels_of_line c.args.para_level (analysed a).classes (analysed a).levels c.args.line.start c.args.line.end = grind arith in
     let levels = of_line g.T.TextSource.encoding.len_of g.T.TextSource.encoding.positive (g.T.TextSource.text a.text).chars c.args.para_level _ _ c.args.line a.classes_per_char a.levels_per_char c.requires _ is in
-    omega (arith, levels.one_a_unit, ap length c.as_slice.ensures)
+    omega (arith, levels.one_per_unit, ap length c.as_slice.ensures)
 
 pub returns : goal.returns
 returns g c =

@@ -1,9 +1,9 @@
 use Rattle.bidi_base.proofs.Common.{arith, IfOk-weaker}
-use Rattle.bidi_lines.proofs.StoredLine.{same_len, within, one_a_unit, of_chars}
+use Rattle.bidi_lines.proofs.StoredLine.{same_len, within, one_per_unit, of_chars}
 use Rattle.bidi_lines.proofs.analysed.Analysed.reordered_levels_per_char.Goals as goal
 
 pub levels_per_char-requires : goal.levels_per_char-requires
-levels_per_char-requires g c = grind (arith, one_a_unit, same_len, within)
+levels_per_char-requires g c = grind (arith, one_per_unit, same_len, within)
 
 pub returns : goal.returns
 returns g c =

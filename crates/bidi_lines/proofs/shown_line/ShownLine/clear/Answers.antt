@@ -10,7 +10,7 @@ always (Err e) xs ys zs ok err same = err ∙ sym same
 pub invariant_of-self : goal.invariant_of-self
 invariant_of-self g c = record {
   is_line = empty-IsLine _ _;
-  one_a_unit = omega arith;
+  one_per_unit = omega arith;
   runs_of_levels = always c.find.result _ _ [] c.find.ensures.runs c.find.ensures.emptied (empty-runs 0);
   runs_of_chars = empty-runs_of_chars _ _ 0;
   of_levels = refl;

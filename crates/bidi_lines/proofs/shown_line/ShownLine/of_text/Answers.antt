@@ -5,7 +5,7 @@ use Rattle.bidi_lines.proofs.shown_line.ShownLine.of_text.Goals as goal
 pub invariant_of-result : goal.invariant_of-result
 invariant_of-result g c = record {
   is_line = empty-IsLine _ _;
-  one_a_unit = omega arith;
+  one_per_unit = omega arith;
   runs_of_levels = c.new-2.ensures ∙ sym (empty-runs 0);
   runs_of_chars = empty-runs_of_chars _ _ 0;
   of_levels = refl;

@@ -35,14 +35,14 @@ pub find-requires : goal.find-requires
 find-requires g c =
     let all = stored-levels g.T.TextSource.encoding.len_of g.T.TextSource.encoding.positive (g.T.TextSource.text c.args.text).chars c.args.para_level c.args.classes.now c.args.levels.now c.args.line c.requires.classes c.requires.levels c.requires.is_line _
     (is g (goal.at.find-requires g c).In_ok-show) in
-    omega (arith, all.one_a_unit, ap length c.as_slice.ensures)
+    omega (arith, all.one_per_unit, ap length c.as_slice.ensures)
 
 pub invariant_of-self-in-Break-branch-2 : goal.invariant_of-self-in-Break-branch-2
 invariant_of-self-in-Break-branch-2 g c =
     let s = c.clear.new.self in
     record {
       is_line = s.is_line;
-      one_a_unit = omega (arith, c.clear.ensures.start, c.clear.ensures.end);
+      one_per_unit = omega (arith, c.clear.ensures.start, c.clear.ensures.end);
       runs_of_levels = none-runs g.T.TextSource.encoding.len_of [] s.start s.end c.clear.ensures.start c.clear.ensures.end _ _ (grind arith);
       runs_of_chars = none-runs_of_chars g.T.TextSource.encoding.len_of _ s.start s.end c.clear.ensures.start c.clear.ensures.end _;
       of_levels = s.of_levels ∙ ap has_rtl (none-shown g.T.TextSource.encoding.len_of [] s.start s.end c.clear.ensures.start c.clear.ensures.end _ ∙ sym (none-shown g.T.TextSource.encoding.len_of [] s.start s.end c.clear.ensures.start c.clear.ensures.end _));
@@ -72,7 +72,7 @@ invariant_of-self-2 g c =
     let text = c.clear.ensures.text in
     record {
       is_line = subst (λ t. IsLine len (g.T.TextSource.text t).chars c.args.line.start c.args.line.end) (sym text) c.requires.is_line;
-      one_a_unit = omega (arith, each.one_a_unit);
+      one_per_unit = omega (arith, each.one_per_unit);
       runs_of_levels = c.in_ok-find.ensures.runs ∙ ap (visual_runs c.args.line.start) (c.as_slice.ensures ∙ sym all);
       runs_of_chars = subst (λ t. AreRunsOfChars len (g.T.TextSource.text t).chars c.args.line.start (take (c.args.line.end - c.args.line.start) (levels_in c.show.new.self))) (sym text) (subst (AreRunsOfChars len chars c.args.line.start) (sym all) runs);
       of_levels = c.has_rtl-self.ensures ∙ ap has_rtl (c.as_slice-2.ensures ∙ sym all);

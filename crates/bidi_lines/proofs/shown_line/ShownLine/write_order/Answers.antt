@@ -9,7 +9,7 @@ pub gather_levels-requires : goal.gather_levels-requires
 gather_levels-requires g c =
     let s = c.args.self.now in
     rw (c.as_slice.ensures, c.subrange-line.ensures)
-    (length-take-le (s.end - s.start) (levels_in s.levels) s.one_a_unit
+    (length-take-le (s.end - s.start) (levels_in s.levels) s.one_per_unit
     ∙ sym (text_len-subrange g.T.TextSource.encoding.len_of g.T.TextSource.encoding.positive (g.T.TextSource.text (text_of s)).chars s.start s.end s.is_line))
 
 pub returns-clause-order : goal.returns-clause-order

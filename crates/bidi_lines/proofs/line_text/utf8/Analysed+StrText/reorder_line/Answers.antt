@@ -16,7 +16,7 @@ pub from_utf8_unchecked-requires : goal.from_utf8_unchecked-requires
 from_utf8_unchecked-requires c =
     let a = c.args.self.now in
     let u : IsUtf8 a.text.text.now = subst IsUtf8 (c.as_str-text.ensures ∙ ap (λ t. t.text.now) c.text.ensures) c.as_str-text.utf8 in
-    let is : c.in-Some.turned.items ≡ line_units encode_utf8 a.text.text.now (analysed a) c.args.para_level c.args.line = grind arith in
+    let is : c.in-Some.reversed.items ≡ line_units encode_utf8 a.text.text.now (analysed a) c.args.para_level c.args.line = grind arith in
     subst IsUtf8 (sym is) (line_utf8 a.text.text.now u c.args.para_level a.original_classes.items a.levels.items c.args.line
     (classes_IsPerChar len_utf8 has_units (chars a.text.text.now) _ a.classes_per_char) (levels_IsPerChar len_utf8 has_units (chars a.text.text.now) _ a.levels_per_char) c.requires)
 

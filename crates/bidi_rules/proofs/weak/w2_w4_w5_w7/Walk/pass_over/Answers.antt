@@ -18,5 +18,5 @@ returns-clause-passes g c p run fits starts ends h =
     ] in
     rw (c.unwrap_or-self.ensures, c.last_strong.ensures.last) (simp to at (IsUnderWay-passes_all p now c.args.self.now i run n h fits starts (omega (arith, found.begins)) (omega (arith, c.requires.inside, found.ends)) c.requires.other none))
 
-pub returns-clause-asked : goal.returns-clause-asked
-returns-clause-asked g c below = c.first_passing_counted-next.ensures.first.at below
+pub returns-clause-stops : goal.returns-clause-stops
+returns-clause-stops g c below = c.first_passing_counted-next.ensures.first.at below

@@ -13,8 +13,8 @@ use Rattle.bidi_text.proofs.Utf16Lemmas.{has_units as utf16_has_units, text_len-
 use Rattle.bidi_numbers.specs.Numbers.{class_numbered, is_class}
 use Rattle.bidi_numbers.specs.Texts.{goes_on}
 use Rattle.bidi_base.specs.Search.{IsFirst}
-use Rattle.bidi_calls.specs.PerChar.{is_uneven_at, IsEvenBetween}
-use Rattle.bidi_calls.proofs.EvenChars.{equal_inside_from_test, test_from_equal_inside, boundary_zero}
+use Rattle.bidi_calls.specs.PerChar.{differs_at, AgreeBetween}
+use Rattle.bidi_calls.proofs.EqualInside.{equal_inside_from_test, test_from_equal_inside, boundary_zero}
 
 -- ---- numbers of classes tell classes apart
 
@@ -57,21 +57,21 @@ module _ (len_of : ℕ → ℕ) (h : HasUnits len_of) (cs ns ls : List ℕ) (on 
   class_at_unit : (k : ℕ) → k < n → get_or (map class_numbered ns) k L ≡ class_numbered (get_or ns k 0)
   class_at_unit k within = get_or-map class_numbered ns k 0 L (omega arith)
 
-  tests_from_even : IsEvenBetween on ns ls 1 n → (is_per_char class_eq len_of cs (map class_numbered ns) ≡ true) × (is_per_char level_eq len_of cs ls ≡ true)
-  tests_from_even even =
+  tests_from_agreement : AgreeBetween on ns ls 1 n → (is_per_char class_eq len_of cs (map class_numbered ns) ≡ true) × (is_per_char level_eq len_of cs ls ≡ true)
+  tests_from_agreement agree =
       let size : length (map class_numbered ns) ≡ n = length-map ns class_numbered ∙ classes in (
         test_from_equal_inside L len_of h class_eq class_test cs (map class_numbered ns) (size ∙ sym long) (λ k within inside.
             let fits : k < n = omega arith in
             let w = on_inside k fits inside in
-            class_at_unit k fits ∙ ap class_numbered (even k w.0 fits w.1).0 ∙ sym (class_at_unit (k - 1) (omega arith))),
+            class_at_unit k fits ∙ ap class_numbered (agree k w.0 fits w.1).0 ∙ sym (class_at_unit (k - 1) (omega arith))),
         test_from_equal_inside 0 len_of h level_eq level_test cs ls (levels ∙ sym long) (λ k within inside.
             let fits : k < n = omega arith in
             let w = on_inside k fits inside in
-            (even k w.0 fits w.1).1),
+            (agree k w.0 fits w.1).1),
       )
 
-  even_from_tests : is_per_char class_eq len_of cs (map class_numbered ns) ≡ true → is_per_char level_eq len_of cs ls ≡ true → IsEvenBetween on ns ls 1 n
-  even_from_tests p q k from to goes =
+  agreement_from_tests : is_per_char class_eq len_of cs (map class_numbered ns) ≡ true → is_per_char level_eq len_of cs ls ≡ true → AgreeBetween on ns ls 1 n
+  agreement_from_tests p q k from to goes =
       let size : length (map class_numbered ns) ≡ n = length-map ns class_numbered ∙ classes in
       let inside = inside_on k to goes in
       let same = equal_inside_from_test L len_of h class_eq class_test cs (map class_numbered ns) p k (omega (arith, size)) inside in (
@@ -80,8 +80,8 @@ module _ (len_of : ℕ → ℕ) (h : HasUnits len_of) (cs ns ls : List ℕ) (on 
         equal_inside_from_test 0 len_of h level_eq level_test cs ls q k (omega arith) inside,
       )
 
-  pub even_result : (r : Bool) → (IsTrue r ↔ IsEvenBetween on ns ls 1 n) → r ≡ (is_per_char class_eq len_of cs (map class_numbered ns) && is_per_char level_eq len_of cs ls)
-  even_result r e = same_test r _ _ (λ is. tests_from_even (e.0 is)) (λ p q. e.1 (even_from_tests p q))
+  pub per_char_result : (r : Bool) → (IsTrue r ↔ AgreeBetween on ns ls 1 n) → r ≡ (is_per_char class_eq len_of cs (map class_numbered ns) && is_per_char level_eq len_of cs ls)
+  per_char_result r e = same_test r _ _ (λ is. tests_from_agreement (e.0 is)) (λ p q. e.1 (agreement_from_tests p q))
 
 -- ---- UTF-8
 
@@ -103,24 +103,24 @@ inner-utf8 bs u k within = elim (cases_Bool (is_boundary len_utf8 (chars bs) k))
   ]
 ]
 
--- the bytes are even where a search finds no uneven one
-even-found : (bs ns ls : List ℕ) (i n : ℕ) → n ≡ length bs - 1 → IsFirst (λ k. is_uneven_at (goes_on bs (k + 1)) ns ls (k + 1)) 0 n i → IsTrue (i == n) ↔ IsEvenBetween (goes_on bs) ns ls 1 (length bs)
-even-found bs ns ls i n size f = (
+-- the bytes agree with those before them if a search finds none that differs
+agree-found : (bs ns ls : List ℕ) (i n : ℕ) → n ≡ length bs - 1 → IsFirst (λ k. differs_at (goes_on bs (k + 1)) ns ls (k + 1)) 0 n i → IsTrue (i == n) ↔ AgreeBetween (goes_on bs) ns ls 1 (length bs)
+agree-found bs ns ls i n size f = (
   (λ none k from to on.
       let back : k - 1 + 1 ≡ k = omega arith in
-      let even = rw back at (f.before (k - 1) (omega arith) (grind (arith, nat_tests))) in
+      let agree = rw back at (f.before (k - 1) (omega arith) (grind (arith, nat_tests))) in
       grind (arith, nat_tests)),
-  (λ even. elim (cases_lt i n) [
-    | inl found ↦ let uneven = f.at found in let same = even (i + 1) (omega arith) (omega arith) in absurd (grind (arith, nat_tests))
+  (λ agree. elim (cases_lt i n) [
+    | inl found ↦ let differing = f.at found in let same = agree (i + 1) (omega arith) (omega arith) in absurd (grind (arith, nat_tests))
     | inr none ↦ let ends = f.ends in grind (arith, nat_tests)
   ]),
 )
 
-pub even-utf8 : (text bs ns ls : List ℕ) (i n : ℕ) → IsUtf8 text → bs ≡ text → length ns ≡ length text → length ls ≡ length text → IsTrue (list_all is_class ns)
-    → n ≡ length bs - 1 → IsFirst (λ k. is_uneven_at (goes_on bs (k + 1)) ns ls (k + 1)) 0 n i
+pub per_char-utf8 : (text bs ns ls : List ℕ) (i n : ℕ) → IsUtf8 text → bs ≡ text → length ns ≡ length text → length ls ≡ length text → IsTrue (list_all is_class ns)
+    → n ≡ length bs - 1 → IsFirst (λ k. differs_at (goes_on bs (k + 1)) ns ls (k + 1)) 0 n i
     → (i == n) ≡ (is_per_char class_eq len_utf8 (chars text) (map class_numbered ns) && is_per_char level_eq len_utf8 (chars text) ls)
-even-utf8 text bs ns ls i n u same classes levels below size f =
-    even_result len_utf8 utf8_has_units (chars text) ns ls (goes_on text) (length text) (text_len-chars text u) classes levels below (inner-utf8 text u) _ (rw same at (even-found bs ns ls i n size f))
+per_char-utf8 text bs ns ls i n u same classes levels below size f =
+    per_char_result len_utf8 utf8_has_units (chars text) ns ls (goes_on text) (length text) (text_len-chars text u) classes levels below (inner-utf8 text u) _ (rw same at (agree-found bs ns ls i n size f))
 
 -- ---- UTF-16
 
@@ -139,11 +139,11 @@ inner-utf16 us k within = elim (cases_Bool (splits_pair us k)) [
   | inr apart ↦ let begins = begins-utf16 us k (omega arith) apart in grind arith
 ]
 
-pub even-utf16 : (us ns ls : List ℕ) (r : Bool) → length ns ≡ length us → length ls ≡ length us → IsTrue (list_all is_class ns) → (IsTrue r ↔ IsEvenBetween (splits_pair us) ns ls 1 (length us))
+pub per_char-utf16 : (us ns ls : List ℕ) (r : Bool) → length ns ≡ length us → length ls ≡ length us → IsTrue (list_all is_class ns) → (IsTrue r ↔ AgreeBetween (splits_pair us) ns ls 1 (length us))
     → r ≡ (is_per_char class_eq utf16_len (utf16_text us) (map class_numbered ns) && is_per_char level_eq utf16_len (utf16_text us) ls)
-even-utf16 us ns ls r classes levels below e =
-    even_result utf16_len utf16_has_units (utf16_text us) ns ls (splits_pair us) (length us) (text_len-utf16 us) classes levels below (inner-utf16 us) r e
+per_char-utf16 us ns ls r classes levels below e =
+    per_char_result utf16_len utf16_has_units (utf16_text us) ns ls (splits_pair us) (length us) (text_len-utf16 us) classes levels below (inner-utf16 us) r e
 
--- a text without surrogates is even
-pub even_plain : (us ns ls : List ℕ) → list_all is_character us ≡ true → IsEvenBetween (splits_pair us) ns ls 1 (length us)
-even_plain us ns ls plain k from to pair = let here = AllPass-from_list_all is_character us plain k 0 to in absurd (grind (arith, nat_tests))
+-- in a text without surrogates no code unit continues a character
+pub agree-plain : (us ns ls : List ℕ) → list_all is_character us ≡ true → AgreeBetween (splits_pair us) ns ls 1 (length us)
+agree-plain us ns ls plain k from to pair = let here = AllPass-from_list_all is_character us plain k 0 to in absurd (grind (arith, nat_tests))

@@ -1,6 +1,6 @@
 use Rattle.bidi_base.proofs.Common.{◌≡◌, ℕ, suc, ◌+◌, ◌-◌, ◌<◌, List, length, get_or, set, ◌∙◌, arith, inl, inr, cases_lt, get_or-set_other, get_or-set_same}
 use Rattle.bidi_lines.specs.ReversedUtf8.{reversed_byte_at, behind_two}
-use Rattle.bidi_lines.proofs.line_text.reversed_utf8.turn_middle.Goals as goal
+use Rattle.bidi_lines.proofs.line_text.reversed_utf8.reverse_middle.Goals as goal
 
 -- the byte at a place has two before it
 behind : (bytes : List ℕ) (k m : ℕ) → k ≡ m + 2 → get_or (behind_two bytes) k 0 ≡ get_or bytes m 0
@@ -21,8 +21,8 @@ loop-at-preserved c =
     simp (c.reversed_byte.ensures, behind bytes at (at - 2) (omega (arith, inv.begun)), behind bytes (at + 1) (at - 1) (omega (arith, inv.begun)), behind bytes (at + 2) at (omega arith), behind bytes (at + 3) (at + 1) (omega arith), behind bytes (at + 4) (at + 2) (omega arith)) in
     record {
       begun = omega (arith, inv.begun);
-      turned = λ j low high. elim (cases_lt j at) [
-        | inl below ↦ get_or-set_other out w (len - 1 - j) c.reversed_byte.result 0 (λ e. absurd (omega (arith, inside, c.requires.same_len))) ∙ inv.turned j low below
+      reversed = λ j low high. elim (cases_lt j at) [
+        | inl below ↦ get_or-set_other out w (len - 1 - j) c.reversed_byte.result 0 (λ e. absurd (omega (arith, inside, c.requires.same_len))) ∙ inv.reversed j low below
         | inr past ↦ let e : j ≡ at = omega arith in rw e (own ∙ read)
       ];
     }

@@ -1,6 +1,6 @@
 use Rattle.bidi_base.proofs.Common.{◌≡◌, ◌≢◌, ℕ, suc, ◌+◌, ◌-◌, ◌<◌, List, length, get_or, set, ◌∙◌, arith, inl, inr, cases_lt, get_or_default, get_or-set_other, get_or-set_same}
 use Rattle.bidi_lines.specs.ReversedUtf8.{reversed_byte_at, behind_two}
-use Rattle.bidi_lines.proofs.line_text.reversed_utf8.turn_ends.Goals as goal
+use Rattle.bidi_lines.proofs.line_text.reversed_utf8.reverse_ends.Goals as goal
 
 -- the byte at a place has two before it
 here : (bytes : List ℕ) (at d : ℕ) → at < length bytes → get_or (behind_two bytes) (at + 2) 0 ≡ get_or bytes at d
@@ -23,10 +23,10 @@ loop-at-preserved c =
     let three : at + 2 + 1 ≡ at + 3 = omega arith in
     let four : at + 2 + 2 ≡ at + 4 = omega arith in
     let read : c.reversed_byte.result ≡ reversed_byte_at (behind_two c.args.bytes.now) at =
-    simp (c.reversed_byte.ensures, c.byte_before.ensures, c.byte_before-in-loop-at.ensures, c.byte_behind.ensures, c.byte_behind-in-loop-at.ensures, two, one, three, four, here c.args.bytes.now at 0 inside) in
+    simp (c.reversed_byte.ensures, c.byte_before.ensures, c.byte_before-in-loop-at.ensures, c.byte_after.ensures, c.byte_after-in-loop-at.ensures, two, one, three, four, here c.args.bytes.now at 0 inside) in
     record {
-      turned = λ j low high. elim (cases_lt j at) [
-        | inl below ↦ other j (omega (arith, inside, c.requires.same_len)) (λ e. absurd (omega arith)) ∙ inv.turned j low below
+      reversed = λ j low high. elim (cases_lt j at) [
+        | inl below ↦ other j (omega (arith, inside, c.requires.same_len)) (λ e. absurd (omega arith)) ∙ inv.reversed j low below
         | inr past ↦ let e : j ≡ at = omega arith in rw e (own ∙ read)
       ];
       before = λ j below fits. other j fits (λ e. absurd (omega (arith, c.loop-at.auto.at))) ∙ inv.before j below fits;

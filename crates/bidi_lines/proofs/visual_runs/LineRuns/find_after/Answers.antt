@@ -1,6 +1,6 @@
 use Rattle.bidi_base.proofs.Common.{◌≡◌, ap, sym, ◌∙◌, arith, length, length-map, map, run_of, level_runs, Ok, Err, Result, OnOk}
 use Rattle.bidi_lines.proofs.FoundRuns.{visual_runs-whole, AreVisualRuns-from_same}
-use Rattle.bidi_lines.proofs.visual_runs.LineRuns.find_behind.Goals as goal
+use Rattle.bidi_lines.proofs.visual_runs.LineRuns.find_after.Goals as goal
 
 -- what holds where the call went well follows from what it gives
 found : {A E P Q : Type 0} (result : Result A E) → (P → Q) → OnOk result P → OnOk result Q
