@@ -1,14 +1,14 @@
 -- Classes and levels that are equal along each character of a text are those that are equal within each.
-use Rattle.bidi_base.proofs.Common.{◌≡◌, ◌==◌, ℕ, zero, suc, ◌+◌, ◌-◌, ◌<◌, ◌≤◌, Bool, true, false, not, ◌&&◌, ◌↔◌, IsTrue, nat_tests, List, ◌++◌, length, get_or, take, drop, map, refl, sym, ap, ◌∙◌}
-use Rattle.bidi_base.proofs.Common.{subst, inl, inr, arith, cases_Bool, cases_lt, eqb-true, list_all, length-map, length-take-le, get_or-map, get_or-range_with_len, range_with_len, take-append-drop}
-use Rattle.bidi_base.proofs.Common.{text_len, is_per_char, is_boundary, class_number, zero-add, len_utf8, chars, IsUtf8, IsCharBoundary, utf16_text, utf16_len, splits_pair, chars-append}
-use Rattle.bidi_base.proofs.Common.{IsUtf8-take, is_character}
+use Rattle.bidi_base.proofs.Common.{◌≡◌, ◌==◌, ℕ, zero, suc, ◌+◌, ◌-◌, ◌<◌, ◌≤◌, Bool, true, false, not, ◌&&◌, ◌↔◌, IsTrue, nat_tests, List, length, get_or, take, drop, map, refl, sym, ap, ◌∙◌}
+use Rattle.bidi_base.proofs.Common.{subst, inl, inr, arith, cases_Bool, cases_lt, eqb-true, list_all, length-map, length-take-le, get_or-map, get_or-range_with_len, range_with_len}
+use Rattle.bidi_base.proofs.Common.{text_len, is_per_char, is_boundary, class_number, zero-add, len_utf8, chars, IsUtf8, utf16_text, utf16_len, splits_pair}
+use Rattle.bidi_base.proofs.Common.{is_character}
 use Rattle.std.proofs.lemmas.List.Sums.{AllPass-from_list_all}
 use Rattle.bidi_base.specs.declared.char_data.BidiClass.{BidiClass}
 use Rattle.bidi_base.specs.declared.char_data.BidiClass.TheVariants.{L}
 use Rattle.bidi_base.proofs.TextLemmas.{HasUnits, is_boundary-append}
 use Rattle.bidi_text.proofs.PerCharTests.{class_eq, class_test, level_eq, level_test}
-use Rattle.bidi_text.proofs.StrLemmas.{has_units as utf8_has_units, text_len-chars, IsCharBoundary-from_is_boundary}
+use Rattle.bidi_text.proofs.StrLemmas.{has_units as utf8_has_units, text_len-chars, is_boundary-from_str, IsCharBoundary-from_is_boundary}
 use Rattle.bidi_text.proofs.Utf16Lemmas.{has_units as utf16_has_units, text_len-utf16, utf16_text-cut, is_boundary-inside, pair_at, NoPairAt-from_splits_pair}
 use Rattle.bidi_numbers.specs.Numbers.{class_numbered, is_class}
 use Rattle.bidi_numbers.specs.Texts.{goes_on}
@@ -85,12 +85,6 @@ module _ (len_of : ℕ → ℕ) (h : HasUnits len_of) (cs ns ls : List ℕ) (on 
 
 -- ---- UTF-8
 
-begins-utf8 : (bs : List ℕ) (k : ℕ) → IsUtf8 bs → IsCharBoundary bs k → is_boundary len_utf8 (chars bs) k ≡ true
-begins-utf8 bs k u b =
-    let cut : chars bs ≡ chars (take k bs) ++ chars (drop k bs) = ap chars (sym (take-append-drop k bs)) ∙ chars-append (take k bs) (drop k bs) (IsUtf8-take bs k u b) in
-    let size : text_len len_utf8 (chars (take k bs)) ≡ k = text_len-chars (take k bs) (IsUtf8-take bs k u b) ∙ length-take-le k bs b.0 in
-    grind (arith, cut, size, is_boundary-append len_utf8 (chars (take k bs)) (chars (drop k bs)))
-
 pub inner-utf8 : (bs : List ℕ) → IsUtf8 bs → (k : ℕ) → k < length bs → goes_on bs k ≡ not (is_boundary len_utf8 (chars bs) k)
 inner-utf8 bs u k within = elim (cases_Bool (is_boundary len_utf8 (chars bs) k)) [
   | inl begins ↦
@@ -99,7 +93,7 @@ inner-utf8 bs u k within = elim (cases_Bool (is_boundary len_utf8 (chars bs) k))
       grind (arith, nat_tests)
   | inr inside ↦ elim (cases_Bool (goes_on bs k)) [
     | inl goes ↦ grind arith
-    | inr stays ↦ absurd (cc (inside, begins-utf8 bs k u (omega arith, λ _ high. grind (arith, nat_tests))))
+    | inr stays ↦ absurd (cc (inside, is_boundary-from_str bs k u (omega arith, λ _ high. grind (arith, nat_tests))))
   ]
 ]
 

@@ -1,22 +1,13 @@
 -- Ranges of bytes that cut no character are lines of the text.
-use Rattle.bidi_base.proofs.Common.{◌≡◌, ◌∙◌, ℕ, ◌<◌, ◌++◌, true, List, [], ◌∷◌, length, take, drop, sym, ap, subst, arith, length-take, take-append-drop, chars, len_utf8, text_len, is_boundary}
-use Rattle.bidi_base.proofs.Common.{IsUtf8, IsCharBoundary, IsLine, Range, chars-append, IsCharBoundary-start, IsUtf8-take}
-use Rattle.bidi_base.proofs.TextLemmas.{is_boundary-append}
-use Rattle.bidi_text.proofs.StrLemmas.{text_len-chars}
+use Rattle.bidi_base.proofs.Common.{ℕ, ◌<◌, List, [], ◌∷◌, length, arith, chars, len_utf8, text_len, is_boundary}
+use Rattle.bidi_base.proofs.Common.{IsUtf8, IsLine, Range, IsCharBoundary-start}
+use Rattle.bidi_text.proofs.StrLemmas.{text_len-chars, is_boundary-from_str}
 use Rattle.bidi_columns.specs.Bounds.{IsRangeOf}
-
-is_boundary-from : (bs : List ℕ) (i : ℕ) → IsUtf8 bs → IsCharBoundary bs i → is_boundary len_utf8 (chars bs) i ≡ true
-is_boundary-from bs i utf8 boundary =
-    let front : List ℕ = chars (take i bs) in
-    let cut : chars bs ≡ front ++ chars (drop i bs) = ap chars (sym (take-append-drop i bs)) ∙ chars-append (take i bs) (drop i bs) (IsUtf8-take bs i utf8 boundary) in
-    let long : text_len len_utf8 front ≡ i = omega (arith, text_len-chars (take i bs) (IsUtf8-take bs i utf8 boundary), length-take i bs, boundary.0) in
-    rw cut (subst (λ n. is_boundary len_utf8 (front ++ chars (drop i bs)) n ≡ true) long (is_boundary-append len_utf8 front (chars (drop i bs))))
-
 pub IsLine-from : (bs : List ℕ) (r : Range ℕ) → IsUtf8 bs → IsRangeOf bs r → IsLine len_utf8 (chars bs) r.start r.end
 IsLine-from bs r utf8 range = record {
   ordered = range.ordered;
-  begins = grind (arith, is_boundary-from bs r.start utf8 range.start);
-  ends = grind (arith, is_boundary-from bs r.end utf8 range.end);
+  begins = grind (arith, is_boundary-from_str bs r.start utf8 range.start);
+  ends = grind (arith, is_boundary-from_str bs r.end utf8 range.end);
 }
 
 -- the whole text
