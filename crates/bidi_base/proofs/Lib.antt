@@ -19,3 +19,4 @@ mod TableLemmas
 pub mod TextLemmas
 pub mod TextUnitIndexes
 pub mod UnitsLemmas
+pub mod UpdatedLemmas

@@ -36,5 +36,6 @@ pub mod Table
 pub mod Text
 pub mod Texts
 pub mod Units
+pub mod Updated
 pub mod Utf16
 pub mod Weak

@@ -19,7 +19,7 @@ use Rattle.bidi_text.proofs.PerCharTests.{class_test}
 use Rattle.bidi_base.specs.contracts.char_data.BidiClassPartialEq.TheImpl.{ghosts}
 use Rattle.bidi_explicit.specs.RunCutting.{IsCutTo, filled, differs, runs_before, run_start}
 use Rattle.bidi_explicit.specs.Control.{is_control}
-use Rattle.bidi_explicit.specs.ExplicitStretches.{overridden, put_over, open_run_after, runs_after, IsOverridden, Paragraph, stored, levels_of, classes_of, IsReadTo}
+use Rattle.bidi_explicit.specs.ExplicitStretches.{overridden, open_run_after, runs_after, IsOverridden, Paragraph, stored, levels_of, classes_of, IsReadTo}
 use Rattle.bidi_explicit.specs.StepUnit.{count_to, count_of}
 use Rattle.bidi_explicit.specs.declared.explicit.StepUnit.{StepUnit}
 use Rattle.bidi_explicit.specs.declared.explicit.StepUnit.TheVariants.{Character, CodeUnit}
@@ -42,32 +42,21 @@ filled-above from len x d units fits k a = grind (arith, length-replicate, get_o
 module _ (put : BidiClass) (from at next : ℕ) (old now : List BidiClass) (h : IsOverridden (Some put) from at old now) (begun : from ≤ at) (order : at ≤ next) where
   pub IsOverridden-spared : ((u : ℕ) → at ≤ u → u < next → is_kept_in_place (class_at old u) ≡ false) → IsOverridden (Some put) from next old now
   IsOverridden-spared spared = record {
-    inside = λ u a b. grind (arith, cases_lt u at);
+    inside = λ u a b t. grind (arith, cases_lt u at);
+    failing = h.failing;
     below = h.below;
     above = λ u a. h.above u (omega arith);
-    long = h.long;
+    same_len = h.same_len;
   }
 
   pub IsOverridden-more : next ≤ length old → ((u : ℕ) → at ≤ u → u < next → is_kept_in_place (class_at old u) ≡ true) → IsOverridden (Some put) from next old (filled at (next - at) put now)
   IsOverridden-more room kept = record {
-    inside = λ u above below. grind (arith, cases_lt u at, filled-inside, filled-below);
+    inside = λ u above below t. grind (arith, cases_lt u at, filled-inside, filled-below);
+    failing = λ u t. absurd (cc t);
     below = λ u below. grind (arith, filled-below);
     above = λ u above. grind (arith, filled-above);
-    long = grind (arith, length-filled);
+    same_len = grind (arith, length-filled);
   }
-
--- one code unit after another
-pub IsOverridden-none : (put : BidiClass) (from : ℕ) (old : List BidiClass) → IsOverridden (Some put) from from old old
-IsOverridden-none put from old = record { inside = λ u a b. absurd (omega arith); below = λ u a. refl; above = λ u a. refl; long = refl }
-
-pub IsOverridden-next : (put : BidiClass) (from at : ℕ) (old now : List BidiClass) → IsOverridden (Some put) from at old now → from ≤ at
-    → at < length old → IsOverridden (Some put) from (at + 1) old (set now at (put_over put (class_at now at)))
-IsOverridden-next put from at old now h begun fits = record {
-  inside = λ u a b. grind (arith, common_steps, cases_lt u at, h.inside u, h.above u, h.long);
-  below = λ u a. grind (arith, common_steps, h.below u, h.long);
-  above = λ u a. grind (arith, common_steps, h.above u, h.long);
-  long = grind (arith, common_steps, h.long);
-}
 
 -- ---- a class that is no control
 
@@ -313,10 +302,10 @@ module _ {encoding : Encoding} (p : Paragraph encoding) (from to : ℕ) (stack :
       (omega arith) in
       read-more p from stack levels classes runs run h to end.index end.there end.order end.within stack level now_levels now_classes now_runs now
       (h.machine ∙ sym still) filled_is
-      (λ k above below. level-here k above below ∙ sym level_is) over.long over.below over.above
+      (λ k above below. level-here k above below ∙ sym level_is) over.same_len over.below over.above
       (λ v above below w first last. grind (
         arith,
-        over.inside v above below,
+        over.inside v above below refl,
         h.unread v above,
         class-at_unit,
         class-here,

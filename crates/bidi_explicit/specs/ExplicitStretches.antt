@@ -1,5 +1,5 @@
 -- The explicit pass by stretches between controls: what it has written once it has read a part of the paragraph.
-use Rattle.std.specs.Prelude.{◌≡◌, ℕ, ◌<◌, ◌≤◌, if◌then◌else◌, List, length, get_or, Option, Some, None}
+use Rattle.std.specs.Prelude.{◌≡◌, ℕ, ◌<◌, ◌≤◌, true, if◌then◌else◌, List, length, get_or, Option, Some, None}
 use Rattle.bidi_base.specs.declared.char_data.BidiClass.{BidiClass}
 use Rattle.bidi_base.specs.declared.char_data.BidiClass.TheVariants.{L}
 use Rattle.bidi_base.specs.Classes.{is_kept_in_place}
@@ -7,6 +7,7 @@ use Rattle.bidi_base.specs.Explicit.{explicit_levels, processing_classes}
 use Rattle.bidi_base.specs.Indexes.{class_at}
 use Rattle.bidi_base.specs.StatusMachine.{State, state_at}
 use Rattle.bidi_base.specs.Texts.{Encoding, Text, unit_index, text_len, per_char, per_unit, IsPerChar}
+use Rattle.bidi_base.specs.Updated.{IsUpdated}
 use Rattle.bidi_explicit.specs.RunCutting.{runs_before, run_start, IsCutTo}
 use Rattle.bidi_explicit.specs.declared.explicit.stretches.OpenRun.{OpenRun}
 use Rattle.bidi_explicit.specs.declared.explicit.stretches.Progress.{Progress}
@@ -25,11 +26,8 @@ overridden None c = c
 overridden (Some put) c = put_over put c
 
 -- the code units from `from` up to `to` have the class of the override, if there is one, and all others are unchanged
-pub record IsOverridden (override : Option BidiClass) (from to : ℕ) (old new : List BidiClass) : Type 0 where
-  pub inside : (u : ℕ) → from ≤ u → u < to → class_at new u ≡ overridden override (class_at old u)
-  pub below : (u : ℕ) → u < from → class_at new u ≡ class_at old u
-  pub above : (u : ℕ) → to ≤ u → class_at new u ≡ class_at old u
-  pub long : length new ≡ length old
+abbrev pub IsOverridden : Option BidiClass → ℕ → ℕ → List BidiClass → List BidiClass → Type 0
+IsOverridden override from to old new = IsUpdated L (λ u. true) (overridden override) from to old new
 
 -- a paragraph, with the stored class of each code unit
 pub record Paragraph (encoding : Encoding) : Type 0 where

@@ -1,37 +1,25 @@
--- The code units of level runs that the passes treat as kept, a class written over them, and what a pass leaves
--- unchanged.
-use Rattle.std.specs.Prelude.{◌≡◌, ℕ, ◌-◌, ◌<◌, ◌≤◌, Bool, true, false, ◌&&◌, List, length, map, filter, min, sum_by}
+-- The code units of level runs that the passes treat as kept, and a class written over them.
+use Rattle.std.specs.Prelude.{ℕ, ◌-◌, Bool, ◌&&◌, List, length, map, filter, min, sum_by}
 use Rattle.std.specs.declared.ops.Range.{Range}
 use Rattle.bidi_base.specs.declared.char_data.BidiClass.{BidiClass}
+use Rattle.bidi_base.specs.declared.char_data.BidiClass.TheVariants.{L}
 use Rattle.bidi_base.specs.Classes.{is_kept_in_place}
 use Rattle.bidi_base.specs.Indexes.{between, class_at}
 use Rattle.bidi_base.specs.Units.{bounds, in_runs}
+use Rattle.bidi_base.specs.Updated.{IsUpdated}
 
 -- a code unit of some ranges that the passes treat as kept: its class is not BN
 abbrev pub is_seen : List (ℕ × ℕ) → List BidiClass → ℕ → Bool
 is_seen runs classes k = in_runs runs k && is_kept_in_place (class_at classes k)
 
 -- the class was written over the code units from `from` up to `to` that pass the test, and over no others
-pub record IsWrittenOver (test : ℕ → Bool) (class : BidiClass) (from to : ℕ) (old new : List BidiClass) : Type 0 where
-  pub inside : (k : ℕ) → from ≤ k → k < to → test k ≡ true → class_at new k ≡ class
-  pub failing : (k : ℕ) → test k ≡ false → class_at new k ≡ class_at old k
-  pub below : (k : ℕ) → k < from → class_at new k ≡ class_at old k
-  pub above : (k : ℕ) → to ≤ k → class_at new k ≡ class_at old k
-  pub long : length new ≡ length old
+abbrev pub IsWrittenOver : (ℕ → Bool) → BidiClass → ℕ → ℕ → List BidiClass → List BidiClass → Type 0
+IsWrittenOver test class from to old new = IsUpdated L test (λ c. class) from to old new
 
 -- the class was written over the code units of some level runs from `from` up to `to` that are not BN, and over no
 -- others
 abbrev pub WritesInRuns : List (Range ℕ) → BidiClass → ℕ → ℕ → List BidiClass → List BidiClass → Type 0
 WritesInRuns runs class from to old new = IsWrittenOver (is_seen (map bounds runs) old) class from to old new
-
--- no code unit outside some level runs has changed
-abbrev pub KeepsOutside : List (Range ℕ) → List BidiClass → List BidiClass → Type 0
-KeepsOutside runs old new = (u : ℕ) → in_runs (map bounds runs) u ≡ false → class_at new u ≡ class_at old u
-
--- no code unit before or after a level run has changed
-pub record KeepsAround (run : Range ℕ) (old new : List BidiClass) : Type 0 where
-  pub below : (u : ℕ) → u < run.start → class_at new u ≡ class_at old u
-  pub above : (u : ℕ) → run.end ≤ u → class_at new u ≡ class_at old u
 
 -- the code units of some ranges that are not BN: from `low` up to `high`, and all of them
 abbrev pub seen_from : List (ℕ × ℕ) → List BidiClass → ℕ → ℕ → List ℕ

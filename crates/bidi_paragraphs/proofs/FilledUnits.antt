@@ -7,7 +7,7 @@ use Rattle.std.proofs.Common.{add-zero}
 use Rattle.bidi_base.specs.declared.char_data.BidiClass.{BidiClass}
 use Rattle.bidi_base.specs.declared.char_data.BidiClass.TheVariants.{L, FSI}
 use Rattle.bidi_base.specs.declared.data_source.BidiMatchedOpeningBracket.{BidiMatchedOpeningBracket}
-use Rattle.bidi_paragraphs.specs.Updated.{IsWritten}
+use Rattle.bidi_base.specs.Updated.{IsUpdated}
 use Rattle.bidi_laws.proofs.LevelLaws.{All-per_unit}
 use Rattle.bidi_text.proofs.PerCharTests.{class_eq, class_test, level_eq, level_test}
 use Rattle.bidi_base.proofs.PerUnit.{length-per_char, length-per_unit, get_or-per_char, get_or-per_unit}
@@ -42,30 +42,30 @@ pub record AreFilled (para_level : ℕ) (classes : List BidiClass) (old : List �
 
 module _ (para_level : ℕ) (classes : List BidiClass) (old : List ℕ) (i : ℕ) (now : List ℕ) (h : AreFilled para_level classes old i now) where
   -- a stretch that X9 removes takes the level before it
-  module _ (before to : ℕ) (new : List ℕ) (order : i ≤ to) (gone : (u : ℕ) → i ≤ u → u < to → is_kept_at classes u ≡ false) (w : IsWritten before i to now new)
+  module _ (before to : ℕ) (new : List ℕ) (order : i ≤ to) (gone : (u : ℕ) → i ≤ u → u < to → is_kept_at classes u ≡ false) (w : IsUpdated 0 (λ u. true) (λ level. before) i to now new)
       (at_front : i ≡ 0 → before ≡ para_level) (inside : (p : ℕ) → p + 1 ≡ i → before ≡ get_or now p 0) where
     pub AreFilled-removed : AreFilled para_level classes old to new
     AreFilled-removed = record {
       kept = λ p below stays. elim (cases_lt p i) [
-        | inl under ↦ w.before p under ∙ h.kept p under stays
+        | inl under ↦ w.below p under ∙ h.kept p under stays
         | inr past ↦ absurd (both_ways _ (gone p past below) stays)
       ];
-      rest = λ p past. w.after p past ∙ h.rest p (omega arith);
+      rest = λ p past. w.above p past ∙ h.rest p (omega arith);
       front = λ some removed. elim (cases_lt 0 i) [
-        | inl under ↦ w.before 0 under ∙ h.front under removed
-        | inr none ↦ w.inside 0 (omega arith) some ∙ at_front (omega arith)
+        | inl under ↦ w.below 0 under ∙ h.front under removed
+        | inr none ↦ w.inside 0 (omega arith) some refl ∙ at_front (omega arith)
       ];
       removed = λ p below removed. elim (cases_lt (p + 1) i) [
-        | inl under ↦ w.before (p + 1) under ∙ h.removed p under removed ∙ sym (w.before p (omega arith))
-        | inr past ↦ w.inside (p + 1) past below ∙ level_of p past below
+        | inl under ↦ w.below (p + 1) under ∙ h.removed p under removed ∙ sym (w.below p (omega arith))
+        | inr past ↦ w.inside (p + 1) past below refl ∙ level_of p past below
       ];
     }
       where
         -- the level that stands before the unit p + 1
         level_of : (p : ℕ) → i ≤ p + 1 → p + 1 < to → before ≡ get_or new p 0
         level_of p past below = elim (cases_lt p i) [
-          | inl under ↦ inside p (omega arith) ∙ sym (w.before p under)
-          | inr later ↦ sym (w.inside p later (omega arith))
+          | inl under ↦ inside p (omega arith) ∙ sym (w.below p under)
+          | inr later ↦ sym (w.inside p later (omega arith) refl)
         ]
 
 module _ (len_of : ℕ → ℕ) (h : HasUnits len_of) (chars : List ℕ) (stored : List BidiClass) (para_level : ℕ) (classes : List BidiClass) (old new : List ℕ)

@@ -10,6 +10,7 @@ use Rattle.bidi_base.specs.declared.char_data.BidiClass.{BidiClass}
 use Rattle.bidi_base.specs.declared.char_data.BidiClass.TheVariants.{L, AL, BN, EN, ES, ET, AN, CS, NSM, R}
 use Rattle.bidi_base.proofs.TextLemmas.{HasUnits, is_boundary-le}
 use Rattle.bidi_base.proofs.UnitsLemmas.{IsPerChar-from_is_per_char, is_per_char-from_IsPerChar, length-from_IsPerChar}
+use Rattle.bidi_base.proofs.UpdatedLemmas.{IsUpdated-passing}
 use Rattle.bidi_explicit.proofs.PassOverText.{IsPerChar-alike, alike_class, in_runs-alike}
 use Rattle.bidi_text.proofs.PerCharTests.{class_eq, class_test}
 use Rattle.bidi_rules.proofs.FirstKept.{first_kept-is, first-Some}
@@ -219,14 +220,17 @@ module _ (len_of : ℕ → ℕ) (h : HasUnits len_of) (chars : List ℕ) (s : Bo
   -- ---- L written over the European numbers
 
   module _ (new : List BidiClass) (numbers : HasEuropeanNumbers s levels classes) (written : AreNumbersWritten rs classes new) where
+    changed : (u : ℕ) → in_runs rs u ≡ true → class_at new u ≡ number_as_l (class_at classes u)
+    changed = IsUpdated-passing L (in_runs rs) number_as_l classes new refl written
+
     written-at : at_indexes L new places ≡ map number_as_l (at_indexes L classes places)
-    written-at = at_indexes-mapped number_as_l classes new places (at_kept (λ u. class_at new u ≡ number_as_l (class_at classes u)) (λ u inside kept. written.changed u inside))
+    written-at = at_indexes-mapped number_as_l classes new places (at_kept (λ u. class_at new u ≡ number_as_l (class_at classes u)) (λ u inside kept. changed u inside))
 
     kept-number : (c : BidiClass) → is_kept_in_place c ≡ true → is_kept_in_place (number_as_l c) ≡ true
     kept-number c h = grind arith
 
     pub written-kept : list_all is_kept_in_place (at_indexes L new places) ≡ true
-    written-kept = list_all-at_indexes is_kept_in_place new places (at_kept (λ u. is_kept_in_place (class_at new u) ≡ true) (λ u inside kept. ap is_kept_in_place (written.changed u inside) ∙ kept-number (class_at classes u) kept))
+    written-kept = list_all-at_indexes is_kept_in_place new places (at_kept (λ u. is_kept_in_place (class_at new u) ≡ true) (λ u inside kept. ap is_kept_in_place (changed u inside) ∙ kept-number (class_at classes u) kept))
 
     -- the levels can be read off what is written
     pub numbers-give : (source_classes : List BidiClass) (brackets : List (Option BidiMatchedOpeningBracket)) → list_all is_kept (at_indexes L classes places) ≡ true
@@ -237,10 +241,10 @@ module _ (len_of : ℕ → ℕ) (h : HasUnits len_of) (chars : List ℕ) (s : Bo
         (kept_pass (λ c. not (is_r_al_or_an c)) (λ u inside kept. ap not (numbers.along u inside))))
 
     pub written-removed : (u : ℕ) → class_at classes u ≡ BN → class_at new u ≡ BN
-    written-removed u gone = grind (arith, cases_Bool (in_runs rs u), written.changed u, written.same u)
+    written-removed u gone = grind (arith, cases_Bool (in_runs rs u), changed u, written.failing u)
 
     pub written-per_char : is_per_char class_eq len_of chars new ≡ true
-    written-per_char = is_per_char-from_IsPerChar class_eq class_test len_of chars new (IsPerChar-alike len_of chars new (written.long ∙ length-from_IsPerChar len_of chars classes even) each)
+    written-per_char = is_per_char-from_IsPerChar class_eq class_test len_of chars new (IsPerChar-alike len_of chars new (written.same_len ∙ length-from_IsPerChar len_of chars classes even) each)
       where
         even : IsPerChar len_of chars classes
         even = IsPerChar-from_is_per_char class_eq class_test len_of h chars classes per
@@ -252,6 +256,6 @@ module _ (len_of : ℕ → ℕ) (h : HasUnits len_of) (chars : List ℕ) (s : Bo
               in_runs-alike len_of h chars rs lines k u from below,
               alike_class len_of h chars classes even k u fits from below,
               cases_Bool (in_runs rs (unit_index len_of chars k)),
-              written.changed,
-              written.same,
+              changed,
+              written.failing,
             )

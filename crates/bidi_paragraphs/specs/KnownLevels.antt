@@ -7,6 +7,7 @@ use Rattle.bidi_base.specs.Levels.{direction_of}
 use Rattle.bidi_base.specs.Indexes.{class_at}
 use Rattle.bidi_base.specs.Sequences.{level_at}
 use Rattle.bidi_base.specs.Units.{bounds, in_runs}
+use Rattle.bidi_base.specs.Updated.{IsUpdated}
 use Rattle.bidi_explicit.specs.RunSequence.{borrowed_runs, borrowed_sos, borrowed_eos}
 use Rattle.bidi_explicit.specs.declared.prepare.borrowed.BorrowedSequence.{BorrowedSequence}
 
@@ -55,10 +56,8 @@ pub record HasEuropeanNumbers (s : BorrowedSequence) (levels : List ℕ) (classe
   pub along : (u : ℕ) → in_runs (map bounds (borrowed_runs s)) u ≡ true → is_r_al_or_an (class_at classes u) ≡ false
 
 -- L was written over the European numbers of some runs, and nothing else changed
-pub record AreNumbersWritten (runs : List (ℕ × ℕ)) (old new : List BidiClass) : Type 0 where
-  pub changed : (u : ℕ) → in_runs runs u ≡ true → class_at new u ≡ number_as_l (class_at old u)
-  pub same : (u : ℕ) → in_runs runs u ≡ false → class_at new u ≡ class_at old u
-  pub long : length new ≡ length old
+abbrev pub AreNumbersWritten : List (ℕ × ℕ) → List BidiClass → List BidiClass → Type 0
+AreNumbersWritten runs old new = IsUpdated L (in_runs runs) number_as_l 0 (length old) old new
 
 -- the characters of the sequence that X9 keeps are L or R
 abbrev pub HasNoNeutral : BorrowedSequence → List BidiClass → Type 0

@@ -5,4 +5,3 @@ pub mod Paragraph
 pub mod ParagraphFlags
 pub mod ParagraphInfo
 pub mod KnownLevels
-pub mod Updated

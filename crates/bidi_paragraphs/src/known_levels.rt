@@ -1,11 +1,12 @@
 //! Sequences with levels that are known without W1 to N2.
 
-ghost use Rattle.std.specs.Prelude.{◌≡◌, ◌⊎◌, ℕ, ◌<◌, ◌≤◌, true, false, length, map, All, IsTrue};
+ghost use Rattle.std.specs.Prelude.{◌≡◌, ◌⊎◌, ℕ, ◌≤◌, true, false, length, map, All, IsTrue};
 ghost use Rattle.bidi_base.specs.Indexes.{class_at};
 ghost use Rattle.bidi_base.specs.Units.{bounds, in_runs};
+ghost use Rattle.bidi_base.specs.Updated.{IsUpdated};
+ghost use Rattle.bidi_base.specs.declared.char_data.BidiClass.TheVariants.{L};
 ghost use Rattle.bidi_paragraphs.specs.KnownLevels.{number_as_l, own_direction, raises, AreInside, AreNumbersWritten, HasEuropeanNumbers, HasOneDirection, HasNoNeutral};
 ghost use Rattle.bidi_explicit.specs.RunSequence.{borrowed_runs};
-ghost use Rattle.bidi_explicit.specs.SequenceUnits.{KeepsAround};
 
 use bidi_base::char_data::BidiClass::{self, AL, AN, BN, EN, L, NSM, R};
 use bidi_base::level::Level;
@@ -134,10 +135,7 @@ fn write_numbers(runs: &[LevelRun], classes: &mut [BidiClass])
 /// Writes L over the European numbers of a run. The loop has no branch, so that it changes many code units at once.
 fn write_run(run: &LevelRun, classes: &mut [BidiClass])
     requires { run.now.end ≤ length classes.old }
-    ensures changed { (u : ℕ) → run.now.start ≤ u → u < run.now.end
-        → class_at classes.new u ≡ number_as_l (class_at classes.old u) }
-    ensures around { KeepsAround run.now classes.old classes.new }
-    ensures same_len { length classes.new ≡ length classes.old }
+    ensures { IsUpdated L (λ _. true) number_as_l run.now.start run.now.end classes.old classes.new }
 {
     for unit in run.start..run.end {
         classes[unit] = number_as_l(classes[unit]);

@@ -9,9 +9,9 @@ ghost use Rattle.bidi_base.specs.Isolates.{stored_classes};
 ghost use Rattle.bidi_base.specs.Sequences.{is_kept_at, sequences};
 ghost use Rattle.bidi_base.specs.Stored.{levels_in};
 ghost use Rattle.bidi_base.specs.Texts.{per_char, per_unit, text_len, AreLines};
+ghost use Rattle.bidi_base.specs.Updated.{IsUpdated};
 ghost use Rattle.bidi_explicit.specs.InText.{sequences_of};
 ghost use Rattle.bidi_explicit.specs.Links.{linked_runs, linked_sequences, AreLinked};
-ghost use Rattle.bidi_paragraphs.specs.Updated.{IsWritten};
 ghost use Rattle.bidi_paragraphs.specs.ParagraphFlags.{flags_of};
 
 use crate::known_levels::{has_known_levels, write_l_over_numbers};
@@ -351,7 +351,7 @@ fn write_removed(classes: &[BidiClass], levels: &mut [Level], from: usize, befor
     ensures advances { from < result }
     ensures within { result ≤ length classes.now }
     ensures removed { (u : ℕ) → from ≤ u → u < result → is_kept_at classes.now u ≡ false }
-    ensures written { IsWritten before from result levels.old levels.new }
+    ensures written { IsUpdated 0 (λ _. true) (λ _. before) from result levels.old levels.new }
 {
     let mut at = from;
     while at < levels.len() && is_removed(classes[at]) {

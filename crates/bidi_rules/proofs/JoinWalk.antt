@@ -10,7 +10,7 @@ use Rattle.bidi_rules.specs.declared.neutral.directions.Join.{Join}
 use Rattle.bidi_explicit.proofs.InRuns.{in_runs-at, in_runs-drop, start_or, gap_before, gap_after, next_start}
 use Rattle.bidi_rules.proofs.JoinScan.{opposite-directed, own-after, IsJoined-more, IsJoined-inert, IsJoined-turned}
 use Rattle.bidi_rules.proofs.JoinScan.{IsJoined-decided, IsJoined-stretch, finished-inert, finished-embedding, finished-opposite}
-use Rattle.bidi_explicit.proofs.WrittenOver.{IsWrittenOver-same_test}
+use Rattle.bidi_base.proofs.UpdatedLemmas.{IsUpdated-same_test}
 
 -- a direction other than the opposite one is the embedding direction
 other-embedding : (e c : BidiClass) → is_l_or_r e ≡ true → has_direction c ≡ true → stands_for (opposite_of e) c ≡ false → as_direction c ≡ Some e
@@ -23,7 +23,7 @@ module _ (s : Unjoined) (now : List BidiClass) (w : Join) where
       → IsWrittenOver (is_seen s.runs s.old) (opposite_of s.e) u.done at now new
   over-old at new u waiting over =
       let n = u.named waiting in
-      IsWrittenOver-same_test (is_seen (drop w.first_run s.runs) now) (is_seen s.runs s.old) (opposite_of s.e) u.done at now new (λ k a b. cc (n.reached k a, u.joined.unwritten k a)) (simp n.first at over)
+      IsUpdated-same_test L (is_seen (drop w.first_run s.runs) now) (λ c. opposite_of s.e) u.done now (is_seen s.runs s.old) at new (λ k a b. cc (n.reached k a, u.joined.unwritten k a)) (simp n.first at over)
 
   module _ (at end : ℕ) (inside : (k : ℕ) → at ≤ k → k < end → in_runs s.runs k ≡ true) (fits : end ≤ length s.old) (u : IsUnderWay s now w at) where
     -- more neutrals wait

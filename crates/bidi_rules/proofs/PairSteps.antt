@@ -19,7 +19,7 @@ use Rattle.bidi_explicit.specs.SequenceUnits.{is_seen, IsWrittenOver}
 use Rattle.bidi_rules.proofs.ListedUnitIndexes.{length-values_of, behind, index-within, owner, unit_index_at-in, unit_index_at-behind, behind-unit_index_at, unit_index_at-rises, unit_index_at-upto, unit_index_at-lower, unit_index_at-seen, class-at}
 use Rattle.bidi_rules.proofs.PairPlaces.{pair_at, opens_upto, first-unit_index_at, between, looked-between, context-is}
 use Rattle.bidi_explicit.proofs.PassOverText.{IsPerChar-alike, alike_class, in_runs-alike}
-use Rattle.bidi_explicit.proofs.WrittenOver.{by_range}
+use Rattle.bidi_base.proofs.UpdatedLemmas.{by_range}
 
 every : (p : BidiClass → Bool) (xs : List BidiClass) → ((i : ℕ) → i < length xs → p (get_or xs i L) ≡ true) → list_all p xs ≡ true
 every p [] h = refl
@@ -211,7 +211,7 @@ module _ (len_of : ℕ → ℕ) (h : HasUnits len_of) (chars : List ℕ) (origin
 
     -- where a place is that of a character, or the end, all units of another lie on one side of it
     pub bracket-IsPerChar : IsPerChar len_of chars new
-    bracket-IsPerChar = IsPerChar-alike len_of chars new (w.long ∙ total) (λ c within u after below.
+    bracket-IsPerChar = IsPerChar-alike len_of chars new (w.same_len ∙ total) (λ c within u after below.
         let first = unit_index len_of chars c in
         let same_now = alike_class len_of h chars now per c u within after below in
         let same_runs = in_runs-alike len_of h chars rs ready.are_lines c u after below in

@@ -1,9 +1,11 @@
 -- N2 over the units of a sequence, once N0 and N1 are done.
-use Rattle.bidi_base.proofs.Common.{◌≡◌, ℕ, ◌+◌, ◌<◌, ◌≤◌, true, false, List, [], ◌∷◌, length, map, find, None, refl, ◌∙◌, arith, All, Range, cases_Bool, All-head, All-tail, is_kept_in_place}
+use Rattle.bidi_base.proofs.Common.{◌≡◌, ℕ, ◌+◌, ◌<◌, ◌≤◌, true, List, [], ◌∷◌, length, map, find, None, refl, ◌∙◌, arith, All, Range, cases_Bool, All-head, All-tail, is_kept_in_place}
 use Rattle.bidi_base.proofs.Common.{direction_of, n2_rule, neutral_classes, at_indexes, class_at, first_or, level_at, Source, unit_index, is_per_char, IsPerChar, bounds, in_runs, kept_in_place}
 use Rattle.bidi_base.proofs.Common.{units_in_runs, AreNeutralsResolved}
 use Rattle.bidi_base.specs.declared.char_data.BidiClass.{BidiClass}
 use Rattle.bidi_base.specs.declared.char_data.BidiClass.TheVariants.{L, BN}
+use Rattle.bidi_base.specs.Updated.{IsUpdated}
+use Rattle.bidi_base.proofs.UpdatedLemmas.{IsUpdated-passing}
 use Rattle.bidi_text.proofs.PerCharTests.{class_eq, class_test}
 use Rattle.bidi_base.proofs.TextLemmas.{HasUnits}
 use Rattle.bidi_base.proofs.UnitsLemmas.{IsPerChar-from_is_per_char, is_per_char-from_IsPerChar, length-from_IsPerChar}
@@ -61,21 +63,23 @@ module _ (len_of : ℕ → ℕ) (h : HasUnits len_of) (chars : List ℕ) (runs :
   abbrev places : List ℕ
   places = map (unit_index len_of chars) (kept_in_place len_of chars old rs)
 
-  pub IsResolved-decided : (e : BidiClass) → e ≡ direction_of (level_at levels (first_or 0 places)) → length new ≡ length now
-      → ((u : ℕ) → in_runs rs u ≡ true → class_at new u ≡ n2_rule e (class_at now u))
-      → ((u : ℕ) → in_runs rs u ≡ false → class_at new u ≡ class_at now u) → IsResolved len_of chars source levels original_classes old new runs sos eos
-  IsResolved-decided e is long changed same = record {
+  pub IsResolved-decided : (e : BidiClass) → e ≡ direction_of (level_at levels (first_or 0 places)) → IsUpdated L (in_runs rs) (n2_rule e) 0 (length now) now new
+      → IsResolved len_of chars source levels original_classes old new runs sos eos
+  IsResolved-decided e is w = record {
     kept = simp is at (at_each (n2_rule e) now new places (at_read len_of h chars runs sos old ready (λ u. class_at new u ≡ n2_rule e (class_at now u)) (λ u inside reads. changed u inside))) ∙ up.kept;
     removed = λ u gone. stays u (up.removed u gone);
-    outside = λ u out. same u out ∙ up.outside u out;
-    per_char = is_per_char-from_IsPerChar class_eq class_test len_of chars new (IsPerChar-alike len_of chars new (long ∙ length-from_IsPerChar len_of chars now per) even);
+    outside = λ u out. w.failing u out ∙ up.outside u out;
+    per_char = is_per_char-from_IsPerChar class_eq class_test len_of chars new (IsPerChar-alike len_of chars new (w.same_len ∙ length-from_IsPerChar len_of chars now per) even);
   }
     where
+      changed : (u : ℕ) → in_runs rs u ≡ true → class_at new u ≡ n2_rule e (class_at now u)
+      changed = IsUpdated-passing L (in_runs rs) (n2_rule e) now new refl w
+
       per : IsPerChar len_of chars now
       per = IsPerChar-from_is_per_char class_eq class_test len_of h chars now up.per_char
 
       stays : (u : ℕ) → class_at now u ≡ BN → class_at new u ≡ BN
-      stays u gone = grind arith
+      stays u gone = grind (arith, cases_Bool (in_runs rs u), changed)
 
       even : (k : ℕ) → k < length chars → (u : ℕ) → unit_index len_of chars k ≤ u → u < unit_index len_of chars (k + 1) → class_at new u ≡ class_at new (unit_index len_of chars k)
       even k fits u from below =
@@ -86,5 +90,5 @@ module _ (len_of : ℕ → ℕ) (h : HasUnits len_of) (chars : List ℕ) (runs :
             alike_class len_of h chars now per k u fits from below,
             cases_Bool (in_runs rs first),
             changed,
-            same,
+            w.failing,
           )

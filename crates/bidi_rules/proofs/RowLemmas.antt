@@ -36,5 +36,5 @@ module _ (len_of : ℕ → ℕ) (chars : List ℕ) (runs : List (ℕ × ℕ)) (o
           unit_index-mono,
         )) inside (seen-before (unit_index len_of chars q) seen);
         stops = λ some less. grind arith;
-        within = omega (arith, w.long, e.within);
+        within = omega (arith, w.same_len, e.within);
       }

@@ -16,7 +16,7 @@ use Rattle.bidi_explicit.specs.SequenceUnits.{is_seen, seen_units, IsWrittenOver
 use Rattle.bidi_explicit.proofs.InRuns.{in_runs-at, in_runs-drop, start_or, start_within, gap_before, gap_after, next_start}
 use Rattle.bidi_explicit.proofs.Marks.{marked-none, marked-parts, marked-empty, marked-full, at_marked-same, at_marked-all}
 use Rattle.bidi_rules.proofs.WeakMarks.{All-seen}
-use Rattle.bidi_explicit.proofs.WrittenOver.{by_range}
+use Rattle.bidi_base.proofs.UpdatedLemmas.{by_range}
 use Rattle.bidi_rules.proofs.WeakUnits.{walked-plain, row-joins, row-waits, row-decides}
 
 -- ---- what is written is not changed by W3 and W6
@@ -187,7 +187,7 @@ module _ (p : Pass) (now : List BidiClass) (w : Walk) (i : ℕ) (h : IsUnderWay 
             idle = λ u. refl;
             order = omega arith;
             inside = s.inside;
-            long = long ∙ t.long ∙ h.long;
+            long = long ∙ t.same_len ∙ h.long;
           }
         where
           row_left : (l a : ℕ) → ((k : ℕ) → a ≤ k → k < a + l → left_over (class_at now2 k) ≡ own) → map left_over (at_indexes L now2 (range_with_len a l)) ≡ replicate l own

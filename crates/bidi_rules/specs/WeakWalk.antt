@@ -10,6 +10,7 @@ use Rattle.bidi_base.specs.Indexes.{at_indexes, class_at}
 use Rattle.bidi_base.specs.Text.{char_at}
 use Rattle.bidi_base.specs.InPlace.{AreWeakTypesResolved, CanResolveWeakTypes}
 use Rattle.bidi_base.specs.Units.{bounds, chars_in_runs, in_runs, units_in_runs}
+use Rattle.bidi_base.specs.Updated.{IsUpdated}
 use Rattle.bidi_base.specs.Weak.{carried}
 use Rattle.bidi_rules.specs.declared.weak.w2_w4_w5_w7.Walk.{Walk}
 use Rattle.bidi_rules.specs.declared.weak.before.Before.TheVariants.{Other}
@@ -182,13 +183,8 @@ pub record IsWalked (len : ℕ → ℕ) (runs : List (ℕ × ℕ)) (sos : BidiCl
   pub unseen : (k : ℕ) → is_seen runs old k ≡ false → class_at new k ≡ class_at old k
   pub long : length new ≡ length old
 
--- W3 and W6 have changed the code units from `start` up to `end`, and no others
-pub record AreChanged (start end : ℕ) (old new : List BidiClass) : Type 0 where
-  pub changed : (u : ℕ) → start ≤ u → u < end → class_at new u ≡ left_over (class_at old u)
-  pub below : (u : ℕ) → u < start → class_at new u ≡ class_at old u
-  pub above : (u : ℕ) → end ≤ u → class_at new u ≡ class_at old u
-
--- W3 and W6 have changed these code units, with one step for each; the count was `before` and is `after`
+-- W3 and W6 have changed the code units from `start` up to `end`, and no others, with one step for each; the count was
+-- `before` and is `after`
 pub record AreChangedAndCounted (start end : ℕ) (old new : List BidiClass) (before after : ℕ) : Type 0 where
-  pub changed : AreChanged start end old new
+  pub changed : IsUpdated L (λ u. true) left_over start end old new
   pub steps : after ≡ before + (end - start)

@@ -7,9 +7,10 @@ ghost use Rattle.bidi_base.specs.Indexes.{at_indexes, class_at};
 ghost use Rattle.bidi_base.specs.Search.{IsFirst, passing};
 ghost use Rattle.bidi_base.specs.declared.char_data.BidiClass.TheVariants.{L};
 ghost use Rattle.bidi_base.specs.Units.{bounds, are_ordered, in_runs};
+ghost use Rattle.bidi_base.specs.Updated.{IsUpdated};
 ghost use Rattle.bidi_rules.specs.JoinPass.{IsAtOpposite, IsJoined, IsUnderWay, Unjoined};
 ghost use Rattle.bidi_rules.specs.PairPass.{opposite_of};
-ghost use Rattle.bidi_explicit.specs.SequenceUnits.{is_seen, seen_units, IsWrittenOver, KeepsAround, KeepsOutside};
+ghost use Rattle.bidi_explicit.specs.SequenceUnits.{is_seen, seen_units, IsWrittenOver};
 
 use super::class_tests::{AnyDirection, For, KeptNotFor, first_standing_for};
 use bidi_base::char_data::BidiClass::{self, L, R};
@@ -229,10 +230,8 @@ impl Join {
 /// N2: the neutrals of some runs take the embedding direction.
 pub fn apply_n2(embedding: BidiClass, runs: &[LevelRun], classes: &mut [BidiClass])
     requires { All (λ r. r.1 ≤ length classes.old) (map bounds runs.now) }
-    ensures changed { (u : ℕ) → in_runs (map bounds runs.now) u ≡ true
-        → class_at classes.new u ≡ n2_rule embedding (class_at classes.old u) }
-    ensures outside { KeepsOutside runs.now classes.old classes.new }
-    ensures same_len { length classes.new ≡ length classes.old }
+    ensures { IsUpdated L (in_runs (map bounds runs.now)) (n2_rule embedding) 0 (length classes.old) classes.old
+        classes.new }
 {
     for run in runs {
         apply_n2_in_run(embedding, run, classes);
@@ -242,9 +241,7 @@ pub fn apply_n2(embedding: BidiClass, runs: &[LevelRun], classes: &mut [BidiClas
 /// N2: the neutrals of one run take the embedding direction.
 fn apply_n2_in_run(embedding: BidiClass, run: &LevelRun, classes: &mut [BidiClass])
     requires { run.now.end ≤ length classes.old }
-    ensures changed { (u : ℕ) → run.now.start ≤ u → u < run.now.end
-        → class_at classes.new u ≡ n2_rule embedding (class_at classes.old u) }
-    ensures around { KeepsAround run.now classes.old classes.new }
+    ensures { IsUpdated L (λ _. true) (n2_rule embedding) run.now.start run.now.end classes.old classes.new }
 {
     for unit in run.start..run.end {
         classes[unit] = n2_class(embedding, classes[unit]);

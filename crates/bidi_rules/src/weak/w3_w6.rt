@@ -1,9 +1,10 @@
 //! W3 and W6, which are left once W1, W2, W4, W5 and W7 are done. They change each class by itself.
 
-ghost use Rattle.std.specs.Prelude.{◌≡◌, ◌≢◌, ℕ, ◌+◌, ◌<◌, ◌≤◌, true, length, map, All, IsTrue};
+ghost use Rattle.std.specs.Prelude.{◌≡◌, ◌≢◌, ℕ, ◌+◌, ◌<◌, ◌≤◌, length, map, All, IsTrue};
 ghost use Rattle.bidi_base.specs.Indexes.{class_at};
 ghost use Rattle.bidi_base.specs.Units.{bounds, are_ordered, in_runs, units_in_runs};
-ghost use Rattle.bidi_explicit.specs.SequenceUnits.{KeepsOutside};
+ghost use Rattle.bidi_base.specs.Updated.{IsUpdated};
+ghost use Rattle.bidi_base.specs.declared.char_data.BidiClass.TheVariants.{L};
 ghost use Rattle.bidi_rules.specs.WeakPass.{left_over};
 ghost use Rattle.bidi_rules.specs.WeakWalk.{two_a_unit, AreChangedAndCounted};
 
@@ -17,10 +18,7 @@ use std::sync::ledger::Ledger;
 pub fn resolve_w3_w6<S: Ledger>(runs: &[LevelRun], classes: &mut [BidiClass], steps: &mut Steps<S>)
     requires ordered { IsTrue (are_ordered (map bounds runs.now)) }
     requires within { All (λ r. r.1 ≤ length classes.old) (map bounds runs.now) }
-    ensures changed { (u : ℕ) → in_runs (map bounds runs.now) u ≡ true
-        → class_at classes.new u ≡ left_over (class_at classes.old u) }
-    ensures outside { KeepsOutside runs.now classes.old classes.new }
-    ensures same_len { length classes.new ≡ length classes.old }
+    ensures changed { IsUpdated L (in_runs (map bounds runs.now)) left_over 0 (length classes.old) classes.old classes.new }
     ensures steps_at_least { steps.old + length (units_in_runs (map bounds runs.now)) ≤ steps.new }
     ensures steps_at_most { steps.new ≤ steps.old + two_a_unit runs.now }
 {

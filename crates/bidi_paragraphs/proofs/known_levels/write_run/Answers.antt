@@ -1,20 +1,15 @@
-use Rattle.bidi_base.proofs.Common.{◌≢◌, ◌<◌, length, ◌∙◌, inl, inr, arith, get_or-set_same, get_or-set_other, cases_eq}
+use Rattle.bidi_base.proofs.Common.{true, refl, arith}
 use Rattle.bidi_base.specs.declared.char_data.BidiClass.TheVariants.{L}
+use Rattle.bidi_base.proofs.UpdatedLemmas.{IsUpdated-set, IsUpdated-end}
+use Rattle.bidi_paragraphs.specs.KnownLevels.{number_as_l}
 use Rattle.bidi_paragraphs.proofs.known_levels.write_run.Goals as goal
 
 pub loop-unit-preserved : goal.loop-unit-preserved
-loop-unit-preserved c =
-    let i = c.loop-unit.unit in
-    let now = c.loop-unit.classes in
-    let new = c.number_as_l.result in
-    let s = c.loop-unit.invariant in
-    let within : i < length now = omega (arith, c.requires, c.loop-unit.auto.classes) in
-    record {
-      changed = λ u from below ends. elim (cases_eq u i) [
-        | inl here ↦ grind (arith, get_or-set_same)
-        | inr other ↦ get_or-set_other now i u new L other ∙ s.changed u from (omega arith) ends
-      ];
-      below = λ u low. let other : u ≢ i = omega arith in get_or-set_other now i u new L other ∙ s.below u low;
-      rest = λ u high. grind (arith, get_or-set_other);
-      past = λ u high. let other : u ≢ i = omega arith in get_or-set_other now i u new L other ∙ s.past u high;
-    }
+loop-unit-preserved c = (
+  IsUpdated-set L (λ u. true) number_as_l c.args.run.now.start c.args.classes.now c.loop-unit.unit c.loop-unit.classes c.number_as_l.result (omega arith) (omega (arith, c.requires)) refl c.number_as_l.ensures c.loop-unit.invariant.0,
+  λ empty. absurd (omega arith),
+)
+
+pub returns : goal.returns
+returns c =
+    IsUpdated-end L (λ u. true) number_as_l c.args.run.now.start c.args.classes.now c.loop-unit.unit c.args.run.now.end c.loop-unit.classes (λ h. omega arith) (omega arith) c.loop-unit.invariant.1 c.loop-unit.invariant.0

@@ -1,6 +1,9 @@
 -- The three steps, one after another.
-use Rattle.bidi_base.proofs.Common.{◌≡◌, ℕ, true, false, List, length, map, arith, Range, class_at, is_per_char, IsPerChar, bounds, are_ordered, in_runs, AreLines, carried, AreWeakTypesResolved}
+use Rattle.bidi_base.proofs.Common.{◌≡◌, ℕ, true, List, length, map, refl, arith, Range, is_per_char, IsPerChar, bounds, are_ordered, in_runs, AreLines, carried, AreWeakTypesResolved}
 use Rattle.bidi_base.specs.declared.char_data.BidiClass.{BidiClass}
+use Rattle.bidi_base.specs.declared.char_data.BidiClass.TheVariants.{L}
+use Rattle.bidi_base.specs.Updated.{IsUpdated}
+use Rattle.bidi_base.proofs.UpdatedLemmas.{IsUpdated-passing}
 use Rattle.bidi_text.proofs.PerCharTests.{class_eq, class_test}
 use Rattle.bidi_base.proofs.TextLemmas.{HasUnits}
 use Rattle.bidi_base.proofs.UnitsLemmas.{IsPerChar-from_is_per_char}
@@ -27,10 +30,10 @@ ready len_of h chars sequence read old is lines per =
 resolved : (len_of : ℕ → ℕ) → HasUnits len_of → (chars : List ℕ) (sequence : BorrowedSequence) (read : List (Range ℕ)) (sos : BidiClass)
     → read ≡ borrowed_runs sequence → sos ≡ borrowed_sos sequence → (old c1 c2 c3 : List BidiClass) → IsReady len_of chars read old
     → IsMarked (map bounds read) (carried sos) old c1 → IsWalked (len_at len_of chars) (map bounds read) sos c1 c2
-    → ((u : ℕ) → in_runs (map bounds read) u ≡ true → class_at c3 u ≡ left_over (class_at c2 u)) → ((u : ℕ) → in_runs (map bounds read) u ≡ false → class_at c3 u ≡ class_at c2 u) → length c3 ≡ length c2
+    → IsUpdated L (in_runs (map bounds read)) left_over 0 (length c2) c2 c3
     → AreWeakTypesResolved len_of chars (map bounds (borrowed_runs sequence)) (borrowed_sos sequence) old c3
-resolved len_of h chars sequence read sos runs_are sos_is old c1 c2 c3 w marks numbers changed same long =
-    rw (runs_are, sos_is) at (AreWeakTypesResolved-passes len_of h chars (map bounds read) w.lines w.ordered sos old w.per c1 marks c2 c3 numbers changed same long)
+resolved len_of h chars sequence read sos runs_are sos_is old c1 c2 c3 w marks numbers u =
+    rw (runs_are, sos_is) at (AreWeakTypesResolved-passes len_of h chars (map bounds read) w.lines w.ordered sos old w.per c1 marks c2 c3 numbers (IsUpdated-passing L (in_runs (map bounds read)) left_over c2 c3 refl u) u.failing u.same_len)
 
 pub resolve_marks_and_numbers-requires-clause-are_lines : goal.resolve_marks_and_numbers-requires-clause-are_lines
 resolve_marks_and_numbers-requires-clause-are_lines g c = grind arith

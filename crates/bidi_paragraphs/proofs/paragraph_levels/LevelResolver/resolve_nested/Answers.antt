@@ -118,7 +118,7 @@ loop-first-preserved-then-has_known_levels g c =
             let old = c.loop-first.classes in
             rw (w.classes-is, more) (AreResolvedTo-written len units chars _ _ _ is_ready.fits _ s line next old new _ h is_ready.levels_is
             (written-kept len units chars of levels old line per new numbers written) (numbers-give len units chars of levels old line per new numbers written _ _ kept)
-            (written-removed len units chars of levels old line per new numbers written) written.same (written-per_char len units chars of levels old line per new numbers written))
+            (written-removed len units chars of levels old line per new numbers written) written.failing (written-per_char len units chars of levels old line per new numbers written))
       ];
     }
 

@@ -77,13 +77,10 @@ resolved g c =
     let now = c.resolve_up_to_n1.new.processing_classes in
     let up : IsUpToN1 units chars (g.D.BidiDataSource.source c.args.data_source.now) c.args.levels.now c.args.original_classes.now old now runs sos (borrowed_eos c.borrowed-borrowed.result) =
     grind arith in
-    let same_runs = ap (map bounds) c.runs-runs.ensures in
     IsResolved-decided units g.T.TextSource.encoding.positive chars runs sos (borrowed_eos c.borrowed-borrowed.result) (g.D.BidiDataSource.source c.args.data_source.now) c.args.levels.now c.args.original_classes.now old r now c.apply_n2.new.classes up
     c.bidi_class-embedding.result
     (simp (c.bidi_class-embedding.ensures, first-is units g.T.TextSource.encoding.positive chars runs sos old r c.in-Some.first (found g first)) (ap direction_of (c.index-levels-first.is ∙ get_or_default c.args.levels.now c.in-Some.first c.index-levels-first.result 0 (within g first))))
-    c.apply_n2.ensures.same_len
-    (λ u inside. c.apply_n2.ensures.changed u (simp same_runs inside))
-    (λ u out. c.apply_n2.ensures.outside u (simp same_runs out))
+    (simp (ap (map bounds) c.runs-runs.ensures) at c.apply_n2.ensures)
 
 pub returns : goal.returns
 returns g c = record {

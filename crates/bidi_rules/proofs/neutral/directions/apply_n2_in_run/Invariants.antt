@@ -1,11 +1,8 @@
--- The units so far are changed.
-use Rattle.bidi_base.proofs.Common.{◌≡◌, ℕ, ◌<◌, ◌≤◌, class_at, n2_rule}
+-- The units so far are changed; where there are none, nothing is.
+use Rattle.bidi_base.proofs.Common.{◌≡◌, ◌≤◌, true, n2_rule}
+use Rattle.bidi_base.specs.declared.char_data.BidiClass.TheVariants.{L}
+use Rattle.bidi_base.specs.Updated.{IsUpdated}
 use Rattle.bidi_rules.proofs.neutral.directions.apply_n2_in_run.Given as goal
 
 abbrev pub invariant-loop-unit : goal.invariant-loop-unit
-invariant-loop-unit l = record {
-  changed : (u : ℕ) → l.run.start ≤ u → u < l.unit → u < l.run.end → class_at l.classes u ≡ n2_rule l.embedding (class_at l.fn.classes u);
-  below : (u : ℕ) → u < l.run.start → class_at l.classes u ≡ class_at l.fn.classes u;
-  rest : (u : ℕ) → l.unit ≤ u → class_at l.classes u ≡ class_at l.fn.classes u;
-  past : (u : ℕ) → l.run.end ≤ u → class_at l.classes u ≡ class_at l.fn.classes u;
-}
+invariant-loop-unit l = IsUpdated L (λ u. true) (n2_rule l.embedding) l.run.start l.unit l.fn.classes l.classes × (l.run.end ≤ l.run.start → l.classes ≡ l.fn.classes)

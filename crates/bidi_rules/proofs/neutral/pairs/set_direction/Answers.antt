@@ -1,10 +1,11 @@
 use Rattle.bidi_base.proofs.Common.{◌≡◌, ℕ, ◌+◌, ◌≤◌, ◌&&◌, List, length, map, drop, refl, sym, subst, ap, arith, common_steps, All, and_from, is_kept_in_place, class_at, unit_index, text_len, bounds}
 use Rattle.bidi_base.proofs.Common.{in_runs, AreLines, All-drop}
 use Rattle.bidi_base.specs.declared.char_data.BidiClass.{BidiClass}
+use Rattle.bidi_base.specs.declared.char_data.BidiClass.TheVariants.{L}
 use Rattle.bidi_base.proofs.UnitIndexLemmas.{is_boundary-unit_index, unit_index-mono}
 use Rattle.bidi_base.proofs.TextLemmas.{is_boundary-le}
 use Rattle.bidi_explicit.proofs.CharEnds.{begins_at}
-use Rattle.bidi_explicit.proofs.WrittenOver.{IsWrittenOver-same_test}
+use Rattle.bidi_base.proofs.UpdatedLemmas.{IsUpdated-same_test}
 use Rattle.bidi_explicit.specs.SequenceUnits.{is_seen, IsWrittenOver}
 use Rattle.bidi_rules.specs.PairPass.{IsMarksEnd, IsUnmarked}
 use Rattle.bidi_rules.specs.declared.neutral.pairs.Place.{Place}
@@ -18,7 +19,7 @@ IsSet-later : (len_of : ℕ → ℕ) (chars : List ℕ) (later runs : List (ℕ 
 IsSet-later len_of chars later runs original_classes d bracket inside end old new same order m w =
     let alike : (k : ℕ) → bracket ≤ k → is_seen later old k ≡ is_seen runs old k = λ k from. ap
     (λ b. b && is_kept_in_place (class_at old k)) (same k from) in
-    grind (arith, alike, IsWrittenOver-same_test (is_seen later old) (is_seen runs old) d bracket end old new)
+    grind (arith, alike, IsUpdated-same_test L (is_seen later old) (λ c. d) bracket old (is_seen runs old) end new)
 
 -- without marks after it, a bracket is all that is written
 IsSet-unmarked : (len_of : ℕ → ℕ) (chars : List ℕ) (runs : List (ℕ × ℕ)) (original_classes : List BidiClass) (d : BidiClass) (bracket : Place) (k : ℕ) (old new : List BidiClass)
@@ -30,7 +31,7 @@ IsSet-unmarked len_of chars runs original_classes d bracket k old new ends order
     stops = λ less. (k, ends, omega (arith, ends), and_from _ _ (u.seen bracket.end order (omega arith)) u.kept, u.plain);
     within = omega (arith, u.inside);
   },
-  IsWrittenOver-same_test (λ u. is_kept_in_place (class_at old u)) (is_seen runs old) d bracket.unit bracket.end old new
+  IsUpdated-same_test L (λ u. is_kept_in_place (class_at old u)) (λ c. d) bracket.unit old (is_seen runs old) bracket.end new
       (λ q from below. sym (ap (λ b. b && is_kept_in_place (class_at old q)) (u.seen q from (omega arith)))) w,
 )
 

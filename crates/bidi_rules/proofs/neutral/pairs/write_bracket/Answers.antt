@@ -1,5 +1,6 @@
-use Rattle.bidi_base.proofs.Common.{◌≡◌, ℕ, Bool, sym, ap, ◌∙◌, arith, is_kept_in_place, class_at}
-use Rattle.bidi_explicit.proofs.WrittenOver.{IsWrittenOver-skip, IsWrittenOver-set, IsWrittenOver-end}
+use Rattle.bidi_base.proofs.Common.{◌≡◌, ℕ, Bool, refl, sym, ap, ◌∙◌, arith, is_kept_in_place, class_at}
+use Rattle.bidi_base.specs.declared.char_data.BidiClass.TheVariants.{L}
+use Rattle.bidi_base.proofs.UpdatedLemmas.{IsUpdated-skip, IsUpdated-set, IsUpdated-end}
 use Rattle.bidi_rules.proofs.neutral.pairs.write_bracket.Goals as goal
 use Rattle.bidi_rules.proofs.neutral.pairs.write_bracket.Goals.{then-is_kept_in_place, else-is_kept_in_place}
 
@@ -14,8 +15,8 @@ loop-unit-preserved c =
     let test : ℕ → Bool = λ (k : ℕ). is_kept_in_place (class_at old k) in
     let answer : c.is_kept_in_place.result ≡ test i = c.is_kept_in_place.ensures ∙ ap is_kept_in_place (h.above i (omega arith)) in (
       elim c.if-is_kept_in_place.branch [
-        | then-is_kept_in_place w ↦ rw w.classes-is (IsWrittenOver-set test class from old i now (omega arith) (omega (arith, c.requires)) (sym answer ∙ w.if-is_kept_in_place.true) h)
-        | else-is_kept_in_place w ↦ rw w.classes-is (IsWrittenOver-skip test class from old i now (sym answer ∙ w.if-is_kept_in_place.false) h)
+        | then-is_kept_in_place w ↦ rw w.classes-is (IsUpdated-set L test (λ x. class) from old i now class (omega arith) (omega (arith, c.requires)) (sym answer ∙ w.if-is_kept_in_place.true) refl h)
+        | else-is_kept_in_place w ↦ rw w.classes-is (IsUpdated-skip L test (λ x. class) from old i now (sym answer ∙ w.if-is_kept_in_place.false) h)
       ],
       λ none. absurd (omega arith),
     )
@@ -23,4 +24,4 @@ loop-unit-preserved c =
 pub returns : goal.returns
 returns c =
     let old = c.args.classes.now in
-    IsWrittenOver-end (λ k. is_kept_in_place (class_at old k)) c.args.direction c.args.bracket.unit old c.loop-unit.unit c.args.bracket.end c.loop-unit.classes (λ h. omega arith) (omega arith) c.loop-unit.invariant.1 c.loop-unit.invariant.0
+    IsUpdated-end L (λ k. is_kept_in_place (class_at old k)) (λ x. c.args.direction) c.args.bracket.unit old c.loop-unit.unit c.args.bracket.end c.loop-unit.classes (λ h. omega arith) (omega arith) c.loop-unit.invariant.1 c.loop-unit.invariant.0

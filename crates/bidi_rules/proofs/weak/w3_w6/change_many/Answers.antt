@@ -1,28 +1,18 @@
-use Rattle.bidi_base.proofs.Common.{◌≢◌, ◌<◌, length, ◌∙◌, inl, inr, arith, get_or-set_same, get_or-set_other, cases_eq}
+use Rattle.bidi_base.proofs.Common.{true, refl, arith}
 use Rattle.bidi_base.specs.declared.char_data.BidiClass.TheVariants.{L}
+use Rattle.bidi_base.proofs.UpdatedLemmas.{IsUpdated-set, IsUpdated-end}
+use Rattle.bidi_rules.specs.WeakPass.{left_over}
 use Rattle.bidi_rules.proofs.weak.w3_w6.change_many.Goals as goal
 
 pub loop-unit-preserved : goal.loop-unit-preserved
-loop-unit-preserved g c =
-    let i = c.loop-unit.unit in
-    let now = c.loop-unit.classes in
-    let new = c.left_over.result in
-    let s = c.loop-unit.invariant in
-    let within : i < length now = omega (arith, c.requires, c.loop-unit.auto.classes) in
-    record {
-      changed = λ u from below ends. elim (cases_eq u i) [
-        | inl here ↦ grind (arith, get_or-set_same)
-        | inr other ↦ get_or-set_other now i u new L other ∙ s.changed u from (omega arith) ends
-      ];
-      below = λ u low. let other : u ≢ i = omega arith in get_or-set_other now i u new L other ∙ s.below u low;
-      rest = λ u high. grind (arith, get_or-set_other);
-      steps = omega arith;
-      none = λ empty. absurd (omega arith);
-      past = λ u high. let other : u ≢ i = omega arith in get_or-set_other now i u new L other ∙ s.past u high;
-    }
+loop-unit-preserved g c = record {
+  changed = IsUpdated-set L (λ u. true) left_over c.args.start c.args.classes.now c.loop-unit.unit c.loop-unit.classes c.left_over.result (omega arith) (omega (arith, c.requires)) refl c.left_over.ensures c.loop-unit.invariant.changed;
+  steps = omega arith;
+  none = λ empty. absurd (omega arith);
+}
 
 pub returns : goal.returns
 returns g c = record {
-  changed = record { changed = λ u from to. grind arith; below = λ u low. grind arith; above = λ u high. grind arith };
+  changed = IsUpdated-end L (λ u. true) left_over c.args.start c.args.classes.now c.loop-unit.unit c.args.end c.loop-unit.classes (λ h. omega arith) (omega arith) (λ empty. (c.loop-unit.invariant.none empty).0) c.loop-unit.invariant.changed;
   steps = grind arith;
 }

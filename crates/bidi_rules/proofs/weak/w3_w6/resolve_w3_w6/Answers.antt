@@ -1,10 +1,10 @@
-use Rattle.bidi_base.proofs.Common.{◌≡◌, ◌+◌, ◌-◌, ◌<◌, ◌≤◌, ℕ, List, true, length, map, take, get_or, ap, arith, common_steps, get_or-map, length-map, take_all, bounds, are_ordered, units_in_runs}
+use Rattle.bidi_base.proofs.Common.{◌≡◌, ◌+◌, ◌-◌, ◌<◌, ◌≤◌, ℕ, List, true, length, map, take, get_or, ap, arith, get_or-map, length-map, take_all, bounds, are_ordered, units_in_runs}
 use Rattle.bidi_base.specs.declared.char_data.BidiClass.{BidiClass}
 use Rattle.bidi_rules.specs.WeakPass.{left_over}
 use Rattle.bidi_rules.proofs.CountedUnits.{length-units_in_runs-more}
 use Rattle.bidi_explicit.proofs.InRuns.{run_some}
 use Rattle.bidi_explicit.proofs.WalkLemmas.{no_range}
-use Rattle.bidi_explicit.proofs.RunOf.{changed-more, run_end}
+use Rattle.bidi_explicit.proofs.RunOf.{updated-more, updated-all, run_end}
 use Rattle.bidi_rules.proofs.weak.w3_w6.resolve_w3_w6.Goals as goal
 
 -- a class that has changed stays
@@ -29,15 +29,14 @@ loop-run-preserved g c =
     let from_is = ap (λ (r : ℕ × ℕ). r.0) here in
     let to_is = ap (λ (r : ℕ × ℕ). r.1) here in
     let turns = units_more (map bounds runs) i _ _ c.requires.ordered (omega arith) from_is to_is in
-    let done = changed-more left_over left_over-twice (map bounds runs) i c.args.classes.now c.loop-run.classes c.change_run.new.classes (omega arith) c.loop-run.invariant.changed c.loop-run.invariant.same
-    (λ u from to. c.change_run.ensures.changed.changed u (omega (arith, from_is)) (omega (arith, to_is))) (λ u out. grind (arith, common_steps)) in
-    grind (arith, done, turns, c.change_run.ensures.steps)
+    record {
+      changed = updated-more left_over left_over-twice runs i c.args.classes.now c.loop-run.classes c.change_run.new.classes c.loop-run-test.true c.requires.within c.loop-run.invariant.changed c.change_run.ensures.changed;
+      steps_at_least = grind (arith, turns, c.change_run.ensures.steps);
+      steps_at_most = grind (arith, turns, c.change_run.ensures.steps);
+    }
 
 pub returns-clause-changed : goal.returns-clause-changed
-returns-clause-changed g c = grind (arith, length-map, take_all)
-
-pub returns-clause-outside : goal.returns-clause-outside
-returns-clause-outside g c = grind (arith, length-map, take_all)
+returns-clause-changed g c = updated-all left_over c.args.runs.now c.loop-run.run-index c.args.classes.now c.loop-run.classes c.loop-run-test.false c.loop-run.invariant.changed
 
 -- all runs came
 all_runs : (i : ℕ) (runs : List (ℕ × ℕ)) → length runs ≤ i → length (units_in_runs (take i runs)) ≡ length (units_in_runs runs)

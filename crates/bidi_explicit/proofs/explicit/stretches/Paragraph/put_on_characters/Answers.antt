@@ -20,7 +20,7 @@ pub write_class-requires-clause-ordered : goal.write_class-requires-clause-order
 write_class-requires-clause-ordered g c = omega (arith, next g (goal.at.write_class-requires-clause-ordered g c).After-end_of-next)
 
 pub write_class-requires-clause-within : goal.write_class-requires-clause-within
-write_class-requires-clause-within g c = omega (arith, next g (goal.at.write_class-requires-clause-within g c).After-end_of-next, c.loop-at.invariant.2.long, c.requires.same_len, c.requires.within)
+write_class-requires-clause-within g c = omega (arith, next g (goal.at.write_class-requires-clause-within g c).After-end_of-next, c.loop-at.invariant.2.same_len, c.requires.same_len, c.requires.within)
 
 pub loop-at-init : goal.loop-at-init
 loop-at-init g c = grind arith steps 400000
