@@ -1,81 +1,37 @@
 //! Lines that are displayed differently from how they read.
 ghost use Rattle.std.specs.Prelude.{◌≡◌, ◌<◌, All, length, OnOk, IfOk};
 ghost use Rattle.bidi_base.specs.Order.{visual_order, IsVisualOrder};
-ghost use Rattle.bidi_base.specs.Indexes.{at_indexes, first_or};
+ghost use Rattle.bidi_base.specs.Indexes.{at_indexes};
 ghost use Rattle.bidi_controls.specs.Displayed.{displayed_levels, displayed_order, displayed, displayed_text, visible_ascii, are_same};
 ghost use Rattle.bidi_controls.specs.Displayed.{without_controls as without_controls_of, has_control as has_control_of};
 ghost use Rattle.bidi_controls.specs.Displayed.{is_reordered as is_reordered_by, is_displayed_differently as is_displayed_differently_by};
 ghost use Rattle.bidi_terminal.specs.Bases.{level_of_base};
-ghost use Rattle.unicode_bidi.specs.ParagraphInfo.{levels_of};
 
 use crate::unmatched::is_control;
-use bidi_base::char_data::BidiClass;
 use bidi_base::data_source::BidiDataSource;
-use bidi_base::level::{LTR_LEVEL, Level};
+use bidi_base::level::Level;
 use bidi_lines::line_levels::reset_levels;
 use bidi_lines::visual_order::write_visual_order;
 use bidi_terminal::Base;
 use bidi_text::text::CharsText;
 use std::alloc::{AllocError, Global};
-use unicode_bidi::ParagraphInfo;
-use unicode_bidi::engine::Analyser;
+use unicode_bidi::engine::ParagraphAnalysis;
 
-/// Returns the level of the first paragraph, or 0 if there is none.
-pub fn first_level(paragraphs: &[ParagraphInfo]) -> Level
-    ensures { result ≡ first_or 0 (levels_of paragraphs.now) }
+// Finds the levels of a line's characters after L1, in place of the stored ones.
+fn find_levels<D: BidiDataSource>(
+    alloc: Global,
+    analysis: &mut ParagraphAnalysis,
+    data_source: &D,
+    base: Base,
+    line: &[char],
+) -> Result<(), AllocError>
+    ensures { OnOk result (analysis.new.levels.items
+        ≡ displayed_levels (D.source data_source.now) (level_of_base base) line.now) }
 {
-    match paragraphs {
-        [first, ..] => first.level(),
-        [] => LTR_LEVEL,
-    }
-}
-
-// The levels of a line's characters. Takes one line after another, and reuses its memory.
-#[derive(Drop)]
-struct CharLevels {
-    analyser: Analyser,
-    // One entry for each character of the line.
-    classes: Vec<BidiClass>,
-    levels: Vec<Level>,
-}
-
-impl CharLevels {
-    // Returns the levels of an empty line. Allocates nothing.
-    fn new(alloc: Global) -> CharLevels {
-        CharLevels {
-            analyser: Analyser::new(alloc),
-            classes: Vec::new(alloc),
-            levels: Vec::new(alloc),
-        }
-    }
-
-    // Finds the levels of a line's characters after L1.
-    fn find<D: BidiDataSource>(
-        &mut self,
-        alloc: Global,
-        data_source: &D,
-        base: Base,
-        line: &[char],
-    ) -> Result<(), AllocError>
-        ensures { OnOk result (self.new.levels.items
-            ≡ displayed_levels (D.source data_source.now) (level_of_base base) line.now) }
-    {
-        self.classes.resize(line.len(), BidiClass::L)?;
-        self.levels.resize(line.len(), LTR_LEVEL)?;
-        let text = CharsText::new(line);
-        self.analyser.analyse(
-            alloc,
-            data_source,
-            text,
-            base.level(),
-            None,
-            self.classes.as_mut_slice(),
-            self.levels.as_mut_slice(),
-        )?;
-        let level = first_level(self.analyser.paragraphs());
-        reset_levels(level, self.classes.as_slice(), self.levels.as_mut_slice());
-        Ok(())
-    }
+    analysis.find(alloc, data_source, CharsText::new(line), base.level())?;
+    let classes = analysis.classes.as_slice();
+    reset_levels(analysis.level, classes, analysis.levels.as_mut_slice());
+    Ok(())
 }
 
 // Replaces a list by the visual order of some levels (L2).
@@ -91,7 +47,8 @@ fn replace_order(levels: &[Level], order: &mut Vec<usize>) -> Result<(), AllocEr
 // The order in which a line is displayed. Takes one line after another, and reuses its memory.
 #[derive(Drop)]
 struct DisplayedOrder {
-    levels: CharLevels,
+    // One class and one level for each character of the line.
+    analysis: ParagraphAnalysis,
     // The indexes of the line's characters, from left to right.
     order: Vec<usize>,
 }
@@ -100,7 +57,7 @@ impl DisplayedOrder {
     // Returns the order of an empty line. Allocates nothing.
     fn new(alloc: Global) -> DisplayedOrder {
         DisplayedOrder {
-            levels: CharLevels::new(alloc),
+            analysis: ParagraphAnalysis::new(alloc),
             order: Vec::new(alloc),
         }
     }
@@ -117,8 +74,8 @@ impl DisplayedOrder {
             ≡ displayed_order (D.source data_source.now) (level_of_base base) line.now) }
         ensures indexes { OnOk result (All (λ index. index < length line.now) self.new.order.items) }
     {
-        self.levels.find(alloc, data_source, base, line)?;
-        replace_order(self.levels.levels.as_slice(), &mut self.order)?;
+        find_levels(alloc, &mut self.analysis, data_source, base, line)?;
+        replace_order(self.analysis.levels.as_slice(), &mut self.order)?;
         Ok(())
     }
 }

@@ -1,4 +1,3 @@
-mod AloneLemmas
 mod BlocksLemmas
 mod PagesLemmas
 mod PlacesLemmas

@@ -9,13 +9,12 @@ ghost use Rattle.bidi_explain.specs.Stages.{weak_in, neutral_in, written, row_of
 use bidi_base::char_data::BidiClass;
 use bidi_base::data_source::{BidiDataSource, BidiMatchedOpeningBracket};
 use bidi_base::level::Level;
-use bidi_controls::displayed::first_level;
 use bidi_lines::line_levels::levels_of_line;
 use bidi_lines::visual_order::{inverse, reorder_visual};
 use bidi_plain::plain::{self, Explicit, PlainSequence};
 use bidi_text::text::CharsText;
 use std::alloc::{AllocError, Global};
-use unicode_bidi::engine;
+use unicode_bidi::engine::ParagraphAnalysis;
 
 /// The result of each stage of the rules for a paragraph.
 ///
@@ -271,14 +270,14 @@ pub fn find_stages<D: BidiDataSource>(
     requires { IfSome base_level (λ level. level ≤ 125) }
     ensures { IfOk result (AreStages (D.source data_source.now) base_level chars.now) }
 {
-    let analysis = engine::analyse(alloc, data_source, CharsText::new(chars), base_level, false)?;
-    let level = first_level(analysis.paragraphs());
+    let mut analysis = ParagraphAnalysis::new(alloc);
+    analysis.find(alloc, data_source, CharsText::new(chars), base_level)?;
     stages_of(
         alloc,
         data_source,
-        level,
+        analysis.level,
         chars,
-        analysis.original_classes(),
-        analysis.levels(),
+        analysis.classes.as_slice(),
+        analysis.levels.as_slice(),
     )
 }

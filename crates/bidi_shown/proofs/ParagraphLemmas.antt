@@ -1,17 +1,15 @@
 -- The lines of an analysed paragraph are those of its characters.
-use Rattle.bidi_base.proofs.Common.{◌≡◌, ◌∙◌, ℕ, List, [], ◌∷◌, Option, None, Some, length, map, flat_map, refl, sym, ap, chars, len_utf8, IsUtf8, Source, Run, Range}
-use Rattle.bidi_base.proofs.Common.{run_of, paragraph_level, get_or, stored_classes, stored_levels, per_char, flat_map-map, encodes-chars, text_len, IsAnalysis}
+use Rattle.bidi_base.proofs.Common.{◌≡◌, ◌∙◌, ℕ, List, [], ◌∷◌, None, Some, length, map, flat_map, refl, sym, ap, chars, len_utf8, IsUtf8, Source, Run, Range}
+use Rattle.bidi_base.proofs.Common.{run_of, paragraph_level, stored_classes, stored_levels, per_char, flat_map-map, encodes-chars, text_len, IsAnalysis}
 use Rattle.bidi_base.specs.declared.char_data.BidiClass.{BidiClass}
 use Rattle.bidi_base.specs.declared.char_data.BidiClass.TheVariants.{L}
 use Rattle.bidi_laws.proofs.LevelLaws.{text_classes-one, text_levels-one}
-use Rattle.bidi_laws.proofs.OneParagraph.{para_level-one, whole-IsAnalysis}
+use Rattle.bidi_laws.proofs.OneParagraph.{para_level-one}
 use Rattle.bidi_columns.specs.Breaks.{lines_of_text}
 use Rattle.bidi_terminal.specs.Bases.{level_of_base}
 use Rattle.bidi_text.proofs.StrLemmas.{text_len-chars}
 use Rattle.bidi_visual.specs.Displayed.{shown_levels, shown_paragraph, shown_range, shown_ranges}
 use Rattle.bidi_visual.specs.declared.view.View.{View}
-use Rattle.bidi_paragraphs.specs.ParagraphInfo.{levels_of, ranges_of}
-use Rattle.bidi_paragraphs.specs.declared.paragraph_info.ParagraphInfo.{ParagraphInfo}
 use Rattle.bidi_shown.specs.Paragraph.{analysed, shown_in}
 
 module _ (source : Source) (view : View) (own : List ℕ) (classes : List BidiClass) (levels : List ℕ) (level : ℕ)
@@ -47,13 +45,3 @@ ranges-Some source width text utf8 = ap (lines_of_text source width) (sym (encod
 -- the whole text
 pub ranges-None : (source : Source) (text : List ℕ) → IsUtf8 text → (0, length text) ∷ [] ≡ shown_ranges source None (chars text)
 ranges-None source text utf8 = ap (λ n. (0, n) ∷ []) (sym (text_len-chars text utf8))
-
--- ---- a text that is analysed as one paragraph
-
-pub analysed-whole : (source : Source) (base_level : Option ℕ) (own : List ℕ) (classes : List BidiClass) (levels : List ℕ) (level : ℕ) (ps : List ParagraphInfo)
-    → IsAnalysis source base_level None (analysed own classes levels) (ranges_of ps) (levels_of ps) → level ≡ get_or (levels_of ps) 0 0
-    → IsAnalysis source base_level None (analysed own classes levels) ((0, text_len len_utf8 own) ∷ []) (level ∷ [])
-analysed-whole source base_level own classes levels level ps h is =
-    let one = para_level-one source base_level (analysed own classes levels) (ranges_of ps) (levels_of ps) h in
-    whole-IsAnalysis source base_level (analysed own classes levels) (ranges_of ps) (levels_of ps) h level
-    (one ∙ ap (λ l. l ∷ []) (sym (is ∙ ap (λ ls. get_or ls 0 0) one)))

@@ -10,19 +10,19 @@ use Rattle.bidi_base.specs.Text.{subrange}
 use Rattle.bidi_base.specs.declared.char_data.BidiClass.{BidiClass}
 use Rattle.bidi_visual.specs.Displayed.{tabbed_line}
 use Rattle.bidi_shown.specs.declared.paragraph.AnalysedParagraph.{AnalysedParagraph}
-use Rattle.bidi_shown.specs.declared.paragraph.Memory.{Memory}
+use Rattle.unicode_bidi.specs.declared.engine.ParagraphAnalysis.{ParagraphAnalysis}
 
 -- the characters of a text of UTF-8, with the class and the level of each byte
 abbrev pub analysed : List ℕ → List BidiClass → List ℕ → AnalysedText
 analysed chars classes levels = record { len_of = len_utf8; chars = chars; classes = classes; levels = levels }
 
--- the characters of the text that was analysed last
-abbrev pub analysed_in : Memory → List ℕ → AnalysedText
-analysed_in memory chars = analysed chars memory.classes.items memory.levels.items
+-- the same, by the analysis of the text
+abbrev pub analysed_in : ParagraphAnalysis → List ℕ → AnalysedText
+analysed_in analysis chars = analysed chars analysis.classes.items analysis.levels.items
 
 -- those of a paragraph with its analysis
 abbrev pub text_of : AnalysedParagraph → AnalysedText
-text_of paragraph = analysed_in paragraph.memory.now (chars paragraph.text.now)
+text_of paragraph = analysed_in paragraph.analysis.now (chars paragraph.text.now)
 
 -- a line of an analysed text as it is shown, from the level of its paragraph and its range of bytes
 abbrev pub shown_in : Source → Bool → AnalysedText → ℕ → Run → List ℕ

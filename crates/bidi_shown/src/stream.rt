@@ -7,10 +7,10 @@ ghost use Rattle.bidi_visual.specs.Displayed.{shown_text};
 ghost use Rattle.bidi_shown.specs.Faults.{ReportsBytes};
 ghost use Rattle.bidi_shown.specs.Streams.{whole_lines as whole_lines_of};
 
-use crate::paragraph::Memory;
 use crate::text::push_text;
 use bidi_visual::view::View;
 use std::alloc::{AllocError, Global};
+use unicode_bidi::engine::ParagraphAnalysis;
 
 /// Why a text is not shown to its end.
 #[derive(Clone, Copy, Debug, PartialEq, Drop)]
@@ -52,7 +52,7 @@ impl StreamFault {
 /// UTF-8 does not depend on its pieces.
 #[derive(Drop)]
 pub struct Stream {
-    memory: Memory,
+    memory: ParagraphAnalysis,
     pending: Vec<u8>,
     // The number of bytes that were shown.
     before: usize,
@@ -76,7 +76,7 @@ fn whole_lines(bytes: &[u8]) -> usize
 // Appends the lines of a text. If it is not UTF-8, appends the whole lines before the first byte that is not.
 fn show_bytes(
     alloc: Global,
-    memory: &mut Memory,
+    memory: &mut ParagraphAnalysis,
     view: View,
     bytes: &[u8],
     out: &mut String,
@@ -111,7 +111,7 @@ impl Stream {
         ensures whole { (view : View) → IsShownTo view (pending_of result) [] [] }
     {
         Stream {
-            memory: Memory::new(alloc),
+            memory: ParagraphAnalysis::new(alloc),
             pending: Vec::new(alloc),
             before: 0,
         }

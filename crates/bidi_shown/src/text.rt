@@ -4,19 +4,20 @@ ghost use Rattle.std.specs.Str.{chars, IsUtf8};
 ghost use Rattle.bidi_unicode.specs.Unicode.{unicode_source};
 ghost use Rattle.bidi_visual.specs.Displayed.{shown_text};
 
-use crate::paragraph::{Memory, push_paragraph};
+use crate::paragraph::push_paragraph;
 use bidi_unicode::UnicodeData;
 use bidi_visual::first::first_paragraph;
 use bidi_visual::printable::printable_len;
 use bidi_visual::view::View;
 use std::alloc::{AllocError, Global};
+use unicode_bidi::engine::ParagraphAnalysis;
 
 // Appends the lines at the start of a text: those that are shown unchanged, or those of the first paragraph. Returns
 // the rest of the text.
 fn push_first<'t>(
     alloc: Global,
     out: &mut String,
-    memory: &mut Memory,
+    memory: &mut ParagraphAnalysis,
     view: View,
     text: &'t str,
 ) -> Result<&'t str, AllocError>
@@ -44,7 +45,7 @@ fn push_first<'t>(
 pub fn push_text(
     alloc: Global,
     out: &mut String,
-    memory: &mut Memory,
+    memory: &mut ParagraphAnalysis,
     view: View,
     text: &str,
 ) -> Result<(), AllocError>

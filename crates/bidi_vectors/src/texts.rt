@@ -17,7 +17,7 @@ use bidi_vectors_format::source::Tables;
 use bidi_vectors_format::tally::Tally;
 use bidi_vectors_format::text::RowText;
 use std::alloc::Global;
-use unicode_bidi::engine::{Analyser, Analysis, analyse, analyse_with_rule};
+use unicode_bidi::engine::{Analyser, Analysis, ParagraphAnalysis, analyse, analyse_with_rule};
 use unicode_bidi::{BidiInfo, InitialInfo, ParagraphBidiInfo, ParagraphInfo, SplitRule, utf16};
 
 // A text without its levels: the class of each code unit, and the paragraphs.
@@ -149,6 +149,9 @@ impl Case<'_> {
             let analysis = analyse(self.alloc, self.source, text, base_of(self.row)?, split)?;
             self.check_analysis(text, &analysis, tally, "engine::analyse");
         }
+        if self.split == Split::Whole {
+            self.check_paragraph(text, tally)?;
+        }
         Ok(())
     }
 
@@ -185,6 +188,24 @@ impl Case<'_> {
         }
         .check(self, tally, call);
         self.check_levels(text, own_levels, tally, call);
+        Ok(())
+    }
+
+    // Compares what is found of a text that is one paragraph with the row, when it is analysed for the second time.
+    fn check_paragraph<T: TextSource>(&self, text: T, tally: &mut Tally) -> Result<(), RowFault> {
+        let (alloc, base) = (self.alloc, base_of(self.row)?);
+        let mut analysis = ParagraphAnalysis::new(alloc);
+        analysis.find(alloc, self.source, text, base)?;
+        analysis.find(alloc, self.source, text, base)?;
+        let whole = whole_of(text.len(), analysis.level);
+        let call = "ParagraphAnalysis::find";
+        Found {
+            text,
+            classes: analysis.classes.as_slice(),
+            paragraphs: whole.as_slice(),
+        }
+        .check(self, tally, call);
+        self.check_levels(text, analysis.levels.as_slice(), tally, call);
         Ok(())
     }
 

@@ -1,3 +1,4 @@
+pub mod AloneLemmas
 mod FoundLaws
 mod StoredOrder
 mod ParagraphUnits

@@ -1,6 +1,6 @@
 //! The classes, the paragraphs and the levels of a text in any encoding (P1 to I2), and the levels of a line (L1).
 
-ghost use Rattle.std.specs.Prelude.{◌≡◌, [], ◌≤◌, ◌++◌, length, map, take, drop, flat_map, All, OnOk, OnErr, IfOk, IfSome};
+ghost use Rattle.std.specs.Prelude.{◌≡◌, None, [], ◌∷◌, ◌≤◌, ◌++◌, length, map, take, drop, flat_map, All, OnOk, OnErr, IfOk, IfSome};
 ghost use Rattle.std.specs.Bool.{then_some};
 ghost use Rattle.bidi_base.specs.AnalysedText.{IsAnalysis, AreLevelsWithLine};
 ghost use Rattle.bidi_base.specs.Line.{levels_with_line as levels_with_line_of};
@@ -215,6 +215,62 @@ impl Analyser {
             levels,
         )?;
         self.found = found;
+        Ok(())
+    }
+}
+
+/// Analyses one text after another as one paragraph, and keeps the result in lists that are reused.
+#[derive(Drop)]
+pub struct ParagraphAnalysis {
+    analyser: Analyser,
+    /// The stored class of each code unit.
+    pub classes: Vec<BidiClass>,
+    /// The stored level of each code unit.
+    pub levels: Vec<Level>,
+    /// The paragraph level.
+    pub level: Level,
+}
+
+impl ParagraphAnalysis {
+    /// Returns the analysis of no text. Does not allocate.
+    pub fn new(alloc: Global) -> ParagraphAnalysis {
+        ParagraphAnalysis {
+            analyser: Analyser::new(alloc),
+            classes: Vec::new(alloc),
+            levels: Vec::new(alloc),
+            level: LTR_LEVEL,
+        }
+    }
+
+    /// Finds the level of a text that is one paragraph, and the class and the level of each character (P2 to I2).
+    ///
+    /// `base_level` is the paragraph level, at most 125. If it is `None`, the characters decide (P2, P3). The result
+    /// replaces that of the previous text. Reads the text a few times. If an allocation fails, the fields hold anything.
+    pub fn find<D: BidiDataSource, T: TextSource>(
+        &mut self,
+        alloc: Global,
+        data_source: &D,
+        text: T,
+        base_level: Option<Level>,
+    ) -> Result<(), AllocError>
+        requires { IfSome base_level (λ level. level ≤ 125) }
+        ensures { OnOk result (IsAnalysis (D.source data_source.now) base_level None
+            (with_lists (T.text text) self.new.classes.items self.new.levels.items) ((0, text_len (T.text text)) ∷ [])
+            (self.new.level ∷ [])) }
+    {
+        let len = text.len();
+        self.classes.resize(len, BidiClass::L)?;
+        self.levels.resize(len, LTR_LEVEL)?;
+        self.analyser.analyse(
+            alloc,
+            data_source,
+            text,
+            base_level,
+            None,
+            self.classes.as_mut_slice(),
+            self.levels.as_mut_slice(),
+        )?;
+        self.level = self.analyser.paragraphs()[0].level();
         Ok(())
     }
 }

@@ -16,19 +16,19 @@ IsUtf8-range bs r utf8 range = IsUtf8-between bs r.start r.end utf8 range.ordere
 
 pub slice_bounds-classes-end : goal.slice_bounds-classes-end
 slice_bounds-classes-end g c =
-    let a : AnalysedText = analysed_in c.args.paragraph.now.memory.now (chars c.args.paragraph.now.text.now) in
+    let a : AnalysedText = analysed_in c.args.paragraph.now.analysis.now (chars c.args.paragraph.now.text.now) in
     let line = IsLine-from c.args.paragraph.now.text.now c.args.line.now c.requires.utf8 c.requires.range in
     grind (
       arith,
-      same_len len_utf8 has_units (chars c.args.paragraph.now.text.now) c.args.paragraph.now.memory.now.level a.classes a.levels c.args.line.now c.requires.per_char.classes c.requires.per_char.levels line,
-      within len_utf8 has_units (chars c.args.paragraph.now.text.now) c.args.paragraph.now.memory.now.level a.classes a.levels c.args.line.now c.requires.per_char.classes c.requires.per_char.levels line,
+      same_len len_utf8 has_units (chars c.args.paragraph.now.text.now) c.args.paragraph.now.analysis.now.level a.classes a.levels c.args.line.now c.requires.per_char.classes c.requires.per_char.levels line,
+      within len_utf8 has_units (chars c.args.paragraph.now.text.now) c.args.paragraph.now.analysis.now.level a.classes a.levels c.args.line.now c.requires.per_char.classes c.requires.per_char.levels line,
     )
 
 pub slice_bounds-levels-end : goal.slice_bounds-levels-end
 slice_bounds-levels-end g c =
-    let a : AnalysedText = analysed_in c.args.paragraph.now.memory.now (chars c.args.paragraph.now.text.now) in
+    let a : AnalysedText = analysed_in c.args.paragraph.now.analysis.now (chars c.args.paragraph.now.text.now) in
     let line = IsLine-from c.args.paragraph.now.text.now c.args.line.now c.requires.utf8 c.requires.range in
-    grind (arith, within len_utf8 has_units (chars c.args.paragraph.now.text.now) c.args.paragraph.now.memory.now.level a.classes a.levels c.args.line.now c.requires.per_char.classes c.requires.per_char.levels line)
+    grind (arith, within len_utf8 has_units (chars c.args.paragraph.now.text.now) c.args.paragraph.now.analysis.now.level a.classes a.levels c.args.line.now c.requires.per_char.classes c.requires.per_char.levels line)
 
 -- the range is a line of the text
 is_line : (g : Over) (c : In_ok-show g) → IsLine len_utf8 (chars c.args.paragraph.now.text.now) c.args.line.now.start c.args.line.now.end
@@ -36,11 +36,11 @@ is_line g c = IsLine-from c.args.paragraph.now.text.now c.args.line.now c.requir
 
 -- the levels of its units
 shown : (g : Over) (c : In_ok-show g)
-    → AreLevelsOfLine (analysed_in c.args.paragraph.now.memory.now (chars c.args.paragraph.now.text.now)) c.args.paragraph.now.memory.now.level c.args.line.now (kept_levels c.show.new.self)
+    → AreLevelsOfLine (analysed_in c.args.paragraph.now.analysis.now (chars c.args.paragraph.now.text.now)) c.args.paragraph.now.analysis.now.level c.args.line.now (kept_levels c.show.new.self)
 shown g c =
-    let a : AnalysedText = analysed_in c.args.paragraph.now.memory.now (chars c.args.paragraph.now.text.now) in
-    let is : kept_levels c.show.new.self ≡ levels_of_line c.args.paragraph.now.memory.now.level a.classes a.levels c.args.line.now.start c.args.line.now.end = grind arith in
-    of_line len_utf8 has_units (chars c.args.paragraph.now.text.now) c.args.paragraph.now.memory.now.level a.classes a.levels c.args.line.now c.requires.per_char.classes c.requires.per_char.levels (is_line g c) (kept_levels c.show.new.self) is
+    let a : AnalysedText = analysed_in c.args.paragraph.now.analysis.now (chars c.args.paragraph.now.text.now) in
+    let is : kept_levels c.show.new.self ≡ levels_of_line c.args.paragraph.now.analysis.now.level a.classes a.levels c.args.line.now.start c.args.line.now.end = grind arith in
+    of_line len_utf8 has_units (chars c.args.paragraph.now.text.now) c.args.paragraph.now.analysis.now.level a.classes a.levels c.args.line.now c.requires.per_char.classes c.requires.per_char.levels (is_line g c) (kept_levels c.show.new.self) is
 
 -- its characters
 chars_of_line : (g : Over) (c : In_ok-show g) → chars c.range-part.result.now ≡ subrange len_utf8 (chars c.args.paragraph.now.text.now) c.args.line.now.start c.args.line.now.end
@@ -51,7 +51,7 @@ chars_of_line g c =
 pub keep_first_units-requires : goal.keep_first_units-requires
 keep_first_units-requires g c =
     let w = (goal.at.keep_first_units-requires g c).In_ok-show in
-    length-shown (analysed_in c.args.paragraph.now.memory.now (chars c.args.paragraph.now.text.now)) has_units c.args.paragraph.now.memory.now.level c.args.line.now (is_line g w) _ (shown g w)
+    length-shown (analysed_in c.args.paragraph.now.analysis.now (chars c.args.paragraph.now.text.now)) has_units c.args.paragraph.now.analysis.now.level c.args.line.now (is_line g w) _ (shown g w)
     ∙ sym (ap (text_len len_utf8) (ap chars c.new.ensures ∙ chars_of_line g w))
 
 pub push_text-requires : goal.push_text-requires
@@ -61,5 +61,5 @@ pub returns : goal.returns
 returns g c =
     let w = (goal.at.returns g c).In_ok-show in
     let here = chars_of_line g w in
-    let levels = per_char-shown (analysed_in c.args.paragraph.now.memory.now (chars c.args.paragraph.now.text.now)) has_units c.args.paragraph.now.memory.now.level c.args.line.now (is_line g w) _ (shown g w) in
+    let levels = per_char-shown (analysed_in c.args.paragraph.now.analysis.now (chars c.args.paragraph.now.text.now)) has_units c.args.paragraph.now.analysis.now.level c.args.line.now (is_line g w) _ (shown g w) in
     simp append_assoc at (rw (c.in_ok-push_text.ensures, c.as_slice-3.ensures, c.keep_first_units.ensures, c.new.ensures, here, levels) at c.in_ok-push_str.ensures.bytes)

@@ -1,4 +1,4 @@
--- A line that is analysed as one paragraph, as a list of characters.
+-- A list of characters that is analysed as one paragraph.
 use Rattle.bidi_base.proofs.Common.{◌≡◌, ℕ, List, length, map, Option, None, ap, ◌∙◌, arith, append-nil, length-map, IsAnalysis, paragraph_level}
 use Rattle.bidi_base.proofs.Common.{stored_classes, first_or, Source, stored_levels, text_classes, text_levels, paragraph_levels, one_unit}
 use Rattle.bidi_base.specs.declared.char_data.BidiClass.{BidiClass}
