@@ -62,7 +62,7 @@ pub use Rattle.bidi_base.specs.AnalysedText.{AnalysedText, AreParagraphs, IsAnal
 unfoldable pub use Rattle.bidi_base.specs.Brackets.{available, bracket_limit, bracket_pairs, closed_pairs, pairs_of, partner, with_closing}
 pub use Rattle.bidi_base.specs.Brackets.{AreNestedPairs, IsBehindOrWithin, bracket_at, counted_bracket, counted_brackets, is_available, is_closing, is_opening, is_same_bracket, is_taken}
 pub use Rattle.bidi_base.specs.Brackets.{max_open_brackets}
-pub use Rattle.bidi_base.specs.Classes.{as_direction, class_number, has_direction, is_al, is_embedding_initiator, is_en, is_et, is_isolate_initiator, is_kept, is_kept_in_place, is_l, is_l_or_r, is_ni, is_nsm}
+pub use Rattle.bidi_base.specs.Classes.{as_direction, class_count, class_number, has_direction, is_al, is_embedding_initiator, is_en, is_et, is_isolate_initiator, is_kept, is_kept_in_place, is_l, is_l_or_r, is_ni, is_nsm}
 pub use Rattle.bidi_base.specs.Classes.{is_opener, is_paragraph_separator, is_pdf, is_pdi, is_removed, is_strong, is_weak_resolved, same_class, stands_for, is_separator}
 unfoldable pub use Rattle.bidi_base.specs.Direction.{base_direction, direction_of_levels, full_base_direction}
 pub use Rattle.bidi_base.specs.Direction.{direction_by, is_pure_ltr, may_turn}

@@ -7,6 +7,9 @@ ghost use Rattle.bidi_base.specs.Line.{is_blank};
 
 use crate::char_data::BidiClass;
 
+/// How many classes there are.
+pub const CLASS_COUNT: usize = 23;
+
 /// Returns whether a class is strong: L, R or AL.
 pub fn is_strong(class: BidiClass) -> bool
     ensures { result ≡ is_strong class }

@@ -1,7 +1,7 @@
 -- Classes and levels that are equal along each character of a text are those that are equal within each.
 use Rattle.bidi_base.proofs.Common.{◌≡◌, ◌==◌, ℕ, zero, suc, ◌+◌, ◌-◌, ◌<◌, ◌≤◌, Bool, true, false, not, ◌&&◌, ◌↔◌, IsTrue, nat_tests, List, length, get_or, take, drop, map, refl, sym, ap, ◌∙◌}
 use Rattle.bidi_base.proofs.Common.{subst, inl, inr, arith, cases_Bool, cases_lt, eqb-true, list_all, length-map, length-take-le, get_or-map, get_or-range_with_len, range_with_len}
-use Rattle.bidi_base.proofs.Common.{text_len, is_per_char, is_boundary, class_number, zero-add, len_utf8, chars, IsUtf8, utf16_text, utf16_len, splits_pair}
+use Rattle.bidi_base.proofs.Common.{text_len, is_per_char, is_boundary, class_count, class_number, zero-add, len_utf8, chars, IsUtf8, utf16_text, utf16_len, splits_pair}
 use Rattle.bidi_base.proofs.Common.{is_character}
 use Rattle.std.proofs.lemmas.List.Sums.{AllPass-from_list_all}
 use Rattle.bidi_base.specs.declared.char_data.BidiClass.{BidiClass}
@@ -18,16 +18,16 @@ use Rattle.bidi_calls.proofs.EqualInside.{equal_inside_from_test, test_from_equa
 
 -- ---- numbers of classes tell classes apart
 
-numbered : (a : ℕ) → a < 23 → class_number (class_numbered a) ≡ a
+numbered : (a : ℕ) → a < class_count → class_number (class_numbered a) ≡ a
 unfolding class_numbered
 numbered a below =
-    let at : get_or (range_with_len 0 23) a 0 ≡ a = get_or-range_with_len 0 23 a 0 below ∙ zero-add a in
-    eqb-true _ _ (subst (λ n. (class_number (class_numbered n) == n) ≡ true) at (AllPass-from_list_all (λ n. class_number (class_numbered n) == n) (range_with_len 0 23) refl a 0 below))
+    let at : get_or (range_with_len 0 class_count) a 0 ≡ a = get_or-range_with_len 0 class_count a 0 below ∙ zero-add a in
+    eqb-true _ _ (subst (λ n. (class_number (class_numbered n) == n) ≡ true) at (AllPass-from_list_all (λ n. class_number (class_numbered n) == n) (range_with_len 0 class_count) refl a 0 below))
 
-same_number : (a b : ℕ) → a < 23 → b < 23 → class_numbered a ≡ class_numbered b → a ≡ b
+same_number : (a b : ℕ) → a < class_count → b < class_count → class_numbered a ≡ class_numbered b → a ≡ b
 same_number a b low high e = sym (numbered a low) ∙ ap class_number e ∙ numbered b high
 
-class_below : (ns : List ℕ) (k : ℕ) → k < length ns → list_all is_class ns ≡ true → get_or ns k 0 < 23
+class_below : (ns : List ℕ) (k : ℕ) → k < length ns → list_all is_class ns ≡ true → get_or ns k 0 < class_count
 class_below ns k within all = let e = AllPass-from_list_all is_class ns all k 0 within in grind (arith, nat_tests)
 
 -- ---- any encoding

@@ -4,6 +4,7 @@ use Rattle.bidi_base.specs.declared.char_data.BidiClass.{BidiClass}
 use Rattle.bidi_base.specs.declared.char_data.BidiClass.TheVariants.{L, R, AL, EN, ES, ET, AN, CS, NSM, BN, B, S, WS, ON, LRE, LRO, RLE, RLO, PDF, LRI, RLI, FSI, PDI}
 use Rattle.bidi_base.specs.declared.char_data.Direction.{Direction}
 use Rattle.bidi_base.specs.declared.char_data.Direction.TheVariants.{Ltr, Rtl, Mixed}
+use Rattle.bidi_base.specs.Classes.{class_count}
 use Rattle.bidi_base.specs.Direction.{base_direction, full_base_direction}
 use Rattle.bidi_base.specs.Paragraphs.{paragraphs_of, each_separator}
 use Rattle.bidi_base.specs.Source.{Source}
@@ -12,7 +13,7 @@ use Rattle.bidi_base.specs.declared.split_rule.SplitRule.TheVariants.{EachSepara
 
 -- the number is that of a class
 abbrev pub is_class : ℕ → Bool
-is_class n = nat_lt n 23
+is_class n = nat_lt n class_count
 
 -- the class of such a number, and PDI for any other
 unfoldable pub class_numbered : ℕ → BidiClass

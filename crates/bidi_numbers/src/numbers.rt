@@ -8,6 +8,7 @@ ghost use Rattle.bidi_numbers.specs.Numbers.{class_numbered, is_class, base_of, 
 
 use crate::fault::{Fault, check};
 use bidi_base::char_data::BidiClass;
+use bidi_base::classes::CLASS_COUNT;
 use bidi_base::level::Level;
 use bidi_base::search::{Tested, first_passing};
 use bidi_base::split_rule::SplitRule;
@@ -16,7 +17,7 @@ use bidi_base::split_rule::SplitRule;
 const AUTO: u8 = 255;
 
 /// The number of classes.
-pub(crate) const CLASSES: u8 = 23;
+pub(crate) const CLASSES: u8 = CLASS_COUNT as u8;
 
 /// Returns the number of a class.
 pub fn number_of(class: BidiClass) -> u8

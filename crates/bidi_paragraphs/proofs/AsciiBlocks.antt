@@ -1,5 +1,5 @@
 -- A block of ASCII characters whose classes are looked up and written one after another.
-use Rattle.bidi_base.proofs.Common.{◌≡◌, ◌∙◌, ℕ, ◌+◌, ◌^◌, ◌<◌, zero, suc, true, false, subst, List, length, take, get_or, set, refl, sym, ap, inl, inr, arith, add-one, cases_eq, class_at, Source}
+use Rattle.bidi_base.proofs.Common.{◌≡◌, ◌∙◌, ℕ, ◌+◌, ◌^◌, ◌<◌, zero, suc, true, false, subst, List, length, take, get_or, set, refl, sym, ap, inl, inr, arith, add-one, cases_eq, class_at, class_count, Source}
 use Rattle.bidi_base.proofs.Common.{take-set-le, get_or-set_other, get_or-set_same}
 use Rattle.bidi_base.specs.declared.char_data.BidiClass.{BidiClass}
 use Rattle.bidi_base.specs.declared.char_data.BidiClass.TheVariants.{L}
@@ -26,7 +26,7 @@ module _ (source : Source) (block : List ℕ) where
     | inr other ↦ has_more (set_of_first source block n) (source.class_of (get_or block n 0)) _ (set_of_first-has n k (omega (arith, below, other)))
   ]
 
-  pub set_of_first-small : (n : ℕ) → (set_of_first source block n).bits < 2 ^ 23
+  pub set_of_first-small : (n : ℕ) → (set_of_first source block n).bits < 2 ^ class_count
   set_of_first-small zero = omega arith
   set_of_first-small (suc n) = with-small (set_of_first source block n) (source.class_of (get_or block n 0)) (set_of_first-small n)
 
@@ -61,8 +61,8 @@ pub record IsBlockPassed (source : Source) (block : List ℕ) (stop_classes : Cl
   pub are : AreSought sought stop_classes new
 
 module _ (source : Source) (block : List ℕ) (stop_classes : ClassSet) (flags : ParagraphFlags) (found : ClassSet) (found_is : found ≡ set_of_first source block 16) where
-  pub found-small : found.bits < 2 ^ 23
-  found-small = subst (λ (set : ClassSet). set.bits < 2 ^ 23) (sym found_is) (set_of_first-small source block 16)
+  pub found-small : found.bits < 2 ^ class_count
+  found-small = subst (λ (set : ClassSet). set.bits < 2 ^ class_count) (sym found_is) (set_of_first-small source block 16)
 
   apart : (set : ClassSet) → any_of set (has found) ≡ false → (k : ℕ) → k < 16 → has set (source.class_of (get_or block k 0)) ≡ false
   apart set none k below =

@@ -1,6 +1,6 @@
 -- Sets of classes: what is in them, and which tests of what is in them agree.
 use Rattle.bidi_base.proofs.Common.{◌≡◌, ℕ, ◌^◌, ◌<◌, ◌≢◌, bit_or, Bool, true, false, not, ◌==◌, ◌&&◌, ◌||◌, List, [], ◌∷◌, get_or, refl, arith, inl, inr, common_steps, list_any, cases_Bool}
-use Rattle.bidi_base.proofs.Common.{cases_lt, both_ways, false_from_ne_true, list_any_none, list_any_at, class_number, same_class, bit_and, bit_at, bit_at_or, bit_at_and, bit_at-zero}
+use Rattle.bidi_base.proofs.Common.{cases_lt, both_ways, false_from_ne_true, list_any_none, list_any_at, class_count, class_number, same_class, bit_and, bit_at, bit_at_or, bit_at_and, bit_at-zero}
 use Rattle.bidi_base.proofs.Common.{bit_at-pow_other, bit_at-lt, same_from_bits}
 use Rattle.std.proofs.Common.{bit_xor}
 use Rattle.std.proofs.Math.Nat.{min-zero}
@@ -40,7 +40,7 @@ any_of-empty test = refl
 
 -- ---- what two sets share
 
-class_of_number : (k : ℕ) → k < 23 → class_number (get_or every_class k L) ≡ k
+class_of_number : (k : ℕ) → k < class_count → class_number (get_or every_class k L) ≡ k
 class_of_number k below = grind arith
 
 module _ (a b : ClassSet) where
@@ -50,15 +50,15 @@ module _ (a b : ClassSet) where
   none_of : bit_and a.bits b.bits ≡ 0 → (c : BidiClass) → (has a c && has b c) ≡ false
   none_of none c = simp (← bit_of_both c, none, bit_at-zero)
 
-module _ (a b : ClassSet) (small : b.bits < 2 ^ 23) where
+module _ (a b : ClassSet) (small : b.bits < 2 ^ class_count) where
   -- a bit of both is that of a class
   no_bit : list_any (λ c. has a c && has b c) every_class ≡ false → (k : ℕ) → bit_at (bit_and a.bits b.bits) k ≡ bit_at 0 k
-  no_bit none k = elim (cases_lt k 23) [
+  no_bit none k = elim (cases_lt k class_count) [
     | inl below ↦
         let c = get_or every_class k L in
         let none_here = false_from_ne_true (has a c && has b c) (λ some. both_ways _ none (list_any_at (λ d. has a d && has b d) every_class k L below some)) in
         grind (arith, class_of_number k below, bit_of_both a b c, none_here, bit_at-lt, bit_at-zero)
-    | inr past ↦ simp (bit_at_and, bit_at_above b.bits 23 k small past, bit_at-zero, min-zero)
+    | inr past ↦ simp (bit_at_and, bit_at_above b.bits class_count k small past, bit_at-zero, min-zero)
   ]
 
   -- the bits of both are none exactly if no class is in both
@@ -80,8 +80,8 @@ pub without_has : (a b : ClassSet) (c : BidiClass) → (bit_at (bit_xor a.bits (
 without_has a b c = grind (arith, bit_at_xor, bit_at_and)
 
 -- one more class keeps the bits below those of other classes
-pub with-small : (set : ClassSet) (c : BidiClass) → set.bits < 2 ^ 23 → (with set c).bits < 2 ^ 23
-with-small set c small = or_lt 23 set.bits (2 ^ class_number c) small (grind arith)
+pub with-small : (set : ClassSet) (c : BidiClass) → set.bits < 2 ^ class_count → (with set c).bits < 2 ^ class_count
+with-small set c small = or_lt class_count set.bits (2 ^ class_number c) small (grind arith)
 
 -- a class that is there already
 pub with-same : (set : ClassSet) (c : BidiClass) → has set c ≡ true → with set c ≡ set

@@ -2,7 +2,7 @@
 use Rattle.std.specs.Prelude.{ℕ, ◌+◌, ◌-◌, ◌^◌, Bool, true, false, not, ◌&&◌, if◌then◌else◌, List, [], ◌∷◌, map}
 use Rattle.bidi_base.specs.declared.char_data.BidiClass.{BidiClass}
 use Rattle.bidi_base.specs.declared.char_data.BidiClass.TheVariants.{ES, ET, CS, NSM, B, S, WS, ON, PDI}
-use Rattle.bidi_base.specs.Classes.{class_number}
+use Rattle.bidi_base.specs.Classes.{class_count, class_number}
 use Rattle.bidi_base.specs.Source.{Source}
 use Rattle.bidi_paragraphs.specs.ClassSet.{has, with, both, either}
 use Rattle.bidi_paragraphs.specs.declared.class_set.ClassSet.{ClassSet}
@@ -29,7 +29,7 @@ is_missing flags c = is_counted c && not (has flags.seen c)
 abbrev pub counted_set : ClassSet
 counted_set =
     let others = 2 ^ class_number ES + 2 ^ class_number ET + 2 ^ class_number CS + 2 ^ class_number NSM + 2 ^ class_number S + 2 ^ class_number WS + 2 ^ class_number ON + 2 ^ class_number B + 2 ^ class_number PDI in
-    record { bits = 2 ^ 23 - 1 - others }
+    record { bits = 2 ^ class_count - 1 - others }
 
 -- the flags with those of some more characters, given by the set of their classes
 abbrev pub with_set : ParagraphFlags → ClassSet → ParagraphFlags

@@ -1,5 +1,6 @@
 //! Sets of classes.
 ghost use Rattle.std.specs.Prelude.{◌≡◌, ◌<◌, ◌^◌, not, ◌&&◌, ◌||◌};
+ghost use Rattle.bidi_base.specs.Classes.{class_count};
 ghost use Rattle.bidi_base.specs.declared.char_data.BidiClass.{BidiClass};
 ghost use Rattle.bidi_paragraphs.specs.ClassSet.{has, with, both, either, any_of};
 
@@ -130,7 +131,7 @@ impl ClassSet {
     /// Returns whether some class is in both sets. `other` must have no bits but those of classes.
     #[tactic(auto, using(crate::proofs::ClassSets::intersects_any))]
     pub(crate) fn intersects(self, other: ClassSet) -> bool
-        requires { other.bits < 2 ^ 23 }
+        requires { other.bits < 2 ^ class_count }
         ensures { result ≡ any_of self (has other) }
     {
         self.bits & other.bits != 0

@@ -7,11 +7,12 @@ use bidi_base::char_data::BidiClass::{
     self, AL, AN, B, BN, CS, EN, ES, ET, FSI, L, LRE, LRI, LRO, NSM, ON, PDF, PDI, R, RLE, RLI,
     RLO, S, WS,
 };
+use bidi_base::classes::CLASS_COUNT;
 use std::alloc::Global;
 
 /// The name of each class, and a character that has it in the sample table.
 #[rattlefmt::skip]
-static CLASSES: [(&str, BidiClass, char); 23] = [
+static CLASSES: [(&str, BidiClass, char); CLASS_COUNT] = [
     ("L", L, 'a'), ("R", R, '\u{5D0}'), ("AL", AL, '\u{627}'), ("EN", EN, '1'), ("ES", ES, '+'), ("ET", ET, '$'),
     ("AN", AN, '\u{660}'), ("CS", CS, ','), ("NSM", NSM, '\u{301}'), ("BN", BN, '\u{AD}'), ("B", B, '\u{2029}'),
     ("S", S, '\t'), ("WS", WS, ' '), ("ON", ON, '!'), ("LRE", LRE, '\u{202A}'), ("LRO", LRO, '\u{202D}'),
