@@ -49,14 +49,18 @@ pub record CanResolveWeakTypes (len_of : ℕ → ℕ) (chars : List ℕ) (runs :
   pub per_char : HaveClass len_of chars old
   pub are_lines : AreLines len_of chars runs
 
--- W1 to W7 are done: the sequence's characters have the classes of the rules, BN stays BN, and nothing outside the runs
--- changes
-pub record AreWeakTypesResolved (len_of : ℕ → ℕ) (chars : List ℕ) (runs : List (ℕ × ℕ)) (sos : BidiClass)
-    (old new : List BidiClass) : Type 0 where
-  pub kept : classes_in len_of chars runs old new ≡ weak_classes sos (classes_in len_of chars runs old old)
+-- what each pass over a sequence keeps: BN stays BN, nothing outside the runs changes, and the code units of each
+-- character have one class
+pub record IsInPlace (len_of : ℕ → ℕ) (chars : List ℕ) (runs : List (ℕ × ℕ)) (old new : List BidiClass) : Type 0 where
   pub removed : (u : ℕ) → class_at old u ≡ BN → class_at new u ≡ BN
   pub outside : (u : ℕ) → in_runs runs u ≡ false → class_at new u ≡ class_at old u
   pub per_char : HaveClass len_of chars new
+
+-- W1 to W7 are done: the sequence's characters have the classes of the rules
+pub record AreWeakTypesResolved (len_of : ℕ → ℕ) (chars : List ℕ) (runs : List (ℕ × ℕ)) (sos : BidiClass)
+    (old new : List BidiClass) : Type 0 where
+  pub kept : classes_in len_of chars runs old new ≡ weak_classes sos (classes_in len_of chars runs old old)
+  pub in_place : IsInPlace len_of chars runs old new
 
 -- what CanResolveWeakTypes requires, a level and a stored class for each code unit, and only classes that there can be
 -- after W7
@@ -81,9 +85,7 @@ pub record AreNeutralsResolved (len_of : ℕ → ℕ) (chars : List ℕ) (source
     (sos eos : BidiClass) (level_units : List ℕ) (original_classes old new : List BidiClass) : Type 0 where
   pub kept : classes_in len_of chars runs old new
       ≡ neutral_classes_in len_of chars source runs sos eos level_units original_classes old
-  pub removed : (u : ℕ) → class_at old u ≡ BN → class_at new u ≡ BN
-  pub outside : (u : ℕ) → in_runs runs u ≡ false → class_at new u ≡ class_at old u
-  pub per_char : HaveClass len_of chars new
+  pub in_place : IsInPlace len_of chars runs old new
 
 -- N0 and N1 are done: after N2, which changes no level, the classes would be those of the rules
 pub record AreNeutralsResolvedUpToN1 (len_of : ℕ → ℕ) (chars : List ℕ) (source : Source) (runs : List (ℕ × ℕ))
@@ -91,9 +93,7 @@ pub record AreNeutralsResolvedUpToN1 (len_of : ℕ → ℕ) (chars : List ℕ) (
   pub kept : let places = map (unit_index len_of chars) (kept_in_place len_of chars old runs) in
       map (n2_rule (direction_of (level_at level_units (first_or 0 places)))) (at_indexes L new places)
       ≡ neutral_classes_in len_of chars source runs sos eos level_units original_classes old
-  pub removed : (u : ℕ) → class_at old u ≡ BN → class_at new u ≡ BN
-  pub outside : (u : ℕ) → in_runs runs u ≡ false → class_at new u ≡ class_at old u
-  pub per_char : HaveClass len_of chars new
+  pub in_place : IsInPlace len_of chars runs old new
 
 -- a call that succeeds did its work, and a call that returns an error left these classes unchanged
 pub record IsDoneOrUnchanged {A E : Type 0} (result : Result A E) (done : Type 0) (old new : List BidiClass) : Type 0 where

@@ -1,8 +1,13 @@
--- The units of the characters of a text: lines take all of one or none, and what is equal within each.
-use Rattle.bidi_base.proofs.Common.{◌≡◌, ℕ, zero, suc, ◌+◌, ◌-◌, ◌<◌, ◌≤◌, ◌||◌, true, false, List, [], ◌∷◌, length, get_or, take, None, refl, ap, ◌∙◌, arith, inl, inr, cases_lt, both_ways, or_cases}
-use Rattle.bidi_base.proofs.Common.{sum_by-cons, ext_get_or, All-head, All-tail, class_at, text_len, unit_index, char_at, IsLine, char_index, per_unit, per_char, IsPerChar, in_runs, AreLines}
+-- The units of the characters of a text: lines take all of one or none, what is equal within each, and updates of lines.
+use Rattle.bidi_base.proofs.Common.{◌≡◌, ℕ, zero, suc, ◌+◌, ◌-◌, ◌<◌, ◌≤◌, ◌||◌, true, false, List, [], ◌∷◌, length, get_or, take, None, refl, sym, ap, ◌∙◌, arith, inl, inr, cases_Bool, cases_lt, both_ways, or_cases}
+use Rattle.bidi_base.proofs.Common.{sum_by-cons, ext_get_or, All-head, All-tail, class_at, text_len, unit_index, char_at, IsLine, char_index, per_unit, per_char, is_per_char, IsPerChar, in_runs, AreLines}
 use Rattle.bidi_base.specs.declared.char_data.BidiClass.{BidiClass}
-use Rattle.bidi_base.specs.declared.char_data.BidiClass.TheVariants.{L}
+use Rattle.bidi_base.specs.declared.char_data.BidiClass.TheVariants.{L, BN}
+use Rattle.bidi_base.specs.InPlace.{IsInPlace}
+use Rattle.bidi_base.specs.Updated.{IsUpdated}
+use Rattle.bidi_text.proofs.PerCharTests.{class_eq, class_test}
+use Rattle.bidi_base.proofs.UnitsLemmas.{IsPerChar-from_is_per_char, is_per_char-from_IsPerChar, length-from_IsPerChar}
+use Rattle.bidi_base.proofs.UpdatedLemmas.{IsUpdated-passing}
 use Rattle.bidi_base.proofs.TextLemmas.{HasUnits, is_boundary-le}
 use Rattle.bidi_base.proofs.UnitIndexLemmas.{unit_index-more, unit_index-mono, line_unit_indexes, unit_of}
 use Rattle.bidi_base.proofs.PerUnit.{length-per_unit, length-per_char, get_or-per_unit, get_or-per_char}
@@ -78,3 +83,31 @@ module _ (len_of : ℕ → ℕ) (h : HasUnits len_of) (chars : List ℕ) where
         let first : unit_index len_of chars k ≡ unit_index len_of chars k + 0 = omega arith in
         let value = λ (i : ℕ) (short : i < len_of (get_or chars k 0)). get_or-per_unit len_of chars per.0 k i 0 L per.1 fits short in
         cc (at, first, value (u - unit_index len_of chars k) (omega arith), value 0 (omega (arith, h (get_or chars k 0))), per.2)
+
+-- an update of all code units of some runs, by what keeps BN
+pub IsInPlace-updated : (len_of : ℕ → ℕ) (h : HasUnits len_of) (chars : List ℕ) (runs : List (ℕ × ℕ)) → AreLines len_of chars runs → (f : BidiClass → BidiClass) → f L ≡ L → f BN ≡ BN
+    → (old new : List BidiClass) → is_per_char class_eq len_of chars old ≡ true → IsUpdated L (in_runs runs) f 0 (length old) old new → IsInPlace len_of chars runs old new
+IsInPlace-updated len_of h chars runs lines f past hides old new even w = record {
+  removed = λ u gone. elim (cases_Bool (in_runs runs u)) [
+    | inl within ↦ changed u within ∙ (ap f gone ∙ hides)
+    | inr out ↦ w.failing u out ∙ gone
+  ];
+  outside = w.failing;
+  per_char = is_per_char-from_IsPerChar class_eq class_test len_of chars new (IsPerChar-alike len_of chars new (w.same_len ∙ length-from_IsPerChar len_of chars old per) each);
+}
+  where
+    changed : (u : ℕ) → in_runs runs u ≡ true → class_at new u ≡ f (class_at old u)
+    changed = IsUpdated-passing L (in_runs runs) f old new past w
+
+    per : IsPerChar len_of chars old
+    per = IsPerChar-from_is_per_char class_eq class_test len_of h chars old even
+
+    each : (k : ℕ) → k < length chars → (u : ℕ) → unit_index len_of chars k ≤ u → u < unit_index len_of chars (k + 1) → class_at new u ≡ class_at new (unit_index len_of chars k)
+    each k fits u from below =
+        let first = unit_index len_of chars k in
+        let alike = in_runs-alike len_of h chars runs lines k u from below in
+        let same = alike_class len_of h chars old per k u fits from below in
+        elim (cases_Bool (in_runs runs first)) [
+          | inl within ↦ changed u (alike ∙ within) ∙ (ap f same ∙ sym (changed first within))
+          | inr out ↦ w.failing u (alike ∙ out) ∙ (same ∙ sym (w.failing first out))
+        ]

@@ -1,17 +1,18 @@
 -- Sequences whose levels can be read off their classes.
-use Rattle.bidi_base.proofs.Common.{◌≡◌, ℕ, zero, suc, ◌+◌, ◌-◌, ◌<◌, ◌≤◌, Bool, true, false, not, ◌&&◌, List, [], ◌∷◌, length, get_or, map, find, Some, refl, sym, ap, arith, nat_lt, All}
-use Rattle.bidi_base.proofs.Common.{list_all, cases_Bool, and_parts, and_from, All-head, All-tail, All-map, bounds, are_ordered, is_l_or_r, is_en, is_kept, is_nsm}
+use Rattle.bidi_base.proofs.Common.{◌≡◌, ℕ, zero, suc, ◌-◌, ◌<◌, ◌≤◌, Bool, true, false, not, ◌&&◌, List, [], ◌∷◌, length, get_or, map, find, Some, refl, sym, ap, arith, nat_lt, All}
+use Rattle.bidi_base.proofs.Common.{list_all, and_parts, and_from, All-head, All-tail, All-map, bounds, are_ordered, is_l_or_r, is_en, is_kept, is_nsm}
 use Rattle.bidi_base.proofs.Common.{is_kept_in_place, is_weak_resolved, in_context, w1_rule, w2_rule, w3_rule, w4_rule, w5_rule, w6_rule, w7_rule, weak_classes, class_at, at_indexes, text_len}
-use Rattle.bidi_base.proofs.Common.{unit_index, in_runs, units_in_runs, chars_in_runs, kept_in_place, AreLines, is_per_char, IsPerChar, ◌⊎◌, inl, inr, get_or_past, first_or, indexes, n0, n1_rule}
+use Rattle.bidi_base.proofs.Common.{unit_index, in_runs, units_in_runs, chars_in_runs, kept_in_place, AreLines, is_per_char, ◌⊎◌, inl, inr, get_or_past, first_or, indexes, n0, n1_rule}
 use Rattle.bidi_base.proofs.Common.{neutral_classes, ◌∙◌, level_at, direction_of, ◌==◌, filter_map, fold, Option, None, counted_brackets, bracket_at, with_closing, closed_pairs, bracket_limit}
 use Rattle.bidi_base.proofs.Common.{pairs_of, bracket_pairs}
 use Rattle.bidi_base.specs.declared.data_source.BidiMatchedOpeningBracket.{BidiMatchedOpeningBracket}
 use Rattle.bidi_base.specs.declared.char_data.BidiClass.{BidiClass}
-use Rattle.bidi_base.specs.declared.char_data.BidiClass.TheVariants.{L, AL, BN, EN, ES, ET, AN, CS, NSM, R}
+use Rattle.bidi_base.specs.declared.char_data.BidiClass.TheVariants.{L, AL, EN, ES, ET, AN, CS, NSM, R}
 use Rattle.bidi_base.proofs.TextLemmas.{HasUnits, is_boundary-le}
-use Rattle.bidi_base.proofs.UnitsLemmas.{IsPerChar-from_is_per_char, is_per_char-from_IsPerChar, length-from_IsPerChar}
+use Rattle.bidi_base.proofs.UnitsLemmas.{IsPerChar-from_is_per_char}
 use Rattle.bidi_base.proofs.UpdatedLemmas.{IsUpdated-passing}
-use Rattle.bidi_explicit.proofs.PassOverText.{IsPerChar-alike, alike_class, in_runs-alike}
+use Rattle.bidi_base.specs.InPlace.{IsInPlace}
+use Rattle.bidi_explicit.proofs.PassOverText.{IsInPlace-updated}
 use Rattle.bidi_text.proofs.PerCharTests.{class_eq, class_test}
 use Rattle.bidi_rules.proofs.FirstKept.{first_kept-is, first-Some}
 use Rattle.bidi_rules.proofs.NeutralUnits.{places_in_runs}
@@ -240,22 +241,5 @@ module _ (len_of : ℕ → ℕ) (h : HasUnits len_of) (chars : List ℕ) (s : Bo
         (GiveLevels-numbers (level_at levels (first_unit s)) (borrowed_sos s) (borrowed_eos s) source_classes brackets (at_indexes L classes places) (sym numbers.own) numbers.before kept
         (kept_pass (λ c. not (is_r_al_or_an c)) (λ u inside kept. ap not (numbers.along u inside))))
 
-    pub written-removed : (u : ℕ) → class_at classes u ≡ BN → class_at new u ≡ BN
-    written-removed u gone = grind (arith, cases_Bool (in_runs rs u), changed u, written.failing u)
-
-    pub written-per_char : is_per_char class_eq len_of chars new ≡ true
-    written-per_char = is_per_char-from_IsPerChar class_eq class_test len_of chars new (IsPerChar-alike len_of chars new (written.same_len ∙ length-from_IsPerChar len_of chars classes even) each)
-      where
-        even : IsPerChar len_of chars classes
-        even = IsPerChar-from_is_per_char class_eq class_test len_of h chars classes per
-
-        each : (k : ℕ) → k < length chars → (u : ℕ) → unit_index len_of chars k ≤ u → u < unit_index len_of chars (k + 1) → class_at new u ≡ class_at new (unit_index len_of chars k)
-        each k fits u from below =
-            grind (
-              arith,
-              in_runs-alike len_of h chars rs lines k u from below,
-              alike_class len_of h chars classes even k u fits from below,
-              cases_Bool (in_runs rs (unit_index len_of chars k)),
-              changed,
-              written.failing,
-            )
+    pub written-in_place : IsInPlace len_of chars rs classes new
+    written-in_place = IsInPlace-updated len_of h chars rs lines number_as_l refl refl classes new per written

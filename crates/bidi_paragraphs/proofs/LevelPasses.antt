@@ -2,12 +2,13 @@
 -- all are.
 use Rattle.bidi_base.proofs.Common.{◌≡◌, ℕ, Range, bounds, take_all, zero, suc, ◌+◌, ◌<◌, ◌≤◌, true, false, List, [], ◌∷◌, ◌++◌, length, get_or, take, map, Option, None, refl, sym, ap, ◌∙◌, arith}
 use Rattle.bidi_base.proofs.Common.{filter, list_all, length-map, get_or-map, get_or_default, get_or-append_seam, take-append_seam, length-append, map-append, is_kept, is_kept_in_place, is_l_or_r}
-use Rattle.bidi_base.proofs.Common.{length-replicate, nil_from_length, get_or-zip, length-zip, is_weak_resolved, class_at, at_indexes, first_or, stored_classes, explicit_levels, explicit_classes}
+use Rattle.bidi_base.proofs.Common.{length-replicate, nil_from_length, get_or-zip, length-zip, is_weak_resolved, at_indexes, first_or, stored_classes, explicit_levels, explicit_classes}
 use Rattle.bidi_base.proofs.Common.{processing_classes, RunSequence, level_at, has_places, sequences, weak_classes, direction_of, n2_rule, neutral_classes, implicit_level, AreResolved, text_len}
-use Rattle.bidi_base.proofs.Common.{unit_index, is_per_char, per_unit, per_char, AreLines, in_runs, kept_in_runs, kept_in_place, zip, replicate}
+use Rattle.bidi_base.proofs.Common.{unit_index, is_per_char, per_unit, per_char, AreLines, kept_in_runs, kept_in_place, zip, replicate}
 use Rattle.std.specs.List.{All}
+use Rattle.bidi_base.specs.InPlace.{IsInPlace}
 use Rattle.bidi_base.specs.declared.char_data.BidiClass.{BidiClass}
-use Rattle.bidi_base.specs.declared.char_data.BidiClass.TheVariants.{L, BN}
+use Rattle.bidi_base.specs.declared.char_data.BidiClass.TheVariants.{L}
 use Rattle.bidi_base.specs.declared.data_source.BidiMatchedOpeningBracket.{BidiMatchedOpeningBracket}
 use Rattle.bidi_laws.proofs.ExplicitLemmas.{length-explicit_levels}
 use Rattle.bidi_laws.proofs.LevelLaws.{All-per_unit}
@@ -133,15 +134,14 @@ module _ (len_of : ℕ → ℕ) (h : HasUnits len_of) (chars : List ℕ) (source
         → list_all is_kept_in_place (at_indexes L new (map (unit_index len_of chars) (kept_in_place len_of chars old runs))) ≡ true
         → (let places = map (unit_index len_of chars) (kept_in_place len_of chars old runs) in
         GiveLevels (level_at unit_levels (first_or 0 places)) s.sos s.eos (at_indexes L source_classes ps) (at_indexes None brackets ps) (at_indexes L old places) (at_indexes L new places))
-        → ((u : ℕ) → class_at old u ≡ BN → class_at new u ≡ BN) → ((u : ℕ) → in_runs runs u ≡ false → class_at new u ≡ class_at old u) → is_per_char class_eq len_of chars new ≡ true
-        → AreResolvedTo (seqs ++ members s ∷ []) new
-    AreResolvedTo-written old new unit_levels now levels_is kept gives removed outside per =
+        → IsInPlace len_of chars runs old new → AreResolvedTo (seqs ++ members s ∷ []) new
+    AreResolvedTo-written old new unit_levels now levels_is kept gives place =
         let values = per_char L len_of chars new in
-        let is = per_unit-from_is_per_char class_eq class_test L len_of h chars new per in
+        let is = per_unit-from_is_per_char class_eq class_test L len_of h chars new place.per_char in
         let old_long = as_long now.values now.under_way.long in
         let new_long = length-per_char L len_of chars new in
         let within_text = kept_in_runs-within len_of h chars stored runs in
-        let stays = stays_elsewhere len_of h chars stored now.values values old new runs lines old_long new_long now.is is (λ p there. now.under_way.read p (within p there)) removed outside in
+        let stays = stays_elsewhere len_of h chars stored now.values values old new runs lines old_long new_long now.is is (λ p there. now.under_way.read p (within p there)) place.removed place.outside in
         let written : at_indexes L new (map (unit_index len_of chars) ps) ≡ at_indexes L values ps = at_indexes-unit_index len_of h chars L values new ps new_long is within_text in
         let level_is = level_at-first len_of h chars levels unit_levels ps (length-explicit_levels para_level stored ∙ as_long stored refl) levels_is within_text in
         let read = rw (characters_are old now, written) at kept in
@@ -151,14 +151,13 @@ module _ (len_of : ℕ → ℕ) (h : HasUnits len_of) (chars : List ℕ) (source
     -- W1 to W7
     pub AreWeakTo-from : (old new : List BidiClass) → AreResolvedTo seqs old
         → at_indexes L new (map (unit_index len_of chars) (kept_in_place len_of chars old runs)) ≡ weak_classes s.sos (at_indexes L old (map (unit_index len_of chars) (kept_in_place len_of chars old runs)))
-        → ((u : ℕ) → class_at old u ≡ BN → class_at new u ≡ BN) → ((u : ℕ) → in_runs runs u ≡ false → class_at new u ≡ class_at old u) → is_per_char class_eq len_of chars new ≡ true
-        → AreWeakTo seqs s new
-    AreWeakTo-from old new now kept removed outside per =
+        → IsInPlace len_of chars runs old new → AreWeakTo seqs s new
+    AreWeakTo-from old new now kept place =
         let values = per_char L len_of chars new in
-        let is = per_unit-from_is_per_char class_eq class_test L len_of h chars new per in
+        let is = per_unit-from_is_per_char class_eq class_test L len_of h chars new place.per_char in
         let old_long = as_long now.values now.under_way.long in
         let new_long = length-per_char L len_of chars new in
-        let stays = stays_elsewhere len_of h chars stored now.values values old new runs lines old_long new_long now.is is (λ p there. now.under_way.read p (within p there)) removed outside in
+        let stays = stays_elsewhere len_of h chars stored now.values values old new runs lines old_long new_long now.is is (λ p there. now.under_way.read p (within p there)) place.removed place.outside in
         let next = IsWeakNext-from source_classes brackets stored levels classes seqs (members s) next now.values values now.under_way (new_long ∙ sym old_long) stays
         (grind (
           arith,
@@ -189,15 +188,14 @@ module _ (len_of : ℕ → ℕ) (h : HasUnits len_of) (chars : List ℕ) (source
         → map (n2_rule (direction_of (level_at unit_levels (first_or 0 (map (unit_index len_of chars) (kept_in_place len_of chars old runs)))))) (at_indexes L new (map (unit_index len_of chars) (kept_in_place len_of chars old runs)))
         ≡ neutral_classes (level_at unit_levels (first_or 0 (map (unit_index len_of chars) (kept_in_place len_of chars old runs)))) s.sos s.eos
         (at_indexes L original_classes (map (unit_index len_of chars) (kept_in_place len_of chars old runs))) (map bracket_of (at_indexes 0 chars (kept_in_place len_of chars old runs))) (at_indexes L old (map (unit_index len_of chars) (kept_in_place len_of chars old runs)))
-        → ((u : ℕ) → class_at old u ≡ BN → class_at new u ≡ BN) → ((u : ℕ) → in_runs runs u ≡ false → class_at new u ≡ class_at old u) → is_per_char class_eq len_of chars new ≡ true
-        → AreResolvedTo (seqs ++ members s ∷ []) new
-    AreResolvedTo-more old new original_classes unit_levels original_is levels_is now kept removed outside per =
+        → IsInPlace len_of chars runs old new → AreResolvedTo (seqs ++ members s ∷ []) new
+    AreResolvedTo-more old new original_classes unit_levels original_is levels_is now kept place =
         let values = per_char L len_of chars new in
-        let is = per_unit-from_is_per_char class_eq class_test L len_of h chars new per in
+        let is = per_unit-from_is_per_char class_eq class_test L len_of h chars new place.per_char in
         let old_long = as_long now.values now.next.long in
         let new_long = length-per_char L len_of chars new in
         let own = λ (values : List BidiClass) (units : List BidiClass). at_indexes-unit_index len_of h chars L values units ps in
-        let stays = stays_elsewhere len_of h chars stored now.values values old new runs lines old_long new_long now.is is (λ p there. now.next.read p (within p there)) removed outside in
+        let stays = stays_elsewhere len_of h chars stored now.values values old new runs lines old_long new_long now.is is (λ p there. now.next.read p (within p there)) place.removed place.outside in
         let under_way = IsUnderWay-more source_classes brackets stored levels classes seqs (members s) next now.values values now.next (new_long ∙ sym old_long) stays
         (grind (
           arith,

@@ -180,10 +180,12 @@ module _ (len_of : ℕ → ℕ) (h : HasUnits len_of) (chars : List ℕ) (source
         (at_indexes-changed (n2_rule e) refl new (seen_units rs mid) ∙ joined)) in
         record {
           kept = simp (first-is len_of h chars runs sos old ready first found, ← is, ← at_indexes-changed (n2_rule e) refl new places, ruled, p.paired, neutral_classes-is e sos eos (level_at levels first));
-          removed = λ u gone. unseen u (and_right (in_runs rs u) (is_kept_in_place (class_at old u)) (ap is_kept_in_place gone)) ∙ gone;
-          outside = λ u out. unseen u (and_left (in_runs rs u) (is_kept_in_place (class_at old u)) out);
-          per_char = is_per_char-from_IsPerChar class_eq class_test len_of chars new
-              (IsPerChar-alike len_of chars new (long ∙ length-from_IsPerChar len_of chars mid p.per_char) even);
+          in_place = record {
+            removed = λ u gone. unseen u (and_right (in_runs rs u) (is_kept_in_place (class_at old u)) (ap is_kept_in_place gone)) ∙ gone;
+            outside = λ u out. unseen u (and_left (in_runs rs u) (is_kept_in_place (class_at old u)) out);
+            per_char = is_per_char-from_IsPerChar class_eq class_test len_of chars new
+                (IsPerChar-alike len_of chars new (long ∙ length-from_IsPerChar len_of chars mid p.per_char) even);
+          };
         }
 
 -- without a character that is read nothing is to be done

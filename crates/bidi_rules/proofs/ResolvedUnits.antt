@@ -1,18 +1,17 @@
 -- N2 over the units of a sequence, once N0 and N1 are done.
-use Rattle.bidi_base.proofs.Common.{◌≡◌, ℕ, ◌+◌, ◌<◌, ◌≤◌, true, List, [], ◌∷◌, length, map, find, None, refl, ◌∙◌, arith, All, Range, cases_Bool, All-head, All-tail, is_kept_in_place}
-use Rattle.bidi_base.proofs.Common.{direction_of, n2_rule, neutral_classes, at_indexes, class_at, first_or, level_at, Source, unit_index, is_per_char, IsPerChar, bounds, in_runs, kept_in_place}
+use Rattle.bidi_base.proofs.Common.{◌≡◌, ℕ, true, List, [], ◌∷◌, length, map, find, None, refl, ◌∙◌, arith, All, Range, All-head, All-tail, is_kept_in_place}
+use Rattle.bidi_base.proofs.Common.{direction_of, n2_rule, neutral_classes, at_indexes, class_at, first_or, level_at, Source, unit_index, is_per_char, bounds, in_runs, kept_in_place}
 use Rattle.bidi_base.proofs.Common.{units_in_runs, AreNeutralsResolved}
 use Rattle.bidi_base.specs.declared.char_data.BidiClass.{BidiClass}
-use Rattle.bidi_base.specs.declared.char_data.BidiClass.TheVariants.{L, BN}
+use Rattle.bidi_base.specs.declared.char_data.BidiClass.TheVariants.{L}
 use Rattle.bidi_base.specs.Updated.{IsUpdated}
 use Rattle.bidi_base.proofs.UpdatedLemmas.{IsUpdated-passing}
-use Rattle.bidi_text.proofs.PerCharTests.{class_eq, class_test}
+use Rattle.bidi_text.proofs.PerCharTests.{class_eq}
 use Rattle.bidi_base.proofs.TextLemmas.{HasUnits}
-use Rattle.bidi_base.proofs.UnitsLemmas.{IsPerChar-from_is_per_char, is_per_char-from_IsPerChar, length-from_IsPerChar}
 use Rattle.bidi_rules.specs.NeutralPass.{IsReady}
 use Rattle.bidi_rules.proofs.NeutralSteps.{IsUpToN1, IsUpToN1-none, none-read}
 use Rattle.bidi_rules.proofs.OneDirection.{at_read}
-use Rattle.bidi_explicit.proofs.PassOverText.{IsPerChar-alike, alike_class, in_runs-alike}
+use Rattle.bidi_explicit.proofs.PassOverText.{IsInPlace-updated}
 
 -- the classes after all steps, over the units
 abbrev pub IsResolved : (ℕ → ℕ) → List ℕ → Source → List ℕ → List BidiClass → List BidiClass → List BidiClass → List (Range ℕ) → BidiClass → BidiClass → Type 0
@@ -49,9 +48,7 @@ pub resolved-none : (len_of : ℕ → ℕ) (h : HasUnits len_of) (chars : List �
     → None ≡ find (λ u. is_kept_in_place (class_at old u)) (units_in_runs (map bounds runs)) → IsResolved len_of chars source levels original_classes old old runs sos eos
 resolved-none len_of h chars source levels original_classes old runs sos eos per ready found = record {
   kept = kept-none len_of h chars source levels original_classes old runs sos eos ready found;
-  removed = λ u gone. gone;
-  outside = λ u out. refl;
-  per_char = per;
+  in_place = record { removed = λ u gone. gone; outside = λ u out. refl; per_char = per };
 }
 
 module _ (len_of : ℕ → ℕ) (h : HasUnits len_of) (chars : List ℕ) (runs : List (Range ℕ)) (sos eos : BidiClass) (source : Source) (levels : List ℕ)
@@ -65,30 +62,13 @@ module _ (len_of : ℕ → ℕ) (h : HasUnits len_of) (chars : List ℕ) (runs :
 
   pub IsResolved-decided : (e : BidiClass) → e ≡ direction_of (level_at levels (first_or 0 places)) → IsUpdated L (in_runs rs) (n2_rule e) 0 (length now) now new
       → IsResolved len_of chars source levels original_classes old new runs sos eos
-  IsResolved-decided e is w = record {
-    kept = simp is at (at_each (n2_rule e) now new places (at_read len_of h chars runs sos old ready (λ u. class_at new u ≡ n2_rule e (class_at now u)) (λ u inside reads. changed u inside))) ∙ up.kept;
-    removed = λ u gone. stays u (up.removed u gone);
-    outside = λ u out. w.failing u out ∙ up.outside u out;
-    per_char = is_per_char-from_IsPerChar class_eq class_test len_of chars new (IsPerChar-alike len_of chars new (w.same_len ∙ length-from_IsPerChar len_of chars now per) even);
-  }
-    where
-      changed : (u : ℕ) → in_runs rs u ≡ true → class_at new u ≡ n2_rule e (class_at now u)
-      changed = IsUpdated-passing L (in_runs rs) (n2_rule e) now new refl w
-
-      per : IsPerChar len_of chars now
-      per = IsPerChar-from_is_per_char class_eq class_test len_of h chars now up.per_char
-
-      stays : (u : ℕ) → class_at now u ≡ BN → class_at new u ≡ BN
-      stays u gone = grind (arith, cases_Bool (in_runs rs u), changed)
-
-      even : (k : ℕ) → k < length chars → (u : ℕ) → unit_index len_of chars k ≤ u → u < unit_index len_of chars (k + 1) → class_at new u ≡ class_at new (unit_index len_of chars k)
-      even k fits u from below =
-          let first = unit_index len_of chars k in
-          grind (
-            arith,
-            in_runs-alike len_of h chars rs ready.are_lines k u from below,
-            alike_class len_of h chars now per k u fits from below,
-            cases_Bool (in_runs rs first),
-            changed,
-            w.failing,
-          )
+  IsResolved-decided e is w =
+      let place = IsInPlace-updated len_of h chars rs ready.are_lines (n2_rule e) refl refl now new up.in_place.per_char w in
+      record {
+        kept = simp is at (at_each (n2_rule e) now new places (at_read len_of h chars runs sos old ready (λ u. class_at new u ≡ n2_rule e (class_at now u)) (λ u inside reads. IsUpdated-passing L (in_runs rs) (n2_rule e) now new refl w u inside))) ∙ up.kept;
+        in_place = record {
+          removed = λ u gone. place.removed u (up.in_place.removed u gone);
+          outside = λ u out. place.outside u out ∙ up.in_place.outside u out;
+          per_char = place.per_char;
+        };
+      }

@@ -119,8 +119,10 @@ module _ (len_of : ℕ → ℕ) (h : HasUnits len_of) (chars : List ℕ) (runs :
       pub AreWeakTypesResolved-passes : AreWeakTypesResolved len_of chars runs sos old c3
       AreWeakTypesResolved-passes = record {
         kept = rw per.2 (let us = per_unit len_of chars per.0 in read_units-new len_of h chars per.0 per.1 runs lines c3 (weak_classes sos (at_indexes L us (map (unit_index len_of chars) (kept_in_place len_of chars us runs)))) (rw per.2 at many) (rw per.2 at at_units));
-        removed = λ u is. unseen u (and_right (in_runs runs u) (is_kept_in_place (class_at old u)) (ap is_kept_in_place is)) ∙ is;
-        outside = λ u out. unseen u (and_left (in_runs runs u) (is_kept_in_place (class_at old u)) out);
-        per_char = is_per_char-from_IsPerChar class_eq class_test len_of chars c3
-            (answered-IsPerChar len_of h chars old per runs lines ordered (lines-within old per) c3 answers many at_units (long ∙ numbers.long ∙ marks.long) unseen);
+        in_place = record {
+          removed = λ u is. unseen u (and_right (in_runs runs u) (is_kept_in_place (class_at old u)) (ap is_kept_in_place is)) ∙ is;
+          outside = λ u out. unseen u (and_left (in_runs runs u) (is_kept_in_place (class_at old u)) out);
+          per_char = is_per_char-from_IsPerChar class_eq class_test len_of chars c3
+              (answered-IsPerChar len_of h chars old per runs lines ordered (lines-within old per) c3 answers many at_units (long ∙ numbers.long ∙ marks.long) unseen);
+        };
       }

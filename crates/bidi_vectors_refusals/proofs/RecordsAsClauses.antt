@@ -31,7 +31,7 @@ module _ (len_of : ℕ → ℕ) (chars : List ℕ) where
         × ((u : ℕ) → in_runs runs u ≡ false → class_at new u ≡ class_at old u)
         × IsTrue (is_per_char class_eq len_of chars new)
     weak-clauses =
-        (λ all. (all.kept, all.removed, all.outside, all.per_char), λ all. record { kept = all.0; removed = all.1; outside = all.2; per_char = all.3 })
+        (λ all. (all.kept, all.in_place.removed, all.in_place.outside, all.in_place.per_char), λ all. record { kept = all.0; in_place = record { removed = all.1; outside = all.2; per_char = all.3 } })
 
     -- the neutral pass: if an allocation fails, the classes are unchanged, so that all clauses but the first hold too
     pub neutral-clauses : {A E : Type 0} (result : Result A E) (source : Source) (levels : List ℕ) (original_classes : List BidiClass)
@@ -42,7 +42,7 @@ module _ (len_of : ℕ → ℕ) (chars : List ℕ) where
         × ((u : ℕ) → class_at old u ≡ BN → class_at new u ≡ BN)
         × ((u : ℕ) → in_runs runs u ≡ false → class_at new u ≡ class_at old u)
         × IsTrue (is_per_char class_eq len_of chars new)
-    neutral-clauses (Ok a) source levels original_classes per refused all = (all.kept, all.removed, all.outside, all.per_char)
+    neutral-clauses (Ok a) source levels original_classes per refused all = (all.kept, all.in_place.removed, all.in_place.outside, all.in_place.per_char)
     neutral-clauses (Err e) source levels original_classes per refused all = (
       tt,
       λ u gone. rw refused gone,

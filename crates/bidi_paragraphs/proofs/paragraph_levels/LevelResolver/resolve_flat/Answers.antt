@@ -74,9 +74,9 @@ resolve_up_to_n1-requires g c =
     let n = (goal.at.resolve_up_to_n1-requires g c).After-new-sequence in
     let weak =
     AreWeakTo-from _ _ _ _ _ _ (fits g n) [] _ (lines g n) (next g n) _ _ (begun g n)
-    c.resolve_weak_borrowed_counted.ensures.resolved.kept c.resolve_weak_borrowed_counted.ensures.resolved.removed c.resolve_weak_borrowed_counted.ensures.resolved.outside c.resolve_weak_borrowed_counted.ensures.resolved.per_char in
+    c.resolve_weak_borrowed_counted.ensures.resolved.kept c.resolve_weak_borrowed_counted.ensures.resolved.in_place in
     record {
-      per_char = c.resolve_weak_borrowed_counted.ensures.resolved.per_char;
+      per_char = c.resolve_weak_borrowed_counted.ensures.resolved.in_place.per_char;
       are_lines = lines g n;
       levels = omega (arith, c.requires.same_len, c.fill.auto.self, c.resolve_weak_borrowed_counted.auto.processing_classes, long g n);
       original = grind (arith, length-map);
@@ -95,13 +95,13 @@ answered g c =
     let n = (goal.at.returns g c).After-new-sequence in
     let weak =
     AreWeakTo-from _ _ _ _ _ _ (fits g n) [] _ (lines g n) (next g n) _ _ (begun g n)
-    c.resolve_weak_borrowed_counted.ensures.resolved.kept c.resolve_weak_borrowed_counted.ensures.resolved.removed c.resolve_weak_borrowed_counted.ensures.resolved.outside c.resolve_weak_borrowed_counted.ensures.resolved.per_char in
+    c.resolve_weak_borrowed_counted.ensures.resolved.kept c.resolve_weak_borrowed_counted.ensures.resolved.in_place in
     let levels_are =
     levels-whole _ g.T.TextSource.encoding.positive _ (source g n) (given g n).bracket_of _ (fits g n) c.requires.flat c.args.levels.now c.fill.new.self c.requires.same_len (c.fill.ensures.after (λ y e. e)) in
     AreLevels-all _ _ _ _ _ _ _ c.resolve_up_to_n1.new.processing_classes c.fill.new.self c.resolve_levels.new.levels (fits g n) levels_are
     (joined-sequences _ g.T.TextSource.encoding.positive _ (source g n) (given g n).bracket_of _ (fits g n) c.requires.flat _ (same g n))
     (AreResolvedTo-more _ _ _ _ _ _ (fits g n) [] _ (lines g n) (next g n) _ c.resolve_up_to_n1.new.processing_classes c.args.paragraph.now.original_classes.now c.fill.new.self
-    c.args.paragraph.now.stored levels_are weak c.in_ok-resolve_up_to_n1.ensures.resolved.kept c.in_ok-resolve_up_to_n1.ensures.resolved.removed c.in_ok-resolve_up_to_n1.ensures.resolved.outside c.in_ok-resolve_up_to_n1.ensures.resolved.per_char)
+    c.args.paragraph.now.stored levels_are weak c.in_ok-resolve_up_to_n1.ensures.resolved.kept c.in_ok-resolve_up_to_n1.ensures.resolved.in_place)
     c.resolve_levels.ensures.levels
 
 pub returns : goal.returns

@@ -10,7 +10,7 @@ use Rattle.bidi_explicit.specs.RunSequence.{borrowed_joined}
 use Rattle.bidi_paragraphs.proofs.FilledUnits.{stored-long}
 use Rattle.bidi_paragraphs.proofs.LevelPasses.{ArePrepared, AreResolvedTo-same, AreResolvedTo-start, AreResolvedTo-per_char, AreResolvedTo-long, AreWeakTo-from, AreWeakTo-resolved, AreResolvedTo-more, AreResolvedTo-known, AreResolvedTo-written, kept_of_units}
 use Rattle.bidi_paragraphs.proofs.LevelPasses.{prepared, prepared-next, prepared-lines, prepared-more, prepared-same, prepared-long, prepared-low, AreLevels-from}
-use Rattle.bidi_paragraphs.proofs.KnownSequenceLevels.{lines-within, numbers-give, known_levels-keeps, written-kept, written-per_char, written-removed}
+use Rattle.bidi_paragraphs.proofs.KnownSequenceLevels.{lines-within, numbers-give, known_levels-keeps, written-in_place, written-kept}
 use Rattle.bidi_paragraphs.proofs.paragraph_levels.LevelResolver.resolve_nested.Given.{Over}
 use Rattle.bidi_paragraphs.proofs.paragraph_levels.LevelResolver.resolve_nested.Goals as goal
 use Rattle.bidi_paragraphs.proofs.paragraph_levels.LevelResolver.resolve_nested.Goals.{In_ok-prepare, After-borrowed-sequence, then-has_known_levels-via-then-has_known_levels, then-has_known_levels-via-else-has_known_levels+then-write_l_over_numbers, in-Some+else-has_known_levels+else-write_l_over_numbers+in_ok-resolve_up_to_n1, in_default}
@@ -118,7 +118,7 @@ loop-first-preserved-then-has_known_levels g c =
             let old = c.loop-first.classes in
             rw (w.classes-is, more) (AreResolvedTo-written len units chars _ _ _ is_ready.fits _ s line next old new _ h is_ready.levels_is
             (written-kept len units chars of levels old line per new numbers written) (numbers-give len units chars of levels old line per new numbers written _ _ kept)
-            (written-removed len units chars of levels old line per new numbers written) written.failing (written-per_char len units chars of levels old line per new numbers written))
+            (written-in_place len units chars of levels old line per new numbers written))
       ];
     }
 
@@ -148,7 +148,7 @@ resolve_up_to_n1-requires g c =
     let line = prepared-lines _ _ _ _ _ _ _ _ _ _ is_ready c.loop-first.first s hand.within hand.here hand.is in
     let weak =
     AreWeakTo-from _ _ _ _ _ _ is_ready.fits _ s line next c.write_l_over_numbers.new.classes c.resolve_weak_borrowed_counted.new.processing_classes (AreResolvedTo-same _ _ _ _ _ _ _ _ _ (c.write_l_over_numbers.ensures.unchanged c.if-write_l_over_numbers.false) c.loop-first.invariant.resolved)
-    c.resolve_weak_borrowed_counted.ensures.resolved.kept c.resolve_weak_borrowed_counted.ensures.resolved.removed c.resolve_weak_borrowed_counted.ensures.resolved.outside c.resolve_weak_borrowed_counted.ensures.resolved.per_char in
+    c.resolve_weak_borrowed_counted.ensures.resolved.kept c.resolve_weak_borrowed_counted.ensures.resolved.in_place in
     record {
       per_char = first_of (search rules, grind arith);
       are_lines = line;
@@ -177,12 +177,12 @@ loop-first-preserved g c =
           let line = prepared-lines _ _ _ _ _ _ _ _ _ _ is_ready c.loop-first.first s within here is in
           let weak =
           AreWeakTo-from _ _ _ _ _ _ is_ready.fits _ s line next w.write_l_over_numbers.new.classes w.resolve_weak_borrowed_counted.new.processing_classes (AreResolvedTo-same _ _ _ _ _ _ _ _ _ (w.write_l_over_numbers.ensures.unchanged w.if-write_l_over_numbers.false) h.resolved)
-          w.resolve_weak_borrowed_counted.ensures.resolved.kept w.resolve_weak_borrowed_counted.ensures.resolved.removed w.resolve_weak_borrowed_counted.ensures.resolved.outside w.resolve_weak_borrowed_counted.ensures.resolved.per_char in
+          w.resolve_weak_borrowed_counted.ensures.resolved.kept w.resolve_weak_borrowed_counted.ensures.resolved.in_place in
           record {
             kept = kept;
             resolved = rw (w.classes-is, prepared-more _ _ _ _ _ _ _ _ _ _ is_ready c.loop-first.first s within here is)
                 (AreResolvedTo-more _ _ _ _ _ _ is_ready.fits _ s line next _ w.resolve_up_to_n1.new.processing_classes c.args.paragraph.now.original_classes.now _
-                c.args.paragraph.now.stored is_ready.levels_is weak w.in_ok-resolve_up_to_n1.ensures.resolved.kept w.in_ok-resolve_up_to_n1.ensures.resolved.removed w.in_ok-resolve_up_to_n1.ensures.resolved.outside w.in_ok-resolve_up_to_n1.ensures.resolved.per_char);
+                c.args.paragraph.now.stored is_ready.levels_is weak w.in_ok-resolve_up_to_n1.ensures.resolved.kept w.in_ok-resolve_up_to_n1.ensures.resolved.in_place);
           }
       | in_default w ↦
           let other : begins links c.loop-first.first ≡ false = sym c.in_ok-found.ensures.begins ∙ ap is_some w.in_default.is in
