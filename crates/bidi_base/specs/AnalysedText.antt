@@ -46,8 +46,7 @@ module _ (source : Source) (base_level : Option ℕ) (rule : Option SplitRule) w
     pub classes : original_classes ≡ per_unit len_of chars (text_classes source (pieces_by rule source chars))
     pub ranges : own_ranges ≡ ranges_from len_of 0 (pieces_by rule source chars)
     pub para_levels : own_levels ≡ paragraph_levels source base_level (pieces_by rule source chars)
-
-    -- the rest follows from these three; it is here so that a caller need not prove it
+    -- ---- what follows from these three, here so that a caller need not prove it
     -- with a split rule, every code unit is in one paragraph, and separators are only at the ends of paragraphs; with
     -- `CrLfTogether`, a U+000D may also come directly before the U+000A that ends its paragraph
     pub partition : IfSome rule (λ r. AreParagraphRanges r source len_of chars own_ranges)
@@ -63,8 +62,7 @@ module _ (source : Source) (base_level : Option ℕ) (rule : Option SplitRule) w
   pub record IsAnalysis (a : AnalysedText) (own_ranges : List (ℕ × ℕ)) (own_levels : List ℕ) : Type 0 where
     pub paragraphs : AreParagraphs a.len_of a.chars a.classes own_ranges own_levels
     pub levels : a.levels ≡ per_unit a.len_of a.chars (text_levels source base_level (pieces_by rule source a.chars))
-
-    -- the rest follows from these two
+    -- ---- what follows from these two
     -- the levels of the characters depend only on the characters, the data source, the base level and the split rule
     pub by_characters : per_char 0 a.len_of a.chars a.levels ≡ text_levels source base_level (pieces_by rule source a.chars)
     -- all code units of a character have the same level
