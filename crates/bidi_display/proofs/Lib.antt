@@ -1,0 +1,5 @@
+mod ClusterLaws
+mod ClusterWalk
+mod ClustersLemmas
+mod StateLemmas
+mod TableFacts

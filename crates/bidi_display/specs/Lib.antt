@@ -1,0 +1,4 @@
+pub mod ClusterState
+pub mod ClusterWalk
+pub mod Clusters
+pub mod ClustersLeft
