@@ -36,12 +36,12 @@ reverse-take-more chars k c next =
     let more : take (k + 1) chars ≡ take k chars ++ c ∷ [] = take-add k 1 chars ∙ ap (λ t. take k chars ++ take 1 t) next in
     ap reverse more ∙ reverse-append (take k chars) (c ∷ [])
 
-slice_range-first : (chars : List ℕ) (k c : ℕ) → drop k chars ≡ c ∷ drop (k + 1) chars → slice_range chars k (k + 1) ≡ c ∷ []
+pub slice_range-first : {A : Type 0} (chars : List A) (k : ℕ) (c : A) → drop k chars ≡ c ∷ drop (k + 1) chars → slice_range chars k (k + 1) ≡ c ∷ []
 slice_range-first chars k c next =
     let one : (k + 1) - k ≡ 1 = omega arith in
     ap (λ n. take n (drop k chars)) one ∙ ap (take 1) next
 
-slice_range-more : (chars : List ℕ) (k m c : ℕ) → k ≤ m → drop m chars ≡ c ∷ drop (m + 1) chars → slice_range chars k (m + 1) ≡ slice_range chars k m ++ c ∷ []
+pub slice_range-more : {A : Type 0} (chars : List A) (k m : ℕ) (c : A) → k ≤ m → drop m chars ≡ c ∷ drop (m + 1) chars → slice_range chars k (m + 1) ≡ slice_range chars k m ++ c ∷ []
 slice_range-more chars k m c le next =
     let more : (m + 1) - k ≡ (m - k) + 1 = omega arith in
     let there : k + (m - k) ≡ m = omega arith in

@@ -14,7 +14,7 @@ pub record IsBegun (chars : List ℕ) (k m : ℕ) : Type 0 where
       ≡ (if is_cluster_boundary chars m then slice_range chars k m ∷ clusters_from chars m
       else prepend (slice_range chars k m) (clusters_from chars m))
 
--- a pass has read the characters before the index `at`, and at least the first one of the cluster that begins at `start`
+-- a pass has read the characters before the index `at`, and at least the first one of the cluster at `start`
 pub record IsReadTo {e : Encoding} (text : Text e) (start at : ℕ) (state : ClusterState) : Type 0 where
   pub begins : is_boundary text start ≡ true
   pub ends : is_boundary text at ≡ true

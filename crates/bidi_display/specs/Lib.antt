@@ -1,4 +1,15 @@
+pub mod Carets
 pub mod ClusterState
 pub mod ClusterWalk
 pub mod Clusters
 pub mod ClustersLeft
+pub mod DisplayedLine
+pub mod Grouping
+pub mod Joining
+pub mod LineBreaks
+pub mod LineChars
+pub mod LineClusters
+pub mod Lists
+pub mod Options
+pub mod Shown
+pub mod Widths

@@ -140,8 +140,8 @@ impl ClusterState {
         }
     }
 
-    // Returns whether the characters end with a linker and characters that extend it, after the next one, which has this
-    // value.
+    // Returns whether the characters end with a linker and characters that extend it, after the next one, which has
+    // this value.
     fn is_after_linker(self, c: char, value: GraphemeClusterBreak) -> bool
         requires { value ≡ grapheme_cluster_break c }
         ensures { (before : List ℕ) → self ≡ state_after before

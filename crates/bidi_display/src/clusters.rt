@@ -30,7 +30,7 @@ pub struct Clusters<T: TextSource> {
 impl<T: TextSource> Clusters<T> {
     ghost use Rattle.bidi_display.specs.ClustersLeft.{clusters_left};
 
-    /// Starts at the first cluster of a text.
+    /// Returns an iterator that starts at the first cluster of a text.
     pub fn new(text: T) -> Clusters<T>
         ensures { clusters_left result ≡ cluster_ranges (T.text text) }
     {

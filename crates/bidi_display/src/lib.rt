@@ -1,7 +1,18 @@
-//! Texts as they are displayed: the grapheme clusters of a text in any encoding.
+//! Texts as they are displayed: grapheme clusters, and lines with their clusters, columns, carets and selections, in
+//! any encoding.
 #![tactic(auto)]
 
+pub mod carets;
 pub mod cluster_state;
 pub mod clusters;
+pub mod displayed_line;
+mod edges;
+mod grouping;
+pub mod line_breaks;
+pub mod line_char;
+pub mod line_cluster;
+pub mod options;
 #[cfg(test)]
 mod tests;
+pub mod text;
+pub mod width;
