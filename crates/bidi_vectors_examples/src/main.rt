@@ -2,6 +2,7 @@
 #![tactic(auto)]
 
 mod callers;
+mod displayed;
 mod real;
 mod runs;
 mod wrapped;
@@ -73,5 +74,8 @@ fn main(rt: HostRuntime) -> io::Result<()> {
     let info = BidiInfo::new_with_data_source(rt.alloc(), &source, text, None)?;
     wrapped::write_wrapped(rt.alloc(), &mut io::writer(&rt), &info, 8)?;
     print_mirrored(&rt, "אבג (car) 12")?;
+    let text = "שלום 👩‍👩‍👧 (abc) 12";
+    let info = BidiInfo::new_with_data_source(rt.alloc(), &UnicodeData, text, None)?;
+    displayed::write_displayed(rt.alloc(), &mut io::writer(&rt), &info, 8)?;
     callers::show_input(&rt)
 }
