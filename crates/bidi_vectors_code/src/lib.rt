@@ -9,8 +9,6 @@ mod check;
 #[cfg(test)]
 mod displayed;
 #[cfg(test)]
-mod displayed_line;
-#[cfg(test)]
 mod equality;
 #[cfg(test)]
 mod explicit_levels;

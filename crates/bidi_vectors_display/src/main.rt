@@ -8,6 +8,8 @@ mod case;
 mod display;
 mod encodings;
 mod report;
+#[cfg(test)]
+mod tests;
 
 use case::Case;
 use encodings::displayed_case;
