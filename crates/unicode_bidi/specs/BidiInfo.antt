@@ -17,6 +17,10 @@ abbrev pub units : {C I L : Type 0} {t : _} {c : _} {i : _} {l : _} → BidiInfo
 units i = i.analysed.text.units.now
 
 module _ {T C I L : Type 0} {t : _} {c : _} {i : _} {l : _} (info : BidiInfo T C I L t c i l) where
+  -- `i.text_source()`
+  abbrev pub text_source : T
+  text_source = info.analysed.text
+
   -- the text, as its characters, with `i.original_classes()` and `i.levels()`
   abbrev pub analysed : AnalysedText
   analysed = of.analysed info.analysed

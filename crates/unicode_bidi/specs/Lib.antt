@@ -1,5 +1,6 @@
 pub mod Analysis
 pub mod BidiInfo
+pub mod Content
 pub mod DirectionSearch
 pub mod Engine
 pub mod InitialInfo
@@ -8,4 +9,6 @@ pub mod LineMap
 pub mod Paragraph
 pub mod ParagraphBidiInfo
 pub mod ParagraphInfo
+pub mod Partition
 pub mod SplitRule
+pub mod VisualRun

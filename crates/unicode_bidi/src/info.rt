@@ -1,20 +1,32 @@
-// The result of the algorithm for a text.
-ghost use Rattle.std.specs.Prelude.{◌≡◌, ◌<◌, ◌≤◌, IfOk, IfSome, OnOk, OnErr, All, Some, map};
-ghost use Rattle.bidi_base.specs.AnalysedText.{IsAnalysis, IsLineOf, AreLevelsWithLine, AreLevelsOfLine, AreRunsOfLine, HasClassPerChar, HasLevelPerChar, levels_with_line_per_char};
-ghost use Rattle.bidi_base.specs.Display.{run_of};
+//! The result of the algorithm for a text in any encoding. `BidiInfo` of `unicode_bidi` and of `utf16` are aliases of it,
+//! for UTF-8 and UTF-16. So a function over `BidiInfo<T>`, for each `T: TextSource`, serves every encoding.
+
+ghost use Rattle.std.specs.Prelude.{◌≡◌, ◌+◌, ◌<◌, ◌≤◌, nat_lt, slice_range, IfOk, IfSome, OnOk, OnErr, All, Some, map, option_map};
+ghost use Rattle.std.specs.List.{find};
+ghost use Rattle.bidi_base.specs.AnalysedText.{IsAnalysis, IsLineOf, IsPartOfLine, AreLevelsWithLine, AreLevelsOfLine, AreRunsOfLine, HasClassPerChar, HasLevelPerChar, levels_with_line_per_char, line_levels_per_char};
+ghost use Rattle.bidi_base.specs.Display.{run_of, level_runs};
 ghost use Rattle.bidi_base.specs.Levels.{has_rtl as has_rtl_of};
-ghost use Rattle.bidi_base.specs.Texts.{IsLine};
+ghost use Rattle.bidi_base.specs.Paragraphs.{IsPartition};
+ghost use Rattle.bidi_base.specs.Texts.{text_len, IsLine};
 ghost use Rattle.bidi_paragraphs.specs.ParagraphInfo.{level_of, range_of, ranges_of, levels_of};
 ghost use Rattle.bidi_lines.specs.LineOrder.{IsLineOrder};
 ghost use Rattle.unicode_bidi.specs.Analysis.{ObeysLaws};
+ghost use Rattle.unicode_bidi.specs.Content.{content_len};
+ghost use Rattle.unicode_bidi.specs.Partition.{IsPartition-prop};
+ghost use Rattle.unicode_bidi.specs.VisualRun.{AreRunsWithLevels, HaveTexts, run_of_text};
 
+use crate::char_levels::levels_of_line_per_char;
 use crate::engine;
+use crate::logical_runs::logical_runs_of;
+pub use crate::paragraph_bidi_info::ParagraphBidiInfo;
+use crate::visual_run::{self, RunText, VisualRun};
 use bidi_base::char_data::BidiClass;
+use bidi_base::classes::is_paragraph_separator;
 use bidi_base::data_source::BidiDataSource;
 use bidi_base::level::Level;
 use bidi_base::split_rule::SplitRule;
 use bidi_lines::analysed::Analysed;
-use bidi_lines::shown_line::ShownLine;
+pub use bidi_lines::shown_line::ShownLine;
 use bidi_lines::visual_order;
 use bidi_paragraphs::paragraph_info::ParagraphInfo;
 use bidi_text::text::TextSource;
@@ -33,6 +45,7 @@ pub struct BidiInfo<T: TextSource> {
     paragraphs: SmallVec<ParagraphInfo, 1>,
     ghost paragraphs_are_lines: { All
         (λ p. IsLine (T.text analysed.text) (range_of p).start (range_of p).end) paragraphs.items },
+    ghost partition: { IsPartition 0 (text_len (T.text analysed.text)) (ranges_of paragraphs.items) } by { IsPartition-prop 0 (text_len (T.text analysed.text)) (ranges_of paragraphs.items) },
 }
 
 // Prints the fields that this type has in the ported crate.
@@ -50,10 +63,15 @@ impl<T: TextSource + fmt::Debug> fmt::Debug for BidiInfo<T> {
 impl<T: TextSource> BidiInfo<T> {
     ghost use Rattle.bidi_lines.specs.Analysed.{text_of as analysed_text};
     ghost use Rattle.bidi_lines.specs.ShownLine.{text_of as shown_text, Shows};
-    ghost use Rattle.unicode_bidi.specs.BidiInfo.{analysed as analysed_of, paragraphs, original_classes, levels as levels_of_info};
+    ghost use Rattle.unicode_bidi.specs.BidiInfo.{analysed as analysed_of, text_source, paragraphs, original_classes, levels as levels_of_info};
 
-    // Finds the paragraphs of a text in any encoding, and the class and the level of each character (P1 to I2).
-    pub(crate) fn of_text<D: BidiDataSource>(
+    /// Finds the paragraphs of a text in any encoding, which end where `rule` says, and the class and the level of each
+    /// character (P1 to I2).
+    ///
+    /// A base level, at most 125, is the level of every paragraph. Without one, each paragraph gets its level from its
+    /// characters (P2, P3). Each FSI is resolved (X5c). Reads the text a few times. The result has two bytes for each
+    /// code unit: its class and its level.
+    pub fn of_text<D: BidiDataSource>(
         alloc: Global,
         data_source: &D,
         text: T,
@@ -61,7 +79,7 @@ impl<T: TextSource> BidiInfo<T> {
         rule: SplitRule,
     ) -> Result<BidiInfo<T>, AllocError>
         requires { IfSome default_para_level (λ level. level ≤ 125) }
-        ensures text { IfOk result (λ i. i.analysed.text ≡ text) }
+        ensures text { IfOk result (λ i. text_source i ≡ text) }
         ensures analysis { IfOk result (λ i. IsAnalysis (D.source data_source.now) default_para_level (Some rule)
             (analysed_of i) (ranges_of (paragraphs i)) (levels_of (paragraphs i))) }
         ensures laws { ObeysLaws (D.source data_source.now) default_para_level }
@@ -71,6 +89,13 @@ impl<T: TextSource> BidiInfo<T> {
             analysed: Analysed::new(text, found.original_classes, found.levels),
             paragraphs: found.paragraphs,
         })
+    }
+
+    /// Returns the text, in its encoding.
+    pub fn text_source(&self) -> T
+        ensures { result ≡ text_source self.now }
+    {
+        self.analysed.text()
     }
 
     /// Returns the class of each code unit's character.
@@ -100,6 +125,39 @@ impl<T: TextSource> BidiInfo<T> {
         ensures are_lines { All (λ p. IsLineOf (analysed_of self.now) (range_of p)) result.now }
     {
         self.paragraphs.as_slice()
+    }
+
+    /// Returns the paragraph of a code unit, or `None` if the text has no such code unit.
+    ///
+    /// The end of the text is in no paragraph. Takes time logarithmic in the number of paragraphs.
+    pub fn paragraph_at(&self, unit: usize) -> Option<&ParagraphInfo>
+        ensures found { option_map (λ p. p.now) result ≡ find (λ p. nat_lt unit (range_of p).end) (paragraphs self.now) }
+        ensures within { IfSome result (λ p. (range_of p.now).start ≤ unit × unit < (range_of p.now).end) }
+    {
+        let before = self
+            .paragraphs()
+            .partition_point(|paragraph| paragraph.range().end <= unit);
+        self.paragraphs().get(before)
+    }
+
+    /// Returns the range of a paragraph without the separators (B) at its end.
+    ///
+    /// The range of `para` must cut no character of this text (see `is_line`). A paragraph of this text ends with at most
+    /// one separator, or with a U+000D and the U+000A after it. Takes time linear in the separators.
+    pub fn content(&self, para: &ParagraphInfo) -> Range<usize>
+        requires { IsLineOf (analysed_of self.now) (range_of para.now) }
+        ensures start { result.start ≡ (range_of para.now).start }
+        ensures end { let range = range_of para.now in
+            result.end ≡ range.start + content_len (slice_range (original_classes self.now) range.start range.end) }
+        ensures is_line { IsLineOf (analysed_of self.now) result }
+    {
+        let range = para.range();
+        let classes = self.original_classes();
+        let mut end = range.end;
+        while end > range.start && is_paragraph_separator(classes[end - 1]) {
+            end -= 1;
+        }
+        range.start..end
     }
 
     /// Returns whether some level is odd, and so right-to-left. Takes time linear in the text.
@@ -184,9 +242,77 @@ impl<T: TextSource> BidiInfo<T> {
         line: Range<usize>,
     ) -> Result<Vec<Range<usize>>, AllocError>
         requires { IsLineOf (analysed_of self.now) line }
-        ensures { IfOk result (λ v. AreRunsOfLine (analysed_of self.now) (level_of para.now) line (map run_of v.items)) }
+        ensures runs { IfOk result (λ v. AreRunsOfLine (analysed_of self.now) (level_of para.now) line (map run_of v.items)) }
+
+        // Each run can slice the text.
+        ensures parts { IfOk result (λ v. All (λ r. IsPartOfLine (analysed_of self.now) line (run_of r)) v.items) }
     {
         self.analysed.line_runs(alloc, para.level(), line)
+    }
+
+    /// Returns the level runs (BD7) of the line after L1, each with its level, from left to right (L2).
+    ///
+    /// An empty line has none. Takes time linear in the line.
+    pub fn runs_with_levels(
+        &self,
+        alloc: Global,
+        para: &ParagraphInfo,
+        line: Range<usize>,
+    ) -> Result<Vec<VisualRun>, AllocError>
+        requires { IsLineOf (analysed_of self.now) line }
+        ensures { IfOk result (λ v. AreRunsWithLevels (analysed_of self.now) (level_of para.now) line v.items) }
+    {
+        visual_run::runs_with_levels(alloc, &self.analysed, para.level(), line)
+    }
+
+    /// Returns the level runs (BD7) of the line after L1, each with its level and its text, from left to right (L2).
+    ///
+    /// The text of a run is in the order of the text: if the level is odd, its characters are displayed from the last
+    /// to the first. An empty line has no runs. Takes time linear in the line.
+    pub fn run_texts(
+        &self,
+        alloc: Global,
+        para: &ParagraphInfo,
+        line: Range<usize>,
+    ) -> Result<Vec<RunText<T>>, AllocError>
+        requires { IsLineOf (analysed_of self.now) line }
+        ensures runs { IfOk result (λ v. AreRunsWithLevels (analysed_of self.now) (level_of para.now) line (map run_of_text v.items)) }
+        ensures texts { IfOk result (λ v. HaveTexts (T.text (text_source self.now)) T.text v.items) }
+    {
+        visual_run::run_texts(alloc, &self.analysed, para.level(), line)
+    }
+
+    /// Returns the level runs (BD7) of a range of the text by the stored levels, in the order of the text.
+    ///
+    /// A shaper takes them one by one: the level of a run is that of its first code unit in `levels`. These are levels
+    /// before L1, so white space at the end of a line keeps its level; for a line, use `runs_with_levels`. The range
+    /// must cut no character (see `is_line`). An empty range has no runs. Takes time linear in the range.
+    pub fn logical_runs(
+        &self,
+        alloc: Global,
+        range: Range<usize>,
+    ) -> Result<Vec<Range<usize>>, AllocError>
+        requires { IsLineOf (analysed_of self.now) range }
+        ensures runs { IfOk result (λ v. map run_of v.items
+            ≡ level_runs range.start (slice_range (levels_of_info self.now) range.start range.end)) }
+        ensures parts { IfOk result (λ v. All (λ r. IsPartOfLine (analysed_of self.now) range (run_of r)) v.items) }
+    {
+        logical_runs_of(alloc, &self.analysed, range)
+    }
+
+    /// Returns the level of each character of the line after L1.
+    ///
+    /// Takes time linear in the line.
+    pub fn levels_of_line_per_char(
+        &self,
+        alloc: Global,
+        para: &ParagraphInfo,
+        line: Range<usize>,
+    ) -> Result<Vec<Level>, AllocError>
+        requires { IsLineOf (analysed_of self.now) line }
+        ensures { IfOk result (λ v. v.items ≡ line_levels_per_char (analysed_of self.now) (level_of para.now) line) }
+    {
+        levels_of_line_per_char(alloc, &self.analysed, para.level(), line)
     }
 
     /// Shows a line of the text in a value that keeps its memory for the next line.

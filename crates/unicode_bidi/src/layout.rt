@@ -1,4 +1,4 @@
-//! Lines of a given width, and the visual indexes of their characters (L1, L2), over UTF-8.
+//! Lines of a given width over UTF-8, and the visual indexes of a line's characters (L1, L2) in any encoding.
 
 ghost use Rattle.std.specs.Prelude.{◌≡◌, ◌≢◌, ℕ, ◌<◌, true, false, map, length, slice_get, IfOk, IfSome, All, Some};
 ghost use Rattle.std.specs.List.{range_with_len};
@@ -9,15 +9,16 @@ ghost use Rattle.bidi_base.specs.Order.{visual_order};
 ghost use Rattle.bidi_base.specs.Indexes.{indexes};
 ghost use Rattle.bidi_base.specs.Paragraphs.{IsPartition};
 ghost use Rattle.bidi_base.specs.Texts.{unit_index, IsLine};
-ghost use Rattle.bidi_lines.specs.LineLevels.{levels as kept_levels};
 ghost use Rattle.unicode_bidi.specs.BidiInfo.{analysed as analysed_of};
+ghost use Rattle.unicode_bidi.specs.ParagraphBidiInfo.{analysed as analysed_of_paragraph, paragraph_level};
 ghost use Rattle.unicode_bidi.specs.StoredOrder.{entries};
 ghost use Rattle.bidi_paragraphs.specs.ParagraphInfo.{level_of, range_of};
 
-use crate::utf8::BidiInfo;
+use crate::char_levels::char_levels;
+use crate::info::BidiInfo;
+use crate::paragraph_bidi_info::ParagraphBidiInfo;
 use bidi_base::level::{Level, has_rtl};
-use bidi_lines::reused_levels::LineLevels;
-use bidi_lines::visual_order::inverse;
+use bidi_lines::visual_order::{inverse, reorder_visual};
 use bidi_paragraphs::paragraph_info::ParagraphInfo;
 use bidi_rules::prepare::LevelRun;
 use bidi_text::text::{StrText, TextSource};
@@ -82,7 +83,7 @@ fn lines_of<T: TextSource, W: CharWidth>(
 /// `width` at most twice for each character.
 pub fn lines<W: CharWidth>(
     alloc: Global,
-    info: &BidiInfo<'_>,
+    info: &BidiInfo<StrText<'_>>,
     para: &ParagraphInfo,
     widths: &W,
     limit: usize,
@@ -102,24 +103,6 @@ pub fn lines<W: CharWidth>(
         widths,
         limit,
     )
-}
-
-// Returns the levels of a line's characters after L1.
-fn char_levels(
-    alloc: Global,
-    info: &BidiInfo<'_>,
-    para: &ParagraphInfo,
-    line: Range<usize>,
-) -> Result<LineLevels, AllocError>
-    requires { IsLineOf (analysed_of info.now) line }
-    ensures { IfOk result (λ s. kept_levels s ≡ line_levels_per_char (analysed_of info.now) (level_of para.now) line) }
-{
-    let text = StrText::new(info.text()).subrange(line.start..line.end);
-    let classes = &info.original_classes()[line.start..line.end];
-    let mut after_l1 = LineLevels::new(alloc);
-    after_l1.show(para.level(), classes, &info.levels()[line.start..line.end])?;
-    after_l1.keep_first_units(text);
-    Ok(after_l1)
 }
 
 // Returns whether each entry is its own index.
@@ -186,7 +169,7 @@ impl LineMap {
         if !has_rtl(levels) {
             return Ok(LineMap::in_order(alloc, len));
         }
-        let order = BidiInfo::reorder_visual(alloc, levels)?;
+        let order = reorder_visual(alloc, levels)?;
         if is_in_order(order.as_slice()) {
             return Ok(LineMap::in_order(alloc, len));
         }
@@ -196,12 +179,12 @@ impl LineMap {
 
     /// Returns the map of a line.
     ///
-    /// The line is a range of bytes of the text that cuts no character (see `is_line`). Its levels are those after L1,
-    /// by the level of `para`. Takes time linear in the line. A line of up to 256 bytes allocates only the two lists of
-    /// the map, and neither if its characters stay in order.
-    pub fn new(
+    /// The line is a range of code units of the text that cuts no character (see `is_line`). Its levels are those after
+    /// L1, by the level of `para`. Takes time linear in the line. A line of up to 256 code units allocates only the two
+    /// lists of the map, and neither if its characters stay in order.
+    pub fn new<T: TextSource>(
         alloc: Global,
-        info: &BidiInfo<'_>,
+        info: &BidiInfo<T>,
         para: &ParagraphInfo,
         line: Range<usize>,
     ) -> Result<LineMap, AllocError>
@@ -211,7 +194,25 @@ impl LineMap {
         ensures places { IfOk result (λ m. places_of m
             ≡ visual_indexes (line_levels_per_char (analysed_of info.now) (level_of para.now) line)) }
     {
-        let levels = char_levels(alloc, info, para, line)?;
+        let levels = char_levels(alloc, &info.analysed, para.level(), line)?;
+        LineMap::of_levels(alloc, levels.as_slice())
+    }
+
+    /// Returns the map of a line of a text that is one paragraph.
+    ///
+    /// The line and the cost are those of [`LineMap::new`].
+    pub fn of_paragraph<T: TextSource>(
+        alloc: Global,
+        info: &ParagraphBidiInfo<T>,
+        line: Range<usize>,
+    ) -> Result<LineMap, AllocError>
+        requires { IsLineOf (analysed_of_paragraph info.now) line }
+        ensures order { IfOk result (λ m. order_of m
+            ≡ visual_order (line_levels_per_char (analysed_of_paragraph info.now) (paragraph_level info.now) line)) }
+        ensures places { IfOk result (λ m. places_of m
+            ≡ visual_indexes (line_levels_per_char (analysed_of_paragraph info.now) (paragraph_level info.now) line)) }
+    {
+        let levels = char_levels(alloc, &info.paragraph, info.paragraph_level(), line)?;
         LineMap::of_levels(alloc, levels.as_slice())
     }
 

@@ -15,14 +15,16 @@
 #![tactic(auto)]
 
 mod base_direction;
+mod char_levels;
 pub mod deprecated;
 pub mod direction_search;
 pub mod engine;
 pub mod explicit;
 pub mod implicit;
-mod info;
+pub mod info;
 mod initial_info;
 pub mod layout;
+mod logical_runs;
 mod paragraph;
 mod paragraph_bidi_info;
 pub mod prepare;
@@ -30,6 +32,7 @@ pub mod stored_line;
 pub mod utf16;
 mod utf8;
 mod version;
+pub mod visual_run;
 
 pub use base_direction::{
     get_base_direction_full_with_data_source, get_base_direction_with_data_source,

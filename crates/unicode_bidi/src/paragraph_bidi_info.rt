@@ -1,14 +1,18 @@
 // The result of the algorithm for a text that is one paragraph.
-ghost use Rattle.std.specs.Prelude.{◌≡◌, ◌<◌, ◌≤◌, IfOk, IfSome, None, [], ◌∷◌, OnOk, OnErr, map};
-ghost use Rattle.bidi_base.specs.AnalysedText.{IsAnalysis, IsLineOf, AreLevelsWithLine, AreLevelsOfLine, AreRunsOfLine, HasClassPerChar, HasLevelPerChar, levels_with_line_per_char};
+ghost use Rattle.std.specs.Prelude.{◌≡◌, ◌<◌, ◌≤◌, slice_range, IfOk, IfSome, None, [], ◌∷◌, OnOk, OnErr, All, map};
+ghost use Rattle.bidi_base.specs.AnalysedText.{IsAnalysis, IsLineOf, IsPartOfLine, AreLevelsWithLine, AreLevelsOfLine, AreRunsOfLine, HasClassPerChar, HasLevelPerChar, levels_with_line_per_char, line_levels_per_char};
 ghost use Rattle.bidi_base.specs.Direction.{direction_of_levels};
-ghost use Rattle.bidi_base.specs.Display.{run_of};
+ghost use Rattle.bidi_base.specs.Display.{run_of, level_runs};
 ghost use Rattle.bidi_base.specs.Levels.{has_rtl as has_rtl_of};
 ghost use Rattle.bidi_lines.specs.LineOrder.{IsLineOrder};
 ghost use Rattle.bidi_base.specs.Text.{text_len};
 ghost use Rattle.unicode_bidi.specs.Analysis.{ObeysLaws};
+ghost use Rattle.unicode_bidi.specs.VisualRun.{AreRunsWithLevels, HaveTexts, run_of_text};
 
+use crate::char_levels::levels_of_line_per_char;
 use crate::engine;
+use crate::logical_runs::logical_runs_of;
+use crate::visual_run::{self, RunText, VisualRun};
 use bidi_base::char_data::{BidiClass, Direction};
 use bidi_base::data_source::BidiDataSource;
 use bidi_base::level::Level;
@@ -46,18 +50,22 @@ impl<T: TextSource + fmt::Debug> fmt::Debug for ParagraphBidiInfo<T> {
 impl<T: TextSource> ParagraphBidiInfo<T> {
     ghost use Rattle.bidi_lines.specs.Analysed.{text_of as analysed_text};
     ghost use Rattle.bidi_lines.specs.ShownLine.{text_of as shown_text, Shows};
-    ghost use Rattle.unicode_bidi.specs.ParagraphBidiInfo.{analysed as analysed_of, original_classes, levels as levels_of_info, paragraph_level, is_pure_ltr, IsPureLtrBy};
+    ghost use Rattle.unicode_bidi.specs.ParagraphBidiInfo.{analysed as analysed_of, text_source, original_classes, levels as levels_of_info, paragraph_level, is_pure_ltr, IsPureLtrBy};
 
-    // Finds the level of a text in any encoding that is one paragraph, and the class and the level of each character
-    // (P2 to I2).
-    pub(crate) fn of_text<D: BidiDataSource>(
+    /// Finds the level of a text in any encoding that is one paragraph, and the class and the level of each character
+    /// (P2 to I2).
+    ///
+    /// A base level, at most 125, is the level of the paragraph. Without one, the characters decide (P2, P3). Each FSI
+    /// is resolved (X5c). Reads the text a few times. The result has two bytes for each code unit: its class and its
+    /// level.
+    pub fn of_text<D: BidiDataSource>(
         alloc: Global,
         data_source: &D,
         text: T,
         default_para_level: Option<Level>,
     ) -> Result<ParagraphBidiInfo<T>, AllocError>
         requires { IfSome default_para_level (λ level. level ≤ 125) }
-        ensures text { IfOk result (λ i. i.paragraph.text ≡ text) }
+        ensures text { IfOk result (λ i. text_source i ≡ text) }
         ensures analysis { IfOk result (λ i. let a = analysed_of i in
             IsAnalysis (D.source data_source.now) default_para_level None a ((0, text_len a.len_of a.chars) ∷ [])
             (paragraph_level i ∷ [])) }
@@ -72,6 +80,13 @@ impl<T: TextSource> ParagraphBidiInfo<T> {
             paragraph_level,
             is_pure_ltr,
         })
+    }
+
+    /// Returns the text, in its encoding.
+    pub fn text_source(&self) -> T
+        ensures { result ≡ text_source self.now }
+    {
+        self.paragraph.text()
     }
 
     /// Returns the class of each code unit's character.
@@ -202,9 +217,75 @@ impl<T: TextSource> ParagraphBidiInfo<T> {
         line: Range<usize>,
     ) -> Result<Vec<Range<usize>>, AllocError>
         requires { IsLineOf (analysed_of self.now) line }
-        ensures { IfOk result (λ v. AreRunsOfLine (analysed_of self.now) (paragraph_level self.now) line (map run_of v.items)) }
+        ensures runs { IfOk result (λ v. AreRunsOfLine (analysed_of self.now) (paragraph_level self.now) line (map run_of v.items)) }
+
+        // Each run can slice the text.
+        ensures parts { IfOk result (λ v. All (λ r. IsPartOfLine (analysed_of self.now) line (run_of r)) v.items) }
     {
         self.paragraph.line_runs(alloc, self.paragraph_level, line)
+    }
+
+    /// Returns the level runs (BD7) of the line after L1, each with its level, from left to right (L2).
+    ///
+    /// An empty line has none. Takes time linear in the line.
+    pub fn runs_with_levels(
+        &self,
+        alloc: Global,
+        line: Range<usize>,
+    ) -> Result<Vec<VisualRun>, AllocError>
+        requires { IsLineOf (analysed_of self.now) line }
+        ensures { IfOk result (λ v. AreRunsWithLevels (analysed_of self.now) (paragraph_level self.now) line v.items) }
+    {
+        visual_run::runs_with_levels(alloc, &self.paragraph, self.paragraph_level, line)
+    }
+
+    /// Returns the level runs (BD7) of the line after L1, each with its level and its text, from left to right (L2).
+    ///
+    /// The text of a run is in the order of the text: if the level is odd, its characters are displayed from the last
+    /// to the first. An empty line has no runs. Takes time linear in the line.
+    pub fn run_texts(
+        &self,
+        alloc: Global,
+        line: Range<usize>,
+    ) -> Result<Vec<RunText<T>>, AllocError>
+        requires { IsLineOf (analysed_of self.now) line }
+        ensures runs { IfOk result (λ v. AreRunsWithLevels (analysed_of self.now) (paragraph_level self.now) line
+            (map run_of_text v.items)) }
+        ensures texts { IfOk result (λ v. HaveTexts (T.text (text_source self.now)) T.text v.items) }
+    {
+        visual_run::run_texts(alloc, &self.paragraph, self.paragraph_level, line)
+    }
+
+    /// Returns the level runs (BD7) of a range of the text by the stored levels, in the order of the text.
+    ///
+    /// A shaper takes them one by one: the level of a run is that of its first code unit in `levels`. These are levels
+    /// before L1, so white space at the end of a line keeps its level; for a line, use `runs_with_levels`. The range
+    /// must cut no character (see `is_line`). An empty range has no runs. Takes time linear in the range.
+    pub fn logical_runs(
+        &self,
+        alloc: Global,
+        range: Range<usize>,
+    ) -> Result<Vec<Range<usize>>, AllocError>
+        requires { IsLineOf (analysed_of self.now) range }
+        ensures runs { IfOk result (λ v. map run_of v.items
+            ≡ level_runs range.start (slice_range (levels_of_info self.now) range.start range.end)) }
+        ensures parts { IfOk result (λ v. All (λ r. IsPartOfLine (analysed_of self.now) range (run_of r)) v.items) }
+    {
+        logical_runs_of(alloc, &self.paragraph, range)
+    }
+
+    /// Returns the level of each character of the line after L1.
+    ///
+    /// Takes time linear in the line.
+    pub fn levels_of_line_per_char(
+        &self,
+        alloc: Global,
+        line: Range<usize>,
+    ) -> Result<Vec<Level>, AllocError>
+        requires { IsLineOf (analysed_of self.now) line }
+        ensures { IfOk result (λ v. v.items ≡ line_levels_per_char (analysed_of self.now) (paragraph_level self.now) line) }
+    {
+        levels_of_line_per_char(alloc, &self.paragraph, self.paragraph_level, line)
     }
 
     /// Shows a line of the text in a value that keeps its memory for the next line.

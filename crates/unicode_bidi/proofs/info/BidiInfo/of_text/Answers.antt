@@ -11,6 +11,7 @@ invariant_of-result g c = record {
   paragraphs_are_lines =
       rw c.new.ensures.text
       (paragraphs-are_lines g.T.TextSource.encoding.len_of (g.T.TextSource.text c.args.text).chars c.in_ok-found.found.paragraphs.items c.in_ok-found.ensures.analysis.paragraphs.partition.lines);
+  partition = rw c.new.ensures.text c.in_ok-found.ensures.analysis.paragraphs.partition.partition;
 }
 
 pub returns : goal.returns

@@ -1,0 +1,34 @@
+-- The visual runs of a line, each with its level and its text.
+use Rattle.std.specs.Prelude.{◌≡◌, ℕ, List, map, All}
+use Rattle.std.specs.declared.ops.Range.{Range}
+use Rattle.bidi_base.specs.AnalysedText.{AnalysedText, AreRunsOfLine, IsPartOfLine}
+use Rattle.bidi_base.specs.Display.{run_of, run_level}
+use Rattle.bidi_base.specs.Line.{levels_of_line}
+use Rattle.bidi_base.specs.Texts.{Encoding, Text, subrange}
+use Rattle.unicode_bidi.specs.declared.visual_run.RunText.{RunText}
+use Rattle.unicode_bidi.specs.declared.visual_run.VisualRun.{VisualRun}
+
+abbrev pub range_of : VisualRun → Range ℕ
+range_of run = run.range
+
+abbrev pub level_of : VisualRun → ℕ
+level_of run = run.level
+
+-- the run has the level of its code units in the line, after L1
+abbrev pub HasLevelOfLine : AnalysedText → ℕ → Range ℕ → VisualRun → Type 0
+HasLevelOfLine a level line run =
+    run.level ≡ run_level line.start (levels_of_line level a.classes a.levels line.start line.end) (run_of run.range)
+
+-- the level runs (BD7) of the line after L1, from left to right (L2), each with its level
+pub record AreRunsWithLevels (a : AnalysedText) (level : ℕ) (line : Range ℕ) (shown : List VisualRun) : Type 0 where
+  pub runs : AreRunsOfLine a level line (map (λ r. run_of r.range) shown)
+  pub levels : All (HasLevelOfLine a level line) shown
+  pub parts : All (λ r. IsPartOfLine a line (run_of r.range)) shown
+
+-- the run of a run with its text
+abbrev pub run_of_text : {T C I L : Type 0} → RunText T C I L → VisualRun
+run_of_text r = r.run
+
+-- each has the characters of its range
+abbrev pub HaveTexts : {T C I L : Type 0} {e : Encoding} → Text e → (T → Text e) → List (RunText T C I L) → Type 0
+HaveTexts text text_of found = All (λ r. text_of r.text ≡ subrange text r.run.range.start r.run.range.end) found
