@@ -7,6 +7,7 @@ mod ClusterRanges
 mod ClusterWalk
 mod ClustersLemmas
 mod ColumnLemmas
+mod ContentLemmas
 mod CoverLemmas
 mod EdgesLemmas
 mod EvenLineLemmas
@@ -16,7 +17,9 @@ mod LineCuts
 mod LineLengths
 mod LineRuns
 mod SelectionLemmas
+mod ShownPart
 mod StateLemmas
 mod TableFacts
+mod TextDisplayLemmas
 mod TextLemmas
 mod WholeLine

@@ -12,4 +12,5 @@ pub mod LineClusters
 pub mod Lists
 pub mod Options
 pub mod Shown
+pub mod TextDisplay
 pub mod Widths

@@ -59,6 +59,17 @@ are_white_space cluster = list_all (λ c. is_white_space c.class) cluster
 abbrev pub hangs : List LineChar → LineCluster → Bool
 hangs chars k = are_white_space (chars_of chars k)
 
+-- how many clusters there are before those at the end that are white space or separators
+abbrev pub shown_length : List LineChar → List LineCluster → ℕ
+shown_length chars [] = 0
+shown_length chars (k ∷ ks) = if shown_length chars ks == 0 && hangs chars k then 0 else suc (shown_length chars ks)
+
+-- where these clusters end, or where the line starts if there are none
+abbrev pub shown_end : List LineChar → ℕ → List LineCluster → ℕ
+shown_end chars start ks =
+    let count = shown_length chars ks in
+    if count == 0 then start else get_or (map (λ c. c.end) ks) (count - 1) start
+
 -- these displayed characters begin with a tab that goes to a tab stop
 abbrev pub begins_with_tab : DisplayOptions → List LineChar → Bool
 begins_with_tab options [] = false

@@ -8,6 +8,7 @@ pub mod clusters;
 pub mod displayed_line;
 mod edges;
 mod grouping;
+pub mod info_line;
 pub mod line_breaks;
 pub mod line_char;
 pub mod line_cluster;
@@ -15,4 +16,5 @@ pub mod options;
 #[cfg(test)]
 mod tests;
 pub mod text;
+pub mod text_display;
 pub mod width;

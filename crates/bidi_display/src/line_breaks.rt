@@ -7,7 +7,7 @@ ghost use Rattle.bidi_base.specs.Display.{run_of};
 ghost use Rattle.bidi_base.specs.Paragraphs.{IsPartition};
 ghost use Rattle.bidi_display.specs.declared.line_char.LineChar.{LineChar as CharOf};
 ghost use Rattle.bidi_display.specs.declared.line_breaks.Break.{Break as BreakOf};
-ghost use Rattle.bidi_display.specs.LineBreaks.{are_white_space as are_white_space_in, begins_with_tab as begins_with_tab_in, chars_of as chars_of_cluster, first_line_length, given_break as given_break_of, given_break_after, is_forced as is_forced_by, is_white_space as is_white_space_class, last_end as last_end_of, lines_of, overflows as overflows_at, simple_break as simple_break_of, simple_break_after, width_in_line as width_in};
+ghost use Rattle.bidi_display.specs.LineBreaks.{are_white_space as are_white_space_in, begins_with_tab as begins_with_tab_in, chars_of as chars_of_cluster, first_line_length, given_break as given_break_of, given_break_after, is_forced as is_forced_by, is_white_space as is_white_space_class, last_end as last_end_of, lines_of, overflows as overflows_at, shown_end, shown_length as shown_length_of, simple_break as simple_break_of, simple_break_after, width_in_line as width_in};
 ghost use Rattle.bidi_display.specs.LineClusters.{displayed_chars};
 
 use crate::displayed_line::DisplayedLine;
@@ -263,5 +263,35 @@ impl DisplayedLine {
             start = end;
         }
         Ok(())
+    }
+
+    // Returns how many clusters the line has before those at its end that are white space or separators.
+    fn shown_length(&self) -> usize
+        ensures count { result ≡ shown_length_of (chars_in self.now) (clusters_in self.now) }
+        ensures within { result ≤ length (clusters_in self.now) }
+    {
+        let clusters = self.clusters();
+        let mut count = clusters.len();
+        while count > 0 && are_white_space(self.chars_of(&clusters[count - 1])) {
+            count -= 1;
+        }
+        count
+    }
+
+    /// Returns the range of the line without the white space (WS, S) and the separators (B) at its end.
+    ///
+    /// It ends after the last cluster that has a character of another class. If there is none, it is empty. It cuts no
+    /// character, so it can be passed to `show`. Takes time linear in the clusters that it leaves out.
+    pub fn shown_part(&self) -> Range<usize>
+        ensures start { result.start ≡ (laid_out self.now).start }
+        ensures end { result.end ≡ shown_end (chars_in self.now) (laid_out self.now).start (clusters_in self.now) }
+        ensures is_line { (width_of : List ℕ → ℕ) (a : AnalysedText) (level : ℕ) (range : RangeOf ℕ)
+            → Displays width_of a level range self.now → IsLineOf a result }
+    {
+        let start = self.range().start;
+        match self.shown_length() {
+            0 => start..start,
+            count => start..self.clusters()[count - 1].end,
+        }
     }
 }
