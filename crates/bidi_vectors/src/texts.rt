@@ -6,7 +6,7 @@ use bidi_base::level::{Level, has_rtl};
 use bidi_text::text::{CharsText, StrText, TextSource, Utf16Text};
 use bidi_vectors_format::answer::{
     class_words, classes_in, flag_word, index_at, level_words, levels_in, paragraph_words,
-    per_char, places_of,
+    per_char, places_of, ranges_in,
 };
 use bidi_vectors_format::base::base_of;
 use bidi_vectors_format::fault::{RowFault, Why};
@@ -17,8 +17,11 @@ use bidi_vectors_format::source::Tables;
 use bidi_vectors_format::tally::Tally;
 use bidi_vectors_format::text::RowText;
 use std::alloc::Global;
+use std::ops::Range;
 use unicode_bidi::engine::{Analyser, Analysis, ParagraphAnalysis, analyse, analyse_with_rule};
-use unicode_bidi::{BidiInfo, InitialInfo, ParagraphBidiInfo, ParagraphInfo, SplitRule, utf16};
+use unicode_bidi::{
+    BidiInfo, InitialInfo, ParagraphBidiInfo, ParagraphInfo, SplitRule, info, utf16,
+};
 
 // A text without its levels: the class of each code unit, and the paragraphs.
 #[derive(Clone, Copy)]
@@ -57,7 +60,7 @@ fn paragraphs_in<T: TextSource>(
 }
 
 // Where a paragraph ends: after each separator, after each one except a CR before LF, or only at the text's end.
-#[derive(Clone, Copy, PartialEq)]
+#[derive(Clone, Copy)]
 enum Split {
     EachSeparator,
     CrLfTogether,
@@ -139,20 +142,39 @@ impl Case<'_> {
         check_info!(self, tally, call, text, analysis);
     }
 
-    fn check_engine<T: TextSource>(&self, text: T, tally: &mut Tally) -> Result<(), RowFault> {
+    // Compares what the engine finds of a text that it splits by the row's rule with the row.
+    fn check_split<T: TextSource>(&self, text: T, tally: &mut Tally) -> Result<(), RowFault> {
         let (base, rule) = (base_of(self.row)?, self.split.rule());
         let analysis = analyse_with_rule(self.alloc, self.source, text, base, rule)?;
         self.check_analysis(text, &analysis, tally, "engine::analyse_with_rule");
-        self.check_analyser(text, tally)?;
-        if self.split != Split::CrLfTogether {
-            let split = self.split == Split::EachSeparator;
-            let analysis = analyse(self.alloc, self.source, text, base_of(self.row)?, split)?;
-            self.check_analysis(text, &analysis, tally, "engine::analyse");
-        }
-        if self.split == Split::Whole {
-            self.check_paragraph(text, tally)?;
-        }
         Ok(())
+    }
+
+    // Compares what the engine finds of a text that it splits after each separator, or not at all, with the row.
+    fn check_split_or_whole<T: TextSource>(
+        &self,
+        text: T,
+        split: bool,
+        tally: &mut Tally,
+    ) -> Result<(), RowFault> {
+        let base = base_of(self.row)?;
+        let analysis = analyse(self.alloc, self.source, text, base, split)?;
+        self.check_analysis(text, &analysis, tally, "engine::analyse");
+        Ok(())
+    }
+
+    // Tests the engine's calls on a text in some encoding.
+    fn check_engine<T: TextSource>(&self, text: T, tally: &mut Tally) -> Result<(), RowFault> {
+        self.check_split(text, tally)?;
+        self.check_analyser(text, tally)?;
+        match self.split {
+            Split::EachSeparator => self.check_split_or_whole(text, true, tally),
+            Split::CrLfTogether => Ok(()),
+            Split::Whole => {
+                self.check_split_or_whole(text, false, tally)?;
+                self.check_paragraph(text, tally)
+            }
+        }
     }
 
     // Compares what an analyser writes to the caller's lists with the row, when it reads the text for the second time.
@@ -191,11 +213,11 @@ impl Case<'_> {
         Ok(())
     }
 
-    // Compares what is found of a text that is one paragraph with the row, when it is analysed for the second time.
+    // Compares what is found of a text that is one paragraph with the row, when it is analysed after another text.
     fn check_paragraph<T: TextSource>(&self, text: T, tally: &mut Tally) -> Result<(), RowFault> {
         let (alloc, base) = (self.alloc, base_of(self.row)?);
         let mut analysis = ParagraphAnalysis::new(alloc);
-        analysis.find(alloc, self.source, text, base)?;
+        analysis.find(alloc, self.source, StrText::new("\u{5D0}(a"), base)?;
         analysis.find(alloc, self.source, text, base)?;
         let whole = whole_of(text.len(), analysis.level);
         let call = "ParagraphAnalysis::find";
@@ -209,19 +231,44 @@ impl Case<'_> {
         Ok(())
     }
 
+    // Compares what a constructor found of a text in some encoding with the row.
+    fn check_info<T: TextSource>(
+        &self,
+        info: &info::BidiInfo<T>,
+        tally: &mut Tally,
+        call: &'static str,
+    ) {
+        check_info!(self, tally, call, info.text_source(), info);
+    }
+
+    // Compares what the calls for one paragraph return with the row.
+    fn check_each_paragraph<T: TextSource>(
+        &self,
+        info: &info::BidiInfo<T>,
+        tally: &mut Tally,
+    ) -> Result<(), RowFault> {
+        let (alloc, text) = (self.alloc, info.text_source());
+        let contents = contents_of(alloc, info)?;
+        let words = ranges_in(alloc, text, contents.as_slice());
+        tally.agree(self.row, "content", "BidiInfo::content", words);
+        let word = flag_word(are_found(info));
+        tally.same_word(self.row, "BidiInfo::paragraph_at", "yes", word);
+        Ok(())
+    }
+
     // Tests the constructors over UTF-8 that split a text into paragraphs by a rule.
     fn check_rule(&self, text: &str, rule: SplitRule, tally: &mut Tally) -> Result<(), RowFault> {
-        let (base, units) = (base_of(self.row)?, StrText::new(text));
+        let base = base_of(self.row)?;
         let info = BidiInfo::new_with_rule(self.alloc, self.source, text, base, rule)?;
-        check_info!(self, tally, "BidiInfo::new_with_rule", units, info);
-        Ok(())
+        self.check_info(&info, tally, "BidiInfo::new_with_rule");
+        self.check_each_paragraph(&info, tally)
     }
 
     // Tests the constructors over UTF-8 that split a text after each separator.
     fn check_utf8(&self, text: &str, tally: &mut Tally) -> Result<(), RowFault> {
-        let (alloc, source, units) = (self.alloc, self.source, StrText::new(text));
+        let (alloc, source) = (self.alloc, self.source);
         let info = BidiInfo::new_with_data_source(alloc, source, text, base_of(self.row)?)?;
-        check_info!(self, tally, "BidiInfo::new_with_data_source", units, info);
+        self.check_info(&info, tally, "BidiInfo::new_with_data_source");
         self.check_rtl(tally, info.levels(), info.has_rtl());
         Ok(())
     }
@@ -242,18 +289,16 @@ impl Case<'_> {
         rule: SplitRule,
         tally: &mut Tally,
     ) -> Result<(), RowFault> {
-        let (base, units) = (base_of(self.row)?, Utf16Text::new(text));
+        let base = base_of(self.row)?;
         let info = utf16::BidiInfo::new_with_rule(self.alloc, self.source, text, base, rule)?;
-        check_info!(self, tally, "utf16::BidiInfo::new_with_rule", units, info);
-        Ok(())
+        self.check_info(&info, tally, "utf16::BidiInfo::new_with_rule");
+        self.check_each_paragraph(&info, tally)
     }
 
     fn check_utf16(&self, text: &[u16], tally: &mut Tally) -> Result<(), RowFault> {
-        let (alloc, source, units) = (self.alloc, self.source, Utf16Text::new(text));
-        let base = base_of(self.row)?;
+        let (alloc, source, base) = (self.alloc, self.source, base_of(self.row)?);
         let info = utf16::BidiInfo::new_with_data_source(alloc, source, text, base)?;
-        let call = "utf16::BidiInfo::new_with_data_source";
-        check_info!(self, tally, call, units, info);
+        self.check_info(&info, tally, "utf16::BidiInfo::new_with_data_source");
         self.check_rtl(tally, info.levels(), info.has_rtl());
         Ok(())
     }
@@ -266,36 +311,41 @@ impl Case<'_> {
         Ok(())
     }
 
-    // Tests the constructors that take a text of UTF-8 as one paragraph.
-    fn check_whole_utf8(&self, text: &str, tally: &mut Tally) -> Result<(), RowFault> {
-        let (base, units) = (base_of(self.row)?, StrText::new(text));
-        let info = ParagraphBidiInfo::new_with_data_source(self.alloc, self.source, text, base)?;
+    // Compares what a constructor found of a text that is one paragraph, in some encoding, with the row.
+    fn check_whole<T: TextSource>(
+        &self,
+        info: &info::ParagraphBidiInfo<T>,
+        tally: &mut Tally,
+        call: &'static str,
+    ) {
+        let text = info.text_source();
         let whole = whole_of(text.len(), info.paragraph_level());
-        let call = "ParagraphBidiInfo::new_with_data_source";
         Found {
-            text: units,
+            text,
             classes: info.original_classes(),
             paragraphs: whole.as_slice(),
         }
         .check(self, tally, call);
-        self.check_levels(units, info.levels(), tally, call);
+        self.check_levels(text, info.levels(), tally, call);
         self.check_rtl(tally, info.levels(), info.has_rtl());
+    }
+
+    // Tests the constructors that take a text of UTF-8 as one paragraph.
+    fn check_whole_utf8(&self, text: &str, tally: &mut Tally) -> Result<(), RowFault> {
+        let (alloc, source, base) = (self.alloc, self.source, base_of(self.row)?);
+        let info = ParagraphBidiInfo::new_with_data_source(alloc, source, text, base)?;
+        self.check_whole(&info, tally, "ParagraphBidiInfo::new_with_data_source");
         Ok(())
     }
 
     fn check_whole_utf16(&self, text: &[u16], tally: &mut Tally) -> Result<(), RowFault> {
-        let (alloc, base, units) = (self.alloc, base_of(self.row)?, Utf16Text::new(text));
-        let info = utf16::ParagraphBidiInfo::new_with_data_source(alloc, self.source, text, base)?;
-        let whole = whole_of(text.len(), info.paragraph_level());
-        let call = "utf16::ParagraphBidiInfo::new_with_data_source";
-        Found {
-            text: units,
-            classes: info.original_classes(),
-            paragraphs: whole.as_slice(),
-        }
-        .check(self, tally, call);
-        self.check_levels(units, info.levels(), tally, call);
-        self.check_rtl(tally, info.levels(), info.has_rtl());
+        let (alloc, source, base) = (self.alloc, self.source, base_of(self.row)?);
+        let info = utf16::ParagraphBidiInfo::new_with_data_source(alloc, source, text, base)?;
+        self.check_whole(
+            &info,
+            tally,
+            "utf16::ParagraphBidiInfo::new_with_data_source",
+        );
         Ok(())
     }
 
@@ -305,32 +355,43 @@ impl Case<'_> {
         tally.same_word(self.row, "has_rtl", wanted, flag_word(came));
     }
 
+    // Tests the constructors that split a text by the row's rule, if it has one, in both encodings.
+    fn check_rules_of(&self, text: &RowText, tally: &mut Tally) -> Result<(), RowFault> {
+        let Some(rule) = self.split.rule() else {
+            return Ok(());
+        };
+        self.check_rule(text.utf8.as_str(), rule, tally)?;
+        self.check_rule16(text.utf16.as_slice(), rule, tally)
+    }
+
+    // Tests the constructors that split a text after each separator, in both encodings.
+    fn check_each_separator(&self, text: &RowText, tally: &mut Tally) -> Result<(), RowFault> {
+        let (utf8, utf16) = (text.utf8.as_str(), text.utf16.as_slice());
+        self.check_utf8(utf8, tally)?;
+        self.check_initial(utf8, tally)?;
+        self.check_utf16(utf16, tally)?;
+        self.check_initial16(utf16, tally)
+    }
+
     // Tests the constructors of a text in both encodings.
     fn check_infos(&self, text: &RowText, tally: &mut Tally) -> Result<(), RowFault> {
-        let (utf8, utf16) = (text.utf8.as_str(), text.utf16.as_slice());
-        if let Some(rule) = self.split.rule() {
-            self.check_rule(utf8, rule, tally)?;
-            self.check_rule16(utf16, rule, tally)?;
+        self.check_rules_of(text, tally)?;
+        if matches!(self.split, Split::EachSeparator) {
+            self.check_each_separator(text, tally)?;
         }
-        if self.split == Split::EachSeparator {
-            self.check_utf8(utf8, tally)?;
-            self.check_initial(utf8, tally)?;
-            self.check_utf16(utf16, tally)?;
-            self.check_initial16(utf16, tally)?;
-        }
-        if self.split == Split::Whole || has_one_paragraph(self.row) {
-            self.check_whole_utf8(utf8, tally)?;
-            self.check_whole_utf16(utf16, tally)?;
+        if matches!(self.split, Split::Whole) || has_one_paragraph(self.row) {
+            self.check_whole_utf8(text.utf8.as_str(), tally)?;
+            self.check_whole_utf16(text.utf16.as_slice(), tally)?;
         }
         Ok(())
     }
 
     // Tests the rules over lists on a text that is not too long for them.
     fn check_rules(&self, chars: &[char], tally: &mut Tally) -> Result<(), RowFault> {
-        if self.split == Split::CrLfTogether || chars.len() > 1000 {
+        if matches!(self.split, Split::CrLfTogether) || chars.len() > 1000 {
             return Ok(());
         }
-        let is_cut = self.split == Split::EachSeparator;
+        let is_cut = matches!(self.split, Split::EachSeparator);
         let number = base_of(self.row)?.map(|level| level.number());
         let (classes, levels) = resolve(self.alloc, self.source, chars, number, is_cut)?;
         let words = class_words(self.alloc, classes.as_slice());
@@ -353,7 +414,7 @@ impl Case<'_> {
 
     // Tests that U+00AD changes no other level of a short text over the sample, at any index.
     fn check_soft_hyphens(&self, chars: &[char], tally: &mut Tally) {
-        if self.split != Split::EachSeparator
+        if !matches!(self.split, Split::EachSeparator)
             || self.row.get("source").is_some()
             || chars.len() > 20
         {
@@ -364,6 +425,39 @@ impl Case<'_> {
             tally.agree(self.row, "levels", "U+00AD anywhere", words);
         }
     }
+}
+
+// Returns the ranges of the paragraphs of a text, without separators.
+fn contents_of<T: TextSource>(
+    alloc: Global,
+    info: &info::BidiInfo<T>,
+) -> Result<Vec<Range<usize>>, RowFault> {
+    let mut contents = Vec::new(alloc);
+    for paragraph in info.paragraphs() {
+        contents.push(info.content(paragraph))?;
+    }
+    Ok(contents)
+}
+
+// Returns whether `paragraph_at` returns a paragraph for each of its code units.
+fn is_found<T: TextSource>(info: &info::BidiInfo<T>, paragraph: &ParagraphInfo) -> bool {
+    for unit in paragraph.range() {
+        match info.paragraph_at(unit) {
+            Some(found) if *found == *paragraph => {}
+            _ => return false,
+        }
+    }
+    true
+}
+
+// Returns whether `paragraph_at` returns each paragraph for its code units, and none at the text's end.
+fn are_found<T: TextSource>(info: &info::BidiInfo<T>) -> bool {
+    for paragraph in info.paragraphs() {
+        if !is_found(info, paragraph) {
+            return false;
+        }
+    }
+    info.paragraph_at(info.levels().len()).is_none()
 }
 
 // Returns the one paragraph of a text, if the text is not empty.
@@ -415,6 +509,7 @@ pub fn run(
         "split",
         "classes",
         "paragraphs",
+        "content",
         "levels",
     ])?;
     let source = tables.source(row.line)?;

@@ -7,6 +7,8 @@
 mod case;
 mod display;
 mod encodings;
+#[cfg(test)]
+mod part_tests;
 mod report;
 #[cfg(test)]
 mod tests;

@@ -8,12 +8,16 @@ use bidi_display::displayed_line::DisplayedLine;
 use bidi_display::line_breaks::{Break, GivenBreaks, LineBreaks, SimpleBreaks};
 use bidi_display::options::{DisplayOptions, Dropped, Moves};
 use bidi_display::text::Unmirrored;
+use bidi_display::text_display::TextDisplay;
+use bidi_display::width::ClusterColumns;
+use bidi_text::text::{StrText, is_line};
 use bidi_unicode::UnicodeData;
 use std::alloc::Global;
 use std::fmt::Debug;
 use std::ops::Range;
 use std::process::Abort;
 use std::test::Fail;
+use unicode_bidi::{LTR_LEVEL, SplitRule};
 
 const CLUSTERS: DisplayOptions = DisplayOptions {
     moves: Moves::Clusters,
@@ -442,4 +446,49 @@ fn lines_by_given_places(rt: HostRuntime) -> Result<(), Fail> {
         1,
         &[0..3, 3..4],
     )
+}
+
+// The bracket ends its paragraph, at level 0 after a Hebrew letter (N2), so it is the last and not mirrored. The second
+// paragraph has the levels 1 and 2 (P2, I2).
+#[test]
+fn texts_with_their_separators(rt: HostRuntime) -> Result<(), Fail> {
+    let mut display = TextDisplay::new(rt.alloc(), CLUSTERS);
+    let mut out = String::new(rt.alloc());
+    let text = StrText::new("a \u{5D0}\u{5D1}(\n\u{5D1}1");
+    let rule = SplitRule::EachSeparator;
+    display.display(
+        rt.alloc(),
+        &UnicodeData,
+        text,
+        None,
+        rule,
+        &UnicodeData,
+        &mut out,
+    )?;
+    let wanted = "a \u{5D1}\u{5D0}(\n1\u{5D1}";
+    same(&rt, "the text", out.as_str(), wanted);
+    same(&rt, "the paragraphs", display.paragraphs().len(), 2);
+    Ok(())
+}
+
+// The carriage return and the line feed stay in order, and the memory serves a second text.
+#[test]
+fn texts_one_after_another(rt: HostRuntime) -> Result<(), Fail> {
+    let mut display = TextDisplay::new(rt.alloc(), CLUSTERS);
+    let rule = SplitRule::CrLfTogether;
+    let longer = StrText::new("abc\n\n\u{5D0}\u{5D1}\u{5D2}");
+    display.analyse(rt.alloc(), &UnicodeData, longer, None, rule)?;
+    let line = 0..3;
+    assert!(rt; is_line(longer, &line));
+    display.show_line(longer, LTR_LEVEL, line, &ClusterColumns::default())?;
+    same(&rt, "the width of a line", display.line().width(), 3);
+    let text = StrText::new("\u{5D0}(b)\r\n\r\n");
+    display.analyse(rt.alloc(), &UnicodeData, text, None, rule)?;
+    let mut out = String::new(rt.alloc());
+    display.push_text(text, &UnicodeData, &mut out)?;
+    // Levels 1 1 2 1: the brackets have only an L between them, and an R before them (N0).
+    same(&rt, "the text", out.as_str(), "(b)\u{5D0}\r\n\r\n");
+    same(&rt, "the classes", display.classes().len(), 9);
+    same(&rt, "the levels", display.levels().len(), 9);
+    Ok(())
 }

@@ -8,42 +8,29 @@ use bidi_unicode::UnicodeData;
 use std::alloc::Global;
 use std::io::{self, Write};
 use unicode_bidi::BidiInfo;
-use unicode_bidi::text::StrText;
 
 /// Writes a text in lines of at most `columns` columns, each from left to right. Grapheme clusters are whole, characters
-/// are mirrored, and direction controls are left out.
+/// are mirrored, and direction controls and the white space at the end of a line are left out.
 pub fn write_displayed<W: Write>(
     alloc: Global,
     out: &mut W,
     info: &BidiInfo<'_>,
     columns: usize,
 ) -> io::Result<()> {
-    let text = StrText::new(info.text());
     let widths = ClusterColumns::default();
     let mut line = DisplayedLine::new(alloc, DisplayOptions::default());
     let mut lines = Vec::new(alloc);
     let mut shown = String::new(alloc);
     for paragraph in info.paragraphs() {
-        let level = paragraph.level();
-        line.show(
-            text,
-            info.original_classes(),
-            info.levels(),
-            level,
-            paragraph.range(),
-            &widths,
-        )?;
+        line.show_line(info, paragraph, info.content(paragraph), &widths)?;
         lines.clear();
         line.push_lines(&SimpleBreaks, columns, &mut lines)?;
+        if lines.is_empty() {
+            writeln!(out)?;
+        }
         for range in &lines {
-            line.show(
-                text,
-                info.original_classes(),
-                info.levels(),
-                level,
-                range.start..range.end,
-                &widths,
-            )?;
+            line.show_line(info, paragraph, range.start..range.end, &widths)?;
+            line.show_line(info, paragraph, line.shown_part(), &widths)?;
             shown.clear();
             line.push_text(&UnicodeData, &mut shown)?;
             writeln!(out, "{}", shown.as_str())?;

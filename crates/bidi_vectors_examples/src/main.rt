@@ -1,8 +1,11 @@
 //! Prints lines of a text by a table of classes and brackets.
 #![tactic(auto)]
 
+mod any_encoding;
 mod callers;
+mod cursor;
 mod displayed;
+mod messages;
 mod real;
 mod runs;
 mod wrapped;
@@ -11,10 +14,10 @@ use bidi_unicode::UnicodeData;
 use callers::{mirrored_line, visual_runs};
 use std::io;
 use std::ops::Range;
-use unicode_bidi::BidiInfo;
 use unicode_bidi::char_data::BidiClass::{self, B, EN, ON, R, WS};
 use unicode_bidi::data_source::TableBidiData;
 use unicode_bidi::text::{StrText, is_line};
+use unicode_bidi::{BidiInfo, utf16};
 
 // Ranges of characters and their classes. Every other character has class L.
 const RANGES: [(char, char, BidiClass); 5] = [
@@ -77,5 +80,11 @@ fn main(rt: HostRuntime) -> io::Result<()> {
     let text = "שלום 👩‍👩‍👧 (abc) 12";
     let info = BidiInfo::new_with_data_source(rt.alloc(), &UnicodeData, text, None)?;
     displayed::write_displayed(rt.alloc(), &mut io::writer(&rt), &info, 8)?;
+    cursor::print_carets(&rt, "abc אבג 123")?;
+    let units = [0x61, 0x20, 0x5D0, 0x20, 0x62, 0x0A, 0x5D1];
+    let info = utf16::BidiInfo::new_with_data_source(rt.alloc(), &UnicodeData, &units, None)?;
+    let count = any_encoding::count_runs(rt.alloc(), &info)?;
+    println!(rt; "{count} runs")?;
+    messages::print_messages(&rt, &["שלום!", "12:30 ?", "hello (שלום)"])?;
     callers::show_input(&rt)
 }

@@ -8,13 +8,10 @@ use unicode_bidi::BidiInfo;
 pub fn print_runs(rt: &(impl Print + AllocGlobal), text: &str) -> io::Result<()> {
     let info = BidiInfo::new_with_data_source(rt.alloc(), &UnicodeData, text, None)?;
     for paragraph in info.paragraphs() {
-        let line = paragraph.range();
-        let levels = info.levels_of_line(rt.alloc(), paragraph, line.start..line.end)?;
-        for run in &info.line_runs(rt.alloc(), paragraph, line.start..line.end)? {
-            // `levels` begins at the line's start, and `run` counts from the text's start.
-            let level = levels[run.start - line.start];
-            let (start, end, number) = (run.start, run.end, level.number());
-            let run_text = &text[start..end];
+        for shown in &info.run_texts(rt.alloc(), paragraph, paragraph.range())? {
+            let (start, end) = (shown.run.range.start, shown.run.range.end);
+            let (level, run_text) = (shown.run.level, shown.text.as_str());
+            let number = level.number();
             print!(rt; "{start}..{end}, level {number}: [{run_text}] is shown as [")?;
             if level.is_rtl() {
                 for c in run_text.chars().rev() {

@@ -1,7 +1,7 @@
 //! The calls over any text, and those over the caller's levels.
 
 use crate::texts::{CHARACTERS, LONG_TEXT, UNITS};
-use crate::trial::{Fault, NoAnswer, tried};
+use crate::trial::{Fault, NoAnswer, tried, tried_here};
 use bidi_base::char_data::BidiClass;
 use bidi_base::data_source::TableBidiData;
 use bidi_base::level::Level;
@@ -9,7 +9,7 @@ use bidi_lines::shown_line::ShownLine;
 use bidi_text::text::{CharsText, StrText, TextSource, Utf16Text, is_line, is_per_char};
 use std::alloc::Global;
 use unicode_bidi::deprecated::visual_runs;
-use unicode_bidi::engine::{Analyser, analyse, line_levels};
+use unicode_bidi::engine::{Analyser, ParagraphAnalysis, analyse, line_levels};
 
 // The levels of a line that begins and ends inside isolates.
 const NUMBERS: [u8; 24] = [
@@ -38,6 +38,18 @@ fn shown_order<T: TextSource>(
     Ok(order)
 }
 
+// Returns the levels of a text that is one paragraph, and the paragraph level, by a `ParagraphAnalysis`.
+fn paragraph_levels<T: TextSource>(
+    alloc: Global,
+    source: &TableBidiData<'_>,
+    text: T,
+) -> Result<(Vec<Level>, Level), NoAnswer> {
+    let mut analysis = ParagraphAnalysis::new(alloc);
+    analysis.find(alloc, source, text, None)?;
+    let levels = Vec::from_slice(alloc, analysis.levels.as_slice())?;
+    Ok((levels, analysis.level))
+}
+
 // Tries the calls of the engine over a text, split into paragraphs or as one paragraph.
 fn try_text<T: TextSource>(
     rt: &(impl Print + AllocGlobal),
@@ -46,42 +58,45 @@ fn try_text<T: TextSource>(
     split: bool,
 ) -> Result<(), Fault> {
     let alloc = rt.alloc();
-    let analysis = tried!(
+    let analysis = tried(
         rt,
         "engine::analyse",
-        analyse(alloc, source, text, None, split)
-    );
+        || Ok(analyse(alloc, source, text, None, split)?),
+    )?;
     let fits = is_per_char(text, analysis.original_classes())
         && is_per_char(text, analysis.levels());
     let end = text.len();
     if !fits || !is_line(text, &(0..end)) {
-        return Err(Fault::NoTrial("a line of any text"));
+        return Err(Fault::NoTrial);
     }
-    tried!(
+    tried_here!(
         rt,
         "engine::line_levels",
         line_levels(alloc, text, &analysis, Level::rtl(), 0..end)
     );
-    tried!(
+    tried(
         rt,
         "engine::Analyser and ShownLine",
-        shown_order(alloc, source, text)
-    );
+        || shown_order(alloc, source, text),
+    )?;
+    tried(rt, "ParagraphAnalysis::find", || {
+        paragraph_levels(alloc, source, text)
+    })?;
     Ok(())
 }
 
 fn try_levels(rt: &(impl Print + AllocGlobal)) -> Result<(), Fault> {
     let alloc = rt.alloc();
-    let levels = tried!(rt, "Level::vec", Level::vec(alloc, &NUMBERS));
+    let levels = tried(rt, "Level::vec", || Ok(Level::vec(alloc, &NUMBERS)?))?;
     let end = levels.len();
     if end == 0 {
-        return Err(Fault::NoTrial("levels"));
+        return Err(Fault::NoTrial);
     }
-    tried!(
+    tried(
         rt,
         "deprecated::visual_runs",
-        visual_runs(alloc, 0..end, levels.as_slice())
-    );
+        || Ok(visual_runs(alloc, 0..end, levels.as_slice())?),
+    )?;
     Ok(())
 }
 

@@ -1,7 +1,7 @@
 //! The rules over lists of characters.
 
 use crate::texts::{CHARACTERS, LENGTH};
-use crate::trial::{Fault, tried};
+use crate::trial::{Fault, tried, tried_by};
 use bidi_base::char_data::BidiClass::{self, L};
 use bidi_base::data_source::{BidiDataSource, BidiMatchedOpeningBracket, TableBidiData};
 use bidi_base::level::{LTR_LEVEL, Level};
@@ -58,33 +58,33 @@ fn try_sequence(
     let alloc = rt.alloc();
     let (read, count) = gathered(text, overridden, sequence.places());
     if count > LENGTH {
-        return Err(Fault::NoTrial("a sequence"));
+        return Err(Fault::NoTrial);
     }
     let (classes, brackets) = (&read.classes[..count], &read.brackets[..count]);
     let overridden = &read.overridden[..count];
     let (sos, eos) = (sequence.sos(), sequence.eos());
     if !is_side(sos) || !is_side(eos) || !are_kept(classes) || !are_kept(overridden) {
-        return Err(Fault::NoTrial("a sequence"));
+        return Err(Fault::NoTrial);
     }
-    let resolved = tried!(rt, "plain::weak", weak(alloc, sos, overridden));
+    let resolved = tried(rt, "plain::weak", || Ok(weak(alloc, sos, overridden)?))?;
     let resolved = resolved.as_slice();
     if resolved.len() != count || !are_left(resolved) || level.number() > 125 {
-        return Err(Fault::NoTrial("weak classes"));
+        return Err(Fault::NoTrial);
     }
-    tried!(rt, "plain::pairs", pairs(alloc, resolved, brackets));
-    let directed = tried!(
+    tried(rt, "plain::pairs", || Ok(pairs(alloc, resolved, brackets)?))?;
+    let directed = tried(
         rt,
         "plain::neutral",
-        neutral(alloc, level, sos, eos, classes, brackets, resolved)
-    );
+        || Ok(neutral(alloc, level, sos, eos, classes, brackets, resolved)?),
+    )?;
     if !have_directions(directed.as_slice()) {
-        return Err(Fault::NoTrial("neutral classes"));
+        return Err(Fault::NoTrial);
     }
-    tried!(
+    tried(
         rt,
         "plain::implicit",
-        implicit(alloc, level, directed.as_slice())
-    );
+        || Ok(implicit(alloc, level, directed.as_slice())?),
+    )?;
     Ok(())
 }
 
@@ -103,21 +103,21 @@ fn are_sequences_equal(these: &Vec<PlainSequence>, others: &Vec<PlainSequence>) 
 pub fn run(rt: &(impl Print + AllocGlobal), source: &TableBidiData<'_>) -> Result<(), Fault> {
     let alloc = rt.alloc();
     let text = read_text(source);
-    let explicit = tried!(
+    let explicit = tried_by(
         rt,
         "plain::explicit_levels",
-        explicit_levels(alloc, LTR_LEVEL, &text.classes),
-        before, answer => are_explicit_equal(before, &answer)
-    );
+        || Ok(explicit_levels(alloc, LTR_LEVEL, &text.classes)?),
+        are_explicit_equal,
+    )?;
     if explicit.levels().len() != LENGTH {
-        return Err(Fault::NoTrial("explicit levels"));
+        return Err(Fault::NoTrial);
     }
-    let found = tried!(
+    let found = tried_by(
         rt,
         "plain::sequences",
-        sequences(alloc, LTR_LEVEL, &text.classes, explicit.levels()),
-        before, answer => are_sequences_equal(before, &answer)
-    );
+        || Ok(sequences(alloc, LTR_LEVEL, &text.classes, explicit.levels())?),
+        are_sequences_equal,
+    )?;
     for sequence in &found {
         let first = sequence.places().first().copied().unwrap_or(0);
         let level = explicit.levels().get(first).copied().unwrap_or(LTR_LEVEL);

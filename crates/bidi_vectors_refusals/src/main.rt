@@ -1,11 +1,12 @@
 //! Makes each call that allocates three times, and tests that a failed allocation changes no other result.
 //!
-//! The first argument names a part of the calls: `utf8` over UTF-8 and over lines with kept classes and levels,
+//! The first argument names a part of the calls: `utf8` over UTF-8 and over lines with stored classes and levels,
 //! `encodings` over UTF-16 and over any text, `passes` by the rules over lists and the passes in place. The second says
 //! how many allocations the program makes before them. Without arguments, it makes the calls of each part.
 #![tactic(auto)]
 
 mod any_text;
+mod infos;
 mod lists;
 mod passes;
 mod program;

@@ -3,7 +3,7 @@
 ghost use Rattle.std.specs.Prelude.{◌≡◌, ◌≤◌, ◌||◌, length};
 
 use crate::texts::{TEXT, WITHOUT_ISOLATES};
-use crate::trial::{Fault, NoAnswer, tried};
+use crate::trial::{Fault, NoAnswer, tried, tried_by, tried_here};
 use bidi_base::char_data::BidiClass::{self, L};
 use bidi_base::data_source::TableBidiData;
 use bidi_base::level::{LTR_LEVEL, Level, RTL_LEVEL};
@@ -277,11 +277,10 @@ fn try_weak(
     sequence: &IsolatingRunSequence,
     units: &mut Units,
 ) -> Result<(), Fault> {
-    *units = tried!(
-        rt,
-        "implicit::resolve_weak",
-        with_weak(paragraph, sequence, units)
-    );
+    let before = *units;
+    *units = tried(rt, "implicit::resolve_weak", || {
+        with_weak(paragraph, sequence, &before)
+    })?;
     Ok(())
 }
 
@@ -293,16 +292,19 @@ fn try_neutrals(
     resolver: &mut NeutralResolver,
 ) -> Result<(), Fault> {
     let alloc = rt.alloc();
-    tried!(
+    let before = *units;
+    tried_by(
         rt,
         "NeutralResolver::resolve",
-        with_neutrals(alloc, neutrals, units, resolver, true)
-    );
-    *units = tried!(
+        || with_neutrals(alloc, neutrals, &before, resolver, true),
+        |this, other| *this == *other,
+    )?;
+    *units = tried_by(
         rt,
         "implicit::resolve_neutral",
-        with_neutrals(alloc, neutrals, units, resolver, false)
-    );
+        || with_neutrals(alloc, neutrals, &before, resolver, false),
+        |this, other| *this == *other,
+    )?;
     Ok(())
 }
 
@@ -312,21 +314,17 @@ fn try_passes(
     source: &TableBidiData<'_>,
     paragraph: Classified<'_>,
 ) -> Result<(), Fault> {
-    tried!(rt, "explicit::compute", computed(rt.alloc(), paragraph));
-    tried!(
-        rt,
-        "explicit::compute_counted",
-        computed_counted(rt.alloc(), paragraph)
-    );
-    let (mut units, sequences) = tried!(
-        rt,
-        "explicit::compute and prepare::isolating_run_sequences",
-        prepared(rt.alloc(), paragraph)
-    );
+    let alloc = rt.alloc();
+    tried(rt, "explicit::compute", || computed(alloc, paragraph))?;
+    tried(rt, "explicit::compute_counted", || {
+        computed_counted(alloc, paragraph)
+    })?;
+    let name = "explicit::compute and prepare::isolating_run_sequences";
+    let (mut units, sequences) = tried(rt, name, || prepared(alloc, paragraph))?;
     for sequence in &sequences {
         try_weak(rt, paragraph, sequence, &mut units)?;
     }
-    let mut resolver = NeutralResolver::new(rt.alloc());
+    let mut resolver = NeutralResolver::new(alloc);
     for sequence in &sequences {
         let neutrals = Neutrals {
             paragraph,
@@ -335,21 +333,20 @@ fn try_passes(
         };
         try_neutrals(rt, neutrals, &mut units, &mut resolver)?;
     }
-    tried!(
-        rt,
-        "implicit::resolve_levels",
+    tried(rt, "implicit::resolve_levels", || {
         with_implicit(paragraph, &units)
-    );
+    })?;
     Ok(())
 }
 
 /// Tries the passes on a text with isolates, and on one without.
 pub fn run(rt: &(impl Print + AllocGlobal), source: &TableBidiData<'_>) -> Result<(), Fault> {
     for (text, has_isolate_controls) in [(TEXT, true), (WITHOUT_ISOLATES, false)] {
-        let info = tried!(
+        let alloc = rt.alloc();
+        let info = tried_here!(
             rt,
             "InitialInfo::new_with_data_source",
-            InitialInfo::new_with_data_source(rt.alloc(), source, text, None)
+            InitialInfo::new_with_data_source(alloc, source, text, None)
         );
         let paragraph = Classified {
             text: StrText::new(text),

@@ -11,7 +11,7 @@ use std::rt::Env;
 /// A part of the calls.
 #[derive(Clone, Copy)]
 pub enum Part {
-    /// The calls over UTF-8, and over lines with kept classes and levels.
+    /// The calls over UTF-8, and over lines with stored classes and levels.
     Utf8,
     /// The calls over UTF-16, and over any text.
     Encodings,
@@ -74,7 +74,7 @@ pub fn request_behind(rt: &(impl Print + AllocGlobal)) -> Result<(), Fault> {
 
 /// Returns the data source of the calls.
 pub fn sample() -> Result<TableBidiData<'static>, Fault> {
-    TableBidiData::new(&RANGES, &BRACKETS).map_err(|_fault| Fault::NoTrial("the sample"))
+    TableBidiData::new(&RANGES, &BRACKETS).map_err(|_fault| Fault::NoTrial)
 }
 
 /// Returns the exit code of the program. Prints a fault to standard error.

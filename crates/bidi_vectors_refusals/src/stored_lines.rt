@@ -1,4 +1,4 @@
-//! The calls over a line, given classes and levels that the caller has kept.
+//! The calls over a line, given its stored classes and levels.
 
 ghost use Rattle.std.specs.Char.{len_utf8};
 ghost use Rattle.std.specs.Str.{chars};
@@ -7,7 +7,7 @@ ghost use Rattle.bidi_base.specs.Text.{is_per_char};
 ghost use Rattle.bidi_base.specs.Utf16.{utf16_text, utf16_len};
 
 use crate::texts::{LONG_TEXT, UNITS};
-use crate::trial::{Fault, tried};
+use crate::trial::{Fault, tried, tried_here};
 use bidi_base::char_data::BidiClass;
 use bidi_base::data_source::TableBidiData;
 use bidi_base::level::Level;
@@ -51,36 +51,36 @@ fn reorder_units<'t>(
 fn try_utf8(rt: &(impl Print + AllocGlobal), source: &TableBidiData<'_>) -> Result<(), Fault> {
     let alloc = rt.alloc();
     let text = StrText::new(LONG_TEXT);
-    let analysis = tried!(
+    let analysis = tried(
         rt,
         "engine::analyse_with_rule",
-        analyse_with_rule(alloc, source, text, None, Some(SplitRule::CrLfTogether))
-    );
+        || Ok(analyse_with_rule(alloc, source, text, None, Some(SplitRule::CrLfTogether))?),
+    )?;
     let (classes, levels) = (analysis.original_classes(), analysis.levels());
     if !is_per_char(text, classes) || !is_per_char(text, levels) {
-        return Err(Fault::NoTrial("a kept line"));
+        return Err(Fault::NoTrial);
     }
-    tried!(
+    tried(
         rt,
         "stored_line::reorder_utf8",
-        reorder_text(alloc, LONG_TEXT, classes, levels)
-    );
+        || Ok(reorder_text(alloc, LONG_TEXT, classes, levels)?),
+    )?;
     Ok(())
 }
 
 fn try_utf16(rt: &(impl Print + AllocGlobal), source: &TableBidiData<'_>) -> Result<(), Fault> {
     let alloc = rt.alloc();
     let text = Utf16Text::new(&UNITS);
-    let analysis = tried!(
+    let analysis = tried(
         rt,
         "engine::analyse_with_rule",
-        analyse_with_rule(alloc, source, text, None, None)
-    );
+        || Ok(analyse_with_rule(alloc, source, text, None, None)?),
+    )?;
     let (classes, levels) = (analysis.original_classes(), analysis.levels());
     if !is_per_char(text, classes) || !is_per_char(text, levels) {
-        return Err(Fault::NoTrial("a kept line"));
+        return Err(Fault::NoTrial);
     }
-    tried!(
+    tried_here!(
         rt,
         "stored_line::reorder_utf16",
         reorder_units(alloc, &UNITS, classes, levels)
@@ -88,7 +88,7 @@ fn try_utf16(rt: &(impl Print + AllocGlobal), source: &TableBidiData<'_>) -> Res
     Ok(())
 }
 
-/// Tries the texts of kept lines, and the analyses that return their classes and levels.
+/// Tries `reorder_utf8` and `reorder_utf16`, and the analyses that return the classes and levels of the lines.
 pub fn run(rt: &(impl Print + AllocGlobal), source: &TableBidiData<'_>) -> Result<(), Fault> {
     try_utf8(rt, source)?;
     try_utf16(rt, source)

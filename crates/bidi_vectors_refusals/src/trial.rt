@@ -33,10 +33,10 @@ impl From<VecError> for NoAnswer {
 #[derive(Debug, Drop)]
 pub enum Fault {
     /// Two of a call's three results differ, more than one is missing, or one is missing for another reason than
-    /// memory.
-    Answers(&'static str),
-    /// A line or a condition that a trial needs is not there.
-    NoTrial(&'static str),
+    /// memory. The last line of the output names the call.
+    Answers,
+    /// A line or a condition that the call after the last line of the output needs is not there.
+    NoTrial,
     /// The arguments name no part, or no count.
     Arguments,
     /// The program could not read its arguments or write its output.
@@ -46,8 +46,10 @@ pub enum Fault {
 impl fmt::Display for Fault {
     fn fmt<W: fmt::Write>(&self, f: &mut fmt::Formatter<W>) -> fmt::Result {
         match self {
-            Fault::Answers(name) => write!(f, "{name}: three calls do not answer alike"),
-            Fault::NoTrial(name) => write!(f, "{name}: no trial"),
+            Fault::Answers => f.write_str(
+                "three calls do not answer alike: those of the last line",
+            ),
+            Fault::NoTrial => f.write_str("no trial after the last line"),
             Fault::Arguments => f.write_str("usage: [utf8 | encodings | passes [COUNT]]"),
             Fault::Device => f.write_str("input or output failed"),
         }
@@ -92,31 +94,66 @@ impl Outcomes {
         self.refused = self.refused.saturating_add(1);
     }
 
-    /// Prints the call's name and how many of its calls failed.
-    pub fn tell(self, rt: &impl Print, name: &'static str) -> Result<(), Fault> {
-        if !self.are_alike {
-            return Err(Fault::Answers(name));
-        }
+    /// Prints the call's name and how many of its calls failed. The results must be alike.
+    pub fn tell(self, rt: &impl Print, name: &str) -> Result<(), Fault> {
         println!(rt; "{name} {}", self.refused)?;
+        if !self.are_alike {
+            return Err(Fault::Answers);
+        }
         Ok(())
     }
 }
 
 /// Makes a call three times, prints its name and how many of the three failed to allocate, and returns the result.
 ///
-/// All results must be equal, or alike by the caller's test. At most one of the three calls may fail.
-macro_rules! tried {
-    ($rt:expr, $name:expr, $call:expr) => {
-        $crate::trial::tried!($rt, $name, $call, before, answer => *before == answer)
-    };
-    ($rt:expr, $name:expr, $call:expr, $before:ident, $answer:ident => $are_alike:expr) => {{
+/// All results must be alike by the caller's test. At most one of the three calls may fail.
+pub fn tried_by<A: Drop, F: FnMut() -> Result<A, NoAnswer>, S: Fn(&A, &A) -> bool>(
+    rt: &impl Print,
+    name: &str,
+    mut call: F,
+    are_alike: S,
+) -> Result<A, Fault>
+    requires call { F.IsAlwaysCallable call }
+    requires test { S.IsAlwaysCallable are_alike }
+{
+    let mut first = None;
+    let mut outcomes = Outcomes::new();
+    for _ in 0..CALLS {
+        match call() {
+            Ok(answer) => match &first {
+                Some(before) => outcomes.compare(are_alike(before, &answer)),
+                None => first = Some(answer),
+            },
+            Err(reason) => outcomes.miss(reason),
+        }
+    }
+    outcomes.tell(rt, name)?;
+    first.ok_or(Fault::Answers)
+}
+
+/// Makes a call three times, prints its name and how many of the three failed to allocate, and returns the result.
+///
+/// All results must be equal. At most one of the three calls may fail.
+pub fn tried<A: Drop + PartialEq, F: Fn() -> Result<A, NoAnswer>>(
+    rt: &impl Print,
+    name: &str,
+    call: F,
+) -> Result<A, Fault>
+    requires { F.IsAlwaysCallable call }
+{
+    tried_by(rt, name, &call, |before, answer| *before == *answer)
+}
+
+/// Does the same in place, for a call whose result borrows from the caller.
+macro_rules! tried_here {
+    ($rt:expr, $name:expr, $call:expr) => {{
         let mut first = None;
         let mut outcomes = $crate::trial::Outcomes::new();
         for _ in 0..$crate::trial::CALLS {
             match $call {
-                Ok($answer) => match &first {
-                    Some($before) => outcomes.compare($are_alike),
-                    None => first = Some($answer),
+                Ok(answer) => match &first {
+                    Some(before) => outcomes.compare(*before == answer),
+                    None => first = Some(answer),
                 },
                 Err(reason) => outcomes.miss($crate::trial::NoAnswer::from(reason)),
             }
@@ -124,9 +161,9 @@ macro_rules! tried {
         outcomes.tell($rt, $name)?;
         match first {
             Some(answer) => answer,
-            None => return Err($crate::trial::Fault::Answers($name)),
+            None => return Err($crate::trial::Fault::Answers),
         }
     }};
 }
 
-pub(crate) use tried;
+pub(crate) use tried_here;

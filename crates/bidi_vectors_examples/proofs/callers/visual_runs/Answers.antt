@@ -52,4 +52,4 @@ loop-run-preserved c =
 
 pub returns : goal.returns
 returns c =
-    all_shown _ _ _ _ _ _ _ _ _ _ c.loop-run.invariant c.text-text.ensures c.in_ok-levels.ensures.units c.deref-run-items.ensures.value c.loop-run-test.false c.in_ok-line_runs.ensures.runs
+    all_shown _ _ _ _ _ _ _ _ _ _ c.loop-run.invariant c.text-text.ensures c.in_ok-levels.ensures.units c.deref-run-items.ensures.value c.loop-run-test.false c.in_ok-line_runs.ensures.runs.runs
