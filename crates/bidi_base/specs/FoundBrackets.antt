@@ -1,4 +1,4 @@
--- Helper definitions: the brackets of a sequence that count, each with its index, as the code gathers them.
+-- The brackets of a sequence that count (BD14, BD15), each with its index, as the code gathers them.
 use Rattle.std.specs.Prelude.{◌≡◌, ℕ, ◌+◌, List, [], ◌∷◌, Option, Some, None}
 use Rattle.bidi_base.specs.declared.char_data.BidiClass.{BidiClass}
 use Rattle.bidi_base.specs.declared.data_source.BidiMatchedOpeningBracket.{BidiMatchedOpeningBracket}

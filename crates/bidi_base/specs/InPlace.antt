@@ -80,14 +80,14 @@ neutral_classes_in len_of chars source runs sos eos levels original_classes old 
     neutral_classes (level_at levels (first_or 0 places)) sos eos (at_indexes L original_classes places)
     (map source.bracket_of (at_indexes 0 chars indexes)) (at_indexes L old places)
 
--- N0 to N2 are done
+-- the new classes are those after N0 to N2
 pub record AreNeutralsResolved (len_of : ℕ → ℕ) (chars : List ℕ) (source : Source) (runs : List (ℕ × ℕ))
     (sos eos : BidiClass) (level_units : List ℕ) (original_classes old new : List BidiClass) : Type 0 where
   pub kept : classes_in len_of chars runs old new
       ≡ neutral_classes_in len_of chars source runs sos eos level_units original_classes old
   pub in_place : IsInPlace len_of chars runs old new
 
--- N0 and N1 are done: after N2, which changes no level, the classes would be those of the rules
+-- the new classes are those after N0 and N1: after N2, which changes no level, they would be those of the rules
 pub record AreNeutralsResolvedUpToN1 (len_of : ℕ → ℕ) (chars : List ℕ) (source : Source) (runs : List (ℕ × ℕ))
     (sos eos : BidiClass) (level_units : List ℕ) (original_classes old new : List BidiClass) : Type 0 where
   pub kept : let places = map (unit_index len_of chars) (kept_in_place len_of chars old runs) in

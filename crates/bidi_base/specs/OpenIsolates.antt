@@ -1,5 +1,4 @@
--- Helper definitions of passes that read a paragraph from its start: the isolates that are open so far, and the effect
--- of one more character.
+-- Passes that read a paragraph from its start: the isolates that are open so far, and the effect of one more character.
 use Rattle.std.specs.Prelude.{ℕ, ◌-◌, Bool, true, false, if◌then◌else◌, List, [], ◌∷◌, ◌++◌, take, drop, replicate, Option, Some, None}
 use Rattle.std.specs.declared.ops.Range.{Range}
 use Rattle.bidi_base.specs.declared.char_data.BidiClass.{BidiClass}

@@ -1,5 +1,4 @@
--- Helper definitions: the openers that are open while a text is read, as the list of their classes, innermost first
--- (X6a, X7).
+-- The openers that are open while a text is read, as the list of their classes, innermost first (X6a, X7).
 use Rattle.std.specs.Prelude.{if◌then◌else◌, List, [], ◌∷◌}
 use Rattle.std.specs.List.{list_any}
 use Rattle.bidi_base.specs.declared.char_data.BidiClass.{BidiClass}

@@ -1,5 +1,5 @@
--- Helper definitions: the search for bracket pairs over the brackets of a sequence alone, with a stack of opening
--- brackets, each with the index of its pair in the list of pairs.
+-- The search for bracket pairs (BD16) over the brackets of a sequence alone, with a stack of opening brackets, each with
+-- the index of its pair in the list of pairs.
 use Rattle.std.specs.Prelude.{◌≡◌, ℕ, ◌<◌, ◌≤◌, Bool, true, false, nat_lt, ◌==◌, List, [], ◌++◌, map, length, drop, filter, fold, find, Option, Some, None, option_map, unwrap_or, All}
 use Rattle.std.specs.List.{range_with_len}
 use Rattle.bidi_base.specs.declared.data_source.BidiMatchedOpeningBracket.{BidiMatchedOpeningBracket}

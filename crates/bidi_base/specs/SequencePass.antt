@@ -1,5 +1,5 @@
--- Helper definitions of a pass that begins and continues isolating run sequences (X10): which sequence the PDI of each
--- open isolate continues, and the members of each sequence.
+-- A pass that begins and continues isolating run sequences (X10): which sequence the PDI of each open isolate continues,
+-- and the members of each sequence.
 use Rattle.std.specs.Prelude.{ℕ, ◌-◌, ◌<◌, ◌==◌, if◌then◌else◌, Bool, List, [], ◌∷◌, ◌++◌, length, take, get_or, slice_set, Option, Some, None}
 use Rattle.bidi_base.specs.declared.char_data.BidiClass.{BidiClass}
 use Rattle.bidi_base.specs.Classes.{is_isolate_initiator, is_pdi}

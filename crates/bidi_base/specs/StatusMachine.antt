@@ -1,5 +1,4 @@
--- Helper definitions: the directional status stack of X1 to X8 with its three counts, and what each character closes
--- and opens.
+-- The directional status stack of X1 to X8 with its three counts, and what each character closes and opens.
 use Rattle.std.specs.Prelude.{ℕ, zero, suc, ◌+◌, ◌-◌, ◌<◌, ◌≤◌, ◌≡◌, Bool, false, ◌&&◌, ◌||◌, ◌==◌, nat_lt, nat_le, if◌then◌else◌, List, [], ◌∷◌, None, unwrap_or, ⊤}
 use Rattle.bidi_base.specs.declared.char_data.BidiClass.{BidiClass}
 use Rattle.bidi_base.specs.Classes.{is_isolate_initiator, is_opener, is_pdi, is_pdf, is_paragraph_separator, is_removed}

@@ -1,4 +1,4 @@
--- A list of which a pass has updated some entries.
+-- A list in which a pass has changed some entries.
 use Rattle.std.specs.Prelude.{◌≡◌, ℕ, ◌<◌, ◌≤◌, Bool, true, false, List, length, get_or}
 
 -- the entries from `from` up to `to` that pass the test became what `update` makes of them, and all others are

@@ -7,7 +7,7 @@ ghost use Rattle.bidi_base.specs.Line.{is_blank};
 
 use crate::char_data::BidiClass;
 
-/// How many classes there are.
+/// The number of classes.
 pub const CLASS_COUNT: usize = 23;
 
 /// Returns whether a class is strong: L, R or AL.

@@ -13,6 +13,7 @@ pub mod format_chars;
 pub mod isolates;
 pub mod level;
 pub mod neutrals;
+pub mod overridden;
 pub mod sample;
 pub mod search;
 pub mod split_rule;

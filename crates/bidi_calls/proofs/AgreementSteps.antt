@@ -1,4 +1,4 @@
--- One unit more, with the class and the level of the unit before.
+-- Code units that agree with the ones before them in class and level, and one unit more.
 use Rattle.bidi_base.proofs.Common.{◌≡◌, ℕ, ◌+◌, ◌≤◌, Bool, ◌&&◌, ◌↔◌, inl, inr, IsTrue, List, arith, cases_lt, and_parts, and_from, sym, subst}
 use Rattle.bidi_calls.specs.PerChar.{AgreesAt, AgreeBetween}
 

@@ -13,10 +13,16 @@ ghost use Rattle.bidi_base.specs.Texts.{Encoding, Text, text_len, char_indices, 
 use std::ops::Range;
 
 mod chars_text;
+mod class_text;
+mod indexed_text;
 mod str_text;
 mod utf16_text;
 
 pub use chars_text::{CharsCharIndexIter, CharsCharIter, CharsIndexLenIter, CharsText};
+pub use class_text::{BRACKET_OPENS, ClassData, ClassText, bracket_codes_fault};
+pub use indexed_text::{
+    Indexed, IndexedCharIndexIter, IndexedCharIter, IndexedIndexLenIter, IndexedText,
+};
 pub use str_text::{StrText, Utf8IndexLenIter};
 pub use utf16_text::{
     Utf16CharIndexIter, Utf16CharIter, Utf16IndexLenIter, Utf16Text, are_characters,
@@ -164,6 +170,15 @@ pub fn is_line<T: TextSource>(text: T, line: &Range<usize>) -> bool
     ensures { IsTrue result ↔ IsLine (T.text text) line.now.start line.now.end }
 {
     line.start <= line.end && text.is_boundary(line.start) && text.is_boundary(line.end)
+}
+
+/// Returns the range of a whole text. It is a line.
+pub fn whole<T: TextSource>(text: T) -> Range<usize>
+    ensures start { result.start ≡ 0 }
+    ensures end { result.end ≡ text_len (T.text text) }
+    ensures is_line { IsLine (T.text text) result.start result.end }
+{
+    0..text.len()
 }
 
 // Returns the character of a code point.

@@ -42,7 +42,7 @@ fn reversed_byte(far: u8, near: u8, byte: u8, next: u8, later: u8) -> u8
     choose(byte >= OF_THREE, later, by_next)
 }
 
-// Reverses a text except for its first two and its last two bytes.
+// Writes the bytes of a text with its characters in reverse order, all but its first two and its last two.
 fn reverse_middle(bytes: &[u8], out: &mut [u8])
     requires same_len { length out.old ≡ length bytes.now }
     requires long { 4 ≤ length bytes.now }
@@ -85,7 +85,7 @@ fn byte_after(bytes: &[u8], at: usize, by: usize) -> u8
     }
 }
 
-// Reverses the bytes of a text with indexes from `from` up to `to`.
+// Writes those of the bytes from `from` up to `to`.
 fn reverse_ends(bytes: &[u8], out: &mut [u8], from: usize, to: usize)
     requires same_len { length out.old ≡ length bytes.now }
     requires ordered { from ≤ to }

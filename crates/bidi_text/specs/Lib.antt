@@ -1,0 +1,3 @@
+pub mod ClassText
+pub mod IndexedText
+pub mod WideText
