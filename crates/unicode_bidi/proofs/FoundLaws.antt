@@ -1,5 +1,5 @@
 -- What follows of the analysis of a text that a rule splits into its paragraphs.
-use Rattle.bidi_base.proofs.Common.{◌≡◌, ◌≤◌, ℕ, List, [], ◌∷◌, arith, Option, All, IfSome, slice_range, AnalysedText, AreParagraphs, IsAnalysis, AreLevelsFrom, pieces_by, Source, text_levels, per_unit, per_char}
+use Rattle.bidi_base.proofs.Common.{◌≡◌, ◌≤◌, ℕ, List, [], ◌∷◌, arith, Option, All, IfSome, slice_range, AnalysedText, AreParagraphs, IsAnalysis, AreLevelsFrom, pieces_by, Source, text_levels, per_unit}
 use Rattle.bidi_base.proofs.Common.{All-cons, All-head, All-nil, All-tail}
 use Rattle.std.specs.Prelude.{zip}
 use Rattle.bidi_base.specs.declared.split_rule.SplitRule.{SplitRule}
@@ -36,7 +36,7 @@ module _ (source : Source) (base_level : Option ℕ) (rule : Option SplitRule) (
 
   bounded-found : All (IsBounded a.levels) ps
   bounded-found =
-      rw of_levels (paragraphs-AreLevelsFrom source base_level a.len_of some a.chars pieces (pieces_by-joined rule source a.chars) ps found.ranges found.para_levels few)
+      rw of_levels (paragraphs-AreLevelsFrom source a.len_of some a.chars pieces (pieces_by-joined rule source a.chars) ps found.ranges base_level found.para_levels few)
 
   pub IsAnalysis-found : IsAnalysis source base_level rule a (ranges_of ps) (levels_of ps)
   IsAnalysis-found = record {
@@ -45,7 +45,7 @@ module _ (source : Source) (base_level : Option ℕ) (rule : Option SplitRule) (
     by_characters = grind (arith, of_levels, per_char-per_unit a.len_of some 0 a.chars (text_levels source base_level pieces), length-text_levels source base_level pieces a.chars, pieces_by-joined rule source a.chars);
     per_char = grind (arith, is_per_char-per_unit, level_test, length-text_levels, pieces_by-joined);
     bounded = bounded-zip a.levels ps bounded-found;
-    each_by_itself = rw of_levels (paragraphs-HasOwnUnits source base_level a.len_of some a.chars pieces (pieces_by-joined rule source a.chars) ps found.ranges found.para_levels);
+    each_by_itself = rw of_levels (paragraphs-HasOwnUnits source a.len_of some a.chars pieces (pieces_by-joined rule source a.chars) ps found.ranges base_level found.para_levels);
   }
 
 -- the laws, whatever the text is

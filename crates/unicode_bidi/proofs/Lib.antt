@@ -1,7 +1,12 @@
 pub mod AloneLemmas
+mod BaseLaws
+mod BaseLemmas
+mod BasedParagraphs
 mod ContentLemmas
+mod DecidingSteps
 mod FoundLaws
 mod LogicalRuns
+mod ParagraphChanges
 mod ParagraphSearch
 mod ParagraphUnits
 mod RunsOfLine

@@ -5,7 +5,7 @@ use Rattle.bidi_base.proofs.Common.{sum_by-append, map-map, paragraph_level, sto
 use Rattle.bidi_base.proofs.Common.{paragraph_levels, text_len, subrange, per_unit, IsLine, flat_map, flat_map-append}
 use Rattle.bidi_lines.proofs.RunText.{flat_map-same_on}
 use Rattle.bidi_base.specs.declared.char_data.BidiClass.{BidiClass}
-use Rattle.bidi_laws.proofs.LevelLaws.{paragraph_level-few, length-stored_levels, stored_levels-AreLevelsFrom, All-per_unit}
+use Rattle.bidi_laws.proofs.LevelLaws.{length-stored_levels, stored_levels-AreLevelsFrom, All-per_unit}
 use Rattle.bidi_laws.proofs.StoredSteps.{length-stored_classes}
 use Rattle.bidi_base.proofs.UnitIndexLemmas.{text_len-subrange}
 use Rattle.bidi_base.proofs.PerUnit.{length-per_unit}
@@ -84,60 +84,76 @@ ranges-chars : (len_of : ℕ → ℕ) → HasUnits len_of → (front : List ℕ)
 ranges-chars len_of units front [] = refl
 ranges-chars len_of units front (piece ∷ pieces) = grind (arith, append_assoc, sum_by-append, subrange-middle, ranges-chars len_of units (front ++ piece) pieces)
 
--- what the walk over the paragraphs of a text is given, and what it leaves
-module _ (source : Source) (base_level : Option ℕ) (len_of : ℕ → ℕ) (units : HasUnits len_of) (chars : List ℕ) (pieces : List (List ℕ))
-    (whole : joined pieces ≡ chars) (ps : List ParagraphInfo) (ranges : ranges_of ps ≡ ranges_from len_of 0 pieces)
-    (levels : levels_of ps ≡ paragraph_levels source base_level pieces) where
+-- the paragraphs of a text, in its pieces
+module _ (source : Source) (len_of : ℕ → ℕ) (units : HasUnits len_of) (chars : List ℕ) (pieces : List (List ℕ))
+    (whole : joined pieces ≡ chars) (ps : List ParagraphInfo) (ranges : ranges_of ps ≡ ranges_from len_of 0 pieces) where
   pub paragraphs-Follow : Follow 0 (text_len len_of chars) ps
   paragraphs-Follow = ranges-Follow len_of 0 (text_len len_of chars) ps pieces ranges (simp (whole, zero-add))
 
-  paragraphs-chars : map (chars_of len_of chars) ps ≡ pieces
+  pub paragraphs-chars : map (chars_of len_of chars) ps ≡ pieces
   paragraphs-chars = simp (whole, ← ranges, map-map) at (ranges-chars len_of units [] pieces)
-
-  -- the level of each paragraph is that of its characters
-  paragraphs-level : All (λ p. p.level ≡ paragraph_level base_level (map source.class_of (chars_of len_of chars p))) ps
-  unfolding paragraph_levels
-  paragraphs-level k d within =
-      let own : ParagraphInfo → ℕ = λ p. paragraph_level base_level (map source.class_of (chars_of len_of chars p)) in
-      cc (simp (← paragraphs-chars, map-map) at levels, get_or-map level_of ps k d 0 within, get_or-map own ps k d 0 within)
-
-  pub paragraphs-levels : flat_map (unit_levels source len_of chars) ps ≡ per_unit len_of chars (text_levels source base_level pieces)
-  unfolding unit_levels stored_levels text_levels
-  paragraphs-levels =
-      let own : List ℕ → List ℕ = λ piece. per_unit len_of piece (stored_levels source base_level piece) in
-      let own_levels = flat_map-same_on (unit_levels source len_of chars) (λ p. own (chars_of len_of chars p)) ps (λ k d within. simp (paragraphs-level k d within)) in
-      cc (own_levels, per_unit-pieces (stored_levels source base_level) (length-stored_levels source base_level) len_of pieces, flat_map-map own (chars_of len_of chars) ps, paragraphs-chars)
 
   pub paragraphs-flags : paragraph_flags source pieces ≡ map (own_flags source len_of chars) ps
   unfolding paragraph_flags
   paragraphs-flags = simp (← paragraphs-chars, map-map)
 
-  pub paragraphs-CanWrite : (classes : List BidiClass) → classes ≡ per_unit len_of chars (text_classes source pieces)
-      → IfSome base_level (λ level. level ≤ 125) → All (CanWrite source len_of chars classes) ps
-  unfolding text_classes
-  paragraphs-CanWrite classes e few k d within =
-      let stored : List ℕ → List BidiClass = λ piece. stored_classes (map source.class_of piece) in
-      let one_each : (piece : List ℕ) → length (stored piece) ≡ length piece = λ piece. length-stored_classes (map source.class_of piece) ∙ length-map piece source.class_of in
-      record {
-        line = of_ranges (λ r. IsLine len_of chars r.0 r.1) ps (simp (whole, ← ranges) at (ranges-lines len_of units [] pieces)) k d within;
-        level = rw (paragraphs-level k d within) (paragraph_level-few base_level (map source.class_of (chars_of len_of chars (get_or ps k d))) few);
-        classes = of_ranges (HasOwnUnits len_of stored chars classes) ps (rw (ranges, e) (HasOwnUnits-pieces stored one_each len_of units chars pieces whole)) k d within;
-      }
+  pub paragraphs-lines : All (λ p. IsLine len_of chars (range_of p).start (range_of p).end) ps
+  paragraphs-lines = of_ranges (λ r. IsLine len_of chars r.0 r.1) ps (simp (whole, ← ranges) at (ranges-lines len_of units [] pieces))
 
-  -- each paragraph has the levels that its characters have by themselves
-  pub paragraphs-HasOwnUnits : All (HasOwnUnits len_of (stored_levels source base_level) chars (per_unit len_of chars (text_levels source base_level pieces))) (ranges_of ps)
-  unfolding text_levels
-  paragraphs-HasOwnUnits = rw ranges (HasOwnUnits-pieces (stored_levels source base_level) (length-stored_levels source base_level) len_of units chars pieces whole)
+  -- what the walk over them is given, and what it leaves, where `own_level` is the level of a paragraph's characters
+  module _ (own_level : List ℕ → ℕ) (levels : levels_of ps ≡ map own_level pieces) where
+    -- the stored levels of a paragraph's characters
+    abbrev own_levels : List ℕ → List ℕ
+    own_levels piece = levels_in (own_level piece) (map source.class_of piece) (map source.bracket_of piece)
 
-  -- its levels are at least its own, and at most the greatest
-  pub paragraphs-AreLevelsFrom : IfSome base_level (λ level. level ≤ 125)
-      → All (λ p. AreLevelsFrom p.level (slice_range (per_unit len_of chars (text_levels source base_level pieces)) p.range.start p.range.end)) ps
-  paragraphs-AreLevelsFrom few k d within =
-      let piece : List ℕ = chars_of len_of chars (get_or ps k d) in
-      let own = of_ranges (HasOwnUnits len_of (stored_levels source base_level) chars (per_unit len_of chars (text_levels source base_level pieces))) ps paragraphs-HasOwnUnits k d within in
-      rw (paragraphs-level k d within, own)
-      (All-per_unit (λ level. (paragraph_level base_level (map source.class_of piece) ≤ level) × (level ≤ 126)) len_of piece (stored_levels source base_level piece)
-      (stored_levels-AreLevelsFrom source base_level piece few))
+    length-own_levels : (piece : List ℕ) → length (own_levels piece) ≡ length piece
+    length-own_levels piece = grind (arith, length-levels_in, length-map)
+
+    -- the level of each paragraph is that of its characters
+    pub paragraphs-level : All (λ p. p.level ≡ own_level (chars_of len_of chars p)) ps
+    paragraphs-level k d within =
+        let own : ParagraphInfo → ℕ = λ p. own_level (chars_of len_of chars p) in
+        cc (simp (← paragraphs-chars, map-map) at levels, get_or-map level_of ps k d 0 within, get_or-map own ps k d 0 within)
+
+    pub paragraphs-levels : flat_map (unit_levels source len_of chars) ps ≡ per_unit len_of chars (flat_map own_levels pieces)
+    unfolding unit_levels
+    paragraphs-levels =
+        let own : List ℕ → List ℕ = λ piece. per_unit len_of piece (own_levels piece) in
+        let same = flat_map-same_on (unit_levels source len_of chars) (λ p. own (chars_of len_of chars p)) ps (λ k d within. simp (paragraphs-level k d within)) in
+        cc (same, per_unit-pieces own_levels length-own_levels len_of pieces, flat_map-map own (chars_of len_of chars) ps, paragraphs-chars)
+
+    pub paragraphs-CanWrite : (classes : List BidiClass) → classes ≡ per_unit len_of chars (text_classes source pieces)
+        → ((piece : List ℕ) → own_level piece ≤ 125) → All (CanWrite source len_of chars classes) ps
+    unfolding text_classes
+    paragraphs-CanWrite classes e few k d within =
+        let stored : List ℕ → List BidiClass = λ piece. stored_classes (map source.class_of piece) in
+        let one_each : (piece : List ℕ) → length (stored piece) ≡ length piece = λ piece. length-stored_classes (map source.class_of piece) ∙ length-map piece source.class_of in
+        record {
+          line = paragraphs-lines k d within;
+          level = rw (paragraphs-level k d within) (few (chars_of len_of chars (get_or ps k d)));
+          classes = of_ranges (HasOwnUnits len_of stored chars classes) ps (rw (ranges, e) (HasOwnUnits-pieces stored one_each len_of units chars pieces whole)) k d within;
+        }
+
+  -- where they have a base level, or the levels of their characters
+  module _ (base_level : Option ℕ) (levels : levels_of ps ≡ paragraph_levels source base_level pieces) where
+    pub paragraphs-level_by : All (λ p. p.level ≡ paragraph_level base_level (map source.class_of (chars_of len_of chars p))) ps
+    unfolding paragraph_levels
+    paragraphs-level_by = paragraphs-level (λ piece. paragraph_level base_level (map source.class_of piece)) levels
+
+    -- each paragraph has the levels that its characters have by themselves
+    pub paragraphs-HasOwnUnits : All (HasOwnUnits len_of (stored_levels source base_level) chars (per_unit len_of chars (text_levels source base_level pieces))) (ranges_of ps)
+    unfolding text_levels
+    paragraphs-HasOwnUnits = rw ranges (HasOwnUnits-pieces (stored_levels source base_level) (length-stored_levels source base_level) len_of units chars pieces whole)
+
+    -- its levels are at least its own, and at most the greatest
+    pub paragraphs-AreLevelsFrom : IfSome base_level (λ level. level ≤ 125)
+        → All (λ p. AreLevelsFrom p.level (slice_range (per_unit len_of chars (text_levels source base_level pieces)) p.range.start p.range.end)) ps
+    paragraphs-AreLevelsFrom few k d within =
+        let piece : List ℕ = chars_of len_of chars (get_or ps k d) in
+        let own = of_ranges (HasOwnUnits len_of (stored_levels source base_level) chars (per_unit len_of chars (text_levels source base_level pieces))) ps paragraphs-HasOwnUnits k d within in
+        rw (paragraphs-level_by k d within, own)
+        (All-per_unit (λ level. (paragraph_level base_level (map source.class_of piece) ≤ level) × (level ≤ 126)) len_of piece (stored_levels source base_level piece)
+        (stored_levels-AreLevelsFrom source base_level piece few))
 
 -- ---- a text of one paragraph
 

@@ -39,11 +39,11 @@ abbrev pub is_mixed : Direction → Bool
 is_mixed Mixed = true
 is_mixed _ = false
 
-zero_test : (d : ℕ) → (d == 0) ≡ is_zero d
+pub zero_test : (d : ℕ) → (d == 0) ≡ is_zero d
 zero_test zero = refl
 zero_test (suc d) = ne_eqb (suc d) 0 (omega arith)
 
-counted : (d : ℕ) (c : BidiClass) → depth_after c d ≡ depth_by (kind_of c) d
+pub counted : (d : ℕ) (c : BidiClass) → depth_after c d ≡ depth_by (kind_of c) d
 counted d c = grind (arith, initiator-kind c, pdi-kind c)
 
 -- ---- the direction after open isolates

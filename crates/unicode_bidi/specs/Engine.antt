@@ -1,14 +1,17 @@
 -- What an analysis has, and what the calls for each paragraph of a text require and write.
-use Rattle.std.specs.Prelude.{◌≡◌, ℕ, ◌≤◌, List, [], ◌∷◌, map, slice_range}
-use Rattle.bidi_base.specs.AnalysedText.{AnalysedText}
+use Rattle.std.specs.Prelude.{◌≡◌, ℕ, ◌≤◌, List, [], ◌∷◌, map, slice_range, Option}
+use Rattle.bidi_base.specs.AnalysedText.{AnalysedText, IsAnalysis}
 use Rattle.bidi_base.specs.declared.char_data.BidiClass.{BidiClass}
+use Rattle.bidi_base.specs.declared.split_rule.SplitRule.{SplitRule}
 use Rattle.bidi_base.specs.Isolates.{stored_classes}
+use Rattle.bidi_base.specs.Paragraphs.{pieces_by}
 use Rattle.bidi_base.specs.Source.{Source}
 use Rattle.bidi_base.specs.Stored.{levels_in}
 use Rattle.bidi_base.specs.Text.{subrange, per_unit, IsLine}
 use Rattle.bidi_base.specs.Texts.{Encoding, Text}
 use Rattle.bidi_lines.specs.Analysed.{with_lists}
-use Rattle.bidi_paragraphs.specs.ParagraphFlags.{flags_of}
+use Rattle.bidi_paragraphs.specs.ParagraphFlags.{flags_of, paragraph_flags}
+use Rattle.bidi_paragraphs.specs.ParagraphInfo.{ranges_of, levels_of}
 use Rattle.unicode_bidi.specs.declared.engine.Analyser.{Analyser}
 use Rattle.unicode_bidi.specs.declared.engine.Analysis.{Analysis}
 use Rattle.bidi_paragraphs.specs.declared.paragraph_flags.ParagraphFlags.{ParagraphFlags}
@@ -39,6 +42,12 @@ found_flags a = a.found.flags.items
 -- a text with the stored classes and levels of an analysis
 abbrev pub with_analysis : {e : Encoding} → Text e → Analysis → AnalysedText
 with_analysis text a = with_lists text (original_classes a) (levels a)
+
+-- the analysis of a text, with the flags of each paragraph
+pub record IsFlaggedAnalysis {e : Encoding} (source : Source) (base_level : Option ℕ) (rule : Option SplitRule) (text : Text e)
+    (a : Analysis) : Type 0 where
+  pub analysis : IsAnalysis source base_level rule (with_analysis text a) (ranges_of (paragraphs a)) (levels_of (paragraphs a))
+  pub flags : flags a ≡ paragraph_flags source (pieces_by rule source text.chars)
 
 -- the characters of a paragraph
 abbrev pub chars_of : (ℕ → ℕ) → List ℕ → ParagraphInfo → List ℕ

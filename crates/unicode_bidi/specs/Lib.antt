@@ -1,4 +1,5 @@
 pub mod Analysis
+pub mod Base
 pub mod BidiInfo
 pub mod Content
 pub mod DirectionSearch

@@ -39,6 +39,6 @@ module _ {T C I L : Type 0} {t : _} {c : _} {i : _} {l : _} (info : ParagraphBid
   abbrev pub is_pure_ltr : Bool
   is_pure_ltr = info.is_pure_ltr
 
-  -- `i.is_pure_ltr()` is exactly whether the source classes of its text let nothing change the direction
+  -- `i.is_pure_ltr()` is true exactly if no source class of the text can change the direction
   abbrev pub IsPureLtrBy : Source → Type 0
   IsPureLtrBy source = is_pure_ltr ≡ is_pure_ltr_of (map source.class_of analysed.chars)

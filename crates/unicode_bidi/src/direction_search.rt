@@ -33,7 +33,7 @@ fn direction_of(class: BidiClass) -> Direction
 }
 
 // Returns how many isolates are open after a character of this class.
-fn depth_after(depth: usize, class: BidiClass) -> usize
+pub(crate) fn depth_after(depth: usize, class: BidiClass) -> usize
     requires { depth + 1 < 2 ^ 64 }
     ensures { result ≡ depth_after_of class depth }
 {

@@ -8,10 +8,12 @@ ghost use Rattle.bidi_base.specs.Paragraphs.{pieces_by};
 ghost use Rattle.bidi_base.specs.Texts.{char_index, per_char, text_len, HaveClass, HaveLevel, IsLine};
 ghost use Rattle.bidi_base.specs.declared.char_data.BidiClass.TheVariants.{L};
 ghost use Rattle.bidi_lines.specs.Analysed.{with_lists};
-ghost use Rattle.unicode_bidi.specs.Engine.{with_analysis, found_paragraphs, found_flags, original_classes as original_classes_of, levels as stored_levels_of, paragraphs as paragraphs_of_analysis, flags as flags_of_analysis, unit_levels, own_flags, CanWrite, Follow};
+ghost use Rattle.unicode_bidi.specs.Base.{HasLowLevel, IsAnalysisWith};
+ghost use Rattle.unicode_bidi.specs.Engine.{with_analysis, found_paragraphs, found_flags, original_classes as original_classes_of, levels as stored_levels_of, paragraphs as paragraphs_of_analysis, flags as flags_of_analysis, unit_levels, own_flags, CanWrite, Follow, IsFlaggedAnalysis};
 ghost use Rattle.bidi_paragraphs.specs.ParagraphFlags.{paragraph_flags};
 ghost use Rattle.bidi_paragraphs.specs.ParagraphInfo.{ranges_of, levels_of};
 
+use crate::base::{Base, apply_base};
 use bidi_base::char_data::BidiClass;
 use bidi_base::data_source::BidiDataSource;
 use bidi_base::level::{LTR_LEVEL, Level};
@@ -200,8 +202,47 @@ impl Analyser {
         ensures emptied { OnErr result (found_paragraphs self.new ≡ []) }
         ensures no_flags { OnErr result (found_flags self.new ≡ []) }
     {
+        self.analyse_with_base(
+            alloc,
+            data_source,
+            text,
+            Base::from(base_level),
+            rule,
+            classes,
+            levels,
+        )
+    }
+
+    /// Finds the paragraphs of a text, and the class and the level of each character (P1 to I2), as
+    /// [`Analyser::analyse`] does, with a base.
+    ///
+    /// A level that `base` names is at most 125. With [`Base::AutoOr`], each paragraph of level 0 is read once more, up
+    /// to the character that decides.
+    pub fn analyse_with_base<D: BidiDataSource, T: TextSource>(
+        &mut self,
+        alloc: Global,
+        data_source: &D,
+        text: T,
+        base: Base,
+        rule: Option<SplitRule>,
+        classes: &mut [BidiClass],
+        levels: &mut [Level],
+    ) -> Result<(), AllocError>
+        requires low { HasLowLevel base }
+        requires class_room { length classes.old ≡ text_len (T.text text) }
+        requires level_room { length levels.old ≡ text_len (T.text text) }
+        ensures analysis { OnOk result (IsAnalysisWith (D.source data_source.now) base rule
+            (with_lists (T.text text) classes.new levels.new) (ranges_of (found_paragraphs self.new))
+            (levels_of (found_paragraphs self.new))) }
+        ensures flags { let pieces = pieces_by rule (D.source data_source.now) (T.text text).chars in
+            OnOk result (found_flags self.new ≡ paragraph_flags (D.source data_source.now) pieces) }
+        ensures emptied { OnErr result (found_paragraphs self.new ≡ []) }
+        ensures no_flags { OnErr result (found_flags self.new ≡ []) }
+    {
         let memory = mem::replace(&mut self.found, FoundParagraphs::new(alloc));
-        let found = first_pass::walk(data_source, text, base_level, rule, classes, memory)?;
+        let fixed = base.fixed_level();
+        let mut found = first_pass::walk(data_source, text, fixed, rule, classes, memory)?;
+        apply_base(data_source, text, base, &mut found);
         let classified = ClassifiedText {
             data_source,
             text,
@@ -219,7 +260,7 @@ impl Analyser {
     }
 }
 
-/// Analyses one text after another as one paragraph, and keeps the result in lists that are reused.
+/// The analysis of a text that is one paragraph. It takes one text after another, and reuses its lists.
 #[derive(Drop)]
 pub struct ParagraphAnalysis {
     analyser: Analyser,
@@ -285,7 +326,21 @@ pub(crate) fn analyse_by<D: BidiDataSource, T: TextSource>(
     rule: Option<SplitRule>,
 ) -> Result<Analysis, AllocError>
     requires { IfSome base_level (λ level. level ≤ 125) }
-    ensures analysis { IfOk result (λ a. IsAnalysis (D.source data_source.now) base_level rule
+    ensures { IfOk result (IsFlaggedAnalysis (D.source data_source.now) base_level rule (T.text text)) }
+{
+    analyse_by_base(alloc, data_source, text, Base::from(base_level), rule)
+}
+
+// Like `analyse_by`, with a base.
+pub(crate) fn analyse_by_base<D: BidiDataSource, T: TextSource>(
+    alloc: Global,
+    data_source: &D,
+    text: T,
+    base: Base,
+    rule: Option<SplitRule>,
+) -> Result<Analysis, AllocError>
+    requires { HasLowLevel base }
+    ensures analysis { IfOk result (λ a. IsAnalysisWith (D.source data_source.now) base rule
         (with_analysis (T.text text) a) (ranges_of (paragraphs_of_analysis a))
         (levels_of (paragraphs_of_analysis a))) }
     ensures flags { let pieces = pieces_by rule (D.source data_source.now) (T.text text).chars in
@@ -294,11 +349,11 @@ pub(crate) fn analyse_by<D: BidiDataSource, T: TextSource>(
     let mut original_classes = vec![in alloc; BidiClass::L; text.len()]?;
     let mut levels = vec![in alloc; LTR_LEVEL; text.len()]?;
     let mut analyser = Analyser::new(alloc);
-    analyser.analyse(
+    analyser.analyse_with_base(
         alloc,
         data_source,
         text,
-        base_level,
+        base,
         rule,
         original_classes.as_mut_slice(),
         levels.as_mut_slice(),

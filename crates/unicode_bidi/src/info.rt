@@ -3,20 +3,23 @@
 
 ghost use Rattle.std.specs.Prelude.{◌≡◌, ◌+◌, ◌<◌, ◌≤◌, nat_lt, slice_range, IfOk, IfSome, OnOk, OnErr, All, Some, map, option_map};
 ghost use Rattle.std.specs.List.{find};
-ghost use Rattle.bidi_base.specs.AnalysedText.{IsAnalysis, IsLineOf, IsPartOfLine, AreLevelsWithLine, AreLevelsOfLine, AreRunsOfLine, HasClassPerChar, HasLevelPerChar, levels_with_line_per_char, line_levels_per_char};
-ghost use Rattle.bidi_base.specs.Display.{run_of, level_runs};
+ghost use Rattle.bidi_base.specs.AnalysedText.{IsAnalysis, IsPerCharText, IsLineOf, AreLevelsWithLine, AreLevelsOfLine, AreRunsOfLine, HasClassPerChar, HasLevelPerChar, levels_with_line_per_char, line_levels_per_char};
+ghost use Rattle.bidi_base.specs.Display.{run_of};
 ghost use Rattle.bidi_base.specs.Levels.{has_rtl as has_rtl_of};
 ghost use Rattle.bidi_base.specs.Paragraphs.{IsPartition};
 ghost use Rattle.bidi_base.specs.Texts.{text_len, IsLine};
 ghost use Rattle.bidi_paragraphs.specs.ParagraphInfo.{level_of, range_of, ranges_of, levels_of};
 ghost use Rattle.bidi_lines.specs.LineOrder.{IsLineOrder};
 ghost use Rattle.unicode_bidi.specs.Analysis.{ObeysLaws};
+ghost use Rattle.unicode_bidi.specs.Base.{HasLowLevel, IsAnalysisWith};
 ghost use Rattle.unicode_bidi.specs.Content.{content_len};
+ghost use Rattle.unicode_bidi.specs.Engine.{with_analysis, paragraphs as paragraphs_of_analysis};
 ghost use Rattle.unicode_bidi.specs.Partition.{IsPartition-prop};
-ghost use Rattle.unicode_bidi.specs.VisualRun.{AreRunsWithLevels, HaveTexts, run_of_text};
+ghost use Rattle.unicode_bidi.specs.VisualRun.{AreLineRuns, AreRunsWithLevels, AreRunTexts, AreLogicalRuns};
 
+use crate::base::Base;
 use crate::char_levels::levels_of_line_per_char;
-use crate::engine;
+use crate::engine::{self, Analysis};
 use crate::logical_runs::logical_runs_of;
 pub use crate::paragraph_bidi_info::ParagraphBidiInfo;
 use crate::visual_run::{self, RunText, VisualRun};
@@ -85,10 +88,43 @@ impl<T: TextSource> BidiInfo<T> {
         ensures laws { ObeysLaws (D.source data_source.now) default_para_level }
     {
         let found = engine::analyse_by(alloc, data_source, text, default_para_level, Some(rule))?;
-        Ok(BidiInfo {
+        Ok(BidiInfo::of_analysis(text, found))
+    }
+
+    /// Finds the paragraphs of a text in any encoding, which end where `rule` says, and the class and the level of each
+    /// character (P1 to I2), with a base.
+    ///
+    /// Like [`BidiInfo::of_text`], with a base. With [`Base::AutoOr`], a paragraph in which no character decides, such
+    /// as digits alone, gets the level that the caller chose. A level that `base` names is at most 125.
+    pub fn of_text_with_base<D: BidiDataSource>(
+        alloc: Global,
+        data_source: &D,
+        text: T,
+        base: Base,
+        rule: SplitRule,
+    ) -> Result<BidiInfo<T>, AllocError>
+        requires { HasLowLevel base }
+        ensures text { IfOk result (λ i. text_source i ≡ text) }
+        ensures analysis { IfOk result (λ i. IsAnalysisWith (D.source data_source.now) base (Some rule) (analysed_of i)
+            (ranges_of (paragraphs i)) (levels_of (paragraphs i))) }
+    {
+        let found = engine::analyse_by_base(alloc, data_source, text, base, Some(rule))?;
+        Ok(BidiInfo::of_analysis(text, found))
+    }
+
+    // Returns the info of a text with its analysis.
+    fn of_analysis(text: T, found: Analysis) -> BidiInfo<T>
+        requires per_char { IsPerCharText (with_analysis (T.text text) found) }
+        requires lines { All (λ r. IsLine (T.text text) r.0 r.1) (ranges_of (paragraphs_of_analysis found)) }
+        requires partition { IsPartition 0 (text_len (T.text text)) (ranges_of (paragraphs_of_analysis found)) }
+        ensures text { text_source result ≡ text }
+        ensures analysed { analysed_of result ≡ with_analysis (T.text text) found }
+        ensures paragraphs { paragraphs result ≡ paragraphs_of_analysis found }
+    {
+        BidiInfo {
             analysed: Analysed::new(text, found.original_classes, found.levels),
             paragraphs: found.paragraphs,
-        })
+        }
     }
 
     /// Returns the text, in its encoding.
@@ -242,10 +278,7 @@ impl<T: TextSource> BidiInfo<T> {
         line: Range<usize>,
     ) -> Result<Vec<Range<usize>>, AllocError>
         requires { IsLineOf (analysed_of self.now) line }
-        ensures runs { IfOk result (λ v. AreRunsOfLine (analysed_of self.now) (level_of para.now) line (map run_of v.items)) }
-
-        // Each run can slice the text.
-        ensures parts { IfOk result (λ v. All (λ r. IsPartOfLine (analysed_of self.now) line (run_of r)) v.items) }
+        ensures { IfOk result (λ v. AreLineRuns (analysed_of self.now) (level_of para.now) line v.items) }
     {
         self.analysed.line_runs(alloc, para.level(), line)
     }
@@ -276,8 +309,7 @@ impl<T: TextSource> BidiInfo<T> {
         line: Range<usize>,
     ) -> Result<Vec<RunText<T>>, AllocError>
         requires { IsLineOf (analysed_of self.now) line }
-        ensures runs { IfOk result (λ v. AreRunsWithLevels (analysed_of self.now) (level_of para.now) line (map run_of_text v.items)) }
-        ensures texts { IfOk result (λ v. HaveTexts (T.text (text_source self.now)) T.text v.items) }
+        ensures { IfOk result (λ v. AreRunTexts (T.text (text_source self.now)) T.text (analysed_of self.now) (level_of para.now) line v.items) }
     {
         visual_run::run_texts(alloc, &self.analysed, para.level(), line)
     }
@@ -293,9 +325,7 @@ impl<T: TextSource> BidiInfo<T> {
         range: Range<usize>,
     ) -> Result<Vec<Range<usize>>, AllocError>
         requires { IsLineOf (analysed_of self.now) range }
-        ensures runs { IfOk result (λ v. map run_of v.items
-            ≡ level_runs range.start (slice_range (levels_of_info self.now) range.start range.end)) }
-        ensures parts { IfOk result (λ v. All (λ r. IsPartOfLine (analysed_of self.now) range (run_of r)) v.items) }
+        ensures { IfOk result (λ v. AreLogicalRuns (analysed_of self.now) range v.items) }
     {
         logical_runs_of(alloc, &self.analysed, range)
     }

@@ -10,10 +10,12 @@
 //! BidiInfo::reorder_visual(alloc, levels)?;   // of levels 1 3 3 2 1: 4 2 1 3 0
 //! ```
 //!
-//! Texts of UTF-16 have the same calls in `utf16`. For any other text, use `engine`. `CALLING.md` in this crate's
-//! folder has callers with contracts, the clauses that callers use most, and what each call costs.
+//! Texts of UTF-16 have the same calls in `utf16`. For any other text, use `info`, or `engine` with lists of your own.
+//! `text::Indexed` makes a text of your own. `CALLING.md` in this crate's folder has callers with contracts, the
+//! clauses that callers use most, and what each call costs.
 #![tactic(auto)]
 
+mod base;
 mod base_direction;
 mod char_levels;
 pub mod deprecated;
@@ -34,6 +36,7 @@ mod utf8;
 mod version;
 pub mod visual_run;
 
+pub use base::Base;
 pub use base_direction::{
     get_base_direction_full_with_data_source, get_base_direction_with_data_source,
 };
@@ -41,7 +44,7 @@ pub use bidi_base::char_data::{BidiClass, Direction};
 pub use bidi_base::data_source::BidiDataSource;
 pub use bidi_base::level::{LTR_LEVEL, Level, RTL_LEVEL};
 pub use bidi_base::split_rule::SplitRule;
-pub use bidi_base::{char_data, data_source, format_chars, level, sample};
+pub use bidi_base::{char_data, data_source, format_chars, level, overridden, sample};
 pub use bidi_paragraphs::paragraph_info::ParagraphInfo;
 pub use bidi_text::text;
 pub use bidi_text::text::{TextSource, Utf8IndexLenIter};

@@ -1,9 +1,10 @@
 // The level runs of a range of a text, in the order of the text.
 
-ghost use Rattle.std.specs.Prelude.{◌≡◌, ◌+◌, ◌≤◌, length, slice_range, All, IfOk, map};
-ghost use Rattle.bidi_base.specs.AnalysedText.{IsLineOf, IsPartOfLine};
+ghost use Rattle.std.specs.Prelude.{◌≡◌, ◌+◌, ◌≤◌, length, IfOk, map};
+ghost use Rattle.bidi_base.specs.AnalysedText.{IsLineOf};
 ghost use Rattle.bidi_base.specs.Display.{run_of, level_runs};
 ghost use Rattle.bidi_lines.specs.Analysed.{analysed as analysed_of};
+ghost use Rattle.unicode_bidi.specs.VisualRun.{AreLogicalRuns};
 
 use bidi_base::level::Level;
 use bidi_lines::analysed::Analysed;
@@ -41,9 +42,7 @@ pub(crate) fn logical_runs_of<T: TextSource>(
     range: Range<usize>,
 ) -> Result<Vec<Range<usize>>, AllocError>
     requires { IsLineOf (analysed_of analysed.now) range }
-    ensures runs { IfOk result (λ v. map run_of v.items
-        ≡ level_runs range.start (slice_range (analysed_of analysed.now).levels range.start range.end)) }
-    ensures parts { IfOk result (λ v. All (λ r. IsPartOfLine (analysed_of analysed.now) range (run_of r)) v.items) }
+    ensures { IfOk result (λ v. AreLogicalRuns (analysed_of analysed.now) range v.items) }
 {
     let start = range.start;
     level_runs_of(alloc, &analysed.levels()[range], start)

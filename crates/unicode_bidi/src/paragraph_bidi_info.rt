@@ -1,14 +1,16 @@
 // The result of the algorithm for a text that is one paragraph.
-ghost use Rattle.std.specs.Prelude.{◌≡◌, ◌<◌, ◌≤◌, slice_range, IfOk, IfSome, None, [], ◌∷◌, OnOk, OnErr, All, map};
-ghost use Rattle.bidi_base.specs.AnalysedText.{IsAnalysis, IsLineOf, IsPartOfLine, AreLevelsWithLine, AreLevelsOfLine, AreRunsOfLine, HasClassPerChar, HasLevelPerChar, levels_with_line_per_char, line_levels_per_char};
+ghost use Rattle.std.specs.Prelude.{◌≡◌, ◌<◌, ◌≤◌, IfOk, IfSome, None, [], ◌∷◌, OnOk, OnErr, map};
+ghost use Rattle.bidi_base.specs.AnalysedText.{IsAnalysis, IsLineOf, AreLevelsWithLine, AreLevelsOfLine, AreRunsOfLine, HasClassPerChar, HasLevelPerChar, levels_with_line_per_char, line_levels_per_char};
 ghost use Rattle.bidi_base.specs.Direction.{direction_of_levels};
-ghost use Rattle.bidi_base.specs.Display.{run_of, level_runs};
+ghost use Rattle.bidi_base.specs.Display.{run_of};
 ghost use Rattle.bidi_base.specs.Levels.{has_rtl as has_rtl_of};
 ghost use Rattle.bidi_lines.specs.LineOrder.{IsLineOrder};
 ghost use Rattle.bidi_base.specs.Text.{text_len};
 ghost use Rattle.unicode_bidi.specs.Analysis.{ObeysLaws};
-ghost use Rattle.unicode_bidi.specs.VisualRun.{AreRunsWithLevels, HaveTexts, run_of_text};
+ghost use Rattle.unicode_bidi.specs.Base.{HasLowLevel, IsAnalysisWith};
+ghost use Rattle.unicode_bidi.specs.VisualRun.{AreLineRuns, AreRunsWithLevels, AreRunTexts, AreLogicalRuns};
 
+use crate::base::Base;
 use crate::char_levels::levels_of_line_per_char;
 use crate::engine;
 use crate::logical_runs::logical_runs_of;
@@ -73,6 +75,35 @@ impl<T: TextSource> ParagraphBidiInfo<T> {
         ensures laws { ObeysLaws (D.source data_source.now) default_para_level }
     {
         let found = engine::analyse_by(alloc, data_source, text, default_para_level, None)?;
+        let paragraph_level = found.paragraphs.as_slice()[0].level();
+        let is_pure_ltr = found.flags.as_slice()[0].is_pure_ltr();
+        Ok(ParagraphBidiInfo {
+            paragraph: Analysed::new(text, found.original_classes, found.levels),
+            paragraph_level,
+            is_pure_ltr,
+        })
+    }
+
+    /// Finds the level of a text in any encoding that is one paragraph, and the class and the level of each character
+    /// (P2 to I2), with a base.
+    ///
+    /// Like [`ParagraphBidiInfo::of_text`], with a base. With [`Base::AutoOr`], a text in which no character decides,
+    /// such as digits alone or an empty text, gets the level that the caller chose. A level that `base` names is at
+    /// most 125.
+    pub fn of_text_with_base<D: BidiDataSource>(
+        alloc: Global,
+        data_source: &D,
+        text: T,
+        base: Base,
+    ) -> Result<ParagraphBidiInfo<T>, AllocError>
+        requires { HasLowLevel base }
+        ensures text { IfOk result (λ i. text_source i ≡ text) }
+        ensures analysis { IfOk result (λ i. let a = analysed_of i in
+            IsAnalysisWith (D.source data_source.now) base None a ((0, text_len a.len_of a.chars) ∷ [])
+            (paragraph_level i ∷ [])) }
+        ensures pure_ltr { IfOk result (λ i. IsPureLtrBy i (D.source data_source.now)) }
+    {
+        let found = engine::analyse_by_base(alloc, data_source, text, base, None)?;
         let paragraph_level = found.paragraphs.as_slice()[0].level();
         let is_pure_ltr = found.flags.as_slice()[0].is_pure_ltr();
         Ok(ParagraphBidiInfo {
@@ -217,10 +248,7 @@ impl<T: TextSource> ParagraphBidiInfo<T> {
         line: Range<usize>,
     ) -> Result<Vec<Range<usize>>, AllocError>
         requires { IsLineOf (analysed_of self.now) line }
-        ensures runs { IfOk result (λ v. AreRunsOfLine (analysed_of self.now) (paragraph_level self.now) line (map run_of v.items)) }
-
-        // Each run can slice the text.
-        ensures parts { IfOk result (λ v. All (λ r. IsPartOfLine (analysed_of self.now) line (run_of r)) v.items) }
+        ensures { IfOk result (λ v. AreLineRuns (analysed_of self.now) (paragraph_level self.now) line v.items) }
     {
         self.paragraph.line_runs(alloc, self.paragraph_level, line)
     }
@@ -249,9 +277,7 @@ impl<T: TextSource> ParagraphBidiInfo<T> {
         line: Range<usize>,
     ) -> Result<Vec<RunText<T>>, AllocError>
         requires { IsLineOf (analysed_of self.now) line }
-        ensures runs { IfOk result (λ v. AreRunsWithLevels (analysed_of self.now) (paragraph_level self.now) line
-            (map run_of_text v.items)) }
-        ensures texts { IfOk result (λ v. HaveTexts (T.text (text_source self.now)) T.text v.items) }
+        ensures { IfOk result (λ v. AreRunTexts (T.text (text_source self.now)) T.text (analysed_of self.now) (paragraph_level self.now) line v.items) }
     {
         visual_run::run_texts(alloc, &self.paragraph, self.paragraph_level, line)
     }
@@ -267,9 +293,7 @@ impl<T: TextSource> ParagraphBidiInfo<T> {
         range: Range<usize>,
     ) -> Result<Vec<Range<usize>>, AllocError>
         requires { IsLineOf (analysed_of self.now) range }
-        ensures runs { IfOk result (λ v. map run_of v.items
-            ≡ level_runs range.start (slice_range (levels_of_info self.now) range.start range.end)) }
-        ensures parts { IfOk result (λ v. All (λ r. IsPartOfLine (analysed_of self.now) range (run_of r)) v.items) }
+        ensures { IfOk result (λ v. AreLogicalRuns (analysed_of self.now) range v.items) }
     {
         logical_runs_of(alloc, &self.paragraph, range)
     }

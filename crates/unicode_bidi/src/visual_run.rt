@@ -5,7 +5,7 @@ ghost use Rattle.bidi_base.specs.AnalysedText.{IsLineOf};
 ghost use Rattle.bidi_base.specs.Display.{run_of, run_level};
 ghost use Rattle.bidi_lines.specs.Analysed.{analysed as analysed_of, text_of};
 ghost use Rattle.bidi_lines.specs.Runs.{StartsInLine};
-ghost use Rattle.unicode_bidi.specs.VisualRun.{AreRunsWithLevels, HaveTexts, range_of, level_of, run_of_text};
+ghost use Rattle.unicode_bidi.specs.VisualRun.{AreRunsWithLevels, AreRunTexts, range_of, level_of};
 
 use bidi_base::level::Level;
 use bidi_lines::analysed::Analysed;
@@ -78,8 +78,7 @@ pub(crate) fn run_texts<T: TextSource>(
     line: Range<usize>,
 ) -> Result<Vec<RunText<T>>, AllocError>
     requires { IsLineOf (analysed_of analysed.now) line }
-    ensures runs { IfOk result (λ v. AreRunsWithLevels (analysed_of analysed.now) para_level line (map run_of_text v.items)) }
-    ensures texts { IfOk result (λ v. HaveTexts (T.text (text_of analysed.now)) T.text v.items) }
+    ensures { IfOk result (λ v. AreRunTexts (T.text (text_of analysed.now)) T.text (analysed_of analysed.now) para_level line v.items) }
 {
     let text = analysed.text();
     let mut found = Vec::new(alloc);

@@ -9,9 +9,13 @@ slice_bounds-level_runs_of-end g c =
     let reach = levels-reach (analysed_of c.args.analysed.now) g.T.TextSource.encoding.positive c.args.analysed.now.levels_per_char c.args.range c.requires in
     grind (arith, reach)
 
-pub returns-clause-parts : goal.returns-clause-parts
-returns-clause-parts g c =
+pub returns : goal.returns
+returns g c =
     IfOk-weaker c.level_runs_of.result _ _
-    (λ v is. runs-are_parts (analysed_of c.args.analysed.now) g.T.TextSource.encoding.positive c.args.analysed.now.levels_per_char c.args.range c.requires v.items
-    (is ∙ ap (λ levels. level_runs c.args.range.start (slice_range levels c.args.range.start c.args.range.end)) c.levels.ensures.levels))
+    (λ v is.
+    let runs = is ∙ ap (λ levels. level_runs c.args.range.start (slice_range levels c.args.range.start c.args.range.end)) c.levels.ensures.levels in
+    record {
+      runs = runs;
+      parts = runs-are_parts (analysed_of c.args.analysed.now) g.T.TextSource.encoding.positive c.args.analysed.now.levels_per_char c.args.range c.requires v.items runs;
+    })
     c.level_runs_of.ensures

@@ -1,0 +1,105 @@
+-- What follows of an analysis with a base. Without a fallback it is the analysis with an optional base level, and with
+-- the fallback 0 it is that without one.
+use Rattle.bidi_base.proofs.Common.{◌≡◌, ◌∙◌, ℕ, ◌≤◌, List, [], ◌∷◌, length, map, flat_map, ap, sym, subst, refl, arith, Option, None, IfSome, AnalysedText, AreParagraphs, IsAnalysis, pieces_by, Source}
+use Rattle.bidi_base.proofs.Common.{text_classes, text_len, per_unit}
+use Rattle.bidi_base.specs.declared.char_data.BidiClass.TheVariants.{L}
+use Rattle.bidi_base.specs.declared.split_rule.SplitRule.{SplitRule}
+use Rattle.bidi_base.proofs.PerUnit.{per_char-per_unit}
+use Rattle.bidi_base.proofs.TextLemmas.{HasUnits}
+use Rattle.bidi_base.proofs.UnitsLemmas.{is_per_char-per_unit}
+use Rattle.bidi_text.proofs.PerCharTests.{level_test}
+use Rattle.bidi_laws.proofs.LevelLaws.{length-stored_levels}
+use Rattle.bidi_laws.proofs.ParagraphsLemmas.{length-text_classes, pieces_by-joined}
+use Rattle.bidi_laws.proofs.PieceUnits.{length-values}
+use Rattle.bidi_paragraphs.specs.declared.paragraph_info.ParagraphInfo.{ParagraphInfo}
+use Rattle.bidi_paragraphs.specs.ParagraphInfo.{ranges_of, levels_of}
+use Rattle.unicode_bidi.specs.Base.{base_level_of, base_of, level_with, stored_levels_with, IsAnalysisWith}
+use Rattle.unicode_bidi.specs.declared.base.Base.{Base}
+use Rattle.unicode_bidi.specs.declared.base.Base.TheVariants.{Auto, AutoOr}
+use Rattle.unicode_bidi.proofs.BaseLemmas.{level_with-base_of, stored_levels_with-base_of, levels-or_zero, stored_levels-or_zero}
+use Rattle.unicode_bidi.proofs.FoundLaws.{IsAnalysis-found}
+
+module _ (source : Source) (rule : Option SplitRule) (a : AnalysedText) where
+  abbrev pieces : List (List ℕ)
+  pieces = pieces_by rule source a.chars
+
+  length-levels_with : (base : Base) → length (flat_map (stored_levels_with source base) pieces) ≡ length a.chars
+  length-levels_with base =
+      length-values (stored_levels_with source base) (λ piece. length-stored_levels source (base_level_of base (map source.class_of piece)) piece) pieces
+      ∙ ap length (pieces_by-joined rule source a.chars)
+
+  -- the analysis, from the paragraphs that were found, whatever their levels were, and the levels
+  pub IsAnalysisWith-found : (base : Base) (base_level : Option ℕ) (ranges : List (ℕ × ℕ)) (found_levels own_levels : List ℕ)
+      → AreParagraphs source base_level rule a.len_of a.chars a.classes ranges found_levels → own_levels ≡ map (level_with source base) pieces
+      → a.levels ≡ per_unit a.len_of a.chars (flat_map (stored_levels_with source base) pieces) → IsAnalysisWith source base rule a ranges own_levels
+  IsAnalysisWith-found base base_level ranges found_levels own_levels found of_paragraphs of_levels = record {
+    classes = found.classes;
+    ranges = found.ranges;
+    para_levels = of_paragraphs;
+    levels = of_levels;
+    partition = found.partition;
+    whole = found.whole;
+    per_char_classes = found.per_char;
+    per_char_levels = grind (arith, of_levels, is_per_char-per_unit, level_test, length-levels_with base);
+  }
+
+  -- ---- a base without a fallback
+
+  module _ (base_level : Option ℕ) where
+    -- an analysis with an optional base level is one with its base
+    pub IsAnalysisWith-from : (ranges : List (ℕ × ℕ)) (own_levels : List ℕ) → IsAnalysis source base_level rule a ranges own_levels → IsAnalysisWith source (base_of base_level) rule a ranges own_levels
+    IsAnalysisWith-from ranges own_levels h =
+        IsAnalysisWith-found (base_of base_level) base_level ranges own_levels own_levels h.paragraphs
+        (h.paragraphs.para_levels ∙ sym (level_with-base_of source base_level pieces))
+        (h.levels ∙ ap (per_unit a.len_of a.chars) (sym (stored_levels_with-base_of source base_level pieces)))
+
+    AreParagraphs-with : (ranges : List (ℕ × ℕ)) (own_levels : List ℕ) → HasUnits a.len_of → IsAnalysisWith source (base_of base_level) rule a ranges own_levels
+        → AreParagraphs source base_level rule a.len_of a.chars a.classes ranges own_levels
+    AreParagraphs-with ranges own_levels some h = record {
+      classes = h.classes;
+      ranges = h.ranges;
+      para_levels = h.para_levels ∙ level_with-base_of source base_level pieces;
+      partition = h.partition;
+      whole = h.whole;
+      by_characters =
+          grind (arith, h.classes, per_char-per_unit a.len_of some L a.chars (text_classes source pieces), length-text_classes source pieces, pieces_by-joined rule source a.chars);
+      per_char = h.per_char_classes;
+    }
+
+    -- and the other way round
+    pub IsAnalysis-with : (ps : List ParagraphInfo) → HasUnits a.len_of → IfSome base_level (λ level. level ≤ 125)
+        → IsAnalysisWith source (base_of base_level) rule a (ranges_of ps) (levels_of ps) → IsAnalysis source base_level rule a (ranges_of ps) (levels_of ps)
+    IsAnalysis-with ps some few h =
+        IsAnalysis-found source base_level rule a ps some few (AreParagraphs-with (ranges_of ps) (levels_of ps) some h)
+        (h.levels ∙ ap (per_unit a.len_of a.chars) (stored_levels_with-base_of source base_level pieces))
+
+  -- ---- the fallback 0
+
+  module _ (base other : Base) (levels : map (level_with source base) pieces ≡ map (level_with source other) pieces)
+      (stored : flat_map (stored_levels_with source base) pieces ≡ flat_map (stored_levels_with source other) pieces) where
+    same_levels : (ranges : List (ℕ × ℕ)) (own_levels : List ℕ) → IsAnalysisWith source base rule a ranges own_levels → IsAnalysisWith source other rule a ranges own_levels
+    same_levels ranges own_levels h = record {
+      classes = h.classes;
+      ranges = h.ranges;
+      para_levels = h.para_levels ∙ levels;
+      levels = h.levels ∙ ap (per_unit a.len_of a.chars) stored;
+      partition = h.partition;
+      whole = h.whole;
+      per_char_classes = h.per_char_classes;
+      per_char_levels = h.per_char_levels;
+    }
+
+  -- an analysis with the fallback 0 is one without a fallback, and the other way round
+  pub IsAnalysisWith-auto : (ranges : List (ℕ × ℕ)) (own_levels : List ℕ) → IsAnalysisWith source (AutoOr 0) rule a ranges own_levels → IsAnalysisWith source Auto rule a ranges own_levels
+  IsAnalysisWith-auto = same_levels (AutoOr 0) Auto (levels-or_zero source pieces) (stored_levels-or_zero source pieces)
+
+  pub IsAnalysisWith-or_zero : (ranges : List (ℕ × ℕ)) (own_levels : List ℕ) → IsAnalysisWith source Auto rule a ranges own_levels → IsAnalysisWith source (AutoOr 0) rule a ranges own_levels
+  IsAnalysisWith-or_zero = same_levels Auto (AutoOr 0) (sym (levels-or_zero source pieces)) (sym (stored_levels-or_zero source pieces))
+
+-- ---- a text that is one paragraph
+
+-- with the whole text as its range, and its level
+pub whole-IsAnalysisWith : (source : Source) (base : Base) (a : AnalysedText) (ranges : List (ℕ × ℕ)) (own_levels : List ℕ) → IsAnalysisWith source base None a ranges own_levels
+    → (level : ℕ) → own_levels ≡ level ∷ [] → IsAnalysisWith source base None a ((0, text_len a.len_of a.chars) ∷ []) (level ∷ [])
+whole-IsAnalysisWith source base a ranges own_levels h level e =
+    subst (λ rs. IsAnalysisWith source base None a rs (level ∷ [])) (h.whole refl) (subst (λ ls. IsAnalysisWith source base None a ranges ls) e h)

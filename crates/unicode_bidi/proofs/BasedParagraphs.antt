@@ -1,0 +1,50 @@
+-- The paragraphs of a text, once they have the levels that a base gives them.
+use Rattle.bidi_base.proofs.Common.{◌≡◌, ◌∙◌, ℕ, List, map, flat_map, ap, sym, All, Option, AreParagraphs, pieces_by, ranges_from, per_unit, text_len, Source, map-map}
+use Rattle.bidi_base.specs.declared.char_data.BidiClass.{BidiClass}
+use Rattle.bidi_base.specs.declared.split_rule.SplitRule.{SplitRule}
+use Rattle.bidi_base.proofs.TextLemmas.{HasUnits}
+use Rattle.bidi_laws.proofs.ParagraphsLemmas.{pieces_by-joined}
+use Rattle.bidi_paragraphs.specs.declared.paragraph_info.ParagraphInfo.{ParagraphInfo}
+use Rattle.bidi_paragraphs.specs.ParagraphFlags.{paragraph_flags}
+use Rattle.bidi_paragraphs.specs.ParagraphInfo.{ranges_of, levels_of}
+use Rattle.unicode_bidi.specs.Base.{level_in_text, level_with, stored_levels_with, HasLowLevel, IsAnalysisWith}
+use Rattle.unicode_bidi.specs.Engine.{unit_levels, own_flags, CanWrite, Follow, chars_of}
+use Rattle.unicode_bidi.specs.declared.base.Base.{Base}
+use Rattle.unicode_bidi.proofs.BaseLaws.{IsAnalysisWith-found}
+use Rattle.unicode_bidi.proofs.BaseLemmas.{level_with-few, stored_levels_with-level}
+use Rattle.unicode_bidi.proofs.ParagraphUnits.{paragraphs-Follow, paragraphs-chars, paragraphs-flags, paragraphs-CanWrite, paragraphs-levels}
+
+-- `found` are the paragraphs of the first pass, and `ps` the same with other levels
+module _ (source : Source) (base : Base) (rule : Option SplitRule) (base_level : Option ℕ) (len_of : ℕ → ℕ) (units : HasUnits len_of) (chars : List ℕ) (classes : List BidiClass)
+    (found ps : List ParagraphInfo) (are : AreParagraphs source base_level rule len_of chars classes (ranges_of found) (levels_of found))
+    (ranges : ranges_of ps ≡ ranges_of found) (levels : levels_of ps ≡ map (level_in_text source base len_of chars) found) where
+  abbrev pieces : List (List ℕ)
+  pieces = pieces_by rule source chars
+
+  based-ranges : ranges_of ps ≡ ranges_from len_of 0 pieces
+  based-ranges = ranges ∙ are.ranges
+
+  based-levels : levels_of ps ≡ map (level_with source base) pieces
+  based-levels = levels ∙ sym (map-map (level_with source base) (chars_of len_of chars) found) ∙ ap (map (level_with source base)) (paragraphs-chars source len_of units chars pieces (pieces_by-joined rule source chars) found are.ranges)
+
+  pub based-Follow : Follow 0 (text_len len_of chars) ps
+  based-Follow = paragraphs-Follow source len_of units chars pieces (pieces_by-joined rule source chars) ps based-ranges
+
+  pub based-flags : paragraph_flags source pieces ≡ map (own_flags source len_of chars) ps
+  based-flags = paragraphs-flags source len_of units chars pieces (pieces_by-joined rule source chars) ps based-ranges
+
+  pub based-CanWrite : HasLowLevel base → All (CanWrite source len_of chars classes) ps
+  based-CanWrite low =
+      paragraphs-CanWrite source len_of units chars pieces (pieces_by-joined rule source chars) ps based-ranges (level_with source base) based-levels classes are.classes (level_with-few source base low)
+
+  based-units : flat_map (unit_levels source len_of chars) ps ≡ per_unit len_of chars (flat_map (stored_levels_with source base) pieces)
+  based-units =
+      paragraphs-levels source len_of units chars pieces (pieces_by-joined rule source chars) ps based-ranges (level_with source base) based-levels
+      ∙ ap (per_unit len_of chars) (stored_levels_with-level source base pieces)
+
+  -- with their levels written, they are the analysis
+  pub based-IsAnalysisWith : (stored : List ℕ) → stored ≡ flat_map (unit_levels source len_of chars) ps
+      → IsAnalysisWith source base rule (record { len_of = len_of; chars = chars; classes = classes; levels = stored }) (ranges_of ps) (levels_of ps)
+  based-IsAnalysisWith stored e =
+      IsAnalysisWith-found source rule (record { len_of = len_of; chars = chars; classes = classes; levels = stored }) base base_level (ranges_of ps) (levels_of found) (levels_of ps)
+      (rw ranges are) based-levels (e ∙ based-units)
