@@ -15,7 +15,7 @@ use Rattle.bidi_arguments.specs.declared.check_options.Flag.{Flag}
 use Rattle.bidi_arguments.specs.declared.check_options.Setting.{Setting}
 use Rattle.bidi_arguments.specs.declared.operands.Operands.{Operands}
 use Rattle.bidi_arguments.specs.declared.operands.Operands.TheVariants.{Files}
-use Rattle.bidi_visual.specs.declared.view.View.{View}
+use Rattle.bidi_shown.specs.declared.view.View.{View}
 
 module _ {Z : Type 0} where
   -- the words from the n-th on

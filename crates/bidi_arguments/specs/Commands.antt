@@ -17,8 +17,8 @@ use Rattle.bidi_arguments.specs.declared.refusal.Refusal.{Refusal}
 use Rattle.bidi_arguments.specs.declared.refusal.Refusal.TheVariants.{NoSubcommand, NotASubcommand, NotAnOption, LateOption, NotAlone, NoValue, NotABase, NotAWidth, InputTwice}
 use Rattle.bidi_arguments.specs.declared.refusal.Subcommand.{Subcommand}
 use Rattle.bidi_arguments.specs.declared.refusal.Subcommand.TheVariants.{Checking, Showing, Explaining}
-use Rattle.bidi_visual.specs.Views.{first_view}
-use Rattle.bidi_visual.specs.declared.view.View.{View}
+use Rattle.bidi_shown.specs.Views.{first_view}
+use Rattle.bidi_shown.specs.declared.view.View.{View}
 
 -- the only argument after a subcommand asks for help
 abbrev pub asks_help : List (List ℕ) → Bool

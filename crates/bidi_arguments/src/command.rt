@@ -7,8 +7,8 @@ use crate::check_options::{CheckOptions, Flag, Setting};
 use crate::operands::Operands;
 use crate::refusal::{Refusal, Subcommand, Word};
 use bidi_explain::view::{Form, StageView};
+use bidi_shown::view::View;
 use bidi_terminal::{Base, parse_number};
-use bidi_visual::view::View;
 use std::marker::Model;
 
 /// Arguments that name files, or are texts. In clauses they are their bytes.

@@ -1,7 +1,7 @@
 -- The part of a line that a report shows.
 use Rattle.std.specs.Prelude.{ℕ, ◌+◌, ◌-◌, ◌==◌, Bool, not, nat_le, nat_lt, ◌&&◌, if◌then◌else◌, min, List, [], ◌∷◌, ◌++◌, length, flat_map, replicate, slice_range, codes}
 use Rattle.bidi_terminal.specs.Names.{is_hidden, quoted_char}
-use Rattle.bidi_columns.specs.Clusters.{columns}
+use Rattle.bidi_shown.specs.Clusters.{columns}
 
 -- sequences that set how a terminal writes: in bold, in reverse video, in bold red, and as before
 abbrev pub bold : List ℕ

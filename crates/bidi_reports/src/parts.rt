@@ -2,7 +2,7 @@
 ghost use Rattle.std.specs.Prelude.{◌≡◌, ◌++◌, ◌≤◌, ◌<◌, flat_map, min, if◌then◌else◌, [], OnOk, string_bytes};
 ghost use Rattle.bidi_reports.specs.Parts.{styled, is_marked, marked_char, part_start, part_end, dots, marked_part, shown_columns, blanks, blank_part};
 
-use bidi_columns::cluster::columns;
+use bidi_shown::cluster::columns;
 use bidi_terminal::names::{is_hidden, push_quoted};
 use std::alloc::AllocError;
 

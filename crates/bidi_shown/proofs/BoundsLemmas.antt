@@ -2,7 +2,7 @@
 use Rattle.bidi_base.proofs.Common.{ℕ, ◌<◌, List, [], ◌∷◌, length, arith, chars, len_utf8, text_len, is_boundary}
 use Rattle.bidi_base.proofs.Common.{IsUtf8, IsLine, Range, IsCharBoundary-start}
 use Rattle.bidi_text.proofs.StrLemmas.{text_len-chars, is_boundary-from_str}
-use Rattle.bidi_columns.specs.Bounds.{IsRangeOf}
+use Rattle.bidi_shown.specs.Bounds.{IsRangeOf}
 
 pub IsLine-from : (bs : List ℕ) (r : Range ℕ) → IsUtf8 bs → IsRangeOf bs r → IsLine len_utf8 (chars bs) r.start r.end
 IsLine-from bs r utf8 range = record {

@@ -1,4 +1,11 @@
 mod BoundsLemmas
+mod ClusterLemmas
+mod EvenLemmas
+mod FirstLemmas
+mod LineLemmas
 mod ParagraphLemmas
 mod PiecesLemmas
+mod PrintableLemmas
 mod RecordsAsClauses
+mod ReversedLemmas
+mod TabLemmas

@@ -5,11 +5,11 @@ use Rattle.bidi_base.specs.declared.char_data.BidiClass.{BidiClass}
 use Rattle.bidi_base.specs.declared.char_data.BidiClass.TheVariants.{L}
 use Rattle.bidi_laws.proofs.LevelLaws.{text_classes-one, text_levels-one}
 use Rattle.bidi_laws.proofs.OneParagraph.{para_level-one}
-use Rattle.bidi_columns.specs.Breaks.{lines_of_text}
+use Rattle.bidi_shown.specs.Breaks.{lines_of_text}
 use Rattle.bidi_terminal.specs.Bases.{level_of_base}
 use Rattle.bidi_text.proofs.StrLemmas.{text_len-chars}
-use Rattle.bidi_visual.specs.Displayed.{shown_levels, shown_paragraph, shown_range, shown_ranges}
-use Rattle.bidi_visual.specs.declared.view.View.{View}
+use Rattle.bidi_shown.specs.Displayed.{shown_levels, shown_paragraph, shown_range, shown_ranges}
+use Rattle.bidi_shown.specs.declared.view.View.{View}
 use Rattle.bidi_shown.specs.Paragraph.{analysed, shown_in}
 
 module _ (source : Source) (view : View) (own : List ℕ) (classes : List BidiClass) (levels : List ℕ) (level : ℕ)

@@ -6,9 +6,9 @@ use Rattle.bidi_base.proofs.Common.{is_paragraph_separator, cr_lf_together, onto
 use Rattle.bidi_base.proofs.Common.{IsCharBoundary-after_ascii, IsUtf8-take}
 use Rattle.bidi_unicode.specs.Unicode.{unicode_source}
 use Rattle.bidi_base.specs.Paragraphs.{own_chars, paragraphs_in}
-use Rattle.bidi_visual.specs.Displayed.{shown_paragraph, shown_text}
-use Rattle.bidi_visual.specs.declared.view.View.{View}
-use Rattle.bidi_visual.proofs.PrintableLemmas.{feed-separates}
+use Rattle.bidi_shown.specs.Displayed.{shown_paragraph, shown_text}
+use Rattle.bidi_shown.specs.declared.view.View.{View}
+use Rattle.bidi_shown.proofs.PrintableLemmas.{feed-separates}
 use Rattle.bidi_shown.specs.Streams.{whole_lines, shown_bytes, shown_now, pending_after, IsShownTo}
 
 -- ---- the paragraphs of a text that has a line feed

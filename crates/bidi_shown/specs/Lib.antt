@@ -1,3 +1,11 @@
+pub mod Bounds
+pub mod Breaks
+pub mod Clusters
+pub mod Displayed
 pub mod Faults
 pub mod Paragraph
+pub mod PrintableLines
+pub mod SpreadLine
 pub mod Streams
+pub mod Tabs
+pub mod Views

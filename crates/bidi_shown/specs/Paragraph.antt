@@ -8,7 +8,7 @@ use Rattle.bidi_base.specs.Display.{Run}
 use Rattle.bidi_base.specs.Source.{Source}
 use Rattle.bidi_base.specs.Text.{subrange}
 use Rattle.bidi_base.specs.declared.char_data.BidiClass.{BidiClass}
-use Rattle.bidi_visual.specs.Displayed.{tabbed_line}
+use Rattle.bidi_shown.specs.Displayed.{tabbed_line}
 use Rattle.bidi_shown.specs.declared.paragraph.AnalysedParagraph.{AnalysedParagraph}
 use Rattle.unicode_bidi.specs.declared.engine.ParagraphAnalysis.{ParagraphAnalysis}
 

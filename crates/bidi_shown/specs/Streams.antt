@@ -3,8 +3,8 @@ use Rattle.std.specs.Prelude.{◌≡◌, ℕ, ◌+◌, ◌==◌, nat_lt, if◌th
 use Rattle.std.specs.Str.{chars, IsUtf8}
 use Rattle.std.specs.declared.string.String.{String}
 use Rattle.bidi_unicode.specs.Unicode.{unicode_source}
-use Rattle.bidi_visual.specs.Displayed.{shown_text}
-use Rattle.bidi_visual.specs.declared.view.View.{View}
+use Rattle.bidi_shown.specs.Displayed.{shown_text}
+use Rattle.bidi_shown.specs.declared.view.View.{View}
 use Rattle.bidi_shown.specs.Faults.{ReportsBytesAfter, index_after}
 use Rattle.bidi_shown.specs.declared.stream.Stream.{Stream}
 use Rattle.bidi_shown.specs.declared.stream.StreamFault.{StreamFault}

@@ -3,16 +3,16 @@ ghost use Rattle.std.specs.Prelude.{◌≡◌, ◌++◌, flat_map, map, All, IfO
 ghost use Rattle.std.specs.Str.{chars, IsUtf8};
 ghost use Rattle.bidi_base.specs.AnalysedText.{IsPerCharText};
 ghost use Rattle.bidi_base.specs.Display.{run_of};
-ghost use Rattle.bidi_columns.specs.Bounds.{IsRangeOf};
-ghost use Rattle.bidi_visual.specs.Displayed.{shown_paragraph, shown_ranges};
+ghost use Rattle.bidi_shown.specs.Bounds.{IsRangeOf};
+ghost use Rattle.bidi_shown.specs.Displayed.{shown_paragraph, shown_ranges};
 ghost use Rattle.bidi_shown.specs.Paragraph.{shown_in, text_of};
 
+use crate::breaks::lines;
+use crate::line::push_text;
+use crate::view::View;
 use bidi_base::data_source::BidiDataSource;
-use bidi_columns::breaks::lines;
 use bidi_lines::reused_levels::LineLevels;
 use bidi_text::text::StrText;
-use bidi_visual::line::push_text;
-use bidi_visual::view::View;
 use std::alloc::{AllocError, Global};
 use std::ops::Range;
 use unicode_bidi::engine::ParagraphAnalysis;

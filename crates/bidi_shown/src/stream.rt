@@ -2,13 +2,13 @@
 ghost use Rattle.std.specs.Prelude.{◌≡◌, ℕ, ◌++◌, ◌≤◌, List, [], length, OnOk, IfErr, string_bytes};
 ghost use Rattle.std.specs.Str.{chars, IsUtf8};
 ghost use Rattle.bidi_unicode.specs.Unicode.{unicode_source};
-ghost use Rattle.bidi_visual.specs.declared.view.View.{View};
-ghost use Rattle.bidi_visual.specs.Displayed.{shown_text};
+ghost use Rattle.bidi_shown.specs.declared.view.View.{View};
+ghost use Rattle.bidi_shown.specs.Displayed.{shown_text};
 ghost use Rattle.bidi_shown.specs.Faults.{ReportsBytes};
 ghost use Rattle.bidi_shown.specs.Streams.{whole_lines as whole_lines_of};
 
 use crate::text::push_text;
-use bidi_visual::view::View;
+use crate::view::View;
 use std::alloc::{AllocError, Global};
 use unicode_bidi::engine::ParagraphAnalysis;
 

@@ -2,13 +2,13 @@
 ghost use Rattle.std.specs.Prelude.{◌≡◌, ◌++◌, ◌<◌, length, IfOk, OnOk, string_bytes};
 ghost use Rattle.std.specs.Str.{chars, IsUtf8};
 ghost use Rattle.bidi_unicode.specs.Unicode.{unicode_source};
-ghost use Rattle.bidi_visual.specs.Displayed.{shown_text};
+ghost use Rattle.bidi_shown.specs.Displayed.{shown_text};
 
+use crate::first::first_paragraph;
 use crate::paragraph::push_paragraph;
+use crate::printable::printable_len;
+use crate::view::View;
 use bidi_unicode::UnicodeData;
-use bidi_visual::first::first_paragraph;
-use bidi_visual::printable::printable_len;
-use bidi_visual::view::View;
 use std::alloc::{AllocError, Global};
 use unicode_bidi::engine::ParagraphAnalysis;
 

@@ -5,7 +5,7 @@ use Rattle.bidi_text.proofs.StrLemmas.{has_units, subrange-from_str}
 use Rattle.bidi_lines.proofs.StoredLine.{same_len, within, length-shown, per_char-shown, of_line}
 use Rattle.bidi_shown.specs.Paragraph.{analysed_in}
 use Rattle.bidi_shown.proofs.BoundsLemmas.{IsLine-from}
-use Rattle.bidi_columns.specs.Bounds.{IsRangeOf}
+use Rattle.bidi_shown.specs.Bounds.{IsRangeOf}
 use Rattle.bidi_shown.proofs.paragraph.push_line.Goals as goal
 use Rattle.bidi_shown.proofs.paragraph.push_line.Goals.{In_ok-show}
 use Rattle.bidi_shown.proofs.paragraph.push_line.Given.{Over}

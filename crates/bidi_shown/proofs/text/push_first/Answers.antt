@@ -1,8 +1,8 @@
 use Rattle.bidi_base.proofs.Common.{◌≡◌, ◌∙◌, ◌++◌, List, ℕ, sym, ap, append_assoc, string_bytes, chars}
 use Rattle.bidi_unicode.specs.Unicode.{unicode_source}
-use Rattle.bidi_visual.proofs.FirstLemmas.{shown_text-first}
+use Rattle.bidi_shown.proofs.FirstLemmas.{shown_text-first}
 use Rattle.bidi_base.specs.Paragraphs.{own_chars}
-use Rattle.bidi_visual.specs.Displayed.{after_first, shown_paragraph, shown_text}
+use Rattle.bidi_shown.specs.Displayed.{after_first, shown_paragraph, shown_text}
 use Rattle.bidi_shown.proofs.BoundsLemmas.{chars-some}
 use Rattle.bidi_shown.proofs.text.push_first.Goals as goal
 

@@ -1,7 +1,7 @@
 use Rattle.bidi_base.proofs.Common.{◌≡◌, ◌∙◌, ◌++◌, List, [], ◌∷◌, ℕ, length, refl, sym, ap, arith, append-nil, string_bytes, chars, chars-nil}
 use Rattle.bidi_unicode.specs.Unicode.{unicode_source}
-use Rattle.bidi_visual.specs.Displayed.{shown_text}
-use Rattle.bidi_visual.specs.declared.view.View.{View}
+use Rattle.bidi_shown.specs.Displayed.{shown_text}
+use Rattle.bidi_shown.specs.declared.view.View.{View}
 use Rattle.bidi_shown.proofs.text.push_text.Goals as goal
 
 -- nothing is shown of an empty text

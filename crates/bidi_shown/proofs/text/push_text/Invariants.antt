@@ -1,6 +1,6 @@
 use Rattle.bidi_base.proofs.Common.{◌≡◌, ◌++◌, length, string_bytes, chars, IsUtf8}
 use Rattle.bidi_unicode.specs.Unicode.{unicode_source}
-use Rattle.bidi_visual.specs.Displayed.{shown_text}
+use Rattle.bidi_shown.specs.Displayed.{shown_text}
 use Rattle.bidi_shown.proofs.text.push_text.Given as goal
 
 abbrev pub invariant-loop-rest : goal.invariant-loop-rest

@@ -1,2 +1,0 @@
-mod ClusterLemmas
-mod LineLemmas

@@ -1,5 +1,0 @@
-pub mod Bounds
-pub mod Breaks
-pub mod Clusters
-pub mod SpreadLine
-pub mod Tabs

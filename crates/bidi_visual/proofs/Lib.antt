@@ -1,5 +1,0 @@
-mod EvenLemmas
-pub mod FirstLemmas
-pub mod PrintableLemmas
-mod TabLemmas
-mod ReversedLemmas

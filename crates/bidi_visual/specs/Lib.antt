@@ -1,3 +1,0 @@
-pub mod PrintableLines
-pub mod Displayed
-pub mod Views
