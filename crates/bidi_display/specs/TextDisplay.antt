@@ -1,13 +1,20 @@
 -- The displayed text of a whole text, and what a `TextDisplay` has.
-use Rattle.std.specs.Prelude.{◌≡◌, ℕ, ◌+◌, ◌++◌, List, [], map, flat_map, slice_range}
+use Rattle.std.specs.Prelude.{◌≡◌, ℕ, ◌+◌, ◌++◌, List, [], map, flat_map, slice_range, encode_utf8, Some}
 use Rattle.std.specs.declared.ops.Range.{Range}
 use Rattle.bidi_base.specs.AnalysedText.{AnalysedText}
 use Rattle.bidi_base.specs.Indexes.{at_indexes}
+use Rattle.bidi_base.specs.Source.{Source}
 use Rattle.bidi_base.specs.Text.{subrange}
+use Rattle.bidi_base.specs.Texts.{Encoding, Text}
 use Rattle.bidi_base.specs.declared.char_data.BidiClass.{BidiClass}
+use Rattle.bidi_base.specs.declared.split_rule.SplitRule.{SplitRule}
+use Rattle.bidi_lines.specs.Analysed.{with_lists}
+use Rattle.bidi_paragraphs.specs.ParagraphInfo.{ranges_of, levels_of}
 use Rattle.bidi_paragraphs.specs.declared.paragraph_info.ParagraphInfo.{ParagraphInfo}
+use Rattle.unicode_bidi.specs.Base.{IsAnalysisWith}
 use Rattle.unicode_bidi.specs.Content.{content_len}
 use Rattle.unicode_bidi.specs.Engine.{found_paragraphs}
+use Rattle.unicode_bidi.specs.declared.base.Base.{Base}
 use Rattle.bidi_display.specs.DisplayedLine.{clusters_of, cluster_order}
 use Rattle.bidi_display.specs.LineChars.{line_chars}
 use Rattle.bidi_display.specs.Shown.{cluster_text, options as options_of}
@@ -59,3 +66,10 @@ pub record HaveSameText (old new : TextDisplay) : Type 0 where
   pub levels : new.levels.items ≡ old.levels.items
   pub paragraphs : found_paragraphs new.analyser ≡ found_paragraphs old.analyser
   pub options : options_of new.line ≡ options_of old.line
+
+-- the value has the analysis of a text, and the text's displayed characters were appended
+pub record IsDisplayed {e : Encoding} (source : Source) (base : Base) (rule : SplitRule) (text : Text e)
+    (mirrored_of : ℕ → ℕ) (options : DisplayOptions) (before after : List ℕ) (d : TextDisplay) : Type 0 where
+  pub analysis : IsAnalysisWith source base (Some rule) (with_lists text (classes d) (levels d)) (ranges_of (paragraphs d)) (levels_of (paragraphs d))
+  pub shown : after ≡ before
+      ++ flat_map encode_utf8 (displayed_paragraphs options mirrored_of (with_lists text (classes d) (levels d)) (paragraphs d))

@@ -1,10 +1,10 @@
 //! Whole texts as they are displayed: one text after another, in memory that is kept.
 
-ghost use Rattle.std.specs.Prelude.{◌≡◌, ◌≤◌, ◌++◌, [], flat_map, encode_utf8, string_bytes, vec_len, Some, IfSome, OnOk, OnErr};
-ghost use Rattle.bidi_base.specs.AnalysedText.{IsAnalysis};
+ghost use Rattle.std.specs.Prelude.{◌≡◌, ◌++◌, [], flat_map, encode_utf8, string_bytes, vec_len, Some, OnOk, OnErr};
 ghost use Rattle.bidi_base.specs.Texts.{IsLine, AreLines, HaveClass, HaveLevel};
 ghost use Rattle.bidi_lines.specs.Analysed.{with_lists};
 ghost use Rattle.bidi_paragraphs.specs.ParagraphInfo.{range_of, ranges_of, levels_of as paragraph_levels_of};
+ghost use Rattle.unicode_bidi.specs.Base.{HasLowLevel, IsAnalysisWith};
 ghost use Rattle.unicode_bidi.specs.Content.{content_len as content_len_of};
 ghost use Rattle.bidi_display.specs.Shown.{options as options_of, Displays, IsEmptied};
 ghost use Rattle.bidi_display.specs.TextDisplay.{displayed_paragraph, displayed_paragraphs};
@@ -21,8 +21,8 @@ use bidi_base::split_rule::SplitRule;
 use bidi_text::text::TextSource;
 use std::alloc::{AllocError, Global};
 use std::ops::Range;
-use unicode_bidi::ParagraphInfo;
 use unicode_bidi::engine::Analyser;
+use unicode_bidi::{Base, ParagraphInfo};
 
 // No width for any cluster. The displayed text does not depend on the widths.
 struct NoWidth;
@@ -134,7 +134,7 @@ pub struct TextDisplay {
 }
 
 impl TextDisplay {
-    ghost use Rattle.bidi_display.specs.TextDisplay.{classes as classes_in, levels as levels_in, paragraphs as paragraphs_in, line as line_in, HaveSameText};
+    ghost use Rattle.bidi_display.specs.TextDisplay.{classes as classes_in, levels as levels_in, paragraphs as paragraphs_in, line as line_in, HaveSameText, IsDisplayed};
 
     /// Returns a value that has analysed no text, and shows an empty line. Does not allocate.
     ///
@@ -154,20 +154,19 @@ impl TextDisplay {
 
     /// Finds the paragraphs of a text, and the class and the level of each character (P1 to I2).
     ///
-    /// `base_level` is the level of every paragraph, at most 125. If it is `None`, each paragraph gets its level from
-    /// its characters (P2, P3). `rule` says where paragraphs end. The result replaces that of the previous text, and the
-    /// line that is shown stays. Reads the text a few times. If an allocation fails, there are no paragraphs, and the
-    /// classes and levels are any.
+    /// `base` says how the paragraphs get their levels. A level that it names is at most 125. `rule` says where paragraphs
+    /// end. The result replaces that of the previous text, and the line that is shown stays. Reads the text a few times.
+    /// If an allocation fails, there are no paragraphs, and the classes and levels are any.
     pub fn analyse<D: BidiDataSource, T: TextSource>(
         &mut self,
         alloc: Global,
         data_source: &D,
         text: T,
-        base_level: Option<Level>,
+        base: Base,
         rule: SplitRule,
     ) -> Result<(), AllocError>
-        requires { IfSome base_level (λ level. level ≤ 125) }
-        ensures analysis { OnOk result (IsAnalysis (D.source data_source.now) base_level (Some rule)
+        requires { HasLowLevel base }
+        ensures analysis { OnOk result (IsAnalysisWith (D.source data_source.now) base (Some rule)
             (with_lists (T.text text) (classes_in self.new) (levels_in self.new)) (ranges_of (paragraphs_in self.new))
             (paragraph_levels_of (paragraphs_in self.new))) }
         ensures emptied { OnErr result (paragraphs_in self.new ≡ []) }
@@ -177,11 +176,11 @@ impl TextDisplay {
             self.analyser = Analyser::new(alloc);
             return Err(AllocError);
         }
-        self.analyser.analyse(
+        self.analyser.analyse_with_base(
             alloc,
             data_source,
             text,
-            base_level,
+            base,
             Some(rule),
             self.classes.as_mut_slice(),
             self.levels.as_mut_slice(),
@@ -290,29 +289,24 @@ impl TextDisplay {
 
     /// Analyses a text and appends its displayed text, from left to right (P1 to L4).
     ///
-    /// `base_level` and `rule` are those of [`TextDisplay::analyse`], and `mirrors` is that of
-    /// [`TextDisplay::push_text`]. The cost is that of both. If an allocation fails, `out` may have some of the
+    /// `base` and `rule` are those of [`TextDisplay::analyse`], and `mirrors` is that of [`TextDisplay::push_text`]. The cost is that of both. If an allocation fails, `out` may have some of the
     /// characters, and the paragraphs, the classes and the levels are any.
     pub fn display<D: BidiDataSource, T: TextSource, M: MirroredCharacters>(
         &mut self,
         alloc: Global,
         data_source: &D,
         text: T,
-        base_level: Option<Level>,
+        base: Base,
         rule: SplitRule,
         mirrors: &M,
         out: &mut String,
     ) -> Result<(), AllocError>
-        requires { IfSome base_level (λ level. level ≤ 125) }
-        ensures analysis { OnOk result (IsAnalysis (D.source data_source.now) base_level (Some rule)
-            (with_lists (T.text text) (classes_in self.new) (levels_in self.new)) (ranges_of (paragraphs_in self.new))
-            (paragraph_levels_of (paragraphs_in self.new))) }
-        ensures text { OnOk result (string_bytes out.new ≡ string_bytes out.old ++ flat_map encode_utf8
-            (displayed_paragraphs (options_of (line_in self.old)) (M.mirrored_of mirrors.now)
-            (with_lists (T.text text) (classes_in self.new) (levels_in self.new)) (paragraphs_in self.new))) }
+        requires { HasLowLevel base }
+        ensures displayed { OnOk result (IsDisplayed (D.source data_source.now) base rule (T.text text)
+            (M.mirrored_of mirrors.now) (options_of (line_in self.old)) (string_bytes out.old) (string_bytes out.new) self.new) }
         ensures options { options_of (line_in self.new) ≡ options_of (line_in self.old) }
     {
-        self.analyse(alloc, data_source, text, base_level, rule)?;
+        self.analyse(alloc, data_source, text, base, rule)?;
         self.push_text(text, mirrors, out)
     }
 }

@@ -5,7 +5,11 @@
 #[cfg(test)]
 mod analyser;
 #[cfg(test)]
+mod bases;
+#[cfg(test)]
 mod check;
+#[cfg(test)]
+mod class_texts;
 #[cfg(test)]
 mod displayed;
 #[cfg(test)]

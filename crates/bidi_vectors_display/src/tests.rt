@@ -17,7 +17,7 @@ use std::fmt::Debug;
 use std::ops::Range;
 use std::process::Abort;
 use std::test::Fail;
-use unicode_bidi::{LTR_LEVEL, SplitRule};
+use unicode_bidi::{LTR_LEVEL, RTL_LEVEL, SplitRule};
 
 const CLUSTERS: DisplayOptions = DisplayOptions {
     moves: Moves::Clusters,
@@ -460,7 +460,7 @@ fn texts_with_their_separators(rt: HostRuntime) -> Result<(), Fail> {
         rt.alloc(),
         &UnicodeData,
         text,
-        None,
+        unicode_bidi::Base::Auto,
         rule,
         &UnicodeData,
         &mut out,
@@ -471,19 +471,49 @@ fn texts_with_their_separators(rt: HostRuntime) -> Result<(), Fail> {
     Ok(())
 }
 
+// No character decides, so the paragraph has the fallback level 1. The digits and the `:` have level 2 (W4, I2).
+#[test]
+fn texts_in_which_no_character_decides(rt: HostRuntime) -> Result<(), Fail> {
+    let mut display = TextDisplay::new(rt.alloc(), CLUSTERS);
+    let mut out = String::new(rt.alloc());
+    display.display(
+        rt.alloc(),
+        &UnicodeData,
+        StrText::new("12:30 ?"),
+        unicode_bidi::Base::AutoOr(RTL_LEVEL),
+        SplitRule::EachSeparator,
+        &UnicodeData,
+        &mut out,
+    )?;
+    same(&rt, "the text", out.as_str(), "? 12:30");
+    Ok(())
+}
+
 // The carriage return and the line feed stay in order, and the memory serves a second text.
 #[test]
 fn texts_one_after_another(rt: HostRuntime) -> Result<(), Fail> {
     let mut display = TextDisplay::new(rt.alloc(), CLUSTERS);
     let rule = SplitRule::CrLfTogether;
     let longer = StrText::new("abc\n\n\u{5D0}\u{5D1}\u{5D2}");
-    display.analyse(rt.alloc(), &UnicodeData, longer, None, rule)?;
+    display.analyse(
+        rt.alloc(),
+        &UnicodeData,
+        longer,
+        unicode_bidi::Base::Auto,
+        rule,
+    )?;
     let line = 0..3;
     assert!(rt; is_line(longer, &line));
     display.show_line(longer, LTR_LEVEL, line, &ClusterColumns::default())?;
     same(&rt, "the width of a line", display.line().width(), 3);
     let text = StrText::new("\u{5D0}(b)\r\n\r\n");
-    display.analyse(rt.alloc(), &UnicodeData, text, None, rule)?;
+    display.analyse(
+        rt.alloc(),
+        &UnicodeData,
+        text,
+        unicode_bidi::Base::Auto,
+        rule,
+    )?;
     let mut out = String::new(rt.alloc());
     display.push_text(text, &UnicodeData, &mut out)?;
     // Levels 1 1 2 1: the brackets have only an L between them, and an R before them (N0).

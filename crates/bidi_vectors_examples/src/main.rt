@@ -3,9 +3,12 @@
 
 mod any_encoding;
 mod callers;
+mod class_levels;
 mod cursor;
 mod displayed;
+mod fallback;
 mod messages;
+mod overridden;
 mod real;
 mod runs;
 mod wrapped;
@@ -14,9 +17,9 @@ use bidi_unicode::UnicodeData;
 use callers::{mirrored_line, visual_runs};
 use std::io;
 use std::ops::Range;
-use unicode_bidi::char_data::BidiClass::{self, B, EN, ON, R, WS};
+use unicode_bidi::char_data::BidiClass::{self, B, EN, L, ON, R, WS};
 use unicode_bidi::data_source::TableBidiData;
-use unicode_bidi::text::{StrText, is_line};
+use unicode_bidi::text::{BRACKET_OPENS, StrText, is_line};
 use unicode_bidi::{BidiInfo, utf16};
 
 // Ranges of characters and their classes. Every other character has class L.
@@ -86,5 +89,14 @@ fn main(rt: HostRuntime) -> io::Result<()> {
     let count = any_encoding::count_runs(rt.alloc(), &info)?;
     println!(rt; "{count} runs")?;
     messages::print_messages(&rt, &["שלום!", "12:30 ?", "hello (שלום)"])?;
+    for message in ["שלום!", "12:30 ?", "hello ?"] {
+        fallback::print_message(&rt, message)?;
+    }
+    overridden::print_path(&rt, "אבג/דהו")?;
+    class_levels::print_levels(
+        &rt,
+        &[L, ON, R, ON, R],
+        &[0, 0x28 + BRACKET_OPENS, 0, 0x28, 0],
+    )?;
     callers::show_input(&rt)
 }

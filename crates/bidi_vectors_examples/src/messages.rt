@@ -4,8 +4,8 @@ use bidi_display::options::DisplayOptions;
 use bidi_display::text_display::TextDisplay;
 use bidi_unicode::UnicodeData;
 use std::io;
-use unicode_bidi::SplitRule;
 use unicode_bidi::text::StrText;
+use unicode_bidi::{Base, SplitRule};
 
 /// Prints each message from left to right, in memory that is kept from one to the next.
 pub fn print_messages(rt: &(impl Print + AllocGlobal), messages: &[&str]) -> io::Result<()> {
@@ -17,7 +17,7 @@ pub fn print_messages(rt: &(impl Print + AllocGlobal), messages: &[&str]) -> io:
             rt.alloc(),
             &UnicodeData,
             StrText::new(message),
-            None,
+            Base::Auto,
             SplitRule::CrLfTogether,
             &UnicodeData,
             &mut shown,

@@ -7,106 +7,94 @@ ghost use Rattle.unicode_bidi.specs.ParagraphBidiInfo.{analysed as whole_of};
 
 use crate::trial::{Fault, tried};
 use bidi_text::text::{TextSource, is_line};
-use std::ops::Range;
 use unicode_bidi::ParagraphInfo;
 use unicode_bidi::info::{BidiInfo, ParagraphBidiInfo};
 use unicode_bidi::layout::LineMap;
 
+// A line of a text.
+#[derive(Drop)]
+struct InfoLine<'a, T: TextSource> {
+    info: &'a BidiInfo<T>,
+    para: &'a ParagraphInfo,
+    start: usize,
+    end: usize,
+    ghost is_line: { IsLineOf (analysed_of info.now) (record { start = start; end = end }) },
+    ghost not_empty: { start < end },
+}
+
+// A line of a text that is one paragraph.
+#[derive(Drop)]
+struct WholeLine<'a, T: TextSource> {
+    info: &'a ParagraphBidiInfo<T>,
+    start: usize,
+    end: usize,
+    ghost is_line: { IsLineOf (whole_of info.now) (record { start = start; end = end }) },
+    ghost not_empty: { start < end },
+}
+
 // Tries the levels of a text with a line after L1, and those of the line alone.
 fn try_levels<T: TextSource + PartialEq>(
     rt: &(impl Print + AllocGlobal),
-    info: &BidiInfo<T>,
-    para: &ParagraphInfo,
-    line: &Range<usize>,
-) -> Result<(), Fault>
-    requires { IsLineOf (analysed_of info.now) line.now }
-{
-    let (alloc, start, end) = (rt.alloc(), line.start, line.end);
-    tried(
-        rt,
-        "BidiInfo::reordered_levels",
-        ||
-            requires { IsLineOf (analysed_of info.now) (record { start = start; end = end }) }
-        { Ok(info.reordered_levels(alloc, para, start..end)?) },
-    )?;
-    tried(
-        rt,
-        "BidiInfo::reordered_levels_per_char",
-        ||
-            requires { IsLineOf (analysed_of info.now) (record { start = start; end = end }) }
-        { Ok(info.reordered_levels_per_char(alloc, para, start..end)?) },
-    )?;
-    tried(
-        rt,
-        "BidiInfo::levels_of_line",
-        ||
-            requires { IsLineOf (analysed_of info.now) (record { start = start; end = end }) }
-        { Ok(info.levels_of_line(alloc, para, start..end)?) },
-    )?;
-    tried(
-        rt,
-        "BidiInfo::levels_of_line_per_char",
-        ||
-            requires { IsLineOf (analysed_of info.now) (record { start = start; end = end }) }
-        { Ok(info.levels_of_line_per_char(alloc, para, start..end)?) },
-    )?;
+    line: &InfoLine<T>,
+) -> Result<(), Fault> {
+    let alloc = rt.alloc();
+    tried(rt, "BidiInfo::reordered_levels", || {
+        Ok(
+            line.info
+                .reordered_levels(alloc, line.para, line.start..line.end)?,
+        )
+    })?;
+    tried(rt, "BidiInfo::reordered_levels_per_char", || {
+        Ok(
+            line.info
+                .reordered_levels_per_char(alloc, line.para, line.start..line.end)?,
+        )
+    })?;
+    tried(rt, "BidiInfo::levels_of_line", || {
+        Ok(
+            line.info
+                .levels_of_line(alloc, line.para, line.start..line.end)?,
+        )
+    })?;
+    tried(rt, "BidiInfo::levels_of_line_per_char", || {
+        Ok(
+            line.info
+                .levels_of_line_per_char(alloc, line.para, line.start..line.end)?,
+        )
+    })?;
     Ok(())
 }
 
 // Tries the runs of a line, and the map of its characters.
 fn try_runs<T: TextSource + PartialEq>(
     rt: &(impl Print + AllocGlobal),
-    info: &BidiInfo<T>,
-    para: &ParagraphInfo,
-    line: &Range<usize>,
-) -> Result<(), Fault>
-    requires is_line { IsLineOf (analysed_of info.now) line.now }
-    requires not_empty { line.now.start < line.now.end }
-{
-    let (alloc, start, end) = (rt.alloc(), line.start, line.end);
-    tried(
-        rt,
-        "BidiInfo::visual_runs",
-        ||
-            requires is_line { IsLineOf (analysed_of info.now) (record { start = start; end = end }) }
-            requires not_empty { start < end }
-        { Ok(info.visual_runs(alloc, para, start..end)?) },
-    )?;
-    tried(
-        rt,
-        "BidiInfo::line_runs",
-        ||
-            requires { IsLineOf (analysed_of info.now) (record { start = start; end = end }) }
-        { Ok(info.line_runs(alloc, para, start..end)?) },
-    )?;
-    tried(
-        rt,
-        "BidiInfo::runs_with_levels",
-        ||
-            requires { IsLineOf (analysed_of info.now) (record { start = start; end = end }) }
-        { Ok(info.runs_with_levels(alloc, para, start..end)?) },
-    )?;
-    tried(
-        rt,
-        "BidiInfo::run_texts",
-        ||
-            requires { IsLineOf (analysed_of info.now) (record { start = start; end = end }) }
-        { Ok(info.run_texts(alloc, para, start..end)?) },
-    )?;
-    tried(
-        rt,
-        "BidiInfo::logical_runs",
-        ||
-            requires { IsLineOf (analysed_of info.now) (record { start = start; end = end }) }
-        { Ok(info.logical_runs(alloc, start..end)?) },
-    )?;
-    tried(
-        rt,
-        "LineMap::new",
-        ||
-            requires { IsLineOf (analysed_of info.now) (record { start = start; end = end }) }
-        { Ok(LineMap::new(alloc, info, para, start..end)?) },
-    )?;
+    line: &InfoLine<T>,
+) -> Result<(), Fault> {
+    let alloc = rt.alloc();
+    tried(rt, "BidiInfo::visual_runs", || {
+        Ok(
+            line.info
+                .visual_runs(alloc, line.para, line.start..line.end)?,
+        )
+    })?;
+    tried(rt, "BidiInfo::line_runs", || {
+        Ok(line.info.line_runs(alloc, line.para, line.start..line.end)?)
+    })?;
+    tried(rt, "BidiInfo::runs_with_levels", || {
+        Ok(
+            line.info
+                .runs_with_levels(alloc, line.para, line.start..line.end)?,
+        )
+    })?;
+    tried(rt, "BidiInfo::run_texts", || {
+        Ok(line.info.run_texts(alloc, line.para, line.start..line.end)?)
+    })?;
+    tried(rt, "BidiInfo::logical_runs", || {
+        Ok(line.info.logical_runs(alloc, line.start..line.end)?)
+    })?;
+    tried(rt, "LineMap::new", || {
+        Ok(LineMap::new(alloc, line.info, line.para, line.start..line.end)?)
+    })?;
     Ok(())
 }
 
@@ -116,107 +104,71 @@ pub fn try_line<T: TextSource + PartialEq>(
     info: &BidiInfo<T>,
     para: &ParagraphInfo,
 ) -> Result<(), Fault> {
-    let line = para.range();
-    if line.start >= line.end || !is_line(info.text_source(), &line) {
+    let range = para.range();
+    if range.start >= range.end || !is_line(info.text_source(), &range) {
         return Err(Fault::NoTrial);
     }
-    try_levels(rt, info, para, &line)?;
-    try_runs(rt, info, para, &line)
+    let line = InfoLine {
+        info,
+        para,
+        start: range.start,
+        end: range.end,
+    };
+    try_levels(rt, &line)?;
+    try_runs(rt, &line)
 }
 
 // Tries the levels of a text that is one paragraph, with a line after L1, and those of the line alone.
 fn try_whole_levels<T: TextSource + PartialEq>(
     rt: &(impl Print + AllocGlobal),
-    info: &ParagraphBidiInfo<T>,
-    line: &Range<usize>,
-) -> Result<(), Fault>
-    requires { IsLineOf (whole_of info.now) line.now }
-{
-    let (alloc, start, end) = (rt.alloc(), line.start, line.end);
-    tried(
-        rt,
-        "ParagraphBidiInfo::reordered_levels",
-        ||
-            requires { IsLineOf (whole_of info.now) (record { start = start; end = end }) }
-        { Ok(info.reordered_levels(alloc, start..end)?) },
-    )?;
-    tried(
-        rt,
-        "ParagraphBidiInfo::reordered_levels_per_char",
-        ||
-            requires { IsLineOf (whole_of info.now) (record { start = start; end = end }) }
-        { Ok(info.reordered_levels_per_char(alloc, start..end)?) },
-    )?;
-    tried(
-        rt,
-        "ParagraphBidiInfo::levels_of_line",
-        ||
-            requires { IsLineOf (whole_of info.now) (record { start = start; end = end }) }
-        { Ok(info.levels_of_line(alloc, start..end)?) },
-    )?;
-    tried(
-        rt,
-        "ParagraphBidiInfo::levels_of_line_per_char",
-        ||
-            requires { IsLineOf (whole_of info.now) (record { start = start; end = end }) }
-        { Ok(info.levels_of_line_per_char(alloc, start..end)?) },
-    )?;
+    line: &WholeLine<T>,
+) -> Result<(), Fault> {
+    let alloc = rt.alloc();
+    tried(rt, "ParagraphBidiInfo::reordered_levels", || {
+        Ok(line.info.reordered_levels(alloc, line.start..line.end)?)
+    })?;
+    tried(rt, "ParagraphBidiInfo::reordered_levels_per_char", || {
+        Ok(
+            line.info
+                .reordered_levels_per_char(alloc, line.start..line.end)?,
+        )
+    })?;
+    tried(rt, "ParagraphBidiInfo::levels_of_line", || {
+        Ok(line.info.levels_of_line(alloc, line.start..line.end)?)
+    })?;
+    tried(rt, "ParagraphBidiInfo::levels_of_line_per_char", || {
+        Ok(
+            line.info
+                .levels_of_line_per_char(alloc, line.start..line.end)?,
+        )
+    })?;
     Ok(())
 }
 
 // Tries the runs of a line of a text that is one paragraph, and the map of its characters.
 fn try_whole_runs<T: TextSource + PartialEq>(
     rt: &(impl Print + AllocGlobal),
-    info: &ParagraphBidiInfo<T>,
-    line: &Range<usize>,
-) -> Result<(), Fault>
-    requires is_line { IsLineOf (whole_of info.now) line.now }
-    requires not_empty { line.now.start < line.now.end }
-{
-    let (alloc, start, end) = (rt.alloc(), line.start, line.end);
-    tried(
-        rt,
-        "ParagraphBidiInfo::visual_runs",
-        ||
-            requires is_line { IsLineOf (whole_of info.now) (record { start = start; end = end }) }
-            requires not_empty { start < end }
-        { Ok(info.visual_runs(alloc, start..end)?) },
-    )?;
-    tried(
-        rt,
-        "ParagraphBidiInfo::line_runs",
-        ||
-            requires { IsLineOf (whole_of info.now) (record { start = start; end = end }) }
-        { Ok(info.line_runs(alloc, start..end)?) },
-    )?;
-    tried(
-        rt,
-        "ParagraphBidiInfo::runs_with_levels",
-        ||
-            requires { IsLineOf (whole_of info.now) (record { start = start; end = end }) }
-        { Ok(info.runs_with_levels(alloc, start..end)?) },
-    )?;
-    tried(
-        rt,
-        "ParagraphBidiInfo::run_texts",
-        ||
-            requires { IsLineOf (whole_of info.now) (record { start = start; end = end }) }
-        { Ok(info.run_texts(alloc, start..end)?) },
-    )?;
-    tried(
-        rt,
-        "ParagraphBidiInfo::logical_runs",
-        ||
-            requires { IsLineOf (whole_of info.now) (record { start = start; end = end }) }
-        { Ok(info.logical_runs(alloc, start..end)?) },
-    )?;
-    tried(
-        rt,
-        "LineMap::of_paragraph",
-        ||
-            requires { IsLineOf (whole_of info.now) (record { start = start; end = end }) }
-        { Ok(LineMap::of_paragraph(alloc, info, start..end)?) },
-    )?;
+    line: &WholeLine<T>,
+) -> Result<(), Fault> {
+    let alloc = rt.alloc();
+    tried(rt, "ParagraphBidiInfo::visual_runs", || {
+        Ok(line.info.visual_runs(alloc, line.start..line.end)?)
+    })?;
+    tried(rt, "ParagraphBidiInfo::line_runs", || {
+        Ok(line.info.line_runs(alloc, line.start..line.end)?)
+    })?;
+    tried(rt, "ParagraphBidiInfo::runs_with_levels", || {
+        Ok(line.info.runs_with_levels(alloc, line.start..line.end)?)
+    })?;
+    tried(rt, "ParagraphBidiInfo::run_texts", || {
+        Ok(line.info.run_texts(alloc, line.start..line.end)?)
+    })?;
+    tried(rt, "ParagraphBidiInfo::logical_runs", || {
+        Ok(line.info.logical_runs(alloc, line.start..line.end)?)
+    })?;
+    tried(rt, "LineMap::of_paragraph", || {
+        Ok(LineMap::of_paragraph(alloc, line.info, line.start..line.end)?)
+    })?;
     Ok(())
 }
 
@@ -225,10 +177,15 @@ pub fn try_whole_line<T: TextSource + PartialEq>(
     rt: &(impl Print + AllocGlobal),
     info: &ParagraphBidiInfo<T>,
 ) -> Result<(), Fault> {
-    let line = 0..info.levels().len();
-    if line.end == 0 || !is_line(info.text_source(), &line) {
+    let range = 0..info.levels().len();
+    if range.end == 0 || !is_line(info.text_source(), &range) {
         return Err(Fault::NoTrial);
     }
-    try_whole_levels(rt, info, &line)?;
-    try_whole_runs(rt, info, &line)
+    let line = WholeLine {
+        info,
+        start: range.start,
+        end: range.end,
+    };
+    try_whole_levels(rt, &line)?;
+    try_whole_runs(rt, &line)
 }

@@ -1,11 +1,13 @@
 //! Makes each call that allocates three times, and tests that a failed allocation changes no other result.
 //!
 //! The first argument names a part of the calls: `utf8` over UTF-8 and over lines with stored classes and levels,
-//! `encodings` over UTF-16 and over any text, `passes` by the rules over lists and the passes in place. The second says
-//! how many allocations the program makes before them. Without arguments, it makes the calls of each part.
+//! `encodings` over UTF-16 and over any text, `display` on displayed lines and texts, `passes` by the rules over lists and
+//! the passes in place. The second says how many allocations the program makes before them. Without arguments, it makes
+//! the calls of each part.
 #![tactic(auto)]
 
 mod any_text;
+mod display;
 mod infos;
 mod lists;
 mod passes;
@@ -37,6 +39,7 @@ fn run_calls(
             utf16::run(rt, source)?;
             any_text::run(rt, source)
         }
+        Part::Display => display::run(rt, source),
         Part::Passes => {
             lists::run(rt, source)?;
             passes::run(rt, source)

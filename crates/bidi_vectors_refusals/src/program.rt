@@ -15,12 +15,14 @@ pub enum Part {
     Utf8,
     /// The calls over UTF-16, and over any text.
     Encodings,
+    /// The calls on displayed lines and texts.
+    Display,
     /// The rules over lists, and the passes in place.
     Passes,
 }
 
 /// All parts.
-pub const PARTS: [Part; 3] = [Part::Utf8, Part::Encodings, Part::Passes];
+pub const PARTS: [Part; 4] = [Part::Utf8, Part::Encodings, Part::Display, Part::Passes];
 
 impl Part {
     // Returns the part with this name.
@@ -28,6 +30,7 @@ impl Part {
         match name {
             "utf8" => Ok(Part::Utf8),
             "encodings" => Ok(Part::Encodings),
+            "display" => Ok(Part::Display),
             "passes" => Ok(Part::Passes),
             _ => Err(Fault::Arguments),
         }

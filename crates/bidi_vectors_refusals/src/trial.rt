@@ -50,7 +50,7 @@ impl fmt::Display for Fault {
                 "three calls do not answer alike: those of the last line",
             ),
             Fault::NoTrial => f.write_str("no trial after the last line"),
-            Fault::Arguments => f.write_str("usage: [utf8 | encodings | passes [COUNT]]"),
+            Fault::Arguments => f.write_str("usage: [utf8 | encodings | display | passes [COUNT]]"),
             Fault::Device => f.write_str("input or output failed"),
         }
     }
