@@ -87,7 +87,7 @@ pub record AreNeutralsResolved (len_of : ℕ → ℕ) (chars : List ℕ) (source
       ≡ neutral_classes_in len_of chars source runs sos eos level_units original_classes old
   pub in_place : IsInPlace len_of chars runs old new
 
--- the new classes are those after N0 and N1: after N2, which changes no level, they would be those of the rules
+-- the new classes are those after N0 and N1: after N2, which changes no level, they would be those after N0 to N2
 pub record AreNeutralsResolvedUpToN1 (len_of : ℕ → ℕ) (chars : List ℕ) (source : Source) (runs : List (ℕ × ℕ))
     (sos eos : BidiClass) (level_units : List ℕ) (original_classes old new : List BidiClass) : Type 0 where
   pub kept : let places = map (unit_index len_of chars) (kept_in_place len_of chars old runs) in

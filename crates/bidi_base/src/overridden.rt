@@ -5,7 +5,8 @@ ghost use Rattle.std.specs.Prelude.{◌≡◌};
 use crate::char_data::BidiClass;
 use crate::data_source::{BidiDataSource, BidiMatchedOpeningBracket};
 
-/// A data source that gives some characters another class than a data source that it borrows.
+/// A data source that gives some characters another class than a data source that it borrows. It changes source
+/// classes; a directional override (BD12) is a control in the text.
 ///
 /// For example, a display of file names can give U+002F (`/`) the class L. Brackets keep their bracket data, but a
 /// bracket of another class than ON is in no pair (BD14, BD15).

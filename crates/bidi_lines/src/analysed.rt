@@ -13,7 +13,7 @@ use crate::reused_levels::LineLevels;
 use crate::visual_runs::{levels_and_runs, visual_runs_of};
 use bidi_base::char_data::{BidiClass, Direction};
 use bidi_base::level::{Level, has_rtl};
-use bidi_text::text::TextSource;
+use bidi_text::text::{TextSource, is_line};
 use std::alloc::{AllocError, Global};
 use std::ops::Range;
 
@@ -97,6 +97,7 @@ impl<T: TextSource> Analysed<T> {
         requires { IsLineOf (analysed self.now) line }
         ensures { IfOk result (λ v. AreLevelsWithLine (analysed self.now) para_level line v.items) }
     {
+        prove!(is_line(self.text(), &line));
         levels_with_line(
             alloc,
             para_level,
@@ -118,6 +119,7 @@ impl<T: TextSource> Analysed<T> {
         requires { IsLineOf (analysed self.now) line }
         ensures { IfOk result (λ v. v.items ≡ levels_with_line_per_char (analysed self.now) para_level line) }
     {
+        prove!(is_line(self.text(), &line));
         let classes = self.original_classes();
         levels_per_char(alloc, self.text, para_level, classes, self.levels(), line)
     }
@@ -136,6 +138,7 @@ impl<T: TextSource> Analysed<T> {
         ensures levels { IfOk result (λ r. AreLevelsWithLine (analysed self.now) para_level line r.0.items) }
         ensures runs { IfOk result (λ r. AreRunsOfLine (analysed self.now) para_level line (map run_of r.1.items)) }
     {
+        prove!(is_line(self.text(), &line));
         levels_and_runs(
             alloc,
             para_level,
@@ -157,6 +160,7 @@ impl<T: TextSource> Analysed<T> {
         requires { IsLineOf (analysed self.now) line }
         ensures { IfOk result (λ v. AreLevelsOfLine (analysed self.now) para_level line v.items) }
     {
+        prove!(is_line(self.text(), &line));
         levels_of_line(
             alloc,
             para_level,
@@ -179,6 +183,7 @@ impl<T: TextSource> Analysed<T> {
         requires { IsLineOf (analysed self.now) line }
         ensures { IfOk result (λ v. AreRunsOfLine (analysed self.now) para_level line (map run_of v.items)) }
     {
+        prove!(is_line(self.text(), &line));
         let (start, end) = (line.start, line.end);
         let classes = &self.original_classes()[start..end];
         let mut after_l1 = LineLevels::new(alloc);

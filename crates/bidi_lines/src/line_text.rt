@@ -14,7 +14,7 @@ use crate::lists::{ClassList, LevelList};
 use crate::reused_levels::LineLevels;
 use crate::visual_runs::{LineRuns, first_run_end};
 use bidi_base::level::Level;
-use bidi_text::text::TextSource;
+use bidi_text::text::{TextSource, is_line};
 use std::alloc::{AllocError, Global};
 use std::ops::Range;
 
@@ -178,6 +178,7 @@ impl<T: LineText> Analysed<T> {
             v.items ≡ line_units T.encode (T.units_of (text_of self.now)) (analysed self.now) para_level line)) }
         ensures still { IfOk result (λ o. IsNone o ↔ StaysInOrder (analysed self.now) para_level line) }
     {
+        prove!(is_line(self.text(), &line));
         let (start, end) = (line.start, line.end);
         let classes = &self.original_classes()[start..end];
         let levels = &self.levels()[start..end];

@@ -18,7 +18,7 @@ use crate::visual_order::write_visual_order;
 use crate::visual_runs::LineRuns;
 use bidi_base::char_data::BidiClass;
 use bidi_base::level::{Level, has_rtl};
-use bidi_text::text::TextSource;
+use bidi_text::text::{TextSource, is_line};
 use std::alloc::{AllocError, Global};
 use std::ops::Range;
 
@@ -157,6 +157,7 @@ impl<T: TextSource> ShownLine<T> {
         ensures emptied { OnErr result (Shows self.new (with_lists (T.text text) classes.now levels.now) para_level
             (record { start = 0; end = 0 })) }
     {
+        prove!(is_line(text, &line));
         let (start, end) = (line.start, line.end);
         self.clear(text);
         self.levels

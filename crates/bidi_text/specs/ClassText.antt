@@ -10,11 +10,11 @@ use Rattle.bidi_text.specs.declared.text.class_text.TheConstants.{CLASSES}
 
 -- ---- bracket codes
 
--- the code of a bracket that opens is this much above that of the one that closes the pair
+-- the code of an opening bracket is this much above that of the bracket that closes its pair
 abbrev pub opens : ℕ
 opens = 0x80000000
 
--- so is its character
+-- the character of an opening bracket is this much above that of the bracket that closes its pair
 abbrev pub opening_chars : ℕ
 opening_chars = 0x80000
 
@@ -68,7 +68,7 @@ class_chars (class ∷ classes) (code ∷ codes) = class_char class code ∷ cla
 unfoldable pub class_numbered : ℕ → BidiClass
 class_numbered n = get_or CLASSES n ON
 
--- the bracket of a character: none below U+0020, and none where its opening bracket were no character
+-- the bracket of a character: none below U+0020, and none where its opening bracket would be no character
 unfoldable pub char_bracket : ℕ → Option BidiMatchedOpeningBracket
 char_bracket c =
     if nat_lt c 0x20 || not (scalar (c % opening_chars)) then None

@@ -2,7 +2,7 @@
 use Rattle.std.specs.Prelude.{◌≡◌, ℕ, ◌+◌, ◌<◌, ◌^◌, List, drop, Option, Some, None, MatchOption, IsTrue}
 use Rattle.bidi_base.specs.Texts.{Encoding, Text, text_len, char_index, char_at, is_boundary}
 
--- a text can be read on at index u: a character begins there, or the text ends
+-- a text can be read on at index u: a character begins there, or the text ends; and the text's length is a `usize`
 pub record CanReadOn {e : Encoding} (text : Text e) (u : ℕ) : Type 0 where
   pub begins : IsTrue (is_boundary text u)
   pub fits : text_len text < 2 ^ 64

@@ -1,5 +1,5 @@
 //! `TextSource`, the trait through which the algorithm reads a text, and its implementations for UTF-8,
-//! UTF-16 and lists of characters.
+//! UTF-16, lists of characters, texts of classes alone and texts of your own.
 #![tactic(auto)]
 
 #[cfg(test)]

@@ -85,7 +85,7 @@ fn byte_after(bytes: &[u8], at: usize, by: usize) -> u8
     }
 }
 
-// Writes those of the bytes from `from` up to `to`.
+// Writes what becomes of the bytes from `from` up to `to` when the characters are reversed.
 fn reverse_ends(bytes: &[u8], out: &mut [u8], from: usize, to: usize)
     requires same_len { length out.old ≡ length bytes.now }
     requires ordered { from ≤ to }

@@ -11,12 +11,14 @@ use std::ops::Range;
 
 /// A text that is read by index. [`Indexed`] makes a [`TextSource`] of it.
 ///
-/// Implement this for a text of your own, such as a slice of pieces or a rope:
+/// Implement this for a text of your own, such as a rope, or a list of pieces with the start and the end of the
+/// text in them:
 ///
-/// - `text` is the list of its characters, for pieces those of one piece after another. `encoding` says how
+/// - `text` is the list of its characters, for pieces those between the start and the end. `encoding` says how
 ///   long each character is, for pieces of UTF-8 its number of bytes.
-/// - `len` is the sum of the pieces' lengths.
-/// - `char_at` finds the piece with the index, and reads the character in it.
+/// - `len` is the end minus the start.
+/// - `char_at` adds the start to the index, finds the piece with it, and reads the character there. From the end on,
+///   there is none.
 /// - `subrange` keeps the same pieces, with another start and end.
 /// - `char_len` says how long a character is. Its `impl` states this again, as `ensures { result ≡ len_utf8 c }`.
 ///
@@ -93,7 +95,7 @@ impl<T: IndexedText> Reader<T> {
         Reader { text, at: 0 }
     }
 
-    // Returns the next character with its index before it and its length after it, and moves on.
+    // Returns the index, the value and the length of the next character, and moves past it.
     fn read(&mut self) -> Option<(usize, char, usize)>
         requires { CanReadOn (T.text self.old.text) self.old.at }
         ensures text { self.new.text ≡ self.old.text }
