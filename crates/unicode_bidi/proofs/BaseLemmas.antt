@@ -79,6 +79,10 @@ unfolding text_levels
 stored_levels_with-base_of source (Some level) pieces = refl
 stored_levels_with-base_of source None pieces = refl
 
+pub stored_levels_with-one : (source : Source) (base_level : Option ℕ) (piece : List ℕ) → stored_levels_with source (base_of base_level) piece ≡ stored_levels source base_level piece
+stored_levels_with-one source (Some level) piece = refl
+stored_levels_with-one source None piece = refl
+
 pub HasLowLevel-base_of : (base_level : Option ℕ) → IfSome base_level (λ level. level ≤ 125) → HasLowLevel (base_of base_level)
 HasLowLevel-base_of (Some level) low = low
 HasLowLevel-base_of None low = tt
@@ -97,7 +101,7 @@ pub levels-or_zero : (source : Source) (pieces : List (List ℕ)) → map (level
 levels-or_zero source [] = refl
 levels-or_zero source (piece ∷ pieces) = rw (level_with-or_zero source piece, levels-or_zero source pieces) refl
 
-stored-or_zero : (source : Source) (piece : List ℕ) → stored_levels_with source (AutoOr 0) piece ≡ stored_levels_with source Auto piece
+pub stored-or_zero : (source : Source) (piece : List ℕ) → stored_levels_with source (AutoOr 0) piece ≡ stored_levels_with source Auto piece
 unfolding stored_levels
 stored-or_zero source piece = ap (λ level. levels_in level (map source.class_of piece) (map source.bracket_of piece)) (level_with-or_zero source piece)
 

@@ -1,5 +1,5 @@
 -- The paragraphs of a text, once they have the levels that a base gives them.
-use Rattle.bidi_base.proofs.Common.{◌≡◌, ◌∙◌, ℕ, List, map, flat_map, ap, sym, All, Option, AreParagraphs, pieces_by, ranges_from, per_unit, text_len, Source, map-map}
+use Rattle.bidi_base.proofs.Common.{◌≡◌, ◌∙◌, ℕ, List, map, flat_map, ap, sym, All, Option, AnalysedText, AreParagraphs, HasOwnUnits, pieces_by, ranges_from, per_unit, stored_levels, text_len, Source, map-map}
 use Rattle.bidi_base.specs.declared.char_data.BidiClass.{BidiClass}
 use Rattle.bidi_base.specs.declared.split_rule.SplitRule.{SplitRule}
 use Rattle.bidi_base.proofs.TextLemmas.{HasUnits}
@@ -10,9 +10,10 @@ use Rattle.bidi_paragraphs.specs.ParagraphInfo.{ranges_of, levels_of}
 use Rattle.unicode_bidi.specs.Base.{level_in_text, level_with, stored_levels_with, HasLowLevel, IsAnalysisWith}
 use Rattle.unicode_bidi.specs.Engine.{unit_levels, own_flags, CanWrite, Follow, chars_of}
 use Rattle.unicode_bidi.specs.declared.base.Base.{Base}
-use Rattle.unicode_bidi.proofs.BaseLaws.{IsAnalysisWith-found}
+use Rattle.unicode_bidi.proofs.BaseLaws.{IsAnalysisWith-found, levels_with-per_char}
 use Rattle.unicode_bidi.proofs.BaseLemmas.{level_with-few, stored_levels_with-level}
-use Rattle.unicode_bidi.proofs.ParagraphUnits.{paragraphs-Follow, paragraphs-chars, paragraphs-flags, paragraphs-CanWrite, paragraphs-levels}
+use Rattle.unicode_bidi.proofs.FoundLaws.{bounded-zip, IsBounded}
+use Rattle.unicode_bidi.proofs.ParagraphUnits.{paragraphs-Follow, paragraphs-chars, paragraphs-flags, paragraphs-CanWrite, paragraphs-levels, paragraphs-own_bounded, paragraphs-HasOwnLevels}
 
 -- `found` are the paragraphs of the first pass, and `ps` the same with other levels
 module _ (source : Source) (base : Base) (rule : Option SplitRule) (base_level : Option ℕ) (len_of : ℕ → ℕ) (units : HasUnits len_of) (chars : List ℕ) (classes : List BidiClass)
@@ -43,8 +44,25 @@ module _ (source : Source) (base : Base) (rule : Option SplitRule) (base_level :
       ∙ ap (per_unit len_of chars) (stored_levels_with-level source base pieces)
 
   -- with their levels written, they are the analysis
-  pub based-IsAnalysisWith : (stored : List ℕ) → stored ≡ flat_map (unit_levels source len_of chars) ps
-      → IsAnalysisWith source base rule (record { len_of = len_of; chars = chars; classes = classes; levels = stored }) (ranges_of ps) (levels_of ps)
-  based-IsAnalysisWith stored e =
-      IsAnalysisWith-found source rule (record { len_of = len_of; chars = chars; classes = classes; levels = stored }) base base_level (ranges_of ps) (levels_of found) (levels_of ps)
-      (rw ranges are) based-levels (e ∙ based-units)
+  module _ (low : HasLowLevel base) (stored : List ℕ) (e : stored ≡ flat_map (unit_levels source len_of chars) ps) where
+    abbrev analysed : AnalysedText
+    analysed = record { len_of = len_of; chars = chars; classes = classes; levels = stored }
+
+    based-stored : stored ≡ per_unit len_of chars (flat_map (stored_levels_with source base) pieces)
+    based-stored = e ∙ based-units
+
+    based-bounded : All (IsBounded stored) ps
+    unfolding stored_levels
+    based-bounded =
+        rw based-stored
+        (paragraphs-own_bounded source len_of units chars pieces (pieces_by-joined rule source chars) ps based-ranges (level_with source base) based-levels (level_with-few source base low))
+
+    based-own : All (HasOwnUnits len_of (stored_levels_with source base) chars stored) (ranges_of ps)
+    unfolding stored_levels
+    based-own =
+        rw based-stored (paragraphs-HasOwnLevels source len_of units chars pieces (pieces_by-joined rule source chars) ps based-ranges (level_with source base) based-levels)
+
+    pub based-IsAnalysisWith : IsAnalysisWith source base rule analysed (ranges_of ps) (levels_of ps)
+    based-IsAnalysisWith =
+        IsAnalysisWith-found source rule analysed base base_level (ranges_of ps) (levels_of found) (levels_of ps) (rw ranges are) based-levels based-stored
+        (levels_with-per_char source rule analysed base units based-stored) (bounded-zip stored ps based-bounded) based-own

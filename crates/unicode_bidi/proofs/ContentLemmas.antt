@@ -1,107 +1,135 @@
--- The content of a paragraph, which ends before the separators at its end.
-use Rattle.bidi_base.proofs.Common.{◌≡◌, ℕ, zero, suc, ◌+◌, ◌-◌, ◌<◌, ◌≤◌, Bool, true, false, List, [], ◌∷◌, length, get_or, inl, inr, cases_lt, refl, ap, ◌∙◌, arith, common_steps, nat_tests, slice_range, text_len, char_index, IsLine, IsPerChar, IsTrue, is_per_char, get_or-drop, get_or-take, get_or_default, if◌then◌else◌, ◌&&◌, ◌==◌}
+-- The content of a paragraph: where its separators begin, and that no character is cut there.
+use Rattle.bidi_base.proofs.Common.{◌≡◌, ◌∙◌, ℕ, zero, suc, ◌+◌, ◌-◌, ◌<◌, ◌≤◌, true, false, List, [], ◌∷◌, ◌++◌, length, get_or, inl, inr, refl, sym, ap, arith, take, take_more, cases_lt}
+use Rattle.bidi_base.proofs.Common.{nat_tests, length-take, get_or-take, get_or-drop, slice_range, is_boundary, unit_index, text_len, per_unit, IsLine}
+use Rattle.bidi_base.proofs.PerUnit.{get_or-per_unit}
+use Rattle.bidi_base.proofs.TextLemmas.{HasUnits, is_boundary-le}
+use Rattle.bidi_base.proofs.UnitIndexLemmas.{unit_of, is_boundary-unit_index}
+use Rattle.bidi_base.proofs.UnitsLemmas.{length-from_IsPerChar}
 use Rattle.bidi_base.specs.Classes.{is_paragraph_separator}
+use Rattle.bidi_base.specs.PerChar.{HaveClass}
 use Rattle.bidi_base.specs.declared.char_data.BidiClass.{BidiClass}
 use Rattle.bidi_base.specs.declared.char_data.BidiClass.TheVariants.{L}
-use Rattle.bidi_base.proofs.TextLemmas.{HasUnits}
-use Rattle.bidi_base.proofs.UnitIndexLemmas.{line_unit_indexes, unit_index-le}
-use Rattle.bidi_base.proofs.UnitsLemmas.{length-from_IsPerChar}
-use Rattle.bidi_text.proofs.PerCharTests.{class_eq}
 use Rattle.bidi_lines.proofs.LineInText.{length-part}
 use Rattle.bidi_lines.proofs.StoredLine.{classes_IsPerChar}
 use Rattle.unicode_bidi.specs.Content.{content_len}
-use Rattle.unicode_bidi.proofs.UnitChanges.{boundary-at_change}
 
-not_zero : (n : ℕ) (last : Bool) → 0 < n → (if n == 0 && last then 0 else suc n) ≡ suc n
-not_zero n last some = grind (arith, nat_tests)
+-- ---- the length of the content
 
--- the entries from n on are separators, and the one before them is none
-content_len-is : (cs : List BidiClass) (n : ℕ) → n ≤ length cs → ((k : ℕ) → n ≤ k → k < length cs → is_paragraph_separator (get_or cs k L) ≡ true)
-    → ((k : ℕ) → k + 1 ≡ n → is_paragraph_separator (get_or cs k L) ≡ false) → content_len cs ≡ n
-content_len-is [] n fits after last = omega arith
-content_len-is (c ∷ cs) zero fits after last =
-    let rest = content_len-is cs zero (omega arith) (λ k from below. after (suc k) (omega arith) (omega arith)) (λ k e. absurd (omega arith)) in
-    let here : is_paragraph_separator c ≡ true = after zero (omega arith) (omega arith) in
-    rw (rest, here) refl
-content_len-is (c ∷ cs) (suc zero) fits after last =
-    let rest = content_len-is cs zero (omega arith) (λ k from below. after (suc k) (omega arith) (omega arith)) (λ k e. absurd (omega arith)) in
-    let here : is_paragraph_separator c ≡ false = last zero (omega arith) in
-    rw (rest, here) refl
-content_len-is (c ∷ cs) (suc (suc n)) fits after last =
-    let rest = content_len-is cs (suc n) (omega arith) (λ k from below. after (suc k) (omega arith) (omega arith)) (λ k e. last (suc k) (omega arith)) in
-    rw rest (not_zero (suc n) _ (omega arith))
+pub content_len-le : (cs : List BidiClass) → content_len cs ≤ length cs
+content_len-le [] = omega arith
+content_len-le (c ∷ cs) = grind (arith, nat_tests, content_len-le cs)
 
--- the code units from `at` up to `end` are separators
-abbrev pub SeparatorsFrom : List BidiClass → ℕ → ℕ → Type 0
-SeparatorsFrom classes at end = (k : ℕ) → at ≤ k → k < end → is_paragraph_separator (get_or classes k L) ≡ true
+-- one more separator at the end
+content_len-separator : (cs : List BidiClass) (c : BidiClass) → is_paragraph_separator c ≡ true → content_len (cs ++ c ∷ []) ≡ content_len cs
+content_len-separator [] c e = grind (arith, nat_tests)
+content_len-separator (d ∷ ds) c e = grind (arith, nat_tests, content_len-separator ds c e)
 
--- no separator is directly before `at`, or `at` is `start`
-abbrev pub NoneBefore : List BidiClass → ℕ → ℕ → Type 0
-NoneBefore classes start at = (k : ℕ) → k + 1 ≡ at → start ≤ k → is_paragraph_separator (get_or classes k L) ≡ false
+-- any other class at the end
+content_len-other : (cs : List BidiClass) (c : BidiClass) → is_paragraph_separator c ≡ false → content_len (cs ++ c ∷ []) ≡ suc (length cs)
+content_len-other [] c e = grind (arith, nat_tests)
+content_len-other (d ∷ ds) c e = grind (arith, nat_tests, content_len-other ds c e)
 
--- where the loop over the separators ends
-pub record IsContentEnd (classes : List BidiClass) (start end at : ℕ) : Type 0 where
-  pub above : start ≤ at
-  pub below : at ≤ end
-  pub separators : SeparatorsFrom classes at end
-  pub none : NoneBefore classes start at
+-- the last class of the content is no separator
+last_is_other : (cs : List BidiClass) (k : ℕ) → content_len cs ≡ suc k → is_paragraph_separator (get_or cs k L) ≡ false
+last_is_other [] k e = absurd (omega arith)
+last_is_other (c ∷ cs) zero e = grind (arith, nat_tests)
+last_is_other (c ∷ cs) (suc k) e = grind (arith, nat_tests, last_is_other cs k)
 
-get_or-part : (classes : List BidiClass) (start end k : ℕ) → k < end - start → get_or (slice_range classes start end) k L ≡ get_or classes (start + k) L
-get_or-part classes start end k below = grind (arith, common_steps, get_or-take, get_or-drop)
+-- and a separator follows the content
+next_is_separator : (cs : List BidiClass) (k : ℕ) → content_len cs ≡ k → k < length cs → is_paragraph_separator (get_or cs k L) ≡ true
+next_is_separator [] k e within = absurd (omega arith)
+next_is_separator (c ∷ cs) zero e within = grind (arith, nat_tests)
+next_is_separator (c ∷ cs) (suc k) e within = grind (arith, nat_tests, next_is_separator cs k)
 
--- one separator more
-pub separators-more : (classes : List BidiClass) (at end : ℕ) (d : BidiClass) → at - 1 < length classes → is_paragraph_separator (get_or classes (at - 1) d) ≡ true
-    → SeparatorsFrom classes at end → SeparatorsFrom classes (at - 1) end
-separators-more classes at end d fits here h k from below = elim (cases_lt k at) [
-  | inl first ↦ let same : k ≡ at - 1 = omega arith in rw same (ap is_paragraph_separator (get_or_default classes (at - 1) L d fits) ∙ here)
-  | inr later ↦ h k later below
-]
+-- ---- the loop from the end
 
--- the loop ends at the start, or where the entry before is no separator
-pub ended-at_start : (classes : List BidiClass) (start end at : ℕ) → start ≤ at → at ≤ end → SeparatorsFrom classes at end → at ≤ start → IsContentEnd classes start end at
-ended-at_start classes start end at above below separators all = record { above = above; below = below; separators = separators; none = λ k e from. absurd (omega arith) }
+-- a step back over a separator
+pub content_len-back : (cs : List BidiClass) (n k : ℕ) (d : BidiClass) → n ≡ k + 1 → k < length cs → is_paragraph_separator (get_or cs k d) ≡ true
+    → content_len (take n cs) ≡ content_len (take k cs)
+content_len-back cs n k d next within e =
+    ap content_len (ap (λ (m : ℕ). take m cs) next ∙ take_more cs k d within) ∙ content_len-separator (take k cs) (get_or cs k d) e
 
-pub ended-inside : (classes : List BidiClass) (start end at : ℕ) (d : BidiClass) → start ≤ at → at ≤ end → SeparatorsFrom classes at end
-    → at - 1 < length classes → is_paragraph_separator (get_or classes (at - 1) d) ≡ false → IsContentEnd classes start end at
-ended-inside classes start end at d above below separators fits here = record {
-  above = above;
-  below = below;
-  separators = separators;
-  none = λ k e from. let same : k ≡ at - 1 = omega arith in rw same (ap is_paragraph_separator (get_or_default classes (at - 1) L d fits) ∙ here);
-}
+-- the loop ends after a class that is no separator
+pub content_len-last : (cs : List BidiClass) (n k : ℕ) (d : BidiClass) → n ≡ k + 1 → k < length cs → is_paragraph_separator (get_or cs k d) ≡ false
+    → n ≡ content_len (take n cs)
+content_len-last cs n k d next within e =
+    let found = ap content_len (ap (λ (m : ℕ). take m cs) next ∙ take_more cs k d within) ∙ content_len-other (take k cs) (get_or cs k d) e in
+    omega (arith, found, length-take k cs)
 
-module _ (len_of : ℕ → ℕ) (some : HasUnits len_of) (chars : List ℕ) (classes : List BidiClass) (of_classes : IsTrue (is_per_char class_eq len_of chars classes))
-    (start end : ℕ) (line : IsLine len_of chars start end) where
-  per_char : IsPerChar len_of chars classes
-  per_char = classes_IsPerChar len_of some chars classes of_classes
+-- or at the start
+pub content_len-none : (cs : List BidiClass) (n : ℕ) → n ≤ 0 → n ≡ content_len (take n cs)
+content_len-none cs zero none = refl
+content_len-none cs (suc n) none = absurd (omega arith)
 
-  within : end ≤ text_len len_of chars
-  within = grind (arith, line_unit_indexes len_of some chars start end line, unit_index-le len_of chars (char_index len_of chars end))
+-- ---- the end of the content cuts no character
 
-  pub classes-reach : end ≤ length classes
-  classes-reach = omega (arith, within, length-from_IsPerChar len_of chars classes per_char)
+module _ (len_of : ℕ → ℕ) (some : HasUnits len_of) (text : List ℕ) (classes : List BidiClass) (have : HaveClass len_of text classes) where
+  pub length-classes : length classes ≡ text_len len_of text
+  length-classes = length-from_IsPerChar len_of text classes (classes_IsPerChar len_of some text classes have)
 
-  pub content-end : (at : ℕ) → IsContentEnd classes start end at → at ≡ start + content_len (slice_range classes start end)
-  content-end at h =
-      let long = length-part classes start end classes-reach in
-      let n : content_len (slice_range classes start end) ≡ at - start =
-      content_len-is (slice_range classes start end) (at - start) (omega (arith, long, h.below))
-      (λ k from below. ap is_paragraph_separator (get_or-part classes start end k (omega (arith, long))) ∙ h.separators (start + k) (omega (arith, h.above)) (omega (arith, long)))
-      (λ k e. ap is_paragraph_separator (get_or-part classes start end k (omega (arith, h.below))) ∙ h.none (start + k) (omega (arith, h.above)) (omega arith)) in
-      omega (arith, n, h.above)
+  -- two code units of one character have the same class
+  same_inside : (values : List BidiClass) → length values ≡ length text → classes ≡ per_unit len_of text values
+      → (u k j : ℕ) → suc u ≡ unit_index len_of text k + suc j → k < length text → suc j < len_of (get_or text k 0)
+      → get_or classes u L ≡ get_or classes (suc u) L
+  same_inside values long is u k j at within below =
+      let first : get_or classes u L ≡ get_or values k L =
+      ap (λ (cs : List BidiClass). get_or cs u L) is ∙ ap (λ (i : ℕ). get_or (per_unit len_of text values) i L) (let e : u ≡ unit_index len_of text k + j = omega arith in e)
+      ∙ get_or-per_unit len_of text values k j 0 L long within (omega arith) in
+      let second : get_or classes (suc u) L ≡ get_or values k L =
+      ap (λ (cs : List BidiClass). get_or cs (suc u) L) is ∙ ap (λ (i : ℕ). get_or (per_unit len_of text values) i L) at
+      ∙ get_or-per_unit len_of text values k (suc j) 0 L long within below in
+      first ∙ sym second
 
-  pub content-is_line : (at : ℕ) → IsContentEnd classes start end at → IsLine len_of chars start at
-  content-is_line at h = record {
-    ordered = h.above;
-    begins = line.begins;
-    ends = elim (cases_lt at end) [
-      | inl before ↦ elim (cases_lt start at) [
-        | inl some ↦
-            let here : is_paragraph_separator (get_or classes at L) ≡ true = h.separators at (omega arith) before in
-            let last : is_paragraph_separator (get_or classes (at - 1) L) ≡ false = h.none (at - 1) (omega arith) (omega arith) in
-            boundary-at_change len_of chars classes per_char at (at - 1) L (omega arith) (omega (arith, within)) (λ e. absurd (cc (here, last, ap is_paragraph_separator e)))
-        | inr none ↦ let same : at ≡ start = omega (arith, h.above) in rw same line.begins
+  -- so a character begins between two code units of different classes
+  boundary-between : (u : ℕ) → suc u < text_len len_of text → is_paragraph_separator (get_or classes u L) ≡ false → is_paragraph_separator (get_or classes (suc u) L) ≡ true
+      → is_boundary len_of text (suc u) ≡ true
+  boundary-between u within other separator =
+      let values = classes_IsPerChar len_of some text classes have in
+      let w = unit_of len_of text (suc u) within in
+      elim (cases_lt 0 w.offset) [
+        | inl inside ↦ absurd (cc (ap is_paragraph_separator (same_inside values.0 values.1 values.2 u w.index (w.offset - 1) (omega (arith, w.at_place)) w.within (omega (arith, w.below))), other, separator))
+        | inr first ↦ ap (is_boundary len_of text) (let e : suc u ≡ unit_index len_of text w.index = omega (arith, w.at_place) in e) ∙ is_boundary-unit_index len_of text w.index
       ]
-      | inr all ↦ let same : at ≡ end = omega (arith, h.below) in rw same line.ends
-    ];
-  }
+
+  module _ (start end : ℕ) (is_line : IsLine len_of text start end) where
+    abbrev len : ℕ
+    len = content_len (slice_range classes start end)
+
+    pub end-within : end ≤ length classes
+    end-within = omega (arith, is_boundary-le len_of text end is_line.ends, length-classes)
+
+    pub content-within : start + len ≤ end
+    content-within = omega (arith, content_len-le (slice_range classes start end), length-part classes start end end-within, is_line.ordered)
+
+    -- the classes of the range
+    read : (k : ℕ) → k < end - start → get_or (slice_range classes start end) k L ≡ get_or classes (start + k) L
+    read k inside = grind (arith, get_or-take, get_or-drop)
+
+    -- inside the range, a separator follows another class there
+    boundary-inside : (k : ℕ) → len ≡ suc k → start + suc k < end → is_boundary len_of text (start + suc k) ≡ true
+    boundary-inside k e inside =
+        let part = slice_range classes start end in
+        let long = length-part classes start end end-within in
+        let other : is_paragraph_separator (get_or classes (start + k) L) ≡ false =
+        ap is_paragraph_separator (sym (read k (omega arith))) ∙ last_is_other part k e in
+        let place : start + suc k ≡ suc (start + k) = omega arith in
+        let separator : is_paragraph_separator (get_or classes (suc (start + k)) L) ≡ true =
+        ap (λ (i : ℕ). is_paragraph_separator (get_or classes i L)) (sym place) ∙ ap is_paragraph_separator (sym (read (suc k) (omega arith))) ∙ next_is_separator part (suc k) e (omega (arith, long)) in
+        ap (is_boundary len_of text) place ∙ boundary-between (start + k) (omega (arith, is_boundary-le len_of text end is_line.ends)) other separator
+
+    boundary-at : (k : ℕ) → len ≡ k → start + k ≤ end → is_boundary len_of text (start + k) ≡ true
+    boundary-at zero e within = ap (is_boundary len_of text) (let same : start + 0 ≡ start = omega arith in same) ∙ is_line.begins
+    boundary-at (suc k) e within = elim (cases_lt (start + suc k) end) [
+      | inl inside ↦ boundary-inside k e inside
+      | inr past ↦ ap (is_boundary len_of text) (let same : start + suc k ≡ end = omega arith in same) ∙ is_line.ends
+    ]
+
+    content-boundary : is_boundary len_of text (start + len) ≡ true
+    content-boundary = boundary-at len refl content-within
+
+    -- so the content is a line, and so are its separators
+    pub content-IsLine : IsLine len_of text start (start + len)
+    content-IsLine = record { ordered = omega arith; begins = is_line.begins; ends = content-boundary }
+
+    pub separators-IsLine : IsLine len_of text (start + len) end
+    separators-IsLine = record { ordered = content-within; begins = content-boundary; ends = is_line.ends }

@@ -16,13 +16,13 @@ use Rattle.unicode_bidi.proofs.ParagraphUnits.{paragraphs-HasOwnUnits, paragraph
 
 -- what holds of each paragraph holds of its range with its level
 module _ (levels : List ℕ) where
-  abbrev IsBounded : ParagraphInfo → Type 0
+  abbrev pub IsBounded : ParagraphInfo → Type 0
   IsBounded p = AreLevelsFrom p.level (slice_range levels p.range.start p.range.end)
 
-  abbrev IsBoundedPair : (ℕ × ℕ) × ℕ → Type 0
+  abbrev pub IsBoundedPair : (ℕ × ℕ) × ℕ → Type 0
   IsBoundedPair p = AreLevelsFrom p.1 (slice_range levels p.0.0 p.0.1)
 
-  bounded-zip : (ps : List ParagraphInfo) → All IsBounded ps → All IsBoundedPair (zip (ranges_of ps) (levels_of ps))
+  pub bounded-zip : (ps : List ParagraphInfo) → All IsBounded ps → All IsBoundedPair (zip (ranges_of ps) (levels_of ps))
   bounded-zip [] h = All-nil IsBoundedPair
   bounded-zip (p ∷ ps) h =
       All-cons IsBoundedPair ((p.range.start, p.range.end), p.level) (zip (ranges_of ps) (levels_of ps)) (All-head IsBounded p ps h) (bounded-zip ps (All-tail IsBounded p ps h))

@@ -2,7 +2,7 @@ pub mod AloneLemmas
 mod BaseLaws
 mod BaseLemmas
 mod BasedParagraphs
-mod ContentLemmas
+pub mod ContentLemmas
 mod DecidingSteps
 mod FoundLaws
 mod LogicalRuns

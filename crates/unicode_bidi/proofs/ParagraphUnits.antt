@@ -1,5 +1,5 @@
 -- The levels of a text, written paragraph by paragraph.
-use Rattle.bidi_base.proofs.Common.{◌≡◌, Option, ℕ, ◌+◌, ◌-◌, ◌<◌, ◌≤◌, List, [], ◌∷◌, ◌++◌, length, get_or, take, drop, map, refl, subst, ◌∙◌, append_assoc, append-nil, arith, length-append}
+use Rattle.bidi_base.proofs.Common.{◌≡◌, Option, Some, ℕ, ◌+◌, ◌-◌, ◌<◌, ◌≤◌, List, [], ◌∷◌, ◌++◌, length, get_or, take, drop, map, refl, subst, ◌∙◌, append_assoc, append-nil, arith, length-append}
 use Rattle.bidi_base.proofs.Common.{zero-add, take-append_seam, drop-append-add, Range, All, IfSome, slice_range, get_or-map, take_more, drop_more, drop-drop, length-map, flat_map-map}
 use Rattle.bidi_base.proofs.Common.{sum_by-append, map-map, paragraph_level, stored_classes, HasOwnUnits, AreLevelsFrom, ranges_from, Source, levels_in, stored_levels, text_classes, text_levels}
 use Rattle.bidi_base.proofs.Common.{paragraph_levels, text_len, subrange, per_unit, IsLine, flat_map, flat_map-append}
@@ -133,6 +133,21 @@ module _ (source : Source) (len_of : ℕ → ℕ) (units : HasUnits len_of) (cha
           level = rw (paragraphs-level k d within) (few (chars_of len_of chars (get_or ps k d)));
           classes = of_ranges (HasOwnUnits len_of stored chars classes) ps (rw (ranges, e) (HasOwnUnits-pieces stored one_each len_of units chars pieces whole)) k d within;
         }
+
+    -- each paragraph has the levels that its characters have by themselves
+    pub paragraphs-HasOwnLevels : All (HasOwnUnits len_of own_levels chars (per_unit len_of chars (flat_map own_levels pieces))) (ranges_of ps)
+    paragraphs-HasOwnLevels = rw ranges (HasOwnUnits-pieces own_levels length-own_levels len_of units chars pieces whole)
+
+    -- its levels are at least its own, and at most the greatest
+    pub paragraphs-own_bounded : ((piece : List ℕ) → own_level piece ≤ 125)
+        → All (λ p. AreLevelsFrom p.level (slice_range (per_unit len_of chars (flat_map own_levels pieces)) p.range.start p.range.end)) ps
+    unfolding stored_levels paragraph_level
+    paragraphs-own_bounded few k d within =
+        let piece : List ℕ = chars_of len_of chars (get_or ps k d) in
+        let own = of_ranges (HasOwnUnits len_of own_levels chars (per_unit len_of chars (flat_map own_levels pieces))) ps paragraphs-HasOwnLevels k d within in
+        rw (paragraphs-level k d within, own)
+        (All-per_unit (λ level. (own_level piece ≤ level) × (level ≤ 126)) len_of piece (own_levels piece)
+        (stored_levels-AreLevelsFrom source (Some (own_level piece)) piece (few piece)))
 
   -- where they have a base level, or the levels of their characters
   module _ (base_level : Option ℕ) (levels : levels_of ps ≡ paragraph_levels source base_level pieces) where

@@ -1,14 +1,18 @@
 -- Base levels of paragraphs: what each base says, and what an analysis with one has.
-use Rattle.std.specs.Prelude.{◌≡◌, ℕ, ◌≤◌, List, [], ◌∷◌, map, flat_map, Option, Some, None, IfSome, is_some, if◌then◌else◌}
+use Rattle.std.specs.Prelude.{◌≡◌, ℕ, ◌≤◌, All, List, [], ◌∷◌, map, flat_map, zip, slice_range, Option, Some, None, IfSome, is_some, if◌then◌else◌}
 use Rattle.bidi_base.specs.AnalysedText.{AnalysedText}
 use Rattle.bidi_base.specs.declared.char_data.BidiClass.{BidiClass}
+use Rattle.bidi_base.specs.declared.char_data.BidiClass.TheVariants.{L}
 use Rattle.bidi_base.specs.declared.split_rule.SplitRule.{SplitRule}
 use Rattle.bidi_base.specs.Isolates.{deciding_class, paragraph_level}
+use Rattle.bidi_base.specs.Laws.{HasOwnUnits, AreLevelsFrom}
 use Rattle.bidi_base.specs.Paragraphs.{pieces_by, ranges_from, AreParagraphRanges}
 use Rattle.bidi_base.specs.PerChar.{HaveClass, HaveLevel}
 use Rattle.bidi_base.specs.Source.{Source}
 use Rattle.bidi_base.specs.Stored.{text_classes, stored_levels}
-use Rattle.bidi_base.specs.Text.{text_len, per_unit}
+use Rattle.bidi_base.specs.Text.{text_len, per_char, per_unit}
+use Rattle.bidi_base.specs.Texts.{Encoding, Text, IsLine}
+use Rattle.bidi_paragraphs.specs.ParagraphInfo.{range_of}
 use Rattle.bidi_paragraphs.specs.declared.paragraph_info.ParagraphInfo.{ParagraphInfo}
 use Rattle.unicode_bidi.specs.declared.base.Base.{Base}
 use Rattle.unicode_bidi.specs.declared.base.Base.TheVariants.{Level, Auto, AutoOr}
@@ -54,6 +58,10 @@ stored_levels_with source base piece = stored_levels source (base_level_of base 
 
 -- ---- the paragraphs of a text
 
+-- the range of a paragraph cuts no character
+abbrev pub CutsNoChar : {e : Encoding} → Text e → ParagraphInfo → Type 0
+CutsNoChar text p = IsLine text (range_of p).start (range_of p).end
+
 -- the level of a paragraph with a base
 abbrev pub level_in_text : Source → Base → (ℕ → ℕ) → List ℕ → ParagraphInfo → ℕ
 level_in_text source base len_of chars p = level_with source base (chars_of len_of chars p)
@@ -80,6 +88,15 @@ pub record IsAnalysisWith (source : Source) (base : Base) (rule : Option SplitRu
   pub partition : IfSome rule (λ r. AreParagraphRanges r source a.len_of a.chars own_ranges)
   -- without a split rule, there is one paragraph, the whole text
   pub whole : rule ≡ None → own_ranges ≡ (0, text_len a.len_of a.chars) ∷ []
+  -- the classes and the levels of the characters depend only on the characters, the data source, the base and the split
+  -- rule; so two texts with the same characters have the same ones in all encodings
+  pub classes_by_characters : per_char L a.len_of a.chars a.classes ≡ text_classes source (pieces_by rule source a.chars)
+  pub levels_by_characters : per_char 0 a.len_of a.chars a.levels
+      ≡ flat_map (stored_levels_with source base) (pieces_by rule source a.chars)
   -- all code units of a character have the same class, and the same level
   pub per_char_classes : HaveClass a.len_of a.chars a.classes
   pub per_char_levels : HaveLevel a.len_of a.chars a.levels
+  -- no level is below that of its paragraph or above the maximum
+  pub bounded : All (λ p. AreLevelsFrom p.1 (slice_range a.levels p.0.0 p.0.1)) (zip own_ranges own_levels)
+  -- each paragraph has the levels that its characters would have as the whole text
+  pub each_by_itself : All (HasOwnUnits a.len_of (stored_levels_with source base) a.chars a.levels) own_ranges

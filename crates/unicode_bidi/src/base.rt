@@ -1,17 +1,16 @@
 //! How paragraphs get their levels: one level for all (HL1), or by their characters (P2, P3), perhaps with a fallback.
-ghost use Rattle.std.specs.Prelude.{◌≡◌, ◌&&◌, ◌==◌, None, not, is_some, map, All};
+ghost use Rattle.std.specs.Prelude.{◌≡◌, ◌↔◌, ◌&&◌, ◌==◌, None, not, is_some, map, All, IsTrue};
 ghost use Rattle.bidi_base.specs.Classes.{is_strong as is_strong_of};
 ghost use Rattle.bidi_base.specs.Isolates.{deciding_class};
-ghost use Rattle.bidi_base.specs.Texts.{IsLine};
-ghost use Rattle.bidi_paragraphs.specs.ParagraphInfo.{range_of, ranges_of, levels_of};
-ghost use Rattle.unicode_bidi.specs.Base.{fixed_level as fixed_level_of, HasLevelBy, level_in_text};
+ghost use Rattle.bidi_paragraphs.specs.ParagraphInfo.{ranges_of, levels_of};
+ghost use Rattle.unicode_bidi.specs.Base.{fixed_level as fixed_level_of, CutsNoChar, HasLevelBy, HasLowLevel, level_in_text};
 ghost use Rattle.unicode_bidi.specs.Engine.{chars_of};
 
 use crate::direction_search::depth_after;
 use bidi_base::char_data::BidiClass;
 use bidi_base::classes::is_strong;
 use bidi_base::data_source::BidiDataSource;
-use bidi_base::level::{LTR_LEVEL, Level};
+use bidi_base::level::{LTR_LEVEL, Level, MAX_EXPLICIT_DEPTH};
 use bidi_paragraphs::first_pass::FoundParagraphs;
 use bidi_paragraphs::paragraph_info::ParagraphInfo;
 use bidi_text::text::TextSource;
@@ -51,6 +50,16 @@ impl Base {
             _ => None,
         }
     }
+
+    // Returns whether the level that the base names, if it names one, is at most 125.
+    pub(crate) fn has_low_level(&self) -> bool
+        ensures { IsTrue result ↔ HasLowLevel self.now }
+    {
+        match self {
+            Base::Level(level) | Base::AutoOr(level) => level.number() <= MAX_EXPLICIT_DEPTH,
+            Base::Auto => true,
+        }
+    }
 }
 
 // Returns whether a character decides (P2), given its class and how many isolates are open before it.
@@ -84,7 +93,7 @@ fn is_undecided<D: BidiDataSource, T: TextSource>(
     text: T,
     paragraph: &ParagraphInfo,
 ) -> bool
-    requires line { IsLine (T.text text) (range_of paragraph.now).start (range_of paragraph.now).end }
+    requires line { CutsNoChar (T.text text) paragraph.now }
     requires level { HasLevelBy (D.source data_source.now) None T.encoding.len_of (T.text text).chars paragraph.now }
     ensures { let piece = chars_of T.encoding.len_of (T.text text).chars paragraph.now in
         result ≡ not (is_some (deciding_class (map (D.source data_source.now).class_of piece))) }
@@ -99,7 +108,7 @@ fn fall_back<D: BidiDataSource, T: TextSource>(
     level: Level,
     paragraphs: &mut [ParagraphInfo],
 )
-    requires lines { All (λ p. IsLine (T.text text) (range_of p).start (range_of p).end) paragraphs.old }
+    requires lines { All (CutsNoChar (T.text text)) paragraphs.old }
     requires levels { All (HasLevelBy (D.source data_source.now) None T.encoding.len_of (T.text text).chars)
         paragraphs.old }
     ensures ranges { ranges_of paragraphs.new ≡ ranges_of paragraphs.old }
@@ -122,7 +131,7 @@ pub(crate) fn apply_base<D: BidiDataSource, T: TextSource>(
     base: Base,
     found: &mut FoundParagraphs,
 )
-    requires lines { All (λ p. IsLine (T.text text) (range_of p).start (range_of p).end) found.old.paragraphs.items }
+    requires lines { All (CutsNoChar (T.text text)) found.old.paragraphs.items }
     requires levels { All
         (HasLevelBy (D.source data_source.now) (fixed_level_of base) T.encoding.len_of (T.text text).chars)
         found.old.paragraphs.items }

@@ -8,7 +8,7 @@ ghost use Rattle.bidi_lines.specs.LineLevels.{levels as kept_levels};
 use bidi_base::level::Level;
 use bidi_lines::analysed::Analysed;
 use bidi_lines::reused_levels::LineLevels;
-use bidi_text::text::TextSource;
+use bidi_text::text::{TextSource, is_line};
 use std::alloc::{AllocError, Global};
 use std::ops::Range;
 
@@ -22,6 +22,7 @@ pub(crate) fn char_levels<T: TextSource>(
     requires { IsLineOf (analysed_of analysed.now) line }
     ensures { IfOk result (λ s. kept_levels s ≡ line_levels_per_char (analysed_of analysed.now) para_level line) }
 {
+    prove!(is_line(analysed.text(), &line));
     let (start, end) = (line.start, line.end);
     let classes = &analysed.original_classes()[start..end];
     let mut after_l1 = LineLevels::new(alloc);

@@ -23,7 +23,7 @@ use bidi_paragraphs::first_pass::{self, FoundParagraphs};
 pub use bidi_paragraphs::paragraph_flags::ParagraphFlags;
 use bidi_paragraphs::paragraph_info::ParagraphInfo;
 use bidi_paragraphs::paragraph_levels::{ClassifiedParagraph, LevelResolver};
-use bidi_text::text::TextSource;
+use bidi_text::text::{TextSource, is_line};
 use smallvec::SmallVec;
 use std::alloc::{AllocError, Global};
 use std::mem;
@@ -239,6 +239,9 @@ impl Analyser {
         ensures emptied { OnErr result (found_paragraphs self.new ≡ []) }
         ensures no_flags { OnErr result (found_flags self.new ≡ []) }
     {
+        prove!(base.has_low_level());
+        prove!(classes.len() == text.len());
+        prove!(levels.len() == text.len());
         let memory = mem::replace(&mut self.found, FoundParagraphs::new(alloc));
         let fixed = base.fixed_level();
         let mut found = first_pass::walk(data_source, text, fixed, rule, classes, memory)?;
@@ -436,6 +439,7 @@ pub fn line_levels<T: TextSource>(
         (per_char 0 (T.text text) (stored_levels_of analysis.now)) (char_index (T.text text) line.start)
         (char_index (T.text text) line.end)) }
 {
+    prove!(is_line(text, &line));
     levels_with_line(
         alloc,
         level,

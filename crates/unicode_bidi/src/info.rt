@@ -12,19 +12,19 @@ ghost use Rattle.bidi_paragraphs.specs.ParagraphInfo.{level_of, range_of, ranges
 ghost use Rattle.bidi_lines.specs.LineOrder.{IsLineOrder};
 ghost use Rattle.unicode_bidi.specs.Analysis.{ObeysLaws};
 ghost use Rattle.unicode_bidi.specs.Base.{HasLowLevel, IsAnalysisWith};
-ghost use Rattle.unicode_bidi.specs.Content.{content_len};
+ghost use Rattle.unicode_bidi.specs.Content.{content_len as content_len_of};
 ghost use Rattle.unicode_bidi.specs.Engine.{with_analysis, paragraphs as paragraphs_of_analysis};
 ghost use Rattle.unicode_bidi.specs.Partition.{IsPartition-prop};
 ghost use Rattle.unicode_bidi.specs.VisualRun.{AreLineRuns, AreRunsWithLevels, AreRunTexts, AreLogicalRuns};
 
 use crate::base::Base;
 use crate::char_levels::levels_of_line_per_char;
+use crate::content::content_len;
 use crate::engine::{self, Analysis};
 use crate::logical_runs::logical_runs_of;
 pub use crate::paragraph_bidi_info::ParagraphBidiInfo;
 use crate::visual_run::{self, RunText, VisualRun};
 use bidi_base::char_data::BidiClass;
-use bidi_base::classes::is_paragraph_separator;
 use bidi_base::data_source::BidiDataSource;
 use bidi_base::level::Level;
 use bidi_base::split_rule::SplitRule;
@@ -32,7 +32,7 @@ use bidi_lines::analysed::Analysed;
 pub use bidi_lines::shown_line::ShownLine;
 use bidi_lines::visual_order;
 use bidi_paragraphs::paragraph_info::ParagraphInfo;
-use bidi_text::text::TextSource;
+use bidi_text::text::{TextSource, is_line};
 use smallvec::SmallVec;
 use std::alloc::{AllocError, Global};
 use std::fmt;
@@ -184,16 +184,13 @@ impl<T: TextSource> BidiInfo<T> {
         requires { IsLineOf (analysed_of self.now) (range_of para.now) }
         ensures start { result.start ≡ (range_of para.now).start }
         ensures end { let range = range_of para.now in
-            result.end ≡ range.start + content_len (slice_range (original_classes self.now) range.start range.end) }
+            result.end ≡ range.start + content_len_of (slice_range (original_classes self.now) range.start range.end) }
         ensures is_line { IsLineOf (analysed_of self.now) result }
     {
         let range = para.range();
-        let classes = self.original_classes();
-        let mut end = range.end;
-        while end > range.start && is_paragraph_separator(classes[end - 1]) {
-            end -= 1;
-        }
-        range.start..end
+        prove!(is_line(self.text_source(), &range));
+        let classes = &self.original_classes()[range.start..range.end];
+        range.start..range.start + content_len(classes)
     }
 
     /// Returns whether some level is odd, and so right-to-left. Takes time linear in the text.

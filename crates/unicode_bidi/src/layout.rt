@@ -1,4 +1,4 @@
-//! Lines of a given width over UTF-8, and the visual indexes of a line's characters (L1, L2) in any encoding.
+//! Lines of a given width, and the visual indexes of a line's characters (L1, L2), in any encoding.
 
 ghost use Rattle.std.specs.Prelude.{◌≡◌, ◌≢◌, ℕ, ◌<◌, true, false, map, length, slice_get, IfOk, IfSome, All, Some};
 ghost use Rattle.std.specs.List.{range_with_len};
@@ -21,7 +21,7 @@ use bidi_base::level::{Level, has_rtl};
 use bidi_lines::visual_order::{inverse, reorder_visual};
 use bidi_paragraphs::paragraph_info::ParagraphInfo;
 use bidi_rules::prepare::LevelRun;
-use bidi_text::text::{StrText, TextSource};
+use bidi_text::text::{StrText, TextSource, is_line};
 use std::alloc::{AllocError, Global};
 use std::ops::Range;
 
@@ -50,8 +50,11 @@ fn first_line_len<T: TextSource, W: CharWidth>(text: T, widths: &W, limit: usize
     text.len()
 }
 
-// Returns the lines of a range of a text.
-fn lines_of<T: TextSource, W: CharWidth>(
+/// Returns the lines of a range of a text in any encoding, as ranges of its code units.
+///
+/// Like [`lines`], for each `TextSource`: UTF-8, UTF-16, a list of characters or a text of your own. `range` must cut no
+/// character (see `is_line`). For a paragraph of an info, pass its `text_source` and the paragraph's `range`.
+pub fn lines_of_text<T: TextSource, W: CharWidth>(
     alloc: Global,
     text: T,
     range: Range<usize>,
@@ -61,9 +64,12 @@ fn lines_of<T: TextSource, W: CharWidth>(
     requires { IsLine (T.text text) range.start range.end }
     ensures lines { IfOk result (λ v. map run_of v.items
         ≡ line_ranges T.encoding.len_of (T.text text).chars (W.width_of widths.now) limit range.start range.end) }
+
+    // No line is empty, and together they take the range, in order.
     ensures partition { IfOk result (λ v. IsPartition range.start range.end (map run_of v.items)) }
     ensures are_lines { IfOk result (λ v. All (λ r. IsLine (T.text text) r.start r.end) v.items) }
 {
+    prove!(is_line(text, &range));
     let mut lines = Vec::new(alloc);
     let mut start = range.start;
     while start < range.end {
@@ -96,7 +102,7 @@ pub fn lines<W: CharWidth>(
     ensures partition { IfOk result (λ v. IsPartition (range_of para.now).start (range_of para.now).end (map run_of v.items)) }
     ensures are_lines { IfOk result (λ v. All (IsLineOf (analysed_of info.now)) v.items) }
 {
-    lines_of(
+    lines_of_text(
         alloc,
         StrText::new(info.text()),
         para.range(),

@@ -18,6 +18,7 @@
 mod base;
 mod base_direction;
 mod char_levels;
+pub mod content;
 pub mod deprecated;
 pub mod direction_search;
 pub mod engine;

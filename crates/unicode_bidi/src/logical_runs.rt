@@ -8,7 +8,7 @@ ghost use Rattle.unicode_bidi.specs.VisualRun.{AreLogicalRuns};
 
 use bidi_base::level::Level;
 use bidi_lines::analysed::Analysed;
-use bidi_text::text::TextSource;
+use bidi_text::text::{TextSource, is_line};
 use std::alloc::{AllocError, Global};
 use std::ops::Range;
 
@@ -44,6 +44,7 @@ pub(crate) fn logical_runs_of<T: TextSource>(
     requires { IsLineOf (analysed_of analysed.now) range }
     ensures { IfOk result (λ v. AreLogicalRuns (analysed_of analysed.now) range v.items) }
 {
+    prove!(is_line(analysed.text(), &range));
     let start = range.start;
     level_runs_of(alloc, &analysed.levels()[range], start)
 }

@@ -53,4 +53,4 @@ returns-clause-analysis g c =
     let cs : List ℕ = (g.T.TextSource.text c.args.text).chars in
     based-IsAnalysisWith source c.args.base c.args.rule c.fixed_level-fixed.result g.T.TextSource.encoding.len_of g.T.TextSource.encoding.positive cs c.walk.new.classes
     c.in_ok-found.found.paragraphs.items c.apply_base.new.found.paragraphs.items c.in_ok-found.ensures.paragraphs c.apply_base.ensures.ranges c.apply_base.ensures.levels
-    c.write_paragraphs.new.levels (rw c.as_slice.ensures at c.in_ok-write_paragraphs.ensures)
+    c.requires.low c.write_paragraphs.new.levels (rw c.as_slice.ensures at c.in_ok-write_paragraphs.ensures)

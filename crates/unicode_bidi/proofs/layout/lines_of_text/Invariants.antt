@@ -1,5 +1,5 @@
 use Rattle.bidi_base.proofs.Common.{◌≡◌, ◌-◌, ◌++◌, map, run_of, line_ranges, IsLine, All}
-use Rattle.unicode_bidi.proofs.layout.lines_of.Given as goal
+use Rattle.unicode_bidi.proofs.layout.lines_of_text.Given as goal
 
 -- the lines so far, with those of what is left, are those of the range
 abbrev pub invariant-loop-start : goal.invariant-loop-start

@@ -1,8 +1,8 @@
 use Rattle.bidi_base.proofs.Common.{◌≡◌, ◌+◌, ℕ, ap, List, arith, map-append, append_assoc, append-nil}
 use Rattle.bidi_laws.proofs.LayoutLemmas.{FirstLine, first_line, line_ranges-none, line_ranges-IsPartition}
-use Rattle.unicode_bidi.proofs.layout.lines_of.Goals as goal
-use Rattle.unicode_bidi.proofs.layout.lines_of.Goals.{After-first_line_len}
-use Rattle.unicode_bidi.proofs.layout.lines_of.Given.{Over}
+use Rattle.unicode_bidi.proofs.layout.lines_of_text.Goals as goal
+use Rattle.unicode_bidi.proofs.layout.lines_of_text.Goals.{After-first_line_len}
+use Rattle.unicode_bidi.proofs.layout.lines_of_text.Given.{Over}
 
 -- the line that comes
 line_here : (g : Over) (c : After-first_line_len g)
