@@ -9,7 +9,7 @@ use Rattle.bidi_display.proofs.ColumnLemmas.{count-before, no_cluster, starts-ri
 
 module _ (start end : ℕ) (clusters : List LineCluster) (whole : AreClustersFrom start end clusters) where
   -- each ends where the next one begins, so each ends after the ones before it
-  ends-rise : (i n j : ℕ) → i + n ≡ j → j < length clusters → get_or (ends clusters) i 0 ≤ get_or (ends clusters) j 0
+  pub ends-rise : (i n j : ℕ) → i + n ≡ j → j < length clusters → get_or (ends clusters) i 0 ≤ get_or (ends clusters) j 0
   ends-rise i zero j e fits = rw (← e, add-zero) (le_refl _)
   ends-rise i (suc n) j e fits =
       let before = ends-rise i n (i + n) refl (omega arith) in
@@ -37,10 +37,10 @@ module _ (clusters : List LineCluster) (unit n : ℕ) (point : IsPartitionPoint 
 
 module _ (line : LaidOutLine) (whole : AreClustersFrom line.start line.end line.clusters) where
   -- none begins before the line
-  start-within : (k : ℕ) → k < length line.clusters → line.start ≤ get_or (starts line.clusters) k 0
+  pub start-within : (k : ℕ) → k < length line.clusters → line.start ≤ get_or (starts line.clusters) k 0
   start-within k fits = omega (arith, whole.first (omega arith), starts-rise line.start line.end line.clusters whole 0 k k (omega arith) fits)
 
-  index-at : (k : ℕ) → k < length line.clusters → get_or (indexes line.clusters) k 0 ≡ k
+  pub index-at : (k : ℕ) → k < length line.clusters → get_or (indexes line.clusters) k 0 ≡ k
   index-at k fits = get_or-range_with_len 0 (length line.clusters) k 0 fits ∙ omega arith
 
   -- ---- the cluster that has a code unit

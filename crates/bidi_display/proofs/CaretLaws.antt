@@ -1,11 +1,9 @@
 -- Laws of displayed lines: a click at the column of a caret, selections that add up, and lines whose levels are all even.
-use Rattle.bidi_base.proofs.Common.{◌≡◌, ℕ, zero, suc, ◌+◌, ◌*◌, ◌-◌, ◌<◌, ◌≤◌, Bool, true, false, eqb, nat_lt, lt-ltb, eq-eqb, ne_eqb, if◌then◌else◌, List, [], ◌∷◌, Some, None, length, get_or, get_or_past, last_or, is_odd, refl, inl, inr, cases_Bool, cases_lt, sym, ap, subst, ◌∙◌, le_refl, add-one, arith, AnalysedText, Range, at_indexes, flat_map, has_rtl, indexes, length-map, list_any, map, range_with_len, subrange, ◌↔◌, ◌⊎◌, ◌&&◌, eqb-true, Contains, Contains-permutation, Run, and_from, and_parts, get_or_default, le-leb, leb-true, ltb-true, or_cases, or_left, or_right, prefix_len-le-length, slice_index}
+use Rattle.bidi_base.proofs.Common.{◌≡◌, ℕ, zero, suc, ◌+◌, ◌*◌, ◌-◌, ◌<◌, ◌≤◌, Bool, true, false, eqb, nat_lt, lt-ltb, eq-eqb, ne_eqb, if◌then◌else◌, List, [], ◌∷◌, Some, None, length, get_or, get_or_past, last_or, is_odd, refl, inl, inr, cases_Bool, cases_lt, sym, ap, subst, ◌∙◌, le_refl, add-one, arith, AnalysedText, Range, at_indexes, flat_map, has_rtl, indexes, length-map, list_any, map, range_with_len, subrange, ◌↔◌, ◌⊎◌, ◌&&◌, eqb-true, Run, and_from, and_parts, get_or_default, le-leb, leb-true, ltb-true, or_cases, or_left, or_right, prefix_len-le-length, slice_index}
 use Rattle.std.proofs.lemmas.List.Folds.{Any-from_list_any, length-prefix_len, list_any-from_Any}
 use Rattle.std.proofs.lemmas.Option.{same_Some}
 use Rattle.std.specs.List.{Any}
 use Rattle.bidi_base.specs.Order.{visual_index}
-use Rattle.bidi_laws.proofs.VisualOrderLemmas.{contains_index}
-use Rattle.bidi_lines.proofs.Ordered.{visual_order-is}
 use Rattle.bidi_display.specs.Carets.{LaidOutLine, after_boundary, before_boundary, boundary_unit, caret, caret_at, clusters_before, column_of, covers, level_at, position_at, position_at_edge, position_at_end, position_by, selected_at, selected_columns}
 use Rattle.bidi_display.specs.DisplayedLine.{AreClustersFrom, cluster_order, clusters_of, edges, ends, left_edge, levels_of, line_width, right_edge, starts}
 use Rattle.bidi_display.specs.LineChars.{line_chars}
@@ -14,14 +12,14 @@ use Rattle.bidi_display.specs.Shown.{Displays, chars, cluster_text, clusters, di
 use Rattle.bidi_display.specs.declared.carets.Affinity.{Affinity}
 use Rattle.bidi_display.specs.declared.carets.Affinity.TheVariants.{Before, After}
 use Rattle.bidi_display.specs.declared.carets.Caret.{Caret}
-use Rattle.bidi_display.specs.declared.carets.Half.{Half}
-use Rattle.bidi_display.specs.declared.carets.Half.TheVariants.{Left, Right}
+use Rattle.bidi_display.specs.declared.carets.Side.{Side}
+use Rattle.bidi_display.specs.declared.carets.Side.TheVariants.{Left, Right}
 use Rattle.bidi_display.specs.declared.carets.Position.{Position}
 use Rattle.bidi_display.specs.declared.displayed_line.DisplayedLine.{DisplayedLine}
 use Rattle.bidi_display.specs.declared.line_char.LineChar.{LineChar}
 use Rattle.bidi_display.specs.declared.line_cluster.LineCluster.{LineCluster}
 use Rattle.bidi_display.proofs.BoundaryLemmas.{boundary-cuts_none, boundary-first, boundary-last, caret-boundary}
-use Rattle.bidi_display.proofs.ColumnLemmas.{cluster_at_column-is, cluster_at_column-none, cluster_order-below, edges-ascend, edges-first, left_edge-at, left_of_column, length-cluster_order, length-edges, position_at-is}
+use Rattle.bidi_display.proofs.ColumnLemmas.{cluster_at_column-is, cluster_at_column-none, cluster_order-below, edges-ascend, edges-first, left_edge-at, left_of_column, length-cluster_order, length-edges, order-contains, position_at-is}
 use Rattle.bidi_display.proofs.CoverLemmas.{has_column, have_column, selected-have_column, selected-parts}
 use Rattle.bidi_display.proofs.EvenLineLemmas.{at_indexes-all, cluster_order-still, clusters-even, displayed_part-plain, line_chars-chars, texts-joined}
 
@@ -112,7 +110,7 @@ module _ (line : LaidOutLine) where
   place column = place-from column (length line.clusters) 0 (omega arith) (λ k below. absurd (omega arith))
 
   module _ (whole : AreClustersFrom line.start line.end line.clusters) where
-    HasCaret-edge : (k : ℕ) (edge : Half) → k < length line.clusters → HasCaret line (position_at_edge line k edge)
+    HasCaret-edge : (k : ℕ) (edge : Side) → k < length line.clusters → HasCaret line (position_at_edge line k edge)
     HasCaret-edge k Left fits = elim (cases_Bool (is_odd (level_at line k))) [
       | inl odd ↦ rw odd (caret_at line (k + 1), caret-boundary line whole (k + 1) (omega arith))
       | inr even ↦ rw even (caret_at line k, caret-boundary line whole k (omega arith))
@@ -128,7 +126,7 @@ module _ (line : LaidOutLine) where
     caret-end : caret line line.end ≡ Some (caret_at line (length line.clusters))
     caret-end = rw (boundary-last line whole) at (caret-boundary line whole (length line.clusters) (le_refl _))
 
-    HasCaret-end : (end : Half) → HasCaret line (position_at_end line end)
+    HasCaret-end : (end : Side) → HasCaret line (position_at_end line end)
     HasCaret-end Left = elim (cases_Bool (is_odd line.para_level)) [
       | inl odd ↦ rw odd (_, caret-end)
       | inr even ↦ rw even (_, caret-start)
@@ -143,7 +141,7 @@ module _ (line : LaidOutLine) where
     HasCaret-if false p q h k = k
 
     -- wherever a click is, there is a caret
-    pub caret-at_click : (column : ℕ) (half : Half) → HasCaret line (position_at line column half)
+    pub caret-at_click : (column : ℕ) (half : Side) → HasCaret line (position_at line column half)
     unfolding position_at
     caret-at_click column half =
         let n = (place column).0 in
@@ -243,12 +241,6 @@ passed-if true x c e = refl
 passed-if false x c e = absurd (cc e)
 
 module _ (line : LaidOutLine) where
-  order-contains : (k : ℕ) → k < length line.clusters → Contains (cluster_order line.clusters) k
-  order-contains k fits =
-      let long : length (levels_of line.clusters) ≡ length line.clusters = length-map line.clusters (λ (c : LineCluster). c.level) in
-      Contains-permutation (indexes (levels_of line.clusters)) (cluster_order line.clusters) k (visual_order-is (levels_of line.clusters)).all_indexes
-      (contains_index (length (levels_of line.clusters)) k (omega (arith, long)))
-
   SelectedCovers-from_test : (start end column : ℕ) → list_any (λ k. selected_at line start end k && covers line column k) (cluster_order line.clusters) ≡ true → SelectedCovers line start end column
   SelectedCovers-from_test start end column e =
       let h = Any-from_list_any (λ k. selected_at line start end k && covers line column k) (cluster_order line.clusters) e in
@@ -260,7 +252,7 @@ module _ (line : LaidOutLine) where
 
   test-from_SelectedCovers : (start end column : ℕ) → SelectedCovers line start end column → list_any (λ k. selected_at line start end k && covers line column k) (cluster_order line.clusters) ≡ true
   test-from_SelectedCovers start end column h =
-      let at = order-contains h.0 h.1 in
+      let at = order-contains line.clusters h.0 h.1 in
       list_any-from_Any (λ k. selected_at line start end k && covers line column k) (cluster_order line.clusters)
       (at.0, h.0, at.1, at.2, and_from _ _ h.2 (and_from _ _ (le-leb _ _ h.3) (lt-ltb _ _ h.4)))
 

@@ -1,5 +1,5 @@
 -- A pass over a text that finds its clusters: what one more character does.
-use Rattle.bidi_base.proofs.Common.{◌≡◌, ℕ, ◌+◌, ◌-◌, ◌<◌, ◌≤◌, Bool, true, false, cond, List, [], ◌∷◌, ◌++◌, length, take, drop, get_or, reverse, slice_range, Option, Some, None, unwrap_or, inl, inr, refl, sym, ap, ◌∙◌, subst}
+use Rattle.bidi_base.proofs.Common.{◌≡◌, ℕ, ◌+◌, ◌-◌, ◌<◌, ◌≤◌, Bool, true, false, List, [], ◌∷◌, ◌++◌, length, take, drop, get_or, reverse, slice_range, Option, Some, None, unwrap_or, inl, inr, refl, sym, ap, ◌∙◌, subst}
 use Rattle.bidi_base.proofs.Common.{arith, cases_lt, append-nil, append_assoc, drop-cons, drop-drop, reverse-append, drop_all, take-add}
 use Rattle.bidi_base.proofs.TextLemmas.{char_at-end}
 use Rattle.bidi_base.proofs.TextUnitIndexes.{unit_index-zero, unit_index-more, unit_index-more-le, unit_index-end, is_boundary-unit_index, char_index-unit_index, unit_index-char_index, char_at-unit_index}
@@ -13,11 +13,8 @@ use Rattle.bidi_display.specs.ClusterState.{state_after}
 use Rattle.bidi_display.specs.Clusters.{clusters, clusters_from, cluster_ranges, cluster_ranges_from, is_cluster_boundary}
 use Rattle.bidi_display.specs.ClusterWalk.{IsBegun, IsReadTo}
 use Rattle.bidi_display.specs.declared.cluster_state.ClusterState.{ClusterState}
+use Rattle.bidi_display.proofs.ClusterCuts.{attach, cut-next}
 use Rattle.bidi_display.proofs.StateLemmas.{is_grapheme_break-end}
-
--- a part before the pieces, as a piece of its own or as the front of the first
-abbrev attach : Bool → List ℕ → List (List ℕ) → List (List ℕ)
-attach is_break part pieces = cond is_break (part ∷ pieces) (prepend part pieces)
 
 prepend-attach : (x y : List ℕ) (b : Bool) (ps : List (List ℕ)) → prepend x (attach b y ps) ≡ attach b (x ++ y) ps
 prepend-attach x y true ps = refl
@@ -25,8 +22,7 @@ prepend-attach x y false [] = refl
 prepend-attach x y false (p ∷ ps) = ap (λ t. t ∷ ps) (sym (append_assoc x y p))
 
 cut-cons : (rule : Rule) (before : List ℕ) (c : ℕ) (cs : List ℕ) → cut rule before (c ∷ cs) [] ≡ attach (rule (c ∷ before) cs) (c ∷ []) (cut rule (c ∷ before) cs [])
-unfolding cut
-cut-cons rule before c cs = ap (λ ds. attach (rule (c ∷ before) ds) (c ∷ []) (cut rule (c ∷ before) cs [])) (append-nil cs)
+cut-cons rule before c cs = cut-next rule before c cs [] ∙ ap (λ ds. attach (rule (c ∷ before) ds) (c ∷ []) (cut rule (c ∷ before) cs [])) (append-nil cs)
 
 -- ---- characters
 

@@ -1,18 +1,18 @@
 -- The clusters of a line in the order of the text, and the columns at their edges from left to right.
-use Rattle.bidi_base.proofs.Common.{◌≡◌, ℕ, zero, suc, Bool, if◌then◌else◌, cases_Bool, ◌*◌, lt-ltb, le-ltb, ◌+◌, ◌-◌, ◌<◌, ◌≤◌, true, false, ltb, nat_lt, leb, leb-true, List, [], ◌∷◌, Some, None, length, map, get_or, drop, refl, inl, inr, cases_lt, sym, ap, ◌∙◌, add-zero, le_refl, arith, length-map, get_or-map, get_or-drop, get_or_default, length-drop, nat_tests, All-permutation, at_indexes, indexes}
+use Rattle.bidi_base.proofs.Common.{◌≡◌, ℕ, zero, suc, Bool, if◌then◌else◌, cases_Bool, ◌*◌, lt-ltb, le-ltb, ◌+◌, ◌-◌, ◌<◌, ◌≤◌, true, false, ltb, nat_lt, leb, leb-true, List, [], ◌∷◌, Some, None, length, map, get_or, drop, refl, inl, inr, cases_lt, sym, ap, ◌∙◌, add-zero, le_refl, arith, length-map, get_or-map, get_or-drop, get_or_default, length-drop, nat_tests, All-permutation, Contains, Contains-permutation, at_indexes, indexes}
 use Rattle.std.specs.List.{take_while}
 use Rattle.std.specs.List.Sorted.{IsNonDecreasingBy, IsPartitionPoint}
 use Rattle.std.proofs.lemmas.List.Sums.{prefix_len_is}
 use Rattle.std.proofs.lemmas.List.Folds.{length-prefix_len}
 use Rattle.bidi_base.specs.Order.{visual_index}
 use Rattle.bidi_base.proofs.Lists.{find-first, find-none}
-use Rattle.bidi_laws.proofs.VisualOrderLemmas.{all_below, visual_index-order}
+use Rattle.bidi_laws.proofs.VisualOrderLemmas.{all_below, contains_index, visual_index-order}
 use Rattle.bidi_lines.proofs.Ordered.{visual_order-is}
 use Rattle.bidi_lines.proofs.Pieces.{at_indexes-map}
 use Rattle.bidi_lines.proofs.RunLengths.{length-visual_order}
 use Rattle.bidi_display.specs.Carets.{LaidOutLine, cluster_at_column, covers, halves_before, position_at, position_at_edge, position_by, position_in}
-use Rattle.bidi_display.specs.declared.carets.Half.{Half}
-use Rattle.bidi_display.specs.declared.carets.Half.TheVariants.{Left, Right}
+use Rattle.bidi_display.specs.declared.carets.Side.{Side}
+use Rattle.bidi_display.specs.declared.carets.Side.TheVariants.{Left, Right}
 use Rattle.bidi_display.specs.DisplayedLine.{AreClustersFrom, add_columns, cluster_order, edges, edges_from, left_edge, levels_of, max_columns, right_edge, starts}
 use Rattle.bidi_display.specs.declared.line_cluster.LineCluster.{LineCluster}
 
@@ -81,6 +81,13 @@ module _ (clusters : List LineCluster) where
       let below = All-permutation (λ i. i < length (levels_of clusters)) (indexes (levels_of clusters)) (cluster_order clusters)
       (visual_order-is (levels_of clusters)).all_indexes (all_below (levels_of clusters)) v 0 (omega (arith, length-cluster_order)) in
       omega (arith, below, long)
+
+  -- each cluster is in the order
+  pub order-contains : (k : ℕ) → k < length clusters → Contains (cluster_order clusters) k
+  order-contains k fits =
+      let long : length (levels_of clusters) ≡ length clusters = length-map clusters (λ (c : LineCluster). c.level) in
+      Contains-permutation (indexes (levels_of clusters)) (cluster_order clusters) k (visual_order-is (levels_of clusters)).all_indexes
+      (contains_index (length (levels_of clusters)) k (omega (arith, long)))
 
   widths-long : length (at_indexes 0 (map (λ (k : LineCluster). k.width) clusters) (cluster_order clusters)) ≡ length clusters
   widths-long = grind (arith, at_indexes-map, length-map, length-cluster_order)
@@ -172,7 +179,7 @@ nearer-right_half column left right from below = elim (cases_lt (2 * column + 1)
 ]
 
 -- a click on a half of a column, by the edges of the cluster that covers it
-pub position_at-is : (line : LaidOutLine) (column n : ℕ) (half edge : Half) (is_left : Bool) → n < length line.clusters
+pub position_at-is : (line : LaidOutLine) (column n : ℕ) (half edge : Side) (is_left : Bool) → n < length line.clusters
     → Some (get_or (cluster_order line.clusters) n 0) ≡ cluster_at_column line column
     → nat_lt (halves_before column half) (get_or (edges line.clusters) n 0 + get_or (edges line.clusters) (n + 1) 0) ≡ is_left
     → edge ≡ (if is_left then Left else Right)

@@ -56,7 +56,7 @@ filter-even test (c ∷ cs) even =
     ]
 
 -- the characters of a cluster begin where those before it end
-slice-middle : (done piece rest : List LineChar) → slice_range (done ++ (piece ++ rest)) (length done) (length done + length piece) ≡ piece
+pub slice-middle : (done piece rest : List LineChar) → slice_range (done ++ (piece ++ rest)) (length done) (length done + length piece) ≡ piece
 slice-middle done piece rest =
     let long : length done + length piece - length done ≡ length piece = omega arith in
     ap (λ n. take n (drop (length done) (done ++ (piece ++ rest)))) long ∙ ap (take (length piece)) (drop-append_seam done (piece ++ rest)) ∙ take-append_seam piece rest

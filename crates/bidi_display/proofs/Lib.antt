@@ -1,25 +1,30 @@
 mod BoundaryLemmas
 mod BreakLemmas
 mod CaretLaws
+mod ClusterCuts
 mod ClusterLaws
 mod ClusterPass
 mod ClusterRanges
 mod ClusterWalk
 mod ClustersLemmas
-mod ColumnLemmas
-mod ContentLemmas
+pub mod ColumnLemmas
 mod CoverLemmas
 mod EdgesLemmas
-mod EvenLineLemmas
+pub mod EvenLineLemmas
+mod Extending
 mod GroupingLemmas
 mod LineCharsLemmas
+mod LineClusterLaws
 mod LineCuts
+mod LineLaws
 mod LineLengths
 mod LineRuns
+mod MapLaws
+mod MirrorLemmas
 mod SelectionLemmas
 mod ShownPart
 mod StateLemmas
 mod TableFacts
 mod TextDisplayLemmas
-mod TextLemmas
+pub mod TextLemmas
 mod WholeLine

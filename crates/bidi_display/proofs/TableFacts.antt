@@ -6,6 +6,7 @@ use Rattle.ucd_table.proofs.Facts.{Stepped-everywhere}
 use Rattle.ucd_table.proofs.Stepped.{Stepped, of_ranges, zip_stepped}
 use Rattle.ucd_breaks.specs.GraphemeClusterBreak.{grapheme_cluster_break}
 use Rattle.ucd_breaks.specs.declared.GraphemeClusterBreak.{GraphemeClusterBreak}
+use Rattle.ucd_breaks.specs.declared.GraphemeClusterBreak.TheVariants.{Control, Cr, Lf}
 use Rattle.ucd_breaks.proofs.GraphemeClusterBreakLemmas.{grapheme_cluster_break_stepped}
 use Rattle.ucd_derived.specs.IndicConjunctBreak.{indic_conjunct_break}
 use Rattle.ucd_derived.specs.declared.IndicConjunctBreak.{IndicConjunctBreak}
@@ -60,3 +61,40 @@ outside_conjunct c h e z = grind (arith, late_or_spared c, not_late c h, e, z)
 pub zero_is_no_pictograph : is_extended_pictographic 0 ≡ false
 unfolding tables is_extended_pictographic_stepped is_extended_pictographic
 zero_is_no_pictograph = refl
+
+-- a character after which a cluster always begins
+abbrev pub is_control : GraphemeClusterBreak → Bool
+is_control Control = true
+is_control Cr = true
+is_control Lf = true
+is_control _ = false
+
+-- it is no pictograph, and no part of a conjunct
+abbrev is_apart : Bool → IndicConjunctBreak → GraphemeClusterBreak → Bool
+is_apart pictograph v value = not (is_control value) || (not pictograph && not (is_in_conjunct v))
+
+control_or_apart : (c : ℕ) → is_apart (is_extended_pictographic c) (indic_conjunct_break c) (grapheme_cluster_break c) ≡ true
+unfolding tables grapheme_cluster_break_stepped indic_conjunct_break_stepped is_extended_pictographic_stepped
+control_or_apart =
+    Stepped-everywhere _ (zip_stepped (λ (p : Bool) (k : IndicConjunctBreak × GraphemeClusterBreak). is_apart p k.0 k.1) is_extended_pictographic (λ c. (indic_conjunct_break c, grapheme_cluster_break c)) is_extended_pictographic_stepped
+    (zip_stepped (λ (v : IndicConjunctBreak) (value : GraphemeClusterBreak). (v, value)) indic_conjunct_break grapheme_cluster_break indic_conjunct_break_stepped grapheme_cluster_break_stepped)) refl
+
+pub control-no_pictograph : (c : ℕ) → is_control (grapheme_cluster_break c) ≡ true → is_extended_pictographic c ≡ false
+control-no_pictograph c e = grind (arith, control_or_apart c, e)
+
+pub control-outside_conjunct : (c : ℕ) → is_control (grapheme_cluster_break c) ≡ true → is_in_conjunct (indic_conjunct_break c) ≡ false
+control-outside_conjunct c e = grind (arith, control_or_apart c, e)
+
+-- a character that extends a linker
+abbrev pub extends_linker : IndicConjunctBreak → Bool
+extends_linker Extend = true
+extends_linker _ = false
+
+extends_or_joins : (c : ℕ) → (not (extends_linker (indic_conjunct_break c)) || (is_extend (grapheme_cluster_break c) || is_zwj (grapheme_cluster_break c))) ≡ true
+unfolding tables grapheme_cluster_break_stepped indic_conjunct_break_stepped
+extends_or_joins =
+    Stepped-everywhere _ (zip_stepped (λ (v : IndicConjunctBreak) (value : GraphemeClusterBreak). not (extends_linker v) || (is_extend value || is_zwj value)) indic_conjunct_break grapheme_cluster_break indic_conjunct_break_stepped grapheme_cluster_break_stepped) refl
+
+-- it has the value Extend or ZWJ
+pub extends_linker-joins : (c : ℕ) → extends_linker (indic_conjunct_break c) ≡ true → (is_extend (grapheme_cluster_break c) || is_zwj (grapheme_cluster_break c)) ≡ true
+extends_linker-joins c e = grind (arith, extends_or_joins c, e)

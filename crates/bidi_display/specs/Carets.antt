@@ -1,13 +1,13 @@
 -- Carets, clicks and selections in a displayed line.
-use Rattle.std.specs.Prelude.{ℕ, ◌+◌, ◌*◌, nat_le, nat_lt, zero, suc, Bool, false, ◌==◌, ◌&&◌, if◌then◌else◌, List, [], ◌∷◌, length, filter, find, map, Option, Some, None, get_or, slice_index, take_while, max, min}
+use Rattle.std.specs.Prelude.{ℕ, ◌+◌, ◌*◌, nat_le, nat_lt, zero, suc, Bool, false, ◌==◌, ◌&&◌, if◌then◌else◌, List, [], ◌∷◌, length, filter, find, map, Option, Some, None, get_or, slice_index, take_while, max, min, ◌<◌, IfSome}
 use Rattle.bidi_base.specs.Display.{Run}
 use Rattle.bidi_base.specs.Indexes.{indexes}
 use Rattle.bidi_base.specs.Levels.{is_odd}
 use Rattle.bidi_display.specs.declared.carets.Affinity.{Affinity}
 use Rattle.bidi_display.specs.declared.carets.Affinity.TheVariants.{Before, After}
 use Rattle.bidi_display.specs.declared.carets.Caret.{Caret}
-use Rattle.bidi_display.specs.declared.carets.Half.{Half}
-use Rattle.bidi_display.specs.declared.carets.Half.TheVariants.{Left, Right}
+use Rattle.bidi_display.specs.declared.carets.Side.{Side}
+use Rattle.bidi_display.specs.declared.carets.Side.TheVariants.{Left, Right}
 use Rattle.bidi_display.specs.declared.carets.Position.{Position}
 use Rattle.bidi_display.specs.declared.line_cluster.LineCluster.{LineCluster}
 use Rattle.bidi_display.specs.DisplayedLine.{cluster_order, left_edge, right_edge, line_width, starts, ends}
@@ -18,7 +18,7 @@ column_of Before caret = caret.before
 column_of After caret = caret.after
 
 -- how many half columns are to the left of a half of a column
-abbrev pub halves_before : ℕ → Half → ℕ
+abbrev pub halves_before : ℕ → Side → ℕ
 halves_before column Left = 2 * column
 halves_before column Right = 2 * column + 1
 
@@ -96,6 +96,10 @@ module _ (line : LaidOutLine) where
   abbrev pub has_unit : ℕ → ℕ → Bool
   has_unit unit k = nat_le (slice_index (starts line.clusters) k) unit && nat_lt unit (slice_index (ends line.clusters) k)
 
+  -- the index of a cluster, if there is one
+  abbrev pub IsClusterOf : Option ℕ → Type 0
+  IsClusterOf cluster = IfSome cluster (λ k. k < length line.clusters)
+
   -- the cluster that has a code unit
   unfoldable pub cluster_at : ℕ → Option ℕ
   cluster_at unit = find (has_unit unit) (indexes line.clusters)
@@ -108,7 +112,7 @@ module _ (line : LaidOutLine) where
   end_of_cluster k = record { unit = boundary_unit (k + 1); affinity = Before }
 
   -- the positions at its left and at its right edge
-  abbrev pub position_at_edge : ℕ → Half → Position
+  abbrev pub position_at_edge : ℕ → Side → Position
   position_at_edge k Left = if is_odd (level_at k) then end_of_cluster k else start_of_cluster k
   position_at_edge k Right = if is_odd (level_at k) then start_of_cluster k else end_of_cluster k
 
@@ -120,7 +124,7 @@ module _ (line : LaidOutLine) where
   line_end = record { unit = line.end; affinity = After }
 
   -- the positions at its left and at its right end
-  abbrev pub position_at_end : Half → Position
+  abbrev pub position_at_end : Side → Position
   position_at_end Left = if is_odd line.para_level then line_end else line_start
   position_at_end Right = if is_odd line.para_level then line_start else line_end
 
@@ -132,16 +136,16 @@ module _ (line : LaidOutLine) where
   cluster_at_column column = find (covers column) (cluster_order line.clusters)
 
   -- a click on a half of a column: left of the middle of its cluster, the left edge
-  abbrev pub position_in : ℕ → Half → ℕ → Position
+  abbrev pub position_in : ℕ → Side → ℕ → Position
   position_in column half k =
       if nat_lt (halves_before column half) (left_edge line.clusters k + right_edge line.clusters k)
       then position_at_edge k Left else position_at_edge k Right
 
-  abbrev pub position_by : ℕ → Half → Option ℕ → Position
+  abbrev pub position_by : ℕ → Side → Option ℕ → Position
   position_by column half (Some k) = position_in column half k
   position_by column half None = position_at_end Right
 
-  unfoldable pub position_at : ℕ → Half → Position
+  unfoldable pub position_at : ℕ → Side → Position
   position_at column half = position_by column half (cluster_at_column column)
 
   -- some code unit of the k-th cluster is in a range

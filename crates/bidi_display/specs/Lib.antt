@@ -4,6 +4,7 @@ pub mod ClusterWalk
 pub mod Clusters
 pub mod ClustersLeft
 pub mod DisplayedLine
+pub mod Extends
 pub mod Grouping
 pub mod Joining
 pub mod LineBreaks

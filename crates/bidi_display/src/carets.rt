@@ -1,10 +1,11 @@
 //! Carets, clicks and selections in a displayed line.
 
-ghost use Rattle.std.specs.Prelude.{◌≡◌, ℕ, ◌+◌, ◌<◌, ◌≤◌, ◌++◌, length, map, slice_index, option_map, OnOk, IfSome};
+ghost use Rattle.std.specs.Prelude.{◌≡◌, ℕ, ◌+◌, ◌<◌, ◌≤◌, ◌++◌, length, map, slice_index, option_map, OnOk, OnErr, IfSome};
 ghost use Rattle.bidi_base.specs.Levels.{is_odd};
 ghost use Rattle.bidi_base.specs.Display.{run_of};
-ghost use Rattle.bidi_display.specs.Carets.{after_boundary as after_boundary_in, before_boundary as before_boundary_in, boundary_unit as boundary_unit_in, caret as caret_in, cluster_at as cluster_at_in, cluster_at_column as cluster_at_column_in, clusters_before as clusters_before_in, column_after as column_after_in, column_before as column_before_in, column_of as column_by, position_at as position_in_line, position_at_edge as position_at_edge_in, position_at_end as position_at_end_in, is_selected as is_selected_in, selected_columns, some_columns};
+ghost use Rattle.bidi_display.specs.Carets.{IsClusterOf, after_boundary as after_boundary_in, before_boundary as before_boundary_in, boundary_unit as boundary_unit_in, caret as caret_in, cluster_at as cluster_at_in, cluster_at_column as cluster_at_column_in, clusters_before as clusters_before_in, column_after as column_after_in, column_before as column_before_in, column_of as column_by, position_at as position_in_line, position_at_edge as position_at_edge_in, position_at_end as position_at_end_in, is_selected as is_selected_in, selected_columns, some_columns};
 ghost use Rattle.bidi_display.specs.DisplayedLine.{cluster_order, edges as edges_of, ends as ends_of};
+ghost use Rattle.bidi_display.specs.Extends.{Extends};
 
 use crate::displayed_line::DisplayedLine;
 use crate::line_cluster::LineCluster;
@@ -42,9 +43,9 @@ pub struct Position {
     pub affinity: Affinity,
 }
 
-/// A half of a column, or an end of a line.
+/// The left or the right side: of the middle of a column, or of a line.
 #[derive(Clone, Copy, Debug, PartialEq)]
-pub enum Half {
+pub enum Side {
     /// The left one.
     Left,
     /// The right one.
@@ -174,7 +175,7 @@ impl DisplayedLine {
     /// the line. Takes time logarithmic in the number of clusters.
     pub fn cluster_at(&self, unit: usize) -> Option<usize>
         ensures cluster { result ≡ cluster_at_in (laid_out self.now) unit }
-        ensures within { IfSome result (λ cluster. cluster < length (clusters_in self.now)) }
+        ensures within { IsClusterOf (laid_out self.now) result }
     {
         let cluster = self.clusters_ended(unit);
         if unit < self.range().start || cluster == self.clusters().len() {
@@ -213,18 +214,18 @@ impl DisplayedLine {
     /// Takes time logarithmic in the number of clusters.
     pub fn cluster_at_column(&self, column: usize) -> Option<usize>
         ensures cluster { result ≡ cluster_at_column_in (laid_out self.now) column }
-        ensures within { IfSome result (λ cluster. cluster < length (clusters_in self.now)) }
+        ensures within { IsClusterOf (laid_out self.now) result }
     {
         Some(self.order()[self.visual_at_column(column)?])
     }
 
     // Returns the position at the left or the right edge of a cluster.
-    fn position_at_edge(&self, cluster: usize, edge: Half) -> Position
+    fn position_at_edge(&self, cluster: usize, edge: Side) -> Position
         requires { cluster < length (clusters_in self.now) }
         ensures { result ≡ position_at_edge_in (laid_out self.now) cluster edge }
     {
         let starts_right = self.clusters()[cluster].level.is_rtl();
-        if starts_right == (edge == Half::Right) {
+        if starts_right == (edge == Side::Right) {
             Position {
                 unit: self.boundary_unit(cluster),
                 affinity: Affinity::After,
@@ -240,10 +241,10 @@ impl DisplayedLine {
     /// Returns the position at the left or the right end of the line.
     ///
     /// If the level of the paragraph is even, the left end is the start of the line. If it is odd, the right end is.
-    pub fn position_at_end(&self, end: Half) -> Position
+    pub fn position_at_end(&self, end: Side) -> Position
         ensures { result ≡ position_at_end_in (laid_out self.now) end }
     {
-        if self.starts_right() == (end == Half::Right) {
+        if self.starts_right() == (end == Side::Right) {
             Position {
                 unit: self.range().start,
                 affinity: Affinity::Before,
@@ -262,11 +263,11 @@ impl DisplayedLine {
     /// level the left edge is the boundary before the cluster, and at an odd level the boundary after it. Right of the
     /// line it is the right end of the line. Left of the line, use `position_at_end`. Takes time logarithmic in the
     /// number of clusters.
-    pub fn position_at(&self, column: usize, half: Half) -> Position
+    pub fn position_at(&self, column: usize, half: Side) -> Position
         ensures { result ≡ position_in_line (laid_out self.now) column half }
     {
         let Some(visual) = self.visual_at_column(column) else {
-            return self.position_at_end(Half::Right);
+            return self.position_at_end(Side::Right);
         };
         let cluster = self.order()[visual];
         let from_left = column - self.left_edge_at(visual);
@@ -274,24 +275,22 @@ impl DisplayedLine {
         // The left half of a column is left of the middle of its cluster if the cluster has at least as many columns
         // right of this column as left of it. The right half is if it has more.
         let is_left = match half {
-            Half::Left => from_left < to_right,
-            Half::Right => from_left + 1 < to_right,
+            Side::Left => from_left < to_right,
+            Side::Right => from_left + 1 < to_right,
         };
-        self.position_at_edge(cluster, if is_left { Half::Left } else { Half::Right })
+        self.position_at_edge(cluster, if is_left { Side::Left } else { Side::Right })
     }
 
-    /// Appends the columns of the clusters that a range of code units selects, as ranges from left to right.
-    ///
-    /// A cluster is selected if any of its code units is in the range. The range may be empty, and may go beyond the
-    /// line. Appended ranges that touch are joined, and none is empty. Takes time linear in the line. If an allocation
-    /// fails, `out` may have some of the ranges.
-    pub fn push_selection(
+    // Appends the columns of the clusters that a range of code units selects, as ranges from left to right. If an
+    // allocation fails, `out` may have some of them.
+    fn append_selection(
         &self,
         range: Range<usize>,
         out: &mut Vec<Range<usize>>,
     ) -> Result<(), AllocError>
-        ensures { OnOk result (map run_of out.new.items ≡ map run_of out.old.items
+        ensures columns { OnOk result (map run_of out.new.items ≡ map run_of out.old.items
             ++ selected_columns (laid_out self.now) range.start range.end) }
+        ensures extends { Extends out.old.items out.new.items }
     {
         let mut open = 0..0;
         for (visual, cluster) in self.order().iter().enumerate() {
@@ -306,6 +305,28 @@ impl DisplayedLine {
         }
         push_columns(open, out)
     }
+
+    /// Appends the columns of the clusters that a range of code units selects, as ranges from left to right.
+    ///
+    /// A cluster is selected if any of its code units is in the range. The range may be empty, and may go beyond the
+    /// line. Appended ranges that touch are joined, and none is empty. Takes time linear in the line. If an allocation
+    /// fails, `out` has the ranges that it had before.
+    pub fn push_selection(
+        &self,
+        range: Range<usize>,
+        out: &mut Vec<Range<usize>>,
+    ) -> Result<(), AllocError>
+        ensures columns { OnOk result (map run_of out.new.items ≡ map run_of out.old.items
+            ++ selected_columns (laid_out self.now) range.start range.end) }
+        ensures unchanged { OnErr result (out.new.items ≡ out.old.items) }
+    {
+        let len = out.len();
+        if self.append_selection(range, out).is_err() {
+            out.truncate(len);
+            return Err(AllocError);
+        }
+        Ok(())
+    }
 }
 
 // Returns whether some code unit of a cluster is in a range.
@@ -317,7 +338,8 @@ fn is_selected(cluster: &LineCluster, range: &Range<usize>) -> bool
 
 // Appends a range of columns if it is not empty.
 fn push_columns(columns: Range<usize>, out: &mut Vec<Range<usize>>) -> Result<(), AllocError>
-    ensures { OnOk result (map run_of out.new.items ≡ map run_of out.old.items ++ some_columns (run_of columns)) }
+    ensures columns { OnOk result (map run_of out.new.items ≡ map run_of out.old.items ++ some_columns (run_of columns)) }
+    ensures extends { Extends out.old.items out.new.items }
 {
     if columns.start < columns.end {
         out.push(columns)?;

@@ -1,6 +1,6 @@
 //! A line as a device displays it: its clusters from left to right, and their columns.
 
-ghost use Rattle.std.specs.Prelude.{◌≡◌, ◌<◌, ◌+◌, length, drop, slice_index, OnOk, OnErr};
+ghost use Rattle.std.specs.Prelude.{◌≡◌, ◌<◌, ◌≤◌, ◌+◌, length, drop, slice_index, OnOk, OnErr};
 ghost use Rattle.bidi_base.specs.Texts.{IsLine, HaveClass, HaveLevel};
 ghost use Rattle.bidi_base.specs.Layout.{AreInverse};
 ghost use Rattle.bidi_display.specs.DisplayedLine.{cluster_order, AreClustersFrom, HaveCharsWithin, edges as edges_of, line_width, left_edge, right_edge};
@@ -15,7 +15,7 @@ use crate::width::ClusterWidth;
 use bidi_base::char_data::BidiClass;
 use bidi_base::level::{LTR_LEVEL, Level};
 use bidi_lines::reused_levels::LineLevels;
-use bidi_text::text::TextSource;
+use bidi_text::text::{TextSource, is_line};
 use std::alloc::{AllocError, Global};
 use std::ops::Range;
 
@@ -121,7 +121,8 @@ impl Lists {
 }
 
 impl DisplayedLine {
-    ghost use Rattle.bidi_display.specs.Shown.{chars as chars_of, clusters as clusters_in, options as options_of, laid_out, Displays, IsEmptied};
+    ghost use Rattle.bidi_display.specs.LineBreaks.{chars_of as chars_of_cluster};
+    ghost use Rattle.bidi_display.specs.Shown.{chars as chars_in, clusters as clusters_in, options as options_of, laid_out, Displays, IsEmptied};
 
     /// Returns a value that shows an empty line. `show` displays lines with these options. Does not allocate.
     pub fn new(alloc: Global, options: DisplayOptions) -> DisplayedLine
@@ -169,6 +170,7 @@ impl DisplayedLine {
             para_level line self.new) }
         ensures emptied { OnErr result (IsEmptied self.new) }
     {
+        prove!(is_line(text, &line));
         let (start, end) = (line.start, line.end);
         let options = self.options;
         let found = self
@@ -211,9 +213,18 @@ impl DisplayedLine {
 
     /// Returns the characters of the line in the order of the text, also those that are not displayed.
     pub fn chars(&self) -> &[LineChar]
-        ensures { result.now ≡ chars_of self.now }
+        ensures { result.now ≡ chars_in self.now }
     {
         self.lists.chars.as_slice()
+    }
+
+    // Returns the characters of a cluster.
+    pub(crate) fn chars_of(&self, cluster: &LineCluster) -> &[LineChar]
+        requires start { cluster.now.chars_start ≤ cluster.now.chars_end }
+        requires end { cluster.now.chars_end ≤ length (chars_in self.now) }
+        ensures { result.now ≡ chars_of_cluster (chars_in self.now) cluster.now }
+    {
+        &self.chars()[cluster.chars_start..cluster.chars_end]
     }
 
     /// Returns the clusters of the line in the order of the text.

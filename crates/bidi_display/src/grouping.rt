@@ -31,8 +31,8 @@ fn is_direction_control(c: char) -> bool
 }
 
 impl Dropped {
-    // Returns whether a character is not displayed.
-    pub(crate) fn drops(self, c: &LineChar) -> bool
+    /// Returns whether a character of a line is not displayed.
+    pub fn drops(self, c: &LineChar) -> bool
         ensures { result ≡ is_dropped self c.now }
     {
         match self {
@@ -147,7 +147,7 @@ fn width_at<W: ClusterWidth>(
 {
     match displayed.chars().next() {
         None => 0,
-        Some('\t') if options.tab > 0 => options.tab - column % options.tab,
+        Some('\t') if options.tab > 0 => options.tab_columns(column),
         Some(_) => widths.width(displayed),
     }
 }

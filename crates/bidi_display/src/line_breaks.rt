@@ -1,13 +1,14 @@
 //! Where a paragraph is cut into lines, by the widths of its clusters.
 
-ghost use Rattle.std.specs.Prelude.{◌≡◌, ℕ, ◌<◌, ◌≤◌, ◌+◌, ◌^◌, ◌++◌, All, List, drop, length, map, OnOk};
+ghost use Rattle.std.specs.Prelude.{◌≡◌, ℕ, ◌<◌, ◌≤◌, ◌+◌, ◌^◌, ◌++◌, All, List, drop, length, map, OnOk, OnErr};
 ghost use Rattle.std.specs.declared.ops.Range.{Range as RangeOf};
 ghost use Rattle.bidi_base.specs.AnalysedText.{AnalysedText, IsLineOf};
 ghost use Rattle.bidi_base.specs.Display.{run_of};
 ghost use Rattle.bidi_base.specs.Paragraphs.{IsPartition};
 ghost use Rattle.bidi_display.specs.declared.line_char.LineChar.{LineChar as CharOf};
 ghost use Rattle.bidi_display.specs.declared.line_breaks.Break.{Break as BreakOf};
-ghost use Rattle.bidi_display.specs.LineBreaks.{are_white_space as are_white_space_in, begins_with_tab as begins_with_tab_in, chars_of as chars_of_cluster, first_line_length, given_break as given_break_of, given_break_after, is_forced as is_forced_by, is_white_space as is_white_space_class, last_end as last_end_of, lines_of, overflows as overflows_at, shown_end, shown_length as shown_length_of, simple_break as simple_break_of, simple_break_after, width_in_line as width_in};
+ghost use Rattle.bidi_display.specs.Extends.{Extends};
+ghost use Rattle.bidi_display.specs.LineBreaks.{are_white_space as are_white_space_in, begins_with_tab as begins_with_tab_in, first_line_length, given_break as given_break_of, given_break_after, is_forced as is_forced_by, is_white_space as is_white_space_class, last_end as last_end_of, lines_of, overflows as overflows_at, shown_end, shown_length as shown_length_of, simple_break as simple_break_of, simple_break_after, width_in_line as width_in};
 ghost use Rattle.bidi_display.specs.LineClusters.{displayed_chars};
 
 use crate::displayed_line::DisplayedLine;
@@ -176,15 +177,6 @@ fn last_end(after: Break, white: bool, index: usize, last: usize) -> usize
 impl DisplayedLine {
     ghost use Rattle.bidi_display.specs.Shown.{chars as chars_in, clusters as clusters_in, options as options_of, laid_out, Displays};
 
-    // Returns the characters of a cluster.
-    fn chars_of(&self, cluster: &LineCluster) -> &[LineChar]
-        requires start { cluster.now.chars_start ≤ cluster.now.chars_end }
-        requires end { cluster.now.chars_end ≤ length (chars_in self.now) }
-        ensures { result.now ≡ chars_of_cluster (chars_in self.now) cluster.now }
-    {
-        &self.chars()[cluster.chars_start..cluster.chars_end]
-    }
-
     // Returns the width of a cluster that begins at a column of a line.
     fn width_in_line(&self, column: usize, cluster: &LineCluster) -> usize
         requires start { cluster.now.chars_start ≤ cluster.now.chars_end }
@@ -193,7 +185,7 @@ impl DisplayedLine {
     {
         let options = self.options();
         if begins_with_tab(options, self.chars_of(cluster)) {
-            options.tab - column % options.tab
+            options.tab_columns(column)
         } else {
             cluster.width
         }
@@ -229,6 +221,30 @@ impl DisplayedLine {
         rest.len()
     }
 
+    // Appends the lines of a paragraph that is displayed as one line. If an allocation fails, `out` may have some of
+    // them.
+    fn append_lines<B: LineBreaks>(
+        &self,
+        breaks: &B,
+        limit: usize,
+        out: &mut Vec<Range<usize>>,
+    ) -> Result<(), AllocError>
+        ensures lines { OnOk result (map run_of out.new.items ≡ map run_of out.old.items
+            ++ lines_of (options_of self.now) (B.break_after_of breaks.now) limit (chars_in self.now)
+            (laid_out self.now).start (clusters_in self.now)) }
+        ensures extends { Extends out.old.items out.new.items }
+    {
+        let mut from = 0;
+        let mut start = self.range().start;
+        while from < self.clusters().len() {
+            from += self.line_length(breaks, limit, from);
+            let end = self.clusters()[from - 1].end;
+            out.push(start..end)?;
+            start = end;
+        }
+        Ok(())
+    }
+
     /// Appends the lines of a paragraph that is displayed as one line, as ranges of code units.
     ///
     /// A line takes clusters until it must end, or until the next one does not fit in `limit` columns. The first
@@ -238,7 +254,7 @@ impl DisplayedLine {
     /// counted from the start of each line.
     ///
     /// Together the lines are the whole paragraph, and none is empty. Takes time linear in the paragraph. If an
-    /// allocation fails, `out` may have some of the lines.
+    /// allocation fails, `out` has the lines that it had before.
     pub fn push_lines<B: LineBreaks>(
         &self,
         breaks: &B,
@@ -253,14 +269,12 @@ impl DisplayedLine {
         ensures are_lines { (width_of : List ℕ → ℕ) (a : AnalysedText) (level : ℕ) (range : RangeOf ℕ)
             → Displays width_of a level range self.now
             → OnOk result (All (IsLineOf a) (drop (length out.old.items) out.new.items)) }
+        ensures unchanged { OnErr result (out.new.items ≡ out.old.items) }
     {
-        let mut from = 0;
-        let mut start = self.range().start;
-        while from < self.clusters().len() {
-            from += self.line_length(breaks, limit, from);
-            let end = self.clusters()[from - 1].end;
-            out.push(start..end)?;
-            start = end;
+        let len = out.len();
+        if self.append_lines(breaks, limit, out).is_err() {
+            out.truncate(len);
+            return Err(AllocError);
         }
         Ok(())
     }

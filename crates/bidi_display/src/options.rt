@@ -36,6 +36,19 @@ pub struct DisplayOptions {
     pub tab: usize,
 }
 
+impl DisplayOptions {
+    ghost use Rattle.std.specs.Prelude.{◌≡◌, ◌<◌};
+    ghost use Rattle.bidi_display.specs.DisplayedLine.{tab_columns};
+
+    // Returns the columns from a column up to the next tab stop.
+    pub(crate) fn tab_columns(self, column: usize) -> usize
+        requires { 0 < self.tab }
+        ensures { result ≡ tab_columns self.tab column }
+    {
+        self.tab - column % self.tab
+    }
+}
+
 impl Default for DisplayOptions {
     ghost use Rattle.std.specs.Prelude.{◌≡◌};
     ghost use Rattle.bidi_display.specs.Options.{first_options};

@@ -1,6 +1,7 @@
 //! The text of a displayed line, from left to right.
 
-ghost use Rattle.std.specs.Prelude.{◌≡◌, ◌++◌, ℕ, flat_map, encode_utf8, string_bytes, OnOk};
+ghost use Rattle.std.specs.Prelude.{◌≡◌, ◌≤◌, ◌*◌, ◌++◌, ℕ, length, flat_map, encode_utf8, string_bytes, OnOk, OnErr};
+ghost use Rattle.bidi_display.specs.Extends.{Extends};
 ghost use Rattle.bidi_display.specs.Shown.{displayed_text, displayed_part, displayed_char as displayed_char_by, unicode_mirrored};
 
 use crate::displayed_line::DisplayedLine;
@@ -14,10 +15,15 @@ pub trait MirroredCharacters {
     /// The mirrored character of each character, as a function.
     ghost mirrored_of: { Self → ℕ → ℕ };
 
-    /// Returns the character that is displayed in place of this one at an odd level. For most it is the character
-    /// itself.
+    /// Returns the character that is displayed in place of this one at an odd level: its partner. For most it is the
+    /// character itself.
+    ///
+    /// The partner of the partner is the character. In UTF-8, the partner takes at most twice the bytes of the
+    /// character.
     fn mirrored(&self, c: char) -> char
-        ensures { result ≡ mirrored_of self.now c };
+        ensures result { result ≡ mirrored_of self.now c }
+        ensures back { mirrored_of self.now result ≡ c }
+        ensures length { length (encode_utf8 result) ≤ 2 * length (encode_utf8 c) };
 }
 
 /// Mirrors nothing: displays each character unchanged at every level.
@@ -51,15 +57,17 @@ fn displayed_char<M: MirroredCharacters>(mirrors: &M, c: &LineChar) -> char
     }
 }
 
-// Appends the displayed ones of some characters, mirrored at odd levels.
+// Appends the displayed ones of some characters, mirrored at odd levels. If an allocation fails, `out` may have some of
+// them.
 fn push_displayed<M: MirroredCharacters>(
     options: DisplayOptions,
     mirrors: &M,
     chars: &[LineChar],
     out: &mut String,
 ) -> Result<(), AllocError>
-    ensures { OnOk result (string_bytes out.new
+    ensures text { OnOk result (string_bytes out.new
         ≡ string_bytes out.old ++ flat_map encode_utf8 (displayed_part options (M.mirrored_of mirrors.now) chars.now)) }
+    ensures extends { Extends (string_bytes out.old) (string_bytes out.new) }
 {
     for c in chars {
         if !options.dropped.drops(c) {
@@ -70,23 +78,42 @@ fn push_displayed<M: MirroredCharacters>(
 }
 
 impl DisplayedLine {
+    // Appends the displayed characters of the line from left to right. If an allocation fails, `out` may have some of
+    // them.
+    fn append_text<M: MirroredCharacters>(
+        &self,
+        mirrors: &M,
+        out: &mut String,
+    ) -> Result<(), AllocError>
+        ensures text { OnOk result (string_bytes out.new
+            ≡ string_bytes out.old ++ flat_map encode_utf8 (displayed_text (M.mirrored_of mirrors.now) self.now)) }
+        ensures extends { Extends (string_bytes out.old) (string_bytes out.new) }
+    {
+        for index in self.order() {
+            let chars = self.chars_of(&self.clusters()[*index]);
+            push_displayed(self.options(), mirrors, chars, out)?;
+        }
+        Ok(())
+    }
+
     /// Appends the displayed characters of the line from left to right.
     ///
     /// The characters of a cluster are in the order of the text. Each character is mirrored by its own level, not by
-    /// that of its cluster (L4). Takes time linear in the line. If an allocation fails, `out` may have some of the
-    /// characters.
+    /// that of its cluster (L4). Takes time linear in the line. If an allocation fails, `out` has the text that it had
+    /// before.
     pub fn push_text<M: MirroredCharacters>(
         &self,
         mirrors: &M,
         out: &mut String,
     ) -> Result<(), AllocError>
-        ensures { OnOk result (string_bytes out.new
+        ensures text { OnOk result (string_bytes out.new
             ≡ string_bytes out.old ++ flat_map encode_utf8 (displayed_text (M.mirrored_of mirrors.now) self.now)) }
+        ensures unchanged { OnErr result (string_bytes out.new ≡ string_bytes out.old) }
     {
-        for index in self.order() {
-            let cluster = self.clusters()[*index];
-            let chars = &self.chars()[cluster.chars_start..cluster.chars_end];
-            push_displayed(self.options(), mirrors, chars, out)?;
+        let len = out.len();
+        if self.append_text(mirrors, out).is_err() {
+            out.truncate(len);
+            return Err(AllocError);
         }
         Ok(())
     }

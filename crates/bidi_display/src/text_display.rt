@@ -1,11 +1,11 @@
 //! Whole texts as they are displayed: one text after another, in memory that is kept.
 
 ghost use Rattle.std.specs.Prelude.{◌≡◌, ◌++◌, [], flat_map, encode_utf8, string_bytes, vec_len, Some, OnOk, OnErr};
-ghost use Rattle.bidi_base.specs.Texts.{IsLine, AreLines, HaveClass, HaveLevel};
+ghost use Rattle.bidi_base.specs.Texts.{AreLines, HaveClass, HaveLevel, IsLine};
 ghost use Rattle.bidi_lines.specs.Analysed.{with_lists};
-ghost use Rattle.bidi_paragraphs.specs.ParagraphInfo.{range_of, ranges_of, levels_of as paragraph_levels_of};
-ghost use Rattle.unicode_bidi.specs.Base.{HasLowLevel, IsAnalysisWith};
-ghost use Rattle.unicode_bidi.specs.Content.{content_len as content_len_of};
+ghost use Rattle.bidi_paragraphs.specs.ParagraphInfo.{ranges_of, levels_of as paragraph_levels_of};
+ghost use Rattle.unicode_bidi.specs.Base.{CutsNoChar, HasLowLevel, IsAnalysisWith};
+ghost use Rattle.bidi_display.specs.Extends.{Extends};
 ghost use Rattle.bidi_display.specs.Shown.{options as options_of, Displays, IsEmptied};
 ghost use Rattle.bidi_display.specs.TextDisplay.{displayed_paragraph, displayed_paragraphs};
 
@@ -14,13 +14,13 @@ use crate::options::DisplayOptions;
 use crate::text::MirroredCharacters;
 use crate::width::ClusterWidth;
 use bidi_base::char_data::BidiClass;
-use bidi_base::classes::is_paragraph_separator;
 use bidi_base::data_source::BidiDataSource;
 use bidi_base::level::{LTR_LEVEL, Level};
 use bidi_base::split_rule::SplitRule;
 use bidi_text::text::TextSource;
 use std::alloc::{AllocError, Global};
 use std::ops::Range;
+use unicode_bidi::content::content_len;
 use unicode_bidi::engine::Analyser;
 use unicode_bidi::{Base, ParagraphInfo};
 
@@ -48,20 +48,10 @@ fn resize_lists(
     levels.resize(len, LTR_LEVEL)
 }
 
-// Returns how many code units a paragraph has before the separators (B) at its end, given their classes.
-fn content_len(classes: &[BidiClass]) -> usize
-    ensures { result ≡ content_len_of classes.now }
-{
-    let mut len = classes.len();
-    while len > 0 && is_paragraph_separator(classes[len - 1]) {
-        len -= 1;
-    }
-    len
-}
-
-// Appends the characters of a text in its order.
+// Appends the characters of a text in its order. If an allocation fails, `out` may have some of them.
 fn push_chars<T: TextSource>(text: T, out: &mut String) -> Result<(), AllocError>
-    ensures { OnOk result (string_bytes out.new ≡ string_bytes out.old ++ flat_map encode_utf8 (T.text text).chars) }
+    ensures text { OnOk result (string_bytes out.new ≡ string_bytes out.old ++ flat_map encode_utf8 (T.text text).chars) }
+    ensures extends { Extends (string_bytes out.old) (string_bytes out.new) }
 {
     for c in text.chars() {
         out.push(c)?;
@@ -69,7 +59,8 @@ fn push_chars<T: TextSource>(text: T, out: &mut String) -> Result<(), AllocError
     Ok(())
 }
 
-// Appends the displayed text of a paragraph: its content, and its separators. Shows the content in `line`.
+// Appends the displayed text of a paragraph: its content, and its separators. Shows the content in `line`. If an
+// allocation fails, `out` may have some of the characters.
 fn push_paragraph<T: TextSource, M: MirroredCharacters>(
     line: &mut DisplayedLine,
     text: T,
@@ -81,11 +72,12 @@ fn push_paragraph<T: TextSource, M: MirroredCharacters>(
 ) -> Result<(), AllocError>
     requires classes { HaveClass (T.text text) classes.now }
     requires levels { HaveLevel (T.text text) levels.now }
-    requires is_line { IsLine (T.text text) (range_of paragraph.now).start (range_of paragraph.now).end }
+    requires is_line { CutsNoChar (T.text text) paragraph.now }
     ensures options { options_of line.new ≡ options_of line.old }
     ensures text { OnOk result (string_bytes out.new ≡ string_bytes out.old ++ flat_map encode_utf8
         (displayed_paragraph (options_of line.old) (M.mirrored_of mirrors.now)
         (with_lists (T.text text) classes.now levels.now) paragraph.now)) }
+    ensures extends { Extends (string_bytes out.old) (string_bytes out.new) }
 {
     let range = paragraph.range();
     let (start, end) = (range.start, range.end);
@@ -96,7 +88,8 @@ fn push_paragraph<T: TextSource, M: MirroredCharacters>(
     push_chars(text.subrange(content_end..end), out)
 }
 
-// Appends the displayed text of paragraphs, one after another. Shows their contents in `line`.
+// Appends the displayed text of paragraphs, one after another. Shows their contents in `line`. If an allocation fails,
+// `out` may have some of the characters.
 fn push_paragraphs<T: TextSource, M: MirroredCharacters>(
     line: &mut DisplayedLine,
     text: T,
@@ -113,6 +106,7 @@ fn push_paragraphs<T: TextSource, M: MirroredCharacters>(
     ensures text { OnOk result (string_bytes out.new ≡ string_bytes out.old ++ flat_map encode_utf8
         (displayed_paragraphs (options_of line.old) (M.mirrored_of mirrors.now)
         (with_lists (T.text text) classes.now levels.now) paragraphs.now)) }
+    ensures extends { Extends (string_bytes out.old) (string_bytes out.new) }
 {
     for paragraph in paragraphs {
         push_paragraph(line, text, classes, levels, paragraph, mirrors, out)?;
@@ -261,7 +255,7 @@ impl TextDisplay {
     /// `text` must be that text. Each paragraph is displayed as one line without the separators (B) at its end. They
     /// follow it, unchanged and in the order of the text. `mirrors` has the characters that are mirrored at odd levels.
     /// Takes time linear in the text, except for the order of each paragraph (see [`DisplayedLine::show`]). If an
-    /// allocation fails, `out` may have some of the characters.
+    /// allocation fails, `out` has the text that it had before.
     pub fn push_text<T: TextSource, M: MirroredCharacters>(
         &mut self,
         text: T,
@@ -275,8 +269,10 @@ impl TextDisplay {
         ensures text { OnOk result (string_bytes out.new ≡ string_bytes out.old ++ flat_map encode_utf8
             (displayed_paragraphs (options_of (line_in self.old)) (M.mirrored_of mirrors.now)
             (with_lists (T.text text) (classes_in self.old) (levels_in self.old)) (paragraphs_in self.old))) }
+        ensures unchanged { OnErr result (string_bytes out.new ≡ string_bytes out.old) }
     {
-        push_paragraphs(
+        let len = out.len();
+        let pushed = push_paragraphs(
             &mut self.line,
             text,
             self.classes.as_slice(),
@@ -284,13 +280,19 @@ impl TextDisplay {
             self.analyser.paragraphs(),
             mirrors,
             out,
-        )
+        );
+        if pushed.is_err() {
+            out.truncate(len);
+            return Err(AllocError);
+        }
+        Ok(())
     }
 
     /// Analyses a text and appends its displayed text, from left to right (P1 to L4).
     ///
-    /// `base` and `rule` are those of [`TextDisplay::analyse`], and `mirrors` is that of [`TextDisplay::push_text`]. The cost is that of both. If an allocation fails, `out` may have some of the
-    /// characters, and the paragraphs, the classes and the levels are any.
+    /// `base` and `rule` are those of [`TextDisplay::analyse`], and `mirrors` is that of [`TextDisplay::push_text`]. The
+    /// cost is that of both. If an allocation fails, `out` has the text that it had before, and the paragraphs, the
+    /// classes and the levels are any.
     pub fn display<D: BidiDataSource, T: TextSource, M: MirroredCharacters>(
         &mut self,
         alloc: Global,
@@ -305,6 +307,7 @@ impl TextDisplay {
         ensures displayed { OnOk result (IsDisplayed (D.source data_source.now) base rule (T.text text)
             (M.mirrored_of mirrors.now) (options_of (line_in self.old)) (string_bytes out.old) (string_bytes out.new) self.new) }
         ensures options { options_of (line_in self.new) ≡ options_of (line_in self.old) }
+        ensures unchanged { OnErr result (string_bytes out.new ≡ string_bytes out.old) }
     {
         self.analyse(alloc, data_source, text, base, rule)?;
         self.push_text(text, mirrors, out)

@@ -13,7 +13,7 @@ loop-c-preserved g c = (
       ∙ flat_map_more encode_utf8 (string_bytes c.args.out.now) c.loop-c.yielded c.in-Some.c,
 )
 
-pub returns : goal.returns
-returns g c =
+pub returns-clause-text : goal.returns-clause-text
+returns-clause-text g c =
     let all = end c.chars-c-items.ensures c.into_iter-c-iterator.ensures.into_iter_gives c.loop-c.yielded _ c.loop-c.yielded_by _ _ c.in-None.is c.next.ensures.steps in
     c.loop-c.invariant.2 ∙ ap (λ (cs : List ℕ). string_bytes c.args.out.now ++ flat_map encode_utf8 cs) all

@@ -2,7 +2,8 @@ use Rattle.bidi_base.proofs.Common.{◌+◌, ◌≤◌, ℕ, List, length, ap, s
 use Rattle.std.proofs.Common.{string_bytes}
 use Rattle.bidi_lines.specs.Analysed.{with_lists}
 use Rattle.bidi_display.specs.Shown.{options}
-use Rattle.bidi_display.proofs.ContentLemmas.{content-IsLine, content-within, end-within, separators-IsLine}
+use Rattle.unicode_bidi.proofs.ContentLemmas.{content-IsLine, content-within, end-within, separators-IsLine}
+use Rattle.bidi_display.proofs.Extending.{Extends-appended, Extends-trans}
 use Rattle.bidi_display.proofs.TextDisplayLemmas.{on_ok, written-paragraph}
 use Rattle.bidi_display.proofs.text_display.push_paragraph.Given.{Over}
 use Rattle.bidi_display.proofs.text_display.push_paragraph.Goals as goal
@@ -50,4 +51,7 @@ returns-clause-text g c =
     on_ok c.push_chars.result
     (λ pushed. written-paragraph (options c.args.line.now) mirrored_of a c.args.paragraph.now c.range-range.result c.level.result c.content_len.result c.range-range.ensures c.level.ensures c.content_len.ensures
     c.show.new.self (string_bytes c.args.out.now) (string_bytes c.push_text.new.out) (string_bytes c.push_chars.new.out) (g.T.TextSource.text c.subrange.result).chars c.show.ensures.options
-    c.in_ok-show.ensures.displays c.in_ok-push_text.ensures (ap (λ t. t.chars) c.subrange.ensures) pushed) c.push_chars.ensures
+    c.in_ok-show.ensures.displays c.in_ok-push_text.ensures.text (ap (λ t. t.chars) c.subrange.ensures) pushed) c.push_chars.ensures.text
+
+pub returns-clause-extends : goal.returns-clause-extends
+returns-clause-extends g c = Extends-trans _ _ _ (Extends-appended _ _ _ c.in_ok-push_text.ensures.text) c.push_chars.ensures.extends

@@ -5,6 +5,7 @@ use Rattle.bidi_paragraphs.specs.declared.paragraph_info.ParagraphInfo.{Paragrap
 use Rattle.bidi_display.specs.Shown.{options}
 use Rattle.bidi_display.specs.TextDisplay.{displayed_paragraph, displayed_paragraphs}
 use Rattle.bidi_display.specs.declared.options.DisplayOptions.{DisplayOptions}
+use Rattle.bidi_display.proofs.Extending.{Extends-appended, Extends-trans}
 use Rattle.bidi_display.proofs.TextDisplayLemmas.{own-range, written-next}
 use Rattle.bidi_display.proofs.text_display.push_paragraphs.Goals as goal
 
@@ -16,6 +17,9 @@ push_paragraph-requires-clause-is_line g c =
 
 pub returns-in_err-push_paragraph-clause-options : goal.returns-in_err-push_paragraph-clause-options
 returns-in_err-push_paragraph-clause-options g c = c.push_paragraph.ensures.options ∙ c.loop-paragraph.invariant.options
+
+pub returns-in_err-push_paragraph-clause-extends : goal.returns-in_err-push_paragraph-clause-extends
+returns-in_err-push_paragraph-clause-extends g c = Extends-trans _ _ _ (Extends-appended _ _ _ c.loop-paragraph.invariant.text) c.push_paragraph.ensures.extends
 
 pub loop-paragraph-preserved : goal.loop-paragraph-preserved
 loop-paragraph-preserved g c =
@@ -40,3 +44,6 @@ returns-clause-text g c =
     c.loop-paragraph.invariant.text
     ∙ ap (λ (ps : List ParagraphInfo). string_bytes c.args.out.now ++ flat_map encode_utf8 (displayed_paragraphs (options c.args.line.now) mirrored_of a ps))
     (take_all c.loop-paragraph.paragraph-index c.args.paragraphs.now c.loop-paragraph-test.false)
+
+pub returns-clause-extends : goal.returns-clause-extends
+returns-clause-extends g c = Extends-appended _ _ _ c.loop-paragraph.invariant.text

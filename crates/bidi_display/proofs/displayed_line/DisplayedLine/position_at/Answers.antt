@@ -1,6 +1,6 @@
 use Rattle.std.proofs.Common.{◌≡◌, ℕ, List, get_or, sym, ◌+◌, ◌≤◌, ◌<◌, ◌∙◌, if◌then◌else◌, nat_lt, ap, length, arith}
 use Rattle.bidi_display.specs.Carets.{halves_before, position_at, position_at_edge, position_by}
-use Rattle.bidi_display.specs.declared.carets.Half.TheVariants.{Left, Right}
+use Rattle.bidi_display.specs.declared.carets.Side.TheVariants.{Left, Right}
 use Rattle.bidi_display.specs.Shown.{clusters, laid_out}
 use Rattle.bidi_display.proofs.ColumnLemmas.{length-cluster_order, cluster_order-below, position_at-is, nearer-left_half, nearer-right_half}
 use Rattle.bidi_display.proofs.displayed_line.DisplayedLine.position_at.Goals as goal
