@@ -4,7 +4,7 @@ use bidi_arguments::refusal::Subcommand;
 const PROGRAM: &str = "bidi: the Unicode Bidirectional Algorithm for text in UTF-8\n\
     \n\
     usage: bidi check [OPTION..] [--] [FILE..]\n\
-    \u{20}      bidi show [--base auto|ltr|rtl] [--width N] [--plain] [--] [FILE..]\n\
+    \u{20}      bidi show [OPTION..] [--] [FILE..]\n\
     \u{20}      bidi explain [--base auto|ltr|rtl] [--html] [--width N] [--files] [--] [TEXT..]\n\
     \u{20}      bidi --help | --version\n\
     \n\
@@ -71,20 +71,38 @@ const CHECK: &str = "usage: bidi check [OPTION..] [--] [FILE..]\n\
     Status: 0 nothing was found; 1 something was found; 'bidi --help' lists the others.\n\
     A gate accepts 0 and no other.\n";
 
-const SHOW: &str = "usage: bidi show [--base auto|ltr|rtl] [--width N] [--plain] [--] [FILE..]\n\
+const SHOW: &str = "usage: bidi show [OPTION..] [--] [FILE..]\n\
     \n\
     Writes the lines of files from left to right, for a terminal without bidirectional\n\
-    support. Mirrors characters at odd levels, and puts marks after their letters. A tab becomes\n\
-    spaces up to the next multiple of eight columns.\n\
+    support. Keeps what a reader takes for one character together, mirrors characters at odd\n\
+    levels, and leaves out direction controls. A tab becomes spaces up to the next multiple of\n\
+    eight columns.\n\
     \n\
-    --base   the direction of each line: ltr is left to right, rtl is right to left, and auto,\n\
-    \u{20}        the default, takes it from the first strong character of the line\n\
-    --width  cuts a line that takes more than N columns, at white space if it can; N has one to\n\
-    \u{20}        three digits. In a terminal, the default is COLUMNS of the environment, or 80\n\
-    --plain  neither mirrors characters nor moves marks\n\
-    --help   writes this text, if it is the only argument after show\n\
-    --       ends the options: what follows are files\n\
-    FILE     a file in UTF-8; - or no file at all is standard input\n\
+    --base auto|ltr|rtl\n\
+    \u{20}             the direction of each line: ltr is left to right, rtl is right to left, and\n\
+    \u{20}             auto, the default, takes it from the first strong character of the line\n\
+    --width N     cuts a line that takes more than N columns, after white space if it can, and\n\
+    \u{20}             leaves out white space at the end of each line; N has one to three digits.\n\
+    \u{20}             In a terminal, the default is COLUMNS of the environment, or 80\n\
+    --moves clusters|marks|characters\n\
+    \u{20}             what is moved as a whole: a grapheme cluster (the default), a character with\n\
+    \u{20}             its nonspacing marks, or a character\n\
+    --mirror yes|no\n\
+    \u{20}             whether characters are mirrored at odd levels; yes is the default\n\
+    --controls drop|keep\n\
+    \u{20}             whether the twelve direction controls, LRM, RLM and ALM among them, are left\n\
+    \u{20}             out (the default) or written\n\
+    --widths clusters|characters\n\
+    \u{20}             the columns of a grapheme cluster: those of one sign, or the sum of those of\n\
+    \u{20}             its characters (the default)\n\
+    --ambiguous narrow|wide\n\
+    \u{20}             whether East Asian ambiguous characters take one column (the default) or two\n\
+    --plain       moves each character by itself, mirrors none and leaves out no direction\n\
+    \u{20}             control; --moves, --mirror, --controls, --widths and --ambiguous then have no\n\
+    \u{20}             effect\n\
+    --help        writes this text, if it is the only argument after show\n\
+    --            ends the options: what follows are files\n\
+    FILE          a file in UTF-8; - or no file at all is standard input\n\
     \n\
     Of a file that is not UTF-8, writes the lines before the first byte that is not, and reports\n\
     that byte. The status is 2.\n\

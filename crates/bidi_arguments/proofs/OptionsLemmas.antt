@@ -8,6 +8,7 @@ use Rattle.bidi_terminal.specs.Numbers.{number_of}
 use Rattle.bidi_terminal.specs.declared.base.Base.{Base}
 use Rattle.bidi_arguments.specs.Checks.{flag_named, setting_named, with_flag, with_setting}
 use Rattle.bidi_arguments.specs.Commands.{by_options, check_of, explain_of, show_of}
+use Rattle.bidi_arguments.specs.Shows.{show_setting_named, with_show_setting}
 use Rattle.bidi_explain.specs.declared.view.Form.TheVariants.{Page}
 use Rattle.bidi_explain.specs.declared.view.StageView.{StageView}
 use Rattle.bidi_arguments.specs.declared.check_options.CheckOptions.{CheckOptions}
@@ -15,6 +16,7 @@ use Rattle.bidi_arguments.specs.declared.check_options.Flag.{Flag}
 use Rattle.bidi_arguments.specs.declared.check_options.Setting.{Setting}
 use Rattle.bidi_arguments.specs.declared.operands.Operands.{Operands}
 use Rattle.bidi_arguments.specs.declared.operands.Operands.TheVariants.{Files}
+use Rattle.bidi_arguments.specs.declared.show_options.ShowSetting.{ShowSetting}
 use Rattle.bidi_shown.specs.declared.view.View.{View}
 
 module _ {Z : Type 0} where
@@ -25,27 +27,6 @@ module _ {Z : Type 0} where
   -- a word that is this option
   abbrev is_named : String Z → List ℕ → Bool
   is_named word option = bytes_eq (string_bytes word) option
-
-  pub show_of-plain : (view : View) (words : List (String Z)) (first : String Z) → 1 ≤ length words → first ≡ get_or words 0 first → is_named first (codes "--plain") ≡ true
-      → show_of (record view { plain = true }) (map string_bytes (slice_range words 1 (length words))) ≡ show_of view (map string_bytes words)
-  show_of-plain view [] first some is named = absurd (omega arith)
-  show_of-plain view (w ∷ []) first some is named = simp (simp is at named)
-  show_of-plain view (w ∷ v ∷ words) first some is named = simp (rest-all 1 (w ∷ v ∷ words), simp is at named)
-
-  pub show_of-base : (view : View) (words : List (String Z)) (first third second : String Z) (base : Base) → 2 ≤ length words → first ≡ get_or words 0 first → third ≡ get_or words 0 third
-      → second ≡ get_or words 1 second → is_named first (codes "--plain") ≡ false → is_named third (codes "--base") ≡ true → base_named (string_bytes second) ≡ Some base
-      → show_of (record view { base = base }) (map string_bytes (slice_range words 2 (length words))) ≡ show_of view (map string_bytes words)
-  show_of-base view (w ∷ v ∷ words) first third second base some is is' next other named level =
-      simp (rest-all 2 (w ∷ v ∷ words), simp is at other, simp is' at named, simp next at level)
-  show_of-base view words first third second base some is is' next other named level = absurd (omega arith)
-
-  pub show_of-width : (view : View) (words : List (String Z)) (first third fourth second : String Z) (width : ℕ) → 2 ≤ length words → first ≡ get_or words 0 first → third ≡ get_or words 0 third
-      → fourth ≡ get_or words 0 fourth → second ≡ get_or words 1 second → is_named first (codes "--plain") ≡ false → is_named third (codes "--base") ≡ false
-      → is_named fourth (codes "--width") ≡ true → number_of (string_bytes second) ≡ Some width
-      → show_of (record view { width = Some width }) (map string_bytes (slice_range words 2 (length words))) ≡ show_of view (map string_bytes words)
-  show_of-width view (w ∷ v ∷ words) first third fourth second width some is is' is'' next other neither named number =
-      simp (rest-all 2 (w ∷ v ∷ words), simp is at other, simp is' at neither, simp is'' at named, simp next at number)
-  show_of-width view words first third fourth second width some is is' is'' next other neither named number = absurd (omega arith)
 
   pub explain_of-html : (view : StageView) (operands : Operands) (words : List (String Z)) (first : String Z) → 1 ≤ length words → first ≡ get_or words 0 first → is_named first (codes "--html") ≡ true
       → explain_of (record view { form = Page }) operands (map string_bytes (slice_range words 1 (length words))) ≡ explain_of view operands (map string_bytes words)
@@ -120,3 +101,33 @@ module _ (options : CheckOptions) where
               → check_of next (map string_bytes (slice_range rest 1 (length rest))) ≡ check_of options (map string_bytes words)
           words_of-value next taken =
               sym (ap (λ r. by_options r (λ o. check_of o (map string_bytes (slice_range rest 1 (length rest))))) taken) ∙ words_of-setting
+
+module _ (view : View) where
+  show_of-plain : (word : List ℕ) (words : List (List ℕ)) → bytes_eq word (codes "--plain") ≡ true → show_of (record view { plain = true }) words ≡ show_of view (word ∷ words)
+  show_of-plain word [] named = simp named
+  show_of-plain word (value ∷ words) named = simp named
+
+  show_of-setting : (word value : List ℕ) (words : List (List ℕ)) (setting : ShowSetting) → bytes_eq word (codes "--plain") ≡ false → show_setting_named word ≡ Some setting
+      → by_options (with_show_setting setting value view) (λ next. show_of next words) ≡ show_of view (word ∷ value ∷ words)
+  show_of-setting word value words setting other named = simp (other, named)
+
+  module _ {Z : Type 0} (words : List (String Z)) (first : String Z) (some : 1 ≤ length words) (is : first ≡ get_or words 0 first) where
+    pub shown_words-plain : bytes_eq (string_bytes first) (codes "--plain") ≡ true
+        → show_of (record view { plain = true }) (map string_bytes (slice_range words 1 (length words))) ≡ show_of view (map string_bytes words)
+    shown_words-plain named =
+        show_of-plain (string_bytes first) (map string_bytes (slice_range words 1 (length words))) named ∙ sym (ap (show_of view) (words-first words first some is))
+
+    module _ (other : bytes_eq (string_bytes first) (codes "--plain") ≡ false) (setting : ShowSetting) (named : show_setting_named (string_bytes first) ≡ Some setting)
+        (second : String Z) (more : 1 ≤ length (slice_range words 1 (length words))) (is' : second ≡ get_or (slice_range words 1 (length words)) 0 second) where
+      abbrev last : List (String Z)
+      last = slice_range (slice_range words 1 (length words)) 1 (length (slice_range words 1 (length words)))
+
+      shown_words-setting : by_options (with_show_setting setting (string_bytes second) view) (λ next. show_of next (map string_bytes last)) ≡ show_of view (map string_bytes words)
+      shown_words-setting =
+          show_of-setting (string_bytes first) (string_bytes second) (map string_bytes last) setting other named
+          ∙ sym (ap (show_of view) (words-two words first second some is more is'))
+
+      pub shown_words-value : (next : View) → with_show_setting setting (string_bytes second) view ≡ Ok next
+          → show_of next (map string_bytes last) ≡ show_of view (map string_bytes words)
+      shown_words-value next taken =
+          sym (ap (λ r. by_options r (λ v. show_of v (map string_bytes last))) taken) ∙ shown_words-setting

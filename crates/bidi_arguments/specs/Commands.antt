@@ -8,6 +8,7 @@ use Rattle.bidi_explain.specs.declared.view.Form.TheVariants.{Page}
 use Rattle.bidi_explain.specs.declared.view.StageView.{StageView}
 use Rattle.bidi_arguments.specs.Checks.{first_check, flag_named, reads_input_twice, setting_named, with_flag, with_setting}
 use Rattle.bidi_arguments.specs.Options.{is_option, is_help, is_version}
+use Rattle.bidi_arguments.specs.Shows.{show_setting_named, with_show_setting}
 use Rattle.bidi_arguments.specs.declared.check_options.CheckOptions.{CheckOptions}
 use Rattle.bidi_arguments.specs.declared.command.Command.{Command}
 use Rattle.bidi_arguments.specs.declared.command.Command.TheVariants.{Check, Show, Explain, Help, Version}
@@ -64,7 +65,7 @@ by_case None next otherwise = otherwise
 by_case (Some value) next otherwise = next value
 
 -- what follows from options, unless one of them is wrong
-abbrev pub by_options : Result CheckOptions Refusal → (CheckOptions → Result Command Refusal) → Result Command Refusal
+abbrev pub by_options : {A : Type 0} → Result A Refusal → (A → Result Command Refusal) → Result Command Refusal
 by_options (Err refusal) next = Err refusal
 by_options (Ok options) next = next options
 
@@ -90,15 +91,12 @@ abbrev pub show_of : View → List (List ℕ) → Result Command Refusal
 show_of view [] = Ok (Show view [])
 show_of view (word ∷ []) =
     if bytes_eq word (codes "--plain") then show_of (record view { plain = true }) []
-    else if bytes_eq word (codes "--base") || bytes_eq word (codes "--width") then Err (NoValue Showing word)
+    else if is_some (show_setting_named word) then Err (NoValue Showing word)
     else over_files (Show view) (file_words Showing (word ∷ []))
 show_of view (word ∷ value ∷ words) =
     if bytes_eq word (codes "--plain") then show_of (record view { plain = true }) (value ∷ words)
-    else if bytes_eq word (codes "--base")
-    then by_value (NotABase Showing value) (λ base. show_of (record view { base = base }) words) (base_named value)
-    else if bytes_eq word (codes "--width")
-    then by_value (NotAWidth Showing value) (λ width. show_of (record view { width = Some width }) words) (number_of value)
-    else over_files (Show view) (file_words Showing (word ∷ value ∷ words))
+    else by_case (show_setting_named word) (λ setting. by_options (with_show_setting setting value view) (λ next. show_of next words))
+    (over_files (Show view) (file_words Showing (word ∷ value ∷ words)))
 
 -- after `explain` and options that ask for this view and these operands: further options, in any order, and texts or
 -- files

@@ -1,3 +1,4 @@
 pub mod Checks
 pub mod Commands
 pub mod Options
+pub mod Shows

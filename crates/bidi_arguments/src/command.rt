@@ -6,6 +6,7 @@ ghost use Rattle.bidi_arguments.specs.Options.{is_option};
 use crate::check_options::{CheckOptions, Flag, Setting};
 use crate::operands::Operands;
 use crate::refusal::{Refusal, Subcommand, Word};
+use crate::show_options::ShowSetting;
 use bidi_explain::view::{Form, StageView};
 use bidi_shown::view::View;
 use bidi_terminal::{Base, parse_number};
@@ -125,7 +126,7 @@ pub enum Command<'w> {
     },
     /// `--help`, by itself or after a subcommand: writes which arguments there are.
     Help(Option<Subcommand>),
-    /// `show [--base auto|ltr|rtl] [--width N] [--plain] [FILE..]`: writes the lines from left to right.
+    /// `show [OPTION..] [FILE..]`: writes the lines from left to right.
     Show {
         view: View,
         files: FileWords<'w>,
@@ -135,8 +136,9 @@ pub enum Command<'w> {
 }
 
 impl<'w> Command<'w> {
-    ghost use Rattle.bidi_arguments.specs.Commands.{command_of, check_of, check_over, explain_of, show_of, alone_of, file_words};
-    ghost use Rattle.bidi_arguments.specs.declared.refusal.Subcommand.TheVariants.{Checking};
+    ghost use Rattle.bidi_arguments.specs.Commands.{command_of, check_of, check_over, explain_of, over_files, show_of, alone_of, file_words};
+    ghost use Rattle.bidi_arguments.specs.declared.command.Command.TheVariants.{Show as ShowFiles};
+    ghost use Rattle.bidi_arguments.specs.declared.refusal.Subcommand.TheVariants.{Checking, Showing};
 
     /// Returns what arguments after the options of `check` ask for, or an error if standard input would be read twice.
     fn over_files(
@@ -177,40 +179,39 @@ impl<'w> Command<'w> {
         }
     }
 
+    /// Returns what arguments after the options of `show` ask for, if the options ask for this view.
+    fn show_files(view: View, words: &'w [String]) -> Result<Command<'w>, Refusal<'w>>
+        ensures { result ≡ over_files (ShowFiles view) (file_words Showing (map string_bytes words.now)) }
+    {
+        match FileWords::parse(Subcommand::Showing, words) {
+            Ok(files) => Ok(Command::Show { view, files }),
+            Err(refusal) => Err(refusal),
+        }
+    }
+
     /// Returns what arguments after `show` ask for, if the options before them ask for this view.
     fn parse_show(view: View, words: &'w [String]) -> Result<Command<'w>, Refusal<'w>>
         ensures { result ≡ show_of view (map string_bytes words.now) }
     {
-        match words {
-            [option, rest @ ..] if option.as_str() == "--plain" => {
-                let view = View {
-                    plain: true,
-                    ..view
-                };
-                Command::parse_show(view, rest)
-            }
-            [option, value, rest @ ..] if option.as_str() == "--base" => {
-                match Base::parse(value.as_str()) {
-                    Some(base) => Command::parse_show(View { base, ..view }, rest),
-                    None => Err(Refusal::NotABase(Subcommand::Showing, Word::new(value.as_str()))),
-                }
-            }
-            [option, value, rest @ ..] if option.as_str() == "--width" => {
-                match parse_number(value.as_str()) {
-                    Some(width) => {
-                        let width = Some(width);
-                        Command::parse_show(View { width, ..view }, rest)
-                    }
-                    None => Err(Refusal::NotAWidth(Subcommand::Showing, Word::new(value.as_str()))),
-                }
-            }
-            [option] if option.as_str() == "--base" || option.as_str() == "--width" => {
-                Err(Refusal::NoValue(Subcommand::Showing, Word::new(option.as_str())))
-            }
-            _ => match FileWords::parse(Subcommand::Showing, words) {
-                Ok(files) => Ok(Command::Show { view, files }),
-                Err(refusal) => Err(refusal),
-            },
+        let [first, rest @ ..] = words else {
+            return Command::show_files(view, words);
+        };
+        if first.as_str() == "--plain" {
+            let view = View {
+                plain: true,
+                ..view
+            };
+            return Command::parse_show(view, rest);
+        }
+        let Some(setting) = ShowSetting::parse(first.as_str()) else {
+            return Command::show_files(view, words);
+        };
+        let [value, rest @ ..] = rest else {
+            return Err(Refusal::NoValue(Subcommand::Showing, Word::new(first.as_str())));
+        };
+        match setting.apply(view, value.as_str()) {
+            Ok(view) => Command::parse_show(view, rest),
+            Err(refusal) => Err(refusal),
         }
     }
 

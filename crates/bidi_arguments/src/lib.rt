@@ -6,3 +6,4 @@ pub mod command;
 pub mod operands;
 pub mod refusal;
 pub mod search;
+pub mod show_options;

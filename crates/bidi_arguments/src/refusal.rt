@@ -23,6 +23,34 @@ impl fmt::Display for Subcommand {
     }
 }
 
+/// An option of `show` whose value is one of a few words.
+#[derive(Clone, Copy, Debug, PartialEq)]
+pub enum Choice {
+    /// `--ambiguous`: the columns of ambiguous characters.
+    Ambiguous,
+    /// `--controls`: whether direction controls are written.
+    Controls,
+    /// `--mirror`: whether characters are mirrored.
+    Mirror,
+    /// `--moves`: what is moved as a whole.
+    Moves,
+    /// `--widths`: how the columns of a cluster are counted.
+    Widths,
+}
+
+// The option and the words that it takes, as a report writes them.
+impl fmt::Display for Choice {
+    fn fmt<W: fmt::Write>(&self, f: &mut fmt::Formatter<W>) -> fmt::Result {
+        f.write_str(match self {
+            Choice::Ambiguous => "--ambiguous takes narrow or wide",
+            Choice::Controls => "--controls takes drop or keep",
+            Choice::Mirror => "--mirror takes yes or no",
+            Choice::Moves => "--moves takes clusters, marks or characters",
+            Choice::Widths => "--widths takes clusters or characters",
+        })
+    }
+}
+
 /// An argument, unchanged. In clauses it is its bytes.
 #[derive(Drop)]
 pub struct Word<'w> {
@@ -89,6 +117,8 @@ pub enum Refusal<'w> {
     NotABase(Subcommand, Word<'w>),
     /// The value of `--width` is not a number of one to three digits.
     NotAWidth(Subcommand, Word<'w>),
+    /// The option of `show` does not take this value.
+    NotAChoice(Choice, Word<'w>),
     /// The value of `--format` is none of `text`, `json` and `sarif`.
     NotAFormat(Word<'w>),
     /// The value of `--color` is none of `auto`, `always` and `never`.
@@ -137,6 +167,11 @@ impl<'w> fmt::Display for Refusal<'w> {
             Refusal::NotAWidth(subcommand, word) => write!(
                 f,
                 "{subcommand}: --width takes a number of one to three digits, not {}; see bidi {subcommand} --help",
+                word.text
+            ),
+            Refusal::NotAChoice(choice, word) => write!(
+                f,
+                "show: {choice}, not {}; see bidi show --help",
                 word.text
             ),
             Refusal::NotAFormat(word) => write!(

@@ -1,5 +1,7 @@
 mod BoundsLemmas
 mod ClusterLemmas
+mod DisplayedLemmas
+mod EvenDisplayed
 mod EvenLemmas
 mod FirstLemmas
 mod LineLemmas
@@ -7,5 +9,4 @@ mod ParagraphLemmas
 mod PiecesLemmas
 mod PrintableLemmas
 mod RecordsAsClauses
-mod ReversedLemmas
 mod TabLemmas

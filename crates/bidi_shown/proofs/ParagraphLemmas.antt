@@ -8,7 +8,7 @@ use Rattle.bidi_laws.proofs.OneParagraph.{para_level-one}
 use Rattle.bidi_shown.specs.Breaks.{lines_of_text}
 use Rattle.bidi_terminal.specs.Bases.{level_of_base}
 use Rattle.bidi_text.proofs.StrLemmas.{text_len-chars}
-use Rattle.bidi_shown.specs.Displayed.{shown_levels, shown_paragraph, shown_range, shown_ranges}
+use Rattle.bidi_shown.specs.Plain.{plain_paragraph, plain_range, plain_ranges, shown_levels}
 use Rattle.bidi_shown.specs.declared.view.View.{View}
 use Rattle.bidi_shown.specs.Paragraph.{analysed, shown_in}
 
@@ -23,25 +23,25 @@ module _ (source : Source) (view : View) (own : List ℕ) (classes : List BidiCl
   of_level : level ≡ paragraph_level (level_of_base view.base) (map source.class_of own)
   of_level = cc (para_level-one source (level_of_base view.base) (analysed own classes levels) _ _ h)
 
-  pub one_line : (run : Run) → shown_in source view.plain (analysed own classes levels) level run ≡ shown_range source view own run
+  pub one_line : (run : Run) → shown_in (analysed own classes levels) level run ≡ plain_range source view own run
   unfolding shown_levels
   one_line run = simp (char_classes, char_levels, of_level)
 
-  each_line : (runs : List Run) → flat_map (shown_in source view.plain (analysed own classes levels) level) runs ≡ flat_map (shown_range source view own) runs
+  each_line : (runs : List Run) → flat_map (shown_in (analysed own classes levels) level) runs ≡ flat_map (plain_range source view own) runs
   each_line [] = refl
   each_line (run ∷ runs) = simp (one_line run, each_line runs)
 
-  pub lines-shown : (lines : List (Range ℕ)) → map run_of lines ≡ shown_ranges source view.width own
-      → flat_map (λ (r : Range ℕ). shown_in source view.plain (analysed own classes levels) level (run_of r)) lines ≡ shown_paragraph source view own
-  unfolding shown_paragraph
+  pub lines-shown : (lines : List (Range ℕ)) → map run_of lines ≡ plain_ranges source view.width own
+      → flat_map (λ (r : Range ℕ). shown_in (analysed own classes levels) level (run_of r)) lines ≡ plain_paragraph source view own
+  unfolding plain_paragraph
   lines-shown lines are =
-      sym (flat_map-map (shown_in source view.plain (analysed own classes levels) level) run_of lines)
-      ∙ ap (flat_map (shown_in source view.plain (analysed own classes levels) level)) are ∙ each_line (shown_ranges source view.width own)
+      sym (flat_map-map (shown_in (analysed own classes levels) level) run_of lines)
+      ∙ ap (flat_map (shown_in (analysed own classes levels) level)) are ∙ each_line (plain_ranges source view.width own)
 
 -- the lines of a width, from the bytes of the text
-pub ranges-Some : (source : Source) (width : ℕ) (text : List ℕ) → IsUtf8 text → lines_of_text source width text ≡ shown_ranges source (Some width) (chars text)
+pub ranges-Some : (source : Source) (width : ℕ) (text : List ℕ) → IsUtf8 text → lines_of_text source width text ≡ plain_ranges source (Some width) (chars text)
 ranges-Some source width text utf8 = ap (lines_of_text source width) (sym (encodes-chars text utf8))
 
 -- the whole text
-pub ranges-None : (source : Source) (text : List ℕ) → IsUtf8 text → (0, length text) ∷ [] ≡ shown_ranges source None (chars text)
+pub ranges-None : (source : Source) (text : List ℕ) → IsUtf8 text → (0, length text) ∷ [] ≡ plain_ranges source None (chars text)
 ranges-None source text utf8 = ap (λ n. (0, n) ∷ []) (sym (text_len-chars text utf8))

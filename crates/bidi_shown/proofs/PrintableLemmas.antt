@@ -4,24 +4,35 @@ use Rattle.bidi_base.proofs.Common.{get_or, replicate, flat_map, refl, sym, ap, 
 use Rattle.bidi_base.proofs.Common.{append-nil, not-true, take_all, take_more, take-append-drop, drop_more, drop-drop, codes, list_all, list_any, slice_range, range_with_len, encode_utf8, chars}
 use Rattle.bidi_base.proofs.Common.{len_utf8, IsUtf8, IsUtf8-past_char, is_paragraph_separator, has_rtl, is_odd, is_reset, is_removed, line_levels, line_levels_after, stored_classes}
 use Rattle.bidi_base.proofs.Common.{stored_levels, paragraph_level, level_by, text_len, char_index, may_turn, is_strong, IsCharBoundary, take-add, take_while-cons, encode_ascii, chars_past_char}
-use Rattle.bidi_base.proofs.Common.{IsUtf8-drop}
+use Rattle.bidi_base.proofs.Common.{IsUtf8-drop, AnalysedText, Range, cases_lt, get_or_past, get_or-map-range_with_len, length-map-range_with_len, list_any_none, per_char, per_unit, subrange, if◌then◌else◌}
 use Rattle.ucd_bidi.proofs.BidiClassLemmas.{bidi_class_stepped}
 use Rattle.ucd_table.specs.Steps.{step_value}
 use Rattle.ucd_table.proofs.Computing.{tables}
 use Rattle.bidi_base.specs.declared.char_data.BidiClass.{BidiClass}
-use Rattle.bidi_base.specs.declared.char_data.BidiClass.TheVariants.{AL, R}
+use Rattle.bidi_base.specs.declared.char_data.BidiClass.TheVariants.{AL, L, R}
+use Rattle.bidi_base.specs.AnalysedText.{line_levels_per_char}
+use Rattle.bidi_base.proofs.PerUnit.{per_char-per_unit}
 use Rattle.bidi_base.proofs.TextLemmas.{char_index-append}
 use Rattle.bidi_laws.proofs.IsolateWalk.{deciding_from, deciding_class-from, depth_by, is_zero, kind_of}
 use Rattle.bidi_laws.proofs.KeepsToLemmas.{levels_in-pure_ltr}
 use Rattle.bidi_laws.proofs.StoredSteps.{length-stored_classes}
 use Rattle.bidi_lines.proofs.LineLevels.{length-line_levels_after}
+use Rattle.bidi_display.specs.LineChars.{line_char_at, line_chars, line_chars_by}
+use Rattle.bidi_display.specs.LineClusters.{is_direction_control, is_dropped}
+use Rattle.bidi_display.specs.declared.line_char.LineChar.{LineChar}
+use Rattle.bidi_display.specs.declared.options.Dropped.TheVariants.{Controls, Nothing}
+use Rattle.bidi_display.proofs.EvenLineLemmas.{line_chars-chars}
+use Rattle.bidi_lines.proofs.Ordered.{none_odd}
 use Rattle.bidi_terminal.specs.Bases.{level_of_base}
 use Rattle.bidi_text.proofs.StrLemmas.{has_units}
 use Rattle.bidi_unicode.specs.Unicode.{class_named, unicode_source}
 use Rattle.bidi_shown.specs.PrintableLines.{is_printable_ascii, CopiesPrintable}
 use Rattle.bidi_base.specs.Paragraphs.{own_chars}
-use Rattle.bidi_shown.specs.Displayed.{after_first, shown_levels, shown_paragraph, shown_range, shown_text}
+use Rattle.bidi_shown.specs.Displayed.{after_first, analysed_paragraph, displayed_lines, displayed_paragraph, displayed_range, shown_paragraph, shown_text, whole}
+use Rattle.bidi_shown.specs.Plain.{plain_paragraph, plain_range, shown_levels}
+use Rattle.bidi_shown.specs.Views.{options_in}
 use Rattle.bidi_shown.specs.declared.view.View.{View}
+use Rattle.bidi_shown.proofs.EvenDisplayed.{spaced_text-even}
 use Rattle.bidi_shown.proofs.EvenLemmas.{tabbed_line-even}
 use Rattle.bidi_shown.proofs.FirstLemmas.{own-ended, shown_text-first}
 
@@ -156,6 +167,36 @@ even-zeros : (n : ℕ) → list_any is_odd (replicate n 0) ≡ false
 even-zeros zero = refl
 even-zeros (suc n) = even-zeros n
 
+-- ---- its characters as those of a line
+
+-- printable ASCII is displayed
+kept-here : (keeps : Bool) (c : LineChar) → is_direction_control c.char ≡ false → is_dropped (if keeps then Nothing else Controls) c ≡ false
+kept-here true c other = refl
+kept-here false c other = other
+
+printable-kept : (view : View) (cs : List LineChar) → list_all is_printable_ascii (map (λ (c : LineChar). c.char) cs) ≡ true → list_any (is_dropped (options_in view).dropped) cs ≡ false
+printable-kept view [] printable = refl
+printable-kept view (c ∷ cs) printable =
+    let parts = and_parts (is_printable_ascii c.char) (list_all is_printable_ascii (map (λ (c : LineChar). c.char) cs)) printable in
+    let other : is_direction_control c.char ≡ false = grind (arith, nat_tests, parts.0) in
+    rw (kept-here view.keeps_controls c other) (printable-kept view cs parts.1)
+
+-- where no level is odd, no character of the line has an odd level
+module _ (len_of : ℕ → ℕ) (start : ℕ) (cs : List ℕ) (line_classes : List BidiClass) (line_levels : List ℕ) (even : has_rtl line_levels ≡ false) where
+  even_level : (k : ℕ) → is_odd (get_or line_levels k 0) ≡ false
+  even_level k = elim (cases_lt k (length line_levels)) [
+    | inl inside ↦ grind (arith, none_odd line_levels even k inside)
+    | inr past ↦ simp (get_or_past line_levels k 0 past) refl
+  ]
+
+  even_at : (k : ℕ) (d : LineChar) → k < length (line_chars_by len_of start cs line_classes line_levels) → is_odd (get_or (line_chars_by len_of start cs line_classes line_levels) k d).level ≡ false
+  even_at k d fits =
+      let inside : k < length cs = omega (arith, fits, length-map-range_with_len (line_char_at len_of start cs line_classes line_levels) 0 (length cs)) in
+      simp (get_or-map-range_with_len (line_char_at len_of start cs line_classes line_levels) 0 (length cs) k k d inside (omega arith)) (even_level k)
+
+  even-chars : list_any (λ (c : LineChar). is_odd c.level) (line_chars_by len_of start cs line_classes line_levels) ≡ false
+  even-chars = list_any_none (λ (c : LineChar). is_odd c.level) (line_chars_by len_of start cs line_classes line_levels) even_at
+
 module _ (view : View) (copies : CopiesPrintable view) (line : List ℕ) (printable : list_all is_printable_ascii line ≡ true) where
   abbrev classes : List BidiClass
   classes = map unicode_source.class_of line
@@ -188,16 +229,83 @@ module _ (view : View) (copies : CopiesPrintable view) (line : List ℕ) (printa
       let long : length (stored_classes classes) ≡ length line = length-stored_classes classes ∙ length-map line unicode_source.class_of in
       simp same_levels (length-line_levels_after 0 0 (stored_classes classes) (replicate (length line) 0) (length-replicate (length line) 0 ∙ sym long) ∙ long)
 
-  printable-range : shown_range unicode_source view line (0, text_len len_utf8 line) ≡ line ++ codes "\n"
+  printable-range : plain_range unicode_source view line (0, text_len len_utf8 line) ≡ line ++ codes "\n"
   printable-range =
       let first : char_index len_utf8 line 0 ≡ 0 = char_index-append len_utf8 has_units [] line in
       let last : char_index len_utf8 line (text_len len_utf8 line) ≡ length line = simp append-nil at (char_index-append len_utf8 has_units line []) in
       simp (first, last, slice_whole line (length line) refl)
-      (ap (λ l. l ++ codes "\n") (tabbed_line-even unicode_source view.plain line line_of printable-long printable-even (printable-tabs line printable) ∙ printable-encode line printable))
+      (ap (λ l. l ++ codes "\n") (tabbed_line-even line line_of printable-long printable-even (printable-tabs line printable) ∙ printable-encode line printable))
+
+  printable-plain : plain_paragraph unicode_source view line ≡ line ++ codes "\n"
+  unfolding plain_paragraph
+  printable-plain = simp (copies.uncut, append-nil) printable-range
+
+  -- ---- displayed
+
+  abbrev analysis : AnalysedText
+  analysis = analysed_paragraph unicode_source (level_of_base view.base) line
+
+  abbrev all : Range ℕ
+  all = whole view analysis 0
+
+  first-index : char_index len_utf8 line 0 ≡ 0
+  first-index = char_index-append len_utf8 has_units [] line
+
+  last-index : char_index len_utf8 line (text_len len_utf8 line) ≡ length line
+  last-index = simp append-nil at (char_index-append len_utf8 has_units line [])
+
+  own-line : subrange len_utf8 line 0 (text_len len_utf8 line) ≡ line
+  own-line = simp (first-index, last-index) (slice_whole line (length line) refl)
+
+  own-classes : per_char L len_utf8 line analysis.classes ≡ stored_classes classes
+  own-classes = per_char-per_unit len_utf8 has_units L line (stored_classes classes) (length-stored_classes classes ∙ length-map line unicode_source.class_of)
+
+  own-levels : per_char 0 len_utf8 line analysis.levels ≡ replicate (length line) 0
+  own-levels =
+      ap (λ (ls : List ℕ). per_char 0 len_utf8 line (per_unit len_utf8 line ls)) printable-stored
+      ∙ per_char-per_unit len_utf8 has_units 0 line (replicate (length line) 0) (length-replicate (length line) 0)
+
+  own-levels_of_line : line_levels_per_char analysis 0 all ≡ line_levels_after 0 0 (stored_classes classes) (replicate (length line) 0)
+  unfolding line_levels
+  own-levels_of_line = simp (
+    own-classes,
+    own-levels,
+    first-index,
+    last-index,
+    slice_whole (stored_classes classes) (length line) (sym (length-stored_classes classes ∙ length-map line unicode_source.class_of)),
+    slice_whole {X = ℕ} (replicate (length line) 0) (length line) (sym (length-replicate (length line) 0)),
+  )
+
+  own-even : has_rtl (line_levels_per_char analysis 0 all) ≡ false
+  own-even = simp own-levels_of_line (even-line (stored_classes classes) 0 (replicate (length line) 0) refl (even-zeros (length line)))
+
+  own-chars_of_line : map (λ (c : LineChar). c.char) (line_chars analysis 0 all) ≡ line
+  unfolding line_chars
+  own-chars_of_line = line_chars-chars len_utf8 0 (subrange len_utf8 line 0 (text_len len_utf8 line)) _ _ ∙ own-line
+
+  own-even_chars : list_any (λ (c : LineChar). is_odd c.level) (line_chars analysis 0 all) ≡ false
+  unfolding line_chars
+  own-even_chars = even-chars len_utf8 0 (subrange len_utf8 line 0 (text_len len_utf8 line)) _ (line_levels_per_char analysis 0 all) own-even
+
+  own-displayed : list_any (is_dropped (options_in view).dropped) (line_chars analysis 0 all) ≡ false
+  own-displayed = printable-kept view (line_chars analysis 0 all) (ap (list_all is_printable_ascii) own-chars_of_line ∙ printable)
+
+  own-tabs : list_any (λ c. c == 0x09) (map (λ (c : LineChar). c.char) (line_chars analysis 0 all)) ≡ false
+  own-tabs = ap (list_any (λ c. c == 0x09)) own-chars_of_line ∙ printable-tabs line printable
+
+  printable-displayed : displayed_paragraph unicode_source view line ≡ line ++ codes "\n"
+  unfolding displayed_paragraph displayed_lines displayed_range
+  printable-displayed =
+      simp (copies.uncut, printable-level)
+      (ap (λ (cs : List ℕ). flat_map encode_utf8 cs ++ codes "\n") (spaced_text-even view (line_chars analysis 0 all) own-even_chars own-displayed own-tabs ∙ own-chars_of_line)
+      ∙ ap (λ (l : List ℕ). l ++ codes "\n") (printable-encode line printable))
 
   printable-paragraph : shown_paragraph unicode_source view line ≡ line ++ codes "\n"
   unfolding shown_paragraph
-  printable-paragraph = simp (copies.uncut, append-nil) printable-range
+  printable-paragraph = elim (cases_Bool view.plain) [
+    | inl plain ↦ simp plain printable-plain
+    | inr displayed ↦ simp displayed printable-displayed
+  ]
 
   -- ---- the text that it begins
 

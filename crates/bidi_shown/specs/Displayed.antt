@@ -1,79 +1,95 @@
 -- What is shown of a line, of a paragraph and of a text.
-use Rattle.std.specs.Prelude.{ℕ, Bool, if◌then◌else◌, List, [], ◌∷◌, ◌++◌, map, flat_map, reverse, slice_range, codes, Option, Some, None, unwrap_or, encode_utf8}
+use Rattle.std.specs.Prelude.{ℕ, ◌==◌, if◌then◌else◌, List, [], ◌∷◌, ◌++◌, map, flat_map, get_or, replicate, codes, Option, Some, None, encode_utf8}
 use Rattle.std.specs.Char.{len_utf8}
-use Rattle.std.specs.Str.{encode_utf8_all}
-use Rattle.bidi_base.specs.Classes.{is_nsm}
-use Rattle.bidi_base.specs.Display.{Run, run_level, visual_runs}
+use Rattle.std.specs.declared.ops.Range.{Range}
+use Rattle.bidi_base.specs.AnalysedText.{AnalysedText}
+use Rattle.bidi_base.specs.Display.{Run}
 use Rattle.bidi_base.specs.Isolates.{paragraph_level, stored_classes}
-use Rattle.bidi_base.specs.Levels.{is_odd}
-use Rattle.bidi_base.specs.Line.{levels_of_line}
 use Rattle.bidi_base.specs.Paragraphs.{cr_lf_together, own_chars, paragraphs_in}
 use Rattle.bidi_base.specs.Source.{Source}
 use Rattle.bidi_base.specs.Stored.{stored_levels}
-use Rattle.bidi_base.specs.Text.{char_index, text_len}
+use Rattle.bidi_base.specs.Text.{per_unit, text_len}
+use Rattle.bidi_display.specs.DisplayedLine.{cluster_order, clusters_of}
+use Rattle.bidi_display.specs.LineBreaks.{lines_of, shown_end, simple_break_after}
+use Rattle.bidi_display.specs.LineChars.{line_chars}
+use Rattle.bidi_display.specs.Shown.{cluster_text}
+use Rattle.bidi_display.specs.declared.line_char.LineChar.{LineChar}
+use Rattle.bidi_display.specs.declared.line_cluster.LineCluster.{LineCluster}
 use Rattle.bidi_terminal.specs.Bases.{level_of_base}
-use Rattle.bidi_shown.specs.Breaks.{lines_of_text}
-use Rattle.bidi_shown.specs.Tabs.{spread, spread_values}
-use Rattle.bidi_unicode.specs.Unicode.{mirrored_of}
+use Rattle.bidi_shown.specs.Breaks.{or_empty}
+use Rattle.bidi_shown.specs.Plain.{plain_paragraph}
+use Rattle.bidi_shown.specs.Views.{columns_in, mirrored_in, options_in}
 use Rattle.bidi_shown.specs.declared.view.View.{View}
 
--- the character that is shown at an odd level (L4)
-abbrev pub mirror : ℕ → ℕ
-mirror c = unwrap_or (mirrored_of c) c
+-- a displayed character of a cluster, a tab as spaces of the width of the cluster
+abbrev pub spaced : ℕ → ℕ → List ℕ
+spaced width c = if c == 0x09 then replicate width 0x20 else c ∷ []
 
--- characters read from the last one back, and the marks that wait for the character that they follow: each other
--- character comes with its marks after it (L3)
-abbrev pub with_marks : (ℕ → Bool) → List ℕ → List ℕ → List ℕ
-with_marks is_mark marks [] = marks
-with_marks is_mark marks (c ∷ before) =
-    if is_mark c then with_marks is_mark (c ∷ marks) before else (c ∷ marks) ++ with_marks is_mark [] before
+-- the displayed characters of a cluster of a line, with spaces for a tab
+abbrev pub spaced_cluster : View → List LineChar → LineCluster → List ℕ
+spaced_cluster view chars k = flat_map (spaced k.width) (cluster_text (options_in view) (mirrored_in view) chars k)
 
--- the characters of a run of an odd level, from left to right
-abbrev pub reversed_with_marks : Source → List ℕ → List ℕ
-reversed_with_marks source chars = with_marks (λ c. is_nsm (source.class_of c)) [] (reverse chars)
+-- those of all clusters of a line, from left to right
+unfoldable pub spaced_text : View → List LineChar → List LineCluster → List ℕ
+spaced_text view chars ks = flat_map (λ i. get_or (map (spaced_cluster view chars) ks) i []) (cluster_order ks)
 
--- a run of a line as it is shown: at an odd level from right to left, mirrored and with its marks after their letters,
--- or only reversed if it is plain
-abbrev pub shown_run : Source → Bool → Bool → List ℕ → List ℕ
-shown_run source plain odd chars =
-    if odd then (if plain then flat_map encode_utf8 (reverse chars)
-    else flat_map (λ c. encode_utf8 (mirror c)) (reversed_with_marks source chars))
-    else flat_map encode_utf8 chars
+-- the clusters of a line
+abbrev pub clusters_in : View → List LineChar → List LineCluster
+clusters_in view chars = clusters_of (options_in view) (columns_in view) chars
 
-abbrev pub run_at : Source → Bool → List ℕ → List ℕ → Run → List ℕ
-run_at source plain chars levels run = shown_run source plain (is_odd (run_level 0 levels run)) (slice_range chars run.0 run.1)
+-- an analysed paragraph, with its level
+module _ (view : View) (a : AnalysedText) (level : ℕ) where
+  -- a line of it as it is shown, ended by a line feed
+  unfoldable pub displayed_range : Range ℕ → List ℕ
+  displayed_range line =
+      flat_map encode_utf8 (spaced_text view (line_chars a level line) (clusters_in view (line_chars a level line)))
+      ++ codes "\n"
 
--- a line as it is shown, from its characters and their levels after L1
-unfoldable pub shown_line : Source → Bool → List ℕ → List ℕ → List ℕ
-shown_line source plain chars levels = flat_map (run_at source plain chars levels) (visual_runs 0 levels)
+  -- the line without the white space at its end
+  unfoldable pub part_of : Range ℕ → Range ℕ
+  part_of line = record {
+    start = line.start;
+    end = shown_end (line_chars a level line) line.start (clusters_in view (line_chars a level line));
+  }
 
--- the same with spaces for tabs. Columns are counted in the order of the text, so from the side where the line begins.
--- Tabs have the level of the paragraph (L1), so what is between two of them stays together
-unfoldable pub tabbed_line : Source → Bool → List ℕ → List ℕ → List ℕ
-tabbed_line source plain chars levels = shown_line source plain (spread 0 chars) (spread_values 0 chars levels)
+  -- the whole paragraph as a line
+  abbrev pub whole : Range ℕ
+  whole = record { start = 0; end = text_len a.len_of a.chars }
 
--- the levels of the line of a paragraph that goes from one character up to another, after L1
-unfoldable pub shown_levels : Source → Option ℕ → List ℕ → ℕ → ℕ → List ℕ
-shown_levels source base_level chars start end =
-    let classes = map source.class_of chars in
-    levels_of_line (paragraph_level base_level classes) (stored_classes classes) (stored_levels source base_level chars) start end
+  -- the lines of at most so many columns, as ranges of its code units. An empty paragraph is one empty line
+  unfoldable pub ranges_within : ℕ → List Run
+  ranges_within width =
+      or_empty (lines_of (options_in view) simple_break_after width (line_chars a level whole) 0
+      (clusters_in view (line_chars a level whole)))
 
--- the lines of a paragraph, as ranges of its bytes in UTF-8: one, or those of at most so many columns
-abbrev pub shown_ranges : Source → Option ℕ → List ℕ → List Run
-shown_ranges source None chars = (0, text_len len_utf8 chars) ∷ []
-shown_ranges source (Some width) chars = lines_of_text source width (encode_utf8_all chars)
+  -- one of these lines as it is shown
+  abbrev pub displayed_part : Run → List ℕ
+  displayed_part run = displayed_range (part_of (record { start = run.0; end = run.1 }))
 
--- a line of a paragraph as it is shown, from its range of bytes, ended by a line feed
-abbrev pub shown_range : Source → View → List ℕ → Run → List ℕ
-shown_range source view chars run =
-    let start = char_index len_utf8 chars run.0 in
-    let end = char_index len_utf8 chars run.1 in
-    tabbed_line source view.plain (slice_range chars start end) (shown_levels source (level_of_base view.base) chars start end)
-    ++ codes "\n"
+  -- the paragraph as it is shown: as one line, or as lines of at most so many columns
+  unfoldable pub displayed_lines : Option ℕ → List ℕ
+  displayed_lines None = displayed_range whole
+  displayed_lines (Some width) = flat_map displayed_part (ranges_within width)
+
+-- a paragraph in UTF-8, with its stored classes and levels
+abbrev pub analysed_paragraph : Source → Option ℕ → List ℕ → AnalysedText
+analysed_paragraph source base_level chars = record {
+  len_of = len_utf8;
+  chars = chars;
+  classes = per_unit len_utf8 chars (stored_classes (map source.class_of chars));
+  levels = per_unit len_utf8 chars (stored_levels source base_level chars);
+}
+
+-- the paragraph as it is displayed
+unfoldable pub displayed_paragraph : Source → View → List ℕ → List ℕ
+displayed_paragraph source view chars =
+    displayed_lines view (analysed_paragraph source (level_of_base view.base) chars)
+    (paragraph_level (level_of_base view.base) (map source.class_of chars)) view.width
 
 -- the lines of a paragraph
 unfoldable pub shown_paragraph : Source → View → List ℕ → List ℕ
-shown_paragraph source view chars = flat_map (shown_range source view chars) (shown_ranges source view.width chars)
+shown_paragraph source view chars =
+    if view.plain then plain_paragraph source view chars else displayed_paragraph source view chars
 
 -- the characters after the first paragraph
 abbrev pub after_first : Source → List ℕ → List ℕ

@@ -4,6 +4,7 @@ pub mod Clusters
 pub mod Displayed
 pub mod Faults
 pub mod Paragraph
+pub mod Plain
 pub mod PrintableLines
 pub mod SpreadLine
 pub mod Streams

@@ -1,13 +1,12 @@
-//! The text of a line from left to right.
+//! The text of a line shown plainly, from left to right.
 ghost use Rattle.std.specs.Prelude.{◌≡◌, ◌++◌, ◌==◌, length, OnOk, string_bytes};
 ghost use Rattle.std.specs.List.{list_any};
 ghost use Rattle.std.specs.Str.{chars};
-ghost use Rattle.bidi_shown.specs.Displayed.{tabbed_line};
+ghost use Rattle.bidi_shown.specs.Plain.{tabbed_line};
 
 use crate::characters::chars_of;
 use crate::show::push_line;
 use crate::tabs::SpreadLine;
-use bidi_base::data_source::BidiDataSource;
 use bidi_base::level::{Level, has_rtl};
 use std::alloc::{AllocError, Global};
 
@@ -19,39 +18,35 @@ fn has_tab(text: &str) -> bool
 }
 
 // Appends a line with spaces for its tabs, from its characters.
-fn push_tabbed<D: BidiDataSource>(
+fn push_tabbed(
     alloc: Global,
     out: &mut String,
-    data_source: &D,
-    plain: bool,
     chars: &[char],
     levels: &[Level],
 ) -> Result<(), AllocError>
     requires { length levels.now ≡ length chars.now }
     ensures { OnOk result (string_bytes out.new
-        ≡ string_bytes out.old ++ tabbed_line (D.source data_source.now) plain chars.now levels.now) }
+        ≡ string_bytes out.old ++ tabbed_line chars.now levels.now) }
 {
     let mut line = SpreadLine::new(alloc);
     line.spread(chars, levels)?;
-    push_line(alloc, out, data_source, plain, line.chars(), line.levels())
+    push_line(alloc, out, line.chars(), line.levels())
 }
 
 /// Appends the text of a line from left to right, given one level for each character, that after L1.
 ///
-/// A tab becomes spaces up to the next multiple of eight columns from the side where the line begins. At odd levels
-/// characters are mirrored (L4), and nonspacing marks come after their letters (L3), unless `plain` is true. A line
-/// with neither a tab nor an odd level is copied. Returns an error if an allocation fails.
-pub fn push_text<D: BidiDataSource>(
+/// Each character is moved by itself (L2), and none is mirrored. A tab becomes spaces up to the next multiple of eight
+/// columns from the side where the line begins. A line with neither a tab nor an odd level is copied. Returns an error
+/// if an allocation fails.
+pub fn push_text(
     alloc: Global,
     out: &mut String,
-    data_source: &D,
-    plain: bool,
     text: &str,
     levels: &[Level],
 ) -> Result<(), AllocError>
     requires { length levels.now ≡ length (chars text.now) }
     ensures { OnOk result (string_bytes out.new
-        ≡ string_bytes out.old ++ tabbed_line (D.source data_source.now) plain (chars text.now) levels.now) }
+        ≡ string_bytes out.old ++ tabbed_line (chars text.now) levels.now) }
 {
     let tabs = has_tab(text);
     if !tabs && !has_rtl(levels) {
@@ -59,7 +54,7 @@ pub fn push_text<D: BidiDataSource>(
     }
     let chars = chars_of(alloc, text)?;
     if tabs {
-        return push_tabbed(alloc, out, data_source, plain, chars.as_slice(), levels);
+        return push_tabbed(alloc, out, chars.as_slice(), levels);
     }
-    push_line(alloc, out, data_source, plain, chars.as_slice(), levels)
+    push_line(alloc, out, chars.as_slice(), levels)
 }

@@ -1,94 +1,16 @@
 //! The lines of a paragraph from left to right.
-ghost use Rattle.std.specs.Prelude.{◌≡◌, ◌++◌, flat_map, map, All, IfOk, OnOk, string_bytes};
-ghost use Rattle.std.specs.Str.{chars, IsUtf8};
-ghost use Rattle.bidi_base.specs.AnalysedText.{IsPerCharText};
-ghost use Rattle.bidi_base.specs.Display.{run_of};
-ghost use Rattle.bidi_shown.specs.Bounds.{IsRangeOf};
-ghost use Rattle.bidi_shown.specs.Displayed.{shown_paragraph, shown_ranges};
-ghost use Rattle.bidi_shown.specs.Paragraph.{shown_in, text_of};
+ghost use Rattle.std.specs.Prelude.{◌≡◌, ◌++◌, OnOk, string_bytes};
+ghost use Rattle.std.specs.Str.{chars};
+ghost use Rattle.bidi_shown.specs.Displayed.{shown_paragraph};
 
-use crate::breaks::lines;
-use crate::line::push_text;
+use crate::analysed::AnalysedParagraph;
+use crate::displayed::push_displayed;
+use crate::plain::push_plain;
 use crate::view::View;
 use bidi_base::data_source::BidiDataSource;
-use bidi_lines::reused_levels::LineLevels;
 use bidi_text::text::StrText;
 use std::alloc::{AllocError, Global};
-use std::ops::Range;
 use unicode_bidi::engine::ParagraphAnalysis;
-
-// A paragraph with its analysis.
-#[derive(Clone, Copy)]
-struct AnalysedParagraph<'p> {
-    text: &'p str,
-    analysis: &'p ParagraphAnalysis,
-}
-
-// Appends a line of an analysed paragraph from left to right, ended by a line feed.
-fn push_line<D: BidiDataSource>(
-    alloc: Global,
-    out: &mut String,
-    data_source: &D,
-    plain: bool,
-    paragraph: &AnalysedParagraph<'_>,
-    line: &Range<usize>,
-) -> Result<(), AllocError>
-    requires utf8 { IsUtf8 paragraph.now.text.now }
-    requires per_char { IsPerCharText (text_of paragraph.now) }
-    requires range { IsRangeOf paragraph.now.text.now line.now }
-    ensures { OnOk result (string_bytes out.new ≡ string_bytes out.old
-        ++ shown_in (D.source data_source.now) plain (text_of paragraph.now) paragraph.now.analysis.now.level (run_of line.now)) }
-{
-    let analysis = paragraph.analysis;
-    let (start, end) = (line.start, line.end);
-    let part = &paragraph.text[start..end];
-    let classes = &analysis.classes.as_slice()[start..end];
-    let levels = &analysis.levels.as_slice()[start..end];
-    let mut shown = LineLevels::new(alloc);
-    shown.show(analysis.level, classes, levels)?;
-    shown.keep_first_units(StrText::new(part));
-    push_text(alloc, out, data_source, plain, part, shown.as_slice())?;
-    out.push_str("\n")?;
-    Ok(())
-}
-
-// Appends lines of an analysed paragraph.
-fn push_lines<D: BidiDataSource>(
-    alloc: Global,
-    out: &mut String,
-    data_source: &D,
-    plain: bool,
-    paragraph: &AnalysedParagraph<'_>,
-    lines: &[Range<usize>],
-) -> Result<(), AllocError>
-    requires utf8 { IsUtf8 paragraph.now.text.now }
-    requires per_char { IsPerCharText (text_of paragraph.now) }
-    requires ranges { All (IsRangeOf paragraph.now.text.now) lines.now }
-    ensures { OnOk result (string_bytes out.new ≡ string_bytes out.old ++ flat_map
-        (λ r. shown_in (D.source data_source.now) plain (text_of paragraph.now) paragraph.now.analysis.now.level (run_of r))
-        lines.now) }
-{
-    for line in lines {
-        push_line(alloc, out, data_source, plain, paragraph, line)?;
-    }
-    Ok(())
-}
-
-// Returns the lines of a paragraph, as ranges of its bytes: all of it, or those of the width.
-fn lines_of<D: BidiDataSource>(
-    alloc: Global,
-    data_source: &D,
-    width: Option<u16>,
-    text: &str,
-) -> Result<Vec<Range<usize>>, AllocError>
-    ensures lines { IfOk result (λ v. map run_of v.items ≡ shown_ranges (D.source data_source.now) width (chars text.now)) }
-    ensures ranges { IfOk result (λ v. All (IsRangeOf text.now) v.items) }
-{
-    match width {
-        Some(width) => lines(alloc, data_source, text, width),
-        None => Ok(vec![in alloc; 0..text.len()]?),
-    }
-}
 
 /// Appends the lines of a paragraph without separators, each from left to right and ended by a line feed.
 ///
@@ -105,17 +27,13 @@ pub fn push_paragraph<D: BidiDataSource>(
         ≡ string_bytes out.old ++ shown_paragraph (D.source data_source.now) view (chars text.now)) }
 {
     analysis.find(alloc, data_source, StrText::new(text), view.base.level())?;
-    let lines = lines_of(alloc, data_source, view.width, text)?;
     let paragraph = AnalysedParagraph {
         text,
         analysis: &*analysis,
     };
-    push_lines(
-        alloc,
-        out,
-        data_source,
-        view.plain,
-        &paragraph,
-        lines.as_slice(),
-    )
+    if view.plain {
+        push_plain(alloc, out, data_source, view, &paragraph)
+    } else {
+        push_displayed(alloc, out, view, &paragraph)
+    }
 }

@@ -1,7 +1,7 @@
 use Rattle.bidi_base.proofs.Common.{arith}
 use Rattle.bidi_shown.proofs.BoundsLemmas.{IsRangeOf-whole}
 use Rattle.bidi_shown.proofs.ParagraphLemmas.{ranges-Some, ranges-None}
-use Rattle.bidi_shown.proofs.paragraph.lines_of.Goals as goal
+use Rattle.bidi_shown.proofs.plain.lines_of.Goals as goal
 
 pub returns-in-Some-clause-lines : goal.returns-in-Some-clause-lines
 returns-in-Some-clause-lines g c = grind (arith, ranges-Some (g.D.BidiDataSource.source c.args.data_source.now) c.in-Some.width c.args.text.now c.utf8.text)

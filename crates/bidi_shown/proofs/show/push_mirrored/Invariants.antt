@@ -1,6 +1,0 @@
-use Rattle.bidi_base.proofs.Common.{◌≡◌, ◌++◌, take, flat_map, encode_utf8, string_bytes}
-use Rattle.bidi_shown.specs.Displayed.{mirror}
-use Rattle.bidi_shown.proofs.show.push_mirrored.Given as goal
-
-abbrev pub invariant-loop-c : goal.invariant-loop-c
-invariant-loop-c l = string_bytes l.out ≡ string_bytes l.fn.out ++ flat_map (λ c. encode_utf8 (mirror c)) (take l.c-index l.chars)
