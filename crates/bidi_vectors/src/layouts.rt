@@ -2,7 +2,7 @@
 
 use bidi_base::data_source::TableBidiData;
 use bidi_base::level::Level;
-use bidi_text::text::{StrText, is_line};
+use bidi_text::text::{CharsText, StrText, TextSource, Utf16Text, is_line};
 use bidi_vectors_format::answer::{number_words, places_of, ranges_in};
 use bidi_vectors_format::fault::{RowFault, Why};
 use bidi_vectors_format::item::{number, range_of};
@@ -12,7 +12,7 @@ use bidi_vectors_format::tally::Tally;
 use bidi_vectors_format::text::RowText;
 use std::alloc::Global;
 use std::ops::Range;
-use unicode_bidi::layout::{CharWidth, LineMap, lines};
+use unicode_bidi::layout::{CharWidth, LineMap, lines, lines_of_text};
 use unicode_bidi::{BidiInfo, ParagraphInfo};
 
 // A width for U+0301, and one for every other character.
@@ -37,8 +37,13 @@ impl CharWidth for Widths {
 }
 
 // Converts a range of characters to code units.
-fn units_of(alloc: Global, text: &str, word: &str, line: usize) -> Result<Range<usize>, RowFault> {
-    let places = places_of(alloc, StrText::new(text))?;
+fn units_of<T: TextSource>(
+    alloc: Global,
+    text: T,
+    word: &str,
+    line: usize,
+) -> Result<Range<usize>, RowFault> {
+    let places = places_of(alloc, text)?;
     let (start, end) = range_of(word, line)?;
     let fault = RowFault::Line(line, Why::TextRange);
     let start = places.get(start).copied().ok_or(fault)?;
@@ -47,7 +52,7 @@ fn units_of(alloc: Global, text: &str, word: &str, line: usize) -> Result<Range<
 }
 
 // Returns the range that a row tests: its field `part`, or the whole text.
-fn part_of(alloc: Global, row: &Row<'_>, text: &str) -> Result<Range<usize>, RowFault> {
+fn part_of<T: TextSource>(alloc: Global, row: &Row<'_>, text: T) -> Result<Range<usize>, RowFault> {
     match row.get("part") {
         Some(field) => units_of(alloc, text, field.value, field.line),
         None => Ok(0..text.len()),
@@ -87,10 +92,21 @@ fn words_of_lines(
     row: &Row<'_>,
 ) -> Result<String, RowFault> {
     let (widths, limit) = (widths_of(row)?, number(row.field("limit")?)?);
-    let part = part_of(alloc, row, text)?;
+    let part = part_of(alloc, row, StrText::new(text))?;
     let info = BidiInfo::new_with_data_source(alloc, source, text, None)?;
     let found = lines_between(alloc, &info, part, widths, limit)?;
     ranges_in(alloc, StrText::new(text), found.as_slice())
+}
+
+// Returns the lines of a row's range of a text in its encoding, as text.
+fn words_in<T: TextSource>(alloc: Global, text: T, row: &Row<'_>) -> Result<String, RowFault> {
+    let (widths, limit) = (widths_of(row)?, number(row.field("limit")?)?);
+    let part = part_of(alloc, row, text)?;
+    if !is_line(text, &part) {
+        return Err(RowFault::Line(0, Why::Line));
+    }
+    let found = lines_of_text(alloc, text, part, &widths, limit)?;
+    ranges_in(alloc, text, found.as_slice())
 }
 
 /// Runs a row of a text, the widths of its characters, a limit, and the lines of a range of it.
@@ -105,6 +121,13 @@ pub fn run_lines(
     let text = RowText::of_row(alloc, row)?;
     let words = words_of_lines(alloc, &source, text.utf8.as_str(), row);
     tally.agree(row, "lines", "layout::lines", words);
+    let call = "layout::lines_of_text";
+    let words = words_in(alloc, StrText::new(text.utf8.as_str()), row);
+    tally.agree(row, "lines", call, words);
+    let words = words_in(alloc, Utf16Text::new(text.utf16.as_slice()), row);
+    tally.agree(row, "lines", call, words);
+    let words = words_in(alloc, CharsText::new(text.chars.as_slice()), row);
+    tally.agree(row, "lines", call, words);
     Ok(())
 }
 
@@ -127,7 +150,7 @@ fn map_of_row(
     row: &Row<'_>,
 ) -> Result<LineMap, RowFault> {
     let line = row.field("line")?;
-    let range = units_of(alloc, text, line.value, line.line)?;
+    let range = units_of(alloc, StrText::new(text), line.value, line.line)?;
     let info = BidiInfo::new_with_data_source(alloc, source, text, None)?;
     map_of(alloc, &info, range)
 }

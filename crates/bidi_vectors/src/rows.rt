@@ -1,9 +1,10 @@
-//! The rows of a file, each by its kind.
+//! The calls of a row, by its kind.
 
 use crate::tables::Sources;
 use crate::{characters, directions, layouts, levels, lines, orders, searches, texts, units};
 use bidi_vectors_format::fault::{RowFault, Why};
-use bidi_vectors_format::row::{Row, rows_of};
+use bidi_vectors_format::files::RowCalls;
+use bidi_vectors_format::row::Row;
 use bidi_vectors_format::source::Tables;
 use bidi_vectors_format::tally::Tally;
 use std::alloc::Global;
@@ -56,49 +57,18 @@ fn run_part(
     Ok(true)
 }
 
-fn run_row(
-    alloc: Global,
-    sources: &mut Sources,
-    row: &Row<'_>,
-    tally: &mut Tally,
-) -> Result<(), RowFault> {
-    if sources.run(alloc, row, tally)? {
-        return Ok(());
-    }
-    let tables = sources.of_row(row)?;
-    if run_text(alloc, tables, row, tally)?
-        || run_part(alloc, tables, row, tally)?
-        || bidi_vectors_rules::run(alloc, tables, row, tally)?
-    {
-        return Ok(());
-    }
-    Err(RowFault::Line(row.line, Why::Kind))
-}
-
-// Returns a fault with the line of its row, if the call did not know the line.
-fn at_row(fault: RowFault, row: &Row<'_>) -> RowFault {
-    match fault {
-        RowFault::Line(0, why) => RowFault::Line(row.line, why),
-        _ => fault,
-    }
-}
-
-/// Runs the rows of a file. Each row is compared with at least one result.
-pub fn run_file(
-    alloc: Global,
-    text: &str,
-    sources: &mut Sources,
-    tally: &mut Tally,
-) -> Result<(), RowFault> {
-    for row in &rows_of(alloc, text)? {
-        let before = tally.compared;
-        let outcome = run_row(alloc, sources, row, tally);
-        outcome.map_err(|fault| at_row(fault, row))?;
-        let outcome = tally.end_row();
-        outcome.map_err(|fault| at_row(fault, row))?;
-        if tally.compared == before {
-            return Err(RowFault::Line(row.line, Why::Nothing));
+impl RowCalls for Sources {
+    fn run_row(&mut self, alloc: Global, row: &Row<'_>, tally: &mut Tally) -> Result<(), RowFault> {
+        if self.run(alloc, row, tally)? {
+            return Ok(());
         }
+        let tables = self.of_row(row)?;
+        if run_text(alloc, tables, row, tally)?
+            || run_part(alloc, tables, row, tally)?
+            || bidi_vectors_rules::run(alloc, tables, row, tally)?
+        {
+            return Ok(());
+        }
+        Err(RowFault::Line(row.line, Why::Kind))
     }
-    Ok(())
 }

@@ -69,7 +69,8 @@ fn base_of(word: &str) -> Option<Base> {
     }
 }
 
-fn moves_of(word: &str) -> Option<Moves> {
+/// Returns what moves, by a word.
+pub fn moves_of(word: &str) -> Option<Moves> {
     match word {
         "characters" => Some(Moves::Characters),
         "marks" => Some(Moves::Marks),
@@ -78,7 +79,8 @@ fn moves_of(word: &str) -> Option<Moves> {
     }
 }
 
-fn dropped_of(word: &str) -> Option<Dropped> {
+/// Returns what is dropped, by a word.
+pub fn dropped_of(word: &str) -> Option<Dropped> {
     match word {
         "nothing" => Some(Dropped::Nothing),
         "controls" => Some(Dropped::Controls),
@@ -87,7 +89,8 @@ fn dropped_of(word: &str) -> Option<Dropped> {
     }
 }
 
-fn widths_of(word: &str) -> Option<Widths> {
+/// Returns whose widths are counted, by a word.
+pub fn widths_of(word: &str) -> Option<Widths> {
     match word {
         "signs" => Some(Widths::Signs),
         "cells" => Some(Widths::Cells),

@@ -1,21 +1,29 @@
-//! Prints how lines are displayed: their clusters, text, carets, clicks and selections.
+//! Prints how lines are displayed, and runs the test vectors of displayed lines.
 //!
-//! Each line of a file is a case (`case`). A text runs through one of the encodings, and what is printed counts
+//! With `--rows`, the other arguments are files of rows (`rows`). A line is printed for each row with another result, and
+//! then, for each call, how many rows it was compared with. `data/README.md` describes the rows.
+//!
+//! Otherwise each line of a file is a case (`case`). A text runs through one of the encodings, and what is printed counts
 //! characters, so that the encoding does not matter. `tests/displayed_lines` compares it with a model.
 #![tactic(auto)]
 
 mod case;
 mod display;
 mod encodings;
-#[cfg(test)]
-mod part_tests;
+mod line_rows;
+mod line_words;
 mod report;
+mod row_options;
+mod rows;
 #[cfg(test)]
 mod tests;
+mod text_rows;
 
+use bidi_vectors_format::files::run_files;
 use case::Case;
 use encodings::displayed_case;
 use report::push_report;
+use rows::DisplayCalls;
 use std::alloc::{AllocError, Global};
 use std::io::{self, Read};
 use std::process::ExitCode;
@@ -23,6 +31,7 @@ use std::rt::{Env, Files};
 use std::{env, fs};
 
 const HELP: &str = "usage: bidi_vectors_display [FILE]
+       bidi_vectors_display --rows FILE..
 
 Prints how the lines of a file are displayed. The name '-', and no name at all, is standard input. A line is
 
@@ -32,7 +41,10 @@ with an encoding of utf8, utf16 or chars; a base level of 0 or 1; characters, ma
 neutrals; columns between tab stops; signs or cells; and hexadecimal numbers of characters.
 
 The exit status is 0 if every line is such a case, 2 if one is not, 3 if memory ran out, and 4 if a file could not be
-read or written.";
+read or written.
+
+With --rows, runs the test vectors of the files. The exit status is 0 if all results agree, 1 if some differ, 2 if a file
+has a fault, and 4 if a file could not be read.";
 
 // Why the lines of a file were not printed to their end.
 #[derive(Clone, Copy)]
@@ -108,6 +120,15 @@ fn run(rt: &(impl Env + Files + Input + Print + Eprint + AllocGlobal)) -> io::Re
         Some(name) if name.as_str() == "--help" => {
             println!(rt; "{HELP}")?;
             Ok(ExitCode::SUCCESS)
+        }
+        Some(name) if name.as_str() == "--rows" => {
+            let names: Vec<String> = args.collect(rt.alloc())?;
+            run_files(
+                rt,
+                "bidi_vectors_display",
+                names.as_slice(),
+                &mut DisplayCalls,
+            )
         }
         Some(name) => run_file(rt, name.as_str()),
     }

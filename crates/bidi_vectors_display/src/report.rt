@@ -1,6 +1,6 @@
 //! What is printed of a displayed line. Boundaries are counted in characters.
 
-use bidi_display::carets::{Affinity, Caret, Half, Position};
+use bidi_display::carets::{Affinity, Caret, Position, Side};
 use bidi_display::displayed_line::DisplayedLine;
 use bidi_display::line_breaks::SimpleBreaks;
 use bidi_unicode::UnicodeData;
@@ -99,13 +99,13 @@ fn push_position(
 // Appends the position of a click on each half of each column, and beside the line.
 fn push_clicks(out: &mut String, line: &DisplayedLine) -> Result<(), AllocError> {
     out.push_str("clicks")?;
-    push_position(out, line, line.position_at_end(Half::Left))?;
+    push_position(out, line, line.position_at_end(Side::Left))?;
     for column in 0..line.width() {
-        push_position(out, line, line.position_at(column, Half::Left))?;
-        push_position(out, line, line.position_at(column, Half::Right))?;
+        push_position(out, line, line.position_at(column, Side::Left))?;
+        push_position(out, line, line.position_at(column, Side::Right))?;
     }
-    push_position(out, line, line.position_at(line.width(), Half::Left))?;
-    push_position(out, line, line.position_at_end(Half::Right))?;
+    push_position(out, line, line.position_at(line.width(), Side::Left))?;
+    push_position(out, line, line.position_at_end(Side::Right))?;
     out.push('\n')
 }
 

@@ -40,6 +40,7 @@ pub enum Why {
     Paragraph,
     SourceName,
     Test,
+    Option,
 }
 
 impl Why {
@@ -81,6 +82,7 @@ impl Why {
             Why::Paragraph => "the text has no paragraph",
             Why::SourceName => "no source before this row has this name",
             Why::Test => "there is no such test",
+            Why::Option => "the field has no such value",
         }
     }
 }

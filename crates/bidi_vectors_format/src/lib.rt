@@ -10,6 +10,7 @@ mod by_rules;
 pub mod class;
 pub mod conditions;
 pub mod fault;
+pub mod files;
 pub mod item;
 pub mod row;
 pub mod source;

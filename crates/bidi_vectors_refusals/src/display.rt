@@ -10,7 +10,7 @@ use bidi_display::text::Unmirrored;
 use bidi_display::text_display::TextDisplay;
 use bidi_display::width::ClusterColumns;
 use bidi_text::text::{CharsText, StrText, TextSource, Utf16Text, is_line};
-use std::alloc::Global;
+use std::alloc::{AllocError, Global};
 use std::ops::Range;
 use unicode_bidi::info::ParagraphBidiInfo;
 use unicode_bidi::{Base, SplitRule};
@@ -38,38 +38,53 @@ fn are_alike(first: &DisplayedLine, second: &DisplayedLine) -> bool {
         && *first.order() == *second.order()
 }
 
-// Returns the displayed text of a line.
+// What a string has before a call appends to it.
+const BEFORE: &str = "before ";
+
+// Passes on what a call returned that appends. A failed allocation must leave what there was before the call.
+fn leaves(pushed: Result<(), AllocError>, is_unchanged: bool) -> Result<(), NoAnswer> {
+    match pushed {
+        Err(_) if !is_unchanged => Err(NoAnswer::Wrong),
+        Err(reason) => Err(NoAnswer::from(reason)),
+        Ok(()) => Ok(()),
+    }
+}
+
+// Returns the displayed text of a line, after another text.
 fn shown_text(alloc: Global, line: &DisplayedLine) -> Result<String, NoAnswer> {
-    let mut text = String::new(alloc);
-    line.push_text(&Unmirrored, &mut text)?;
+    let mut text = String::from_str(alloc, BEFORE)?;
+    let pushed = line.push_text(&Unmirrored, &mut text);
+    leaves(pushed, text.as_str() == BEFORE)?;
     Ok(text)
 }
 
-// Returns the lines of four columns into which a line is cut.
+// Returns the lines of four columns into which a line is cut, after an empty one.
 fn cut_lines(alloc: Global, line: &DisplayedLine) -> Result<Vec<Range<usize>>, NoAnswer> {
-    let mut lines = Vec::new(alloc);
-    line.push_lines(&SimpleBreaks, 4, &mut lines)?;
+    let mut lines = vec![in alloc; 0..0; 1]?;
+    let pushed = line.push_lines(&SimpleBreaks, 4, &mut lines);
+    leaves(pushed, lines.as_slice() == [0..0].as_slice())?;
     Ok(lines)
 }
 
-// Returns the columns of the second half of a line's code units.
+// Returns the columns of the second half of a line's code units, after an empty range.
 fn selection(alloc: Global, line: &DisplayedLine) -> Result<Vec<Range<usize>>, NoAnswer> {
     let end = line.range().end;
-    let mut columns = Vec::new(alloc);
-    line.push_selection(end / 2..end, &mut columns)?;
+    let mut columns = vec![in alloc; 0..0; 1]?;
+    let pushed = line.push_selection(end / 2..end, &mut columns);
+    leaves(pushed, columns.as_slice() == [0..0].as_slice())?;
     Ok(columns)
 }
 
-// Returns the displayed text of a text of several paragraphs.
+// Returns the displayed text of a text of several paragraphs, after another text.
 fn displayed_text<T: TextSource>(
     alloc: Global,
     source: &TableBidiData<'_>,
     text: T,
 ) -> Result<String, NoAnswer> {
     let mut display = TextDisplay::new(alloc, DisplayOptions::default());
-    let mut shown = String::new(alloc);
+    let mut shown = String::from_str(alloc, BEFORE)?;
     let rule = SplitRule::CrLfTogether;
-    display.display(
+    let pushed = display.display(
         alloc,
         source,
         text,
@@ -77,7 +92,8 @@ fn displayed_text<T: TextSource>(
         rule,
         &Unmirrored,
         &mut shown,
-    )?;
+    );
+    leaves(pushed, shown.as_str() == BEFORE)?;
     Ok(shown)
 }
 
