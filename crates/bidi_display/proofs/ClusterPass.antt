@@ -1,17 +1,22 @@
 -- A pass over the characters of a line that finds its clusters: what one more character does.
-use Rattle.bidi_base.proofs.Common.{◌≡◌, ℕ, ◌+◌, ◌-◌, ◌<◌, ◌≤◌, Bool, true, false, cond, not, List, [], ◌∷◌, ◌++◌, length, map, drop, get_or, slice_range, subst, take_all, suc, inl, inr, refl, sym, ap, ◌∙◌, arith, cases_Bool, append-nil, append_assoc, drop-drop, drop_all, length-take, length-drop, onto_first}
+use Rattle.bidi_base.proofs.Common.{◌≡◌, ℕ, ◌+◌, ◌-◌, ◌<◌, ◌≤◌, Bool, true, false, cond, not, ◌==◌, List, [], ◌∷◌, ◌++◌, length, map, drop, get_or, slice_range, subst, take_all, suc, inl, inr, refl, sym, ap, ◌∙◌, arith, nat_tests, cases_Bool, cases_lt, append-nil, append_assoc, drop-drop, drop_all, length-take, length-drop, onto_first}
 use Rattle.unicode_segmentation.specs.Grapheme.{is_grapheme_break}
-use Rattle.bidi_display.specs.DisplayedLine.{add_columns, cluster_end, cluster_of, cluster_start, cluster_width, clusters_from, clusters_of, width_at}
-use Rattle.bidi_display.specs.Grouping.{IsFoundTo, IsReadTo, prepend}
-use Rattle.bidi_display.specs.Joining.{IsCluster, joining_after}
-use Rattle.bidi_display.specs.LineClusters.{begins_cluster, cluster_level, clusters_after, displayed_chars, is_dropped, joins, line_clusters}
+use Rattle.bidi_base.specs.Classes.{is_removed}
+use Rattle.bidi_display.specs.DisplayedLine.{add_columns, cluster_end, cluster_of, cluster_start, cluster_width, clusters_from, clusters_of, tab_columns, width_at}
+use Rattle.bidi_display.specs.Grouping.{IsFoundPast, IsFoundTo, IsReadTo, prepend}
+use Rattle.bidi_display.specs.ClusterState.{is_plain}
+use Rattle.bidi_display.specs.Joining.{IsCluster, begins_simple, is_simple, joining_after}
+use Rattle.bidi_display.specs.LineClusters.{begins_cluster, cluster_level, clusters_after, displayed_chars, is_direction_control, is_dropped, joins, line_clusters}
 use Rattle.bidi_display.specs.declared.grouping.Joining.{Joining}
 use Rattle.bidi_display.specs.declared.line_char.LineChar.{LineChar}
 use Rattle.bidi_display.specs.declared.line_cluster.LineCluster.{LineCluster}
 use Rattle.bidi_display.specs.declared.options.DisplayOptions.{DisplayOptions}
 use Rattle.bidi_display.specs.declared.options.Moves.{Moves}
 use Rattle.bidi_display.specs.declared.options.Moves.TheVariants.{Characters, Marks, Clusters}
-use Rattle.bidi_display.proofs.GroupingLemmas.{drop-item}
+use Rattle.bidi_display.specs.declared.options.Dropped.{Dropped}
+use Rattle.bidi_display.specs.declared.options.Dropped.TheVariants.{Nothing, Controls, ControlsAndBoundaryNeutrals}
+use Rattle.bidi_display.proofs.GroupingLemmas.{cluster_level-found, cluster_level-none, drop-item, level_char-kept, level_char-removed}
+use Rattle.bidi_display.proofs.StateLemmas.{is_grapheme_break-plains}
 use Rattle.bidi_display.proofs.ClusterWalk.{slice_range-first, slice_range-more}
 
 -- ---- lists
@@ -44,7 +49,7 @@ drop-item-past chars k i c within is =
     let item = drop-item (drop k chars) i c (subst (λ cs. i < length cs) rest within) (subst (λ cs. c ≡ get_or cs i c) rest is) in
     drop-next chars (k + i) c (drop (i + 1) (drop k chars)) (sym (drop-drop i k chars) ∙ item)
 
-slice_range-end : (chars : List LineChar) (k m : ℕ) → k ≤ m → m ≤ length chars → k + length (slice_range chars k m) ≡ m
+pub slice_range-end : (chars : List LineChar) (k m : ℕ) → k ≤ m → m ≤ length chars → k + length (slice_range chars k m) ≡ m
 slice_range-end chars k m le within = omega (arith, length-take (m - k) (drop k chars), length-drop k chars)
 
 -- ---- the start of a line
@@ -54,6 +59,36 @@ unfolding is_grapheme_break
 joins-start Characters c = refl
 joins-start Marks c = refl
 joins-start Clusters c = refl
+
+-- lists that are equal begin with the same
+first-of : (c d : LineChar) (rest : List LineChar) → c ∷ rest ≡ d ∷ rest → c ≡ d
+first-of c d rest e = ap (λ cs. get_or cs 0 c) e
+
+-- ---- simple characters
+
+-- the character at an index, whatever stands for one past the end
+pub simple-item : (chars : List LineChar) (k : ℕ) (c d : LineChar) → k < length chars → c ≡ get_or chars k c → d ≡ get_or chars k d → is_simple c ≡ true → is_simple d ≡ true
+simple-item chars k c d within is_c is_d simple =
+    let same : c ≡ d = first-of c d (drop (k + 1) chars) (sym (drop-item chars k c within is_c) ∙ drop-item chars k d within is_d) in
+    sym (ap is_simple same) ∙ simple
+
+simple-plain : (c : LineChar) → is_simple c ≡ true → is_plain c.char ≡ true
+simple-plain c e = grind (arith, e)
+
+-- one is displayed
+plain-no_control : (c : ℕ) → is_plain c ≡ true → is_direction_control c ≡ false
+plain-no_control c e = grind (arith, nat_tests, e)
+
+simple-shown : (dropped : Dropped) (c : LineChar) → is_simple c ≡ true → is_dropped dropped c ≡ false
+simple-shown Nothing c e = refl
+simple-shown Controls c e = plain-no_control c.char (simple-plain c e)
+simple-shown ControlsAndBoundaryNeutrals c e = grind (arith, plain-no_control c.char (simple-plain c e), e)
+
+-- two do not join
+simple-apart : (moves : Moves) (before : List LineChar) (c d : LineChar) → is_simple c ≡ true → is_simple d ≡ true → joins moves (c ∷ before) d ≡ false
+simple-apart Characters before c d p q = refl
+simple-apart Marks before c d p q = grind (arith, q)
+simple-apart Clusters before c d p q = ap not (is_grapheme_break-plains (map (λ b. b.char) before) [] c.char d.char (simple-plain c p) (simple-plain d q))
 
 module _ (options : DisplayOptions) where
   -- ---- one character
@@ -176,9 +211,53 @@ module _ (options : DisplayOptions) where
           reads = reads;
         }
 
+    begins_cluster-simple : (c : LineChar) (rest : List LineChar) → is_simple c ≡ true → begins_simple rest ≡ true → begins_cluster options (c ∷ before) rest ≡ true
+    begins_cluster-simple c [] simple follows = refl
+    begins_cluster-simple c (d ∷ rest) simple follows =
+        begins_cluster-shown (c ∷ before) rest d (simple-shown options.dropped d follows) ∙ ap not (simple-apart options.moves before c d simple follows)
+
+    -- a simple character before another is a cluster
+    pub IsCluster-simple : (c : LineChar) → drop from chars ≡ c ∷ drop (from + 1) chars → is_simple c ≡ true → begins_simple (drop (from + 1) chars) ≡ true
+        → IsCluster options chars from before (from + 1) (joining_after options.moves (c ∷ before))
+    IsCluster-simple c next simple follows =
+        let rest = drop (from + 1) chars in
+        let read = c ∷ before in
+        let b = begins_cluster-simple c rest simple follows in
+        record {
+          read = read;
+          cluster = ap (clusters_after options before) next ∙ clusters_after-shown before rest c (simple-shown options.dropped c simple)
+              ∙ ap (λ x. cond x ((c ∷ []) ∷ clusters_after options read rest) (onto_first c (clusters_after options read rest))) b
+              ∙ ap (λ s. s ∷ clusters_after options read rest) (sym (slice_range-first chars from c next));
+          begins = b;
+          reads = refl;
+        }
+
   -- ---- the clusters
 
   module _ (width_of : List ℕ → ℕ) where
+    simple-level : (c : LineChar) → is_simple c ≡ true → c.level ≡ cluster_level options (c ∷ [])
+    simple-level c e =
+        let shown = simple-shown options.dropped c e in
+        elim (cases_Bool (is_removed c.class)) [
+          | inl removed ↦ cluster_level-none options (c ∷ []) c (omega arith) (level_char-removed options [] c shown removed)
+          | inr kept ↦ cluster_level-found options (c ∷ []) c (level_char-kept options [] c shown kept)
+        ]
+
+    simple-displayed : (c : LineChar) → is_simple c ≡ true → displayed_chars options (c ∷ []) ≡ c ∷ []
+    simple-displayed c e = ap (λ b. cond (not b) (c ∷ []) []) (simple-shown options.dropped c e)
+
+    width_at-plain : (column c : ℕ) → is_plain c ≡ true → width_at options width_of column (c ∷ []) ≡ width_of (c ∷ [])
+    width_at-plain column c e = let no_tab : (c == 0x09) ≡ false = grind (arith, nat_tests, e) in ap (λ b. cond b (cond (options.tab == 0) (width_of (c ∷ [])) (tab_columns options.tab column)) (width_of (c ∷ []))) no_tab
+
+    -- the cluster of a simple character
+    pub is_cluster_of-simple : (at column : ℕ) (c : LineChar) (width : ℕ) → is_simple c ≡ true → width ≡ width_of (c.char ∷ [])
+        → ◌≡◌ {A = LineCluster} (record { start = c.start; end = c.end; chars_start = at; chars_end = at + 1; level = c.level; width = width }) (cluster_of options width_of at column (c ∷ []))
+    is_cluster_of-simple at column c width e is =
+        let level = simple-level c e in
+        let wide : width ≡ cluster_width options width_of column (c ∷ []) =
+        is ∙ sym (width_at-plain column c.char (simple-plain c e)) ∙ ap (λ cs. width_at options width_of column (map (λ d. d.char) cs)) (sym (simple-displayed c e)) in
+        λ i. record { start = c.start; end = c.end; chars_start = at; chars_end = at + 1; level = level i; width = wide i }
+
     cluster_start-first : (cluster : List LineChar) (d : LineChar) → 0 < length cluster → (get_or cluster 0 d).start ≡ cluster_start options width_of cluster
     cluster_start-first [] d some = absurd (omega arith)
     cluster_start-first (c ∷ cs) d some = refl
@@ -239,6 +318,43 @@ module _ (options : DisplayOptions) where
           all = ap (λ ks. ks ++ clusters_from options width_of end after rest) is_more ∙ append_assoc found (k ∷ []) (clusters_from options width_of end after rest)
               ∙ ap (λ ks. found ++ ks) (sym here) ∙ h.all;
         }
+
+    pub IsFoundPast-none : (from column : ℕ) (joining : Joining) (found : List LineCluster) → IsFoundTo options width_of chars from column joining found → IsFoundPast options width_of chars from from column joining found
+    IsFoundPast-none from column joining found start = record { none = λ _. start; some = λ some. absurd (omega (arith, some)) }
+
+    -- one more simple character
+    pub IsFoundPast-more : (from at column after : ℕ) (joining : Joining) (found more : List LineCluster) (k : LineCluster) (c : LineChar) → IsFoundPast options width_of chars from at column joining found
+        → from ≤ at → at < length chars → drop at chars ≡ c ∷ drop (at + 1) chars → is_simple c ≡ true → begins_simple (drop (at + 1) chars) ≡ true → k ≡ cluster_of options width_of at column (c ∷ [])
+        → after ≡ add_columns column k.width → more ≡ found ++ k ∷ [] → IsFoundPast options width_of chars from (at + 1) after joining more
+    IsFoundPast-more from at column after joining found more k c h le within next simple follows is sum is_more =
+        let one : (j : Joining) (start : IsFoundTo options width_of chars at column j found) → IsFoundTo options width_of chars (at + 1) after (joining_after options.moves (c ∷ start.read)) more =
+        λ j start. IsFoundTo-more at (at + 1) column after j (joining_after options.moves (c ∷ start.read)) found more k start (IsCluster-simple chars at start.read c next simple follows) (omega arith) (omega arith)
+        (is ∙ ap (cluster_of options width_of at column) (sym (slice_range-first chars at c next))) sum is_more in
+        let here : drop (at + 1 - 1) chars ≡ c ∷ drop (at + 1) chars = let e : at + 1 - 1 ≡ at = omega arith in ap (λ n. drop n chars) e ∙ next in
+        record {
+          none = λ e. absurd (omega (arith, e));
+          some = λ _. elim (cases_lt from at) [
+            | inl some ↦ let s = h.some some in (c, s.4.read, here, simple, one _ s.4)
+            | inr none ↦
+                let e : at ≡ from = omega (arith, none) in
+                let start = subst (λ n. IsFoundTo options width_of chars n column joining found) (sym e) (h.none e) in (c, start.read, here, simple, one _ start)
+          ];
+        }
+
+    -- the last one is read
+    pub IsFoundPast-read : (from end column : ℕ) (joining new : Joining) (found : List LineCluster) (c : LineChar) → IsFoundPast options width_of chars from end column joining found → from < end
+        → drop (end - 1) chars ≡ c ∷ drop end chars → ((before : List LineChar) → new ≡ joining_after options.moves (c ∷ before)) → IsFoundTo options width_of chars end column new found
+    IsFoundPast-read from end column joining new found c h some next reads =
+        let s = h.some some in
+        let same : s.0 ≡ c = first-of s.0 c (drop end chars) (sym s.2 ∙ next) in
+        subst (λ (j : Joining). IsFoundTo options width_of chars end column j found) (ap (λ (x : LineChar). joining_after options.moves (x ∷ s.1)) same ∙ sym (reads s.1)) s.4
+
+    pub IsFoundPast-simple : (from end column : ℕ) (joining : Joining) (found : List LineCluster) (c : LineChar) → IsFoundPast options width_of chars from end column joining found → from < end
+        → drop (end - 1) chars ≡ c ∷ drop end chars → is_simple c ≡ true
+    IsFoundPast-simple from end column joining found c h some next =
+        let s = h.some some in
+        let same : s.0 ≡ c = first-of s.0 c (drop end chars) (sym s.2 ∙ next) in
+        sym (ap is_simple same) ∙ s.3
 
     pub IsFoundTo-end : (from column : ℕ) (joining : Joining) (found : List LineCluster) → IsFoundTo options width_of chars from column joining found → length chars ≤ from → found ≡ clusters_of options width_of chars
     IsFoundTo-end from column joining found h past =

@@ -28,3 +28,4 @@ mod TableFacts
 mod TextDisplayLemmas
 pub mod TextLemmas
 mod WholeLine
+mod WidthLemmas

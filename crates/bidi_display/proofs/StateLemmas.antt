@@ -3,14 +3,15 @@ use Rattle.bidi_base.proofs.Common.{◌≡◌, ℕ, Bool, true, false, cond, not
 use Rattle.std.specs.Prelude.{Some, None}
 use Rattle.ucd_breaks.specs.GraphemeClusterBreak.{grapheme_cluster_break}
 use Rattle.ucd_breaks.specs.declared.GraphemeClusterBreak.{GraphemeClusterBreak}
+use Rattle.ucd_breaks.specs.declared.GraphemeClusterBreak.TheVariants as GCB
 use Rattle.ucd_derived.specs.IndicConjunctBreak.{indic_conjunct_break}
 use Rattle.ucd_derived.specs.declared.IndicConjunctBreak.{IndicConjunctBreak}
 use Rattle.ucd_derived.specs.declared.IndicConjunctBreak.TheVariants as InCb
 use Rattle.ucd_emoji.specs.Binary.{is_extended_pictographic}
 use Rattle.unicode_segmentation.specs.Grapheme.{break_by_pair, ends_in_half_flag, ends_in_linker, ends_in_pictograph, is_extend, is_grapheme_break, is_regional, is_zwj, joins_conjunct, joins_emoji, joins_flag}
-use Rattle.bidi_display.specs.ClusterState.{last_value, base_of, state_after}
+use Rattle.bidi_display.specs.ClusterState.{last_value, base_of, is_plain, state_after}
 use Rattle.bidi_display.specs.declared.cluster_state.ClusterState.{ClusterState}
-use Rattle.bidi_display.proofs.TableFacts.{is_in_conjunct, no_pictograph, zero_is_no_pictograph}
+use Rattle.bidi_display.proofs.TableFacts.{is_in_conjunct, no_pictograph, plain-no_consonant, plain-no_pictograph, plain-other, plain-outside_conjunct, zero_is_no_pictograph}
 
 -- GB11 looks back to the last character that does not have the value Extend
 pub ends_in_pictograph-base_of : (before : List ℕ) → ends_in_pictograph before ≡ is_extended_pictographic (base_of before)
@@ -74,3 +75,60 @@ state_after-cons state before c value base linker zwj flag e v b l z f =
     let new_zwj = z ∙ ap (λ (x : ℕ). is_zwj (grapheme_cluster_break c) && is_extended_pictographic x) old_base ∙ ap (λ (x : Bool). is_zwj (grapheme_cluster_break c) && x) (sym (ends_in_pictograph-base_of before)) in
     let new_flag = f ∙ ap (λ (x : Bool). is_regional (grapheme_cluster_break c) && not x) old_flag in
     λ i. record { last = v i; base = new_base i; after_linker = l i; after_pictograph_zwj = new_zwj i; after_half_flag = new_flag i }
+
+-- ---- a plain character
+
+abbrev pub is_prepend : GraphemeClusterBreak → Bool
+is_prepend GCB.Prepend = true
+is_prepend _ = false
+
+-- of the rules that read two characters, the one on prepended marks alone joins one with the value Other
+pair-other : (last : GraphemeClusterBreak) → unwrap_or (break_by_pair true last GCB.Other) true ≡ not (is_prepend last)
+pair-other GCB.Control = refl
+pair-other GCB.Cr = refl
+pair-other GCB.Extend = refl
+pair-other GCB.L = refl
+pair-other GCB.Lf = refl
+pair-other GCB.Lv = refl
+pair-other GCB.Lvt = refl
+pair-other GCB.Prepend = refl
+pair-other GCB.RegionalIndicator = refl
+pair-other GCB.SpacingMark = refl
+pair-other GCB.T = refl
+pair-other GCB.V = refl
+pair-other GCB.Other = refl
+pair-other GCB.Zwj = refl
+
+joins_emoji-plain : (before : List ℕ) (c : ℕ) → is_plain c ≡ true → joins_emoji before c ≡ false
+joins_emoji-plain [] c p = refl
+joins_emoji-plain (b ∷ before) c p = grind (arith, plain-no_pictograph c p)
+
+-- no other rule does
+joins-plain : (before : List ℕ) (c : ℕ) → is_plain c ≡ true → (joins_conjunct before c || joins_emoji before c || joins_flag before c) ≡ false
+joins-plain before c p = grind (arith, plain-no_consonant c p, joins_emoji-plain before c p, plain-other c p)
+
+-- a cluster begins at a plain character, but after a prepended mark
+pub is_grapheme_break-plain : (before after : List ℕ) (c : ℕ) → is_plain c ≡ true → is_grapheme_break true before (c ∷ after) ≡ not (is_prepend (last_value before))
+is_grapheme_break-plain before after c p =
+    is_grapheme_break-last_value before c after
+    ∙ ap₂ (λ (value : GraphemeClusterBreak) (joins : Bool). unwrap_or (break_by_pair true (last_value before) value) (not joins)) (plain-other c p) (joins-plain before c p)
+    ∙ pair-other (last_value before)
+
+-- and at one that follows another
+pub is_grapheme_break-plains : (before after : List ℕ) (b c : ℕ) → is_plain b ≡ true → is_plain c ≡ true → is_grapheme_break true (b ∷ before) (c ∷ after) ≡ true
+is_grapheme_break-plains before after b c p q = is_grapheme_break-plain (b ∷ before) after c q ∙ ap (λ value. not (is_prepend value)) (plain-other b p)
+
+-- the state after it is the same after all characters
+pub state_after-plain : (before : List ℕ) (c : ℕ) (start : ClusterState) → is_plain c ≡ true → start ≡ state_after []
+    → ◌≡◌ {A = ClusterState} (record start { last = GCB.Other; base = c }) (state_after (c ∷ before))
+unfolding ends_in_half_flag ends_in_linker
+state_after-plain before c start p e =
+    let value : GCB.Other ≡ grapheme_cluster_break c = sym (plain-other c p) in
+    let base : c ≡ base_of (c ∷ before) = ap (λ (v : GraphemeClusterBreak). cond (is_extend v) (base_of before) c) value in
+    let linker : start.after_linker ≡ ends_in_linker (map indic_conjunct_break (c ∷ before)) =
+    ap (λ (s : ClusterState). s.after_linker) e ∙ sym (ends_in_linker-outside (indic_conjunct_break c) (map indic_conjunct_break before) (plain-outside_conjunct c p)) in
+    let zwj : start.after_pictograph_zwj ≡ (is_zwj (grapheme_cluster_break c) && ends_in_pictograph before) =
+    ap (λ (s : ClusterState). s.after_pictograph_zwj) e ∙ ap (λ v. is_zwj v && ends_in_pictograph before) value in
+    let flag : start.after_half_flag ≡ (is_regional (grapheme_cluster_break c) && not (ends_in_half_flag before)) =
+    ap (λ (s : ClusterState). s.after_half_flag) e ∙ ap (λ v. is_regional v && not (ends_in_half_flag before)) value in
+    λ i. record { last = value i; base = base i; after_linker = linker i; after_pictograph_zwj = zwj i; after_half_flag = flag i }

@@ -1,5 +1,6 @@
 -- What a pass over characters remembers of those that it has read, nearest first.
-use Rattle.std.specs.Prelude.{ℕ, Bool, false, ◌&&◌, if◌then◌else◌, List, [], ◌∷◌, map}
+use Rattle.std.specs.Prelude.{ℕ, Bool, false, ◌&&◌, ◌||◌, if◌then◌else◌, List, [], ◌∷◌, map}
+use Rattle.std.specs.Int.{is_in_range}
 use Rattle.ucd_breaks.specs.GraphemeClusterBreak.{grapheme_cluster_break}
 use Rattle.ucd_breaks.specs.declared.GraphemeClusterBreak.{GraphemeClusterBreak}
 use Rattle.ucd_breaks.specs.declared.GraphemeClusterBreak.TheVariants.{Control}
@@ -31,3 +32,10 @@ state_after before = record {
   after_pictograph_zwj = ends_in_pictograph_zwj before;
   after_half_flag = ends_in_half_flag before;
 }
+
+-- a frequent character that joins the character before it only if that is a prepended mark (GB9b): printable ASCII, letters
+-- of Latin, Greek, Cyrillic, Hebrew and Arabic, and ideographs
+abbrev pub is_plain : ℕ → Bool
+is_plain c =
+    is_in_range 0x20 0x7E c || is_in_range 0xC0 0x2FF c || is_in_range 0x370 0x482 c || is_in_range 0x5D0 0x5EA c
+    || is_in_range 0x620 0x64A c || is_in_range 0x4E00 0x9FFF c

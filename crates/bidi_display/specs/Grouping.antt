@@ -1,7 +1,7 @@
 -- How far a pass over the characters of a line has found its clusters.
-use Rattle.std.specs.Prelude.{◌≡◌, ℕ, true, false, List, [], ◌∷◌, ◌++◌, drop, slice_range}
+use Rattle.std.specs.Prelude.{◌≡◌, ℕ, ◌<◌, ◌-◌, true, false, List, [], ◌∷◌, ◌++◌, drop, slice_range}
 use Rattle.bidi_display.specs.DisplayedLine.{clusters_from, clusters_of}
-use Rattle.bidi_display.specs.Joining.{joining_after}
+use Rattle.bidi_display.specs.Joining.{is_simple, joining_after}
 use Rattle.bidi_display.specs.LineClusters.{begins_cluster, clusters_after}
 use Rattle.bidi_display.specs.declared.grouping.Joining.{Joining}
 use Rattle.bidi_display.specs.declared.line_char.LineChar.{LineChar}
@@ -33,3 +33,11 @@ pub record IsFoundTo (options : DisplayOptions) (width_of : List ℕ → ℕ) (c
   pub begins : begins_cluster options read (drop from chars) ≡ true
   pub all : found ++ clusters_from options width_of from column (clusters_after options read (drop from chars))
       ≡ clusters_of options width_of chars
+
+-- the same up to `end`: either nothing was found from `from` on, or the last character before `end` was read last. It is
+-- simple, and `joining` has not read it
+pub record IsFoundPast (options : DisplayOptions) (width_of : List ℕ → ℕ) (chars : List LineChar) (from end column : ℕ)
+    (joining : Joining) (found : List LineCluster) : Type 0 where
+  pub none : end ≡ from → IsFoundTo options width_of chars from column joining found
+  pub some : from < end → (c : LineChar) × (before : List LineChar) × (drop (end - 1) chars ≡ c ∷ drop end chars)
+      × (is_simple c ≡ true) × IsFoundTo options width_of chars end column (joining_after options.moves (c ∷ before)) found

@@ -1,12 +1,13 @@
 //! Carets, clicks and selections in a displayed line.
 
-ghost use Rattle.std.specs.Prelude.{◌≡◌, ℕ, ◌+◌, ◌<◌, ◌≤◌, ◌++◌, length, map, slice_index, option_map, OnOk, OnErr, IfSome};
+ghost use Rattle.std.specs.Prelude.{◌≡◌, ℕ, ◌+◌, ◌<◌, ◌≤◌, ◌++◌, length, map, take, slice_index, option_map, OnOk, OnErr, IfSome};
 ghost use Rattle.bidi_base.specs.Levels.{is_odd};
 ghost use Rattle.bidi_base.specs.Display.{run_of};
 ghost use Rattle.bidi_display.specs.Carets.{IsClusterOf, after_boundary as after_boundary_in, before_boundary as before_boundary_in, boundary_unit as boundary_unit_in, caret as caret_in, cluster_at as cluster_at_in, cluster_at_column as cluster_at_column_in, clusters_before as clusters_before_in, column_after as column_after_in, column_before as column_before_in, column_of as column_by, position_at as position_in_line, position_at_edge as position_at_edge_in, position_at_end as position_at_end_in, is_selected as is_selected_in, selected_columns, some_columns};
 ghost use Rattle.bidi_display.specs.DisplayedLine.{cluster_order, edges as edges_of, ends as ends_of};
 ghost use Rattle.bidi_display.specs.Extends.{Extends};
 
+use crate::appending::push_or_cut;
 use crate::displayed_line::DisplayedLine;
 use crate::line_cluster::LineCluster;
 use std::alloc::AllocError;
@@ -281,31 +282,6 @@ impl DisplayedLine {
         self.position_at_edge(cluster, if is_left { Side::Left } else { Side::Right })
     }
 
-    // Appends the columns of the clusters that a range of code units selects, as ranges from left to right. If an
-    // allocation fails, `out` may have some of them.
-    fn append_selection(
-        &self,
-        range: Range<usize>,
-        out: &mut Vec<Range<usize>>,
-    ) -> Result<(), AllocError>
-        ensures columns { OnOk result (map run_of out.new.items ≡ map run_of out.old.items
-            ++ selected_columns (laid_out self.now) range.start range.end) }
-        ensures extends { Extends out.old.items out.new.items }
-    {
-        let mut open = 0..0;
-        for (visual, cluster) in self.order().iter().enumerate() {
-            if is_selected(&self.clusters()[*cluster], &range) {
-                let left = self.left_edge_at(visual);
-                if left != open.end {
-                    push_columns(open, out)?;
-                    open = left..left;
-                }
-                open = open.start..self.right_edge_at(visual);
-            }
-        }
-        push_columns(open, out)
-    }
-
     /// Appends the columns of the clusters that a range of code units selects, as ranges from left to right.
     ///
     /// A cluster is selected if any of its code units is in the range. The range may be empty, and may go beyond the
@@ -321,11 +297,18 @@ impl DisplayedLine {
         ensures unchanged { OnErr result (out.new.items ≡ out.old.items) }
     {
         let len = out.len();
-        if self.append_selection(range, out).is_err() {
-            out.truncate(len);
-            return Err(AllocError);
+        let mut open = 0..0;
+        for (visual, cluster) in self.order().iter().enumerate() {
+            if is_selected(&self.clusters()[*cluster], &range) {
+                let left = self.left_edge_at(visual);
+                if left != open.end {
+                    push_columns(open, len, out)?;
+                    open = left..left;
+                }
+                open = open.start..self.right_edge_at(visual);
+            }
         }
-        Ok(())
+        push_columns(open, len, out)
     }
 }
 
@@ -336,13 +319,19 @@ fn is_selected(cluster: &LineCluster, range: &Range<usize>) -> bool
     cluster.start.max(range.start) < cluster.end.min(range.end)
 }
 
-// Appends a range of columns if it is not empty.
-fn push_columns(columns: Range<usize>, out: &mut Vec<Range<usize>>) -> Result<(), AllocError>
+// Appends a range of columns if it is not empty. If the allocation fails, cuts the list to a length.
+fn push_columns(
+    columns: Range<usize>,
+    len: usize,
+    out: &mut Vec<Range<usize>>,
+) -> Result<(), AllocError>
+    requires { len ≤ length out.old.items }
     ensures columns { OnOk result (map run_of out.new.items ≡ map run_of out.old.items ++ some_columns (run_of columns)) }
-    ensures extends { Extends out.old.items out.new.items }
+    ensures extends { OnOk result (Extends out.old.items out.new.items) }
+    ensures cut { OnErr result (out.new.items ≡ take len out.old.items) }
 {
     if columns.start < columns.end {
-        out.push(columns)?;
+        push_or_cut(columns, len, out)?;
     }
     Ok(())
 }

@@ -4,11 +4,28 @@ ghost use Rattle.std.specs.Prelude.{◌≡◌, ℕ, true, ◌&&◌, ◌||◌, Li
 ghost use Rattle.ucd_breaks.specs.GraphemeClusterBreak.{grapheme_cluster_break};
 ghost use Rattle.ucd_derived.specs.IndicConjunctBreak.{indic_conjunct_break};
 ghost use Rattle.unicode_segmentation.specs.Grapheme.{break_by_pair, ends_in_linker, is_consonant, is_extend, is_grapheme_break, is_regional, is_zwj, joins_conjunct, joins_emoji, joins_flag};
+ghost use Rattle.bidi_display.specs.ClusterState.{is_plain};
 
 use ucd_breaks::GraphemeClusterBreak;
 use ucd_breaks::GraphemeClusterBreak::*;
 use ucd_derived::IndicConjunctBreak;
 use ucd_emoji::is_extended_pictographic;
+
+// Returns whether a character is plain: one of these frequent ones, which join the character before them only if that is a
+// prepended mark (GB9b).
+pub(crate) fn is_plain(c: char) -> bool
+    ensures { result ≡ is_plain c }
+{
+    matches!(
+        c,
+        ' '..='~'
+            | '\u{00C0}'..='\u{02FF}'
+            | '\u{0370}'..='\u{0482}'
+            | '\u{05D0}'..='\u{05EA}'
+            | '\u{0620}'..='\u{064A}'
+            | '\u{4E00}'..='\u{9FFF}'
+    )
+}
 
 // Below this character, all linkers and all characters that extend one have the value Extend or ZWJ.
 const FIRST_OTHER_LINKER: char = '\u{1CF5}';
@@ -97,10 +114,27 @@ impl ClusterState {
             → result ≡ is_grapheme_break true before (c ∷ after) }
         ensures state { (before : List ℕ) → self.old ≡ state_after before → self.new ≡ state_after (c ∷ before) }
     {
+        if is_plain(c) {
+            let begins = !matches!(self.last, Prepend);
+            *self = ClusterState::after_plain(c);
+            return begins;
+        }
         let value = GraphemeClusterBreak::for_char(c);
         let begins = self.begins(c, value);
         *self = self.after(c, value);
         begins
+    }
+
+    // Returns the state after a plain character. The characters before it do not matter.
+    pub(crate) fn after_plain(c: char) -> ClusterState
+        requires { is_plain c ≡ true }
+        ensures { (before : List ℕ) → result ≡ state_after (c ∷ before) }
+    {
+        ClusterState {
+            last: Other,
+            base: c,
+            ..ClusterState::new()
+        }
     }
 
     // Returns whether a cluster begins at the next character, which has this value.

@@ -1,15 +1,17 @@
 //! Which characters of a line are displayed, and which of them form a cluster.
 
-ghost use Rattle.std.specs.Prelude.{◌≡◌, ◌<◌, ◌≤◌, ◌∷◌, [], List, false, length, map, drop, slice_range, string_bytes, true, IfOk, OnOk};
+ghost use Rattle.std.specs.Prelude.{◌≡◌, ◌<◌, ◌≤◌, ◌∷◌, ℕ, [], List, false, length, map, drop, slice_range, string_bytes, true, ◌+◌, IfOk, OnOk};
 ghost use Rattle.std.specs.Str.{chars};
 ghost use Rattle.bidi_display.specs.LineClusters.{is_direction_control, is_dropped, joins as joins_in, begins_cluster, displayed_chars, cluster_level};
 ghost use Rattle.bidi_display.specs.DisplayedLine.{cluster_of, width_at, clusters_of};
-ghost use Rattle.bidi_display.specs.Joining.{joining_after, IsCluster};
+ghost use Rattle.bidi_display.specs.Grouping.{IsFoundPast, IsFoundTo};
+ghost use Rattle.bidi_display.specs.Joining.{joining_after, begins_simple, is_simple, IsCluster};
+ghost use Rattle.bidi_display.specs.declared.grouping.Joining.{Joining as JoiningOf};
 ghost use Rattle.bidi_display.specs.declared.line_char.LineChar.{LineChar as CharOf};
 ghost use Rattle.bidi_display.specs.declared.options.Moves.{Moves as MovesOf};
 ghost use Rattle.bidi_display.specs.declared.options.DisplayOptions.{DisplayOptions as OptionsOf};
 
-use crate::cluster_state::ClusterState;
+use crate::cluster_state::{ClusterState, is_plain};
 use crate::line_char::LineChar;
 use crate::line_cluster::LineCluster;
 use crate::options::{DisplayOptions, Dropped, Moves};
@@ -78,6 +80,18 @@ impl Joining {
             Moves::Characters => false,
             Moves::Marks => is_nsm(c.class) && last == Some(c.level),
             Moves::Clusters => !self.clusters.read(c.char),
+        }
+    }
+
+    // Reads a simple character. Those before it do not matter, and need not have been read.
+    fn pass(&mut self, c: &LineChar)
+        requires { is_simple c.now ≡ true }
+        ensures { (moves : MovesOf) → (earlier before : List CharOf) → self.old ≡ joining_after moves earlier
+            → self.new ≡ joining_after moves (c.now ∷ before) }
+    {
+        self.last = Some(c.level);
+        if matches!(self.moves, Moves::Clusters) {
+            self.clusters = ClusterState::after_plain(c.char);
         }
     }
 }
@@ -202,6 +216,68 @@ fn measured_cluster<W: ClusterWidth>(
     })
 }
 
+// Returns whether a character is displayed, and does not join a plain character before it, whatever moves.
+fn is_simple(c: &LineChar) -> bool
+    ensures { result ≡ is_simple c.now }
+{
+    is_plain(c.char) && !matches!(c.class, BidiClass::BN | BidiClass::NSM)
+}
+
+// Returns whether the character after an index is simple, or there is none.
+fn next_is_simple(chars: &[LineChar], at: usize) -> bool
+    requires { at < length chars.now }
+    ensures { result ≡ begins_simple (drop (at + 1) chars.now) }
+{
+    match chars.get(at + 1) {
+        Some(next) => is_simple(next),
+        None => true,
+    }
+}
+
+// Returns the cluster of a simple character with an index in the line.
+fn cluster_of_char<W: ClusterWidth>(widths: &W, c: &LineChar, at: usize) -> LineCluster
+    requires simple { is_simple c.now ≡ true }
+    requires fits { at < 0xFFFFFFFFFFFFFFFF }
+    ensures { (options : OptionsOf) → (column : ℕ) → result ≡ cluster_of options (W.width_of widths.now) at column (c.now ∷ []) }
+{
+    LineCluster {
+        start: c.start,
+        end: c.end,
+        chars_start: at,
+        chars_end: at + 1,
+        level: c.level,
+        width: widths.width_of_char(c.char),
+    }
+}
+
+// Appends the clusters of the characters from `from` on that are clusters by themselves, because they and those after
+// them are simple. `column` is where the next cluster begins. Returns the index of the first other character.
+fn push_simple<W: ClusterWidth>(
+    widths: &W,
+    chars: &[LineChar],
+    from: usize,
+    column: &mut usize,
+    out: &mut Vec<LineCluster>,
+) -> Result<usize, AllocError>
+    requires { from < length chars.now }
+    ensures advances { IfOk result (λ end. from ≤ end) }
+    ensures within { IfOk result (λ end. end ≤ length chars.now) }
+    ensures found { (options : OptionsOf) → (joining : JoiningOf)
+        → IsFoundTo options (W.width_of widths.now) chars.now from column.old joining out.old.items
+        → IfOk result (λ end. IsFoundPast options (W.width_of widths.now) chars.now from end column.new joining out.new.items) }
+{
+    let mut at = from;
+    let mut simple = is_simple(&chars[at]);
+    while simple && next_is_simple(chars, at) {
+        let cluster = cluster_of_char(widths, &chars[at], at);
+        *column = column.saturating_add(cluster.width);
+        out.push(cluster)?;
+        at += 1;
+        simple = at < chars.len();
+    }
+    Ok(at)
+}
+
 // Replaces a list by the clusters of a line. `displayed` is a buffer.
 pub(crate) fn find_clusters<W: ClusterWidth>(
     options: DisplayOptions,
@@ -217,11 +293,17 @@ pub(crate) fn find_clusters<W: ClusterWidth>(
     let mut column = 0usize;
     let mut from = 0;
     while from < chars.len() {
-        let end = next_cluster_end(options.dropped, chars, from, &mut joining);
-        let cluster = measured_cluster(options, widths, column, chars, from..end, displayed)?;
-        column = column.saturating_add(cluster.width);
-        out.push(cluster)?;
-        from = end;
+        let simple = push_simple(widths, chars, from, &mut column, out)?;
+        if from < simple {
+            joining.pass(&chars[simple - 1]);
+            from = simple;
+        } else {
+            let end = next_cluster_end(options.dropped, chars, from, &mut joining);
+            let cluster = measured_cluster(options, widths, column, chars, from..end, displayed)?;
+            column = column.saturating_add(cluster.width);
+            out.push(cluster)?;
+            from = end;
+        }
     }
     Ok(())
 }

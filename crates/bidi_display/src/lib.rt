@@ -2,6 +2,7 @@
 //! any encoding.
 #![tactic(auto)]
 
+mod appending;
 pub mod carets;
 pub mod cluster_state;
 pub mod clusters;

@@ -7,10 +7,10 @@ ghost use Rattle.bidi_base.specs.Display.{run_of};
 ghost use Rattle.bidi_base.specs.Paragraphs.{IsPartition};
 ghost use Rattle.bidi_display.specs.declared.line_char.LineChar.{LineChar as CharOf};
 ghost use Rattle.bidi_display.specs.declared.line_breaks.Break.{Break as BreakOf};
-ghost use Rattle.bidi_display.specs.Extends.{Extends};
 ghost use Rattle.bidi_display.specs.LineBreaks.{are_white_space as are_white_space_in, begins_with_tab as begins_with_tab_in, first_line_length, given_break as given_break_of, given_break_after, is_forced as is_forced_by, is_white_space as is_white_space_class, last_end as last_end_of, lines_of, overflows as overflows_at, shown_end, shown_length as shown_length_of, simple_break as simple_break_of, simple_break_after, width_in_line as width_in};
 ghost use Rattle.bidi_display.specs.LineClusters.{displayed_chars};
 
+use crate::appending::push_or_cut;
 use crate::displayed_line::DisplayedLine;
 use crate::line_char::LineChar;
 use crate::line_cluster::LineCluster;
@@ -221,30 +221,6 @@ impl DisplayedLine {
         rest.len()
     }
 
-    // Appends the lines of a paragraph that is displayed as one line. If an allocation fails, `out` may have some of
-    // them.
-    fn append_lines<B: LineBreaks>(
-        &self,
-        breaks: &B,
-        limit: usize,
-        out: &mut Vec<Range<usize>>,
-    ) -> Result<(), AllocError>
-        ensures lines { OnOk result (map run_of out.new.items ≡ map run_of out.old.items
-            ++ lines_of (options_of self.now) (B.break_after_of breaks.now) limit (chars_in self.now)
-            (laid_out self.now).start (clusters_in self.now)) }
-        ensures extends { Extends out.old.items out.new.items }
-    {
-        let mut from = 0;
-        let mut start = self.range().start;
-        while from < self.clusters().len() {
-            from += self.line_length(breaks, limit, from);
-            let end = self.clusters()[from - 1].end;
-            out.push(start..end)?;
-            start = end;
-        }
-        Ok(())
-    }
-
     /// Appends the lines of a paragraph that is displayed as one line, as ranges of code units.
     ///
     /// A line takes clusters until it must end, or until the next one does not fit in `limit` columns. The first
@@ -272,9 +248,13 @@ impl DisplayedLine {
         ensures unchanged { OnErr result (out.new.items ≡ out.old.items) }
     {
         let len = out.len();
-        if self.append_lines(breaks, limit, out).is_err() {
-            out.truncate(len);
-            return Err(AllocError);
+        let mut from = 0;
+        let mut start = self.range().start;
+        while from < self.clusters().len() {
+            from += self.line_length(breaks, limit, from);
+            let end = self.clusters()[from - 1].end;
+            push_or_cut(start..end, len, out)?;
+            start = end;
         }
         Ok(())
     }

@@ -78,24 +78,6 @@ fn push_displayed<M: MirroredCharacters>(
 }
 
 impl DisplayedLine {
-    // Appends the displayed characters of the line from left to right. If an allocation fails, `out` may have some of
-    // them.
-    fn append_text<M: MirroredCharacters>(
-        &self,
-        mirrors: &M,
-        out: &mut String,
-    ) -> Result<(), AllocError>
-        ensures text { OnOk result (string_bytes out.new
-            ≡ string_bytes out.old ++ flat_map encode_utf8 (displayed_text (M.mirrored_of mirrors.now) self.now)) }
-        ensures extends { Extends (string_bytes out.old) (string_bytes out.new) }
-    {
-        for index in self.order() {
-            let chars = self.chars_of(&self.clusters()[*index]);
-            push_displayed(self.options(), mirrors, chars, out)?;
-        }
-        Ok(())
-    }
-
     /// Appends the displayed characters of the line from left to right.
     ///
     /// The characters of a cluster are in the order of the text. Each character is mirrored by its own level, not by
@@ -111,9 +93,12 @@ impl DisplayedLine {
         ensures unchanged { OnErr result (string_bytes out.new ≡ string_bytes out.old) }
     {
         let len = out.len();
-        if self.append_text(mirrors, out).is_err() {
-            out.truncate(len);
-            return Err(AllocError);
+        for index in self.order() {
+            let chars = self.chars_of(&self.clusters()[*index]);
+            if push_displayed(self.options(), mirrors, chars, out).is_err() {
+                out.truncate(len);
+                return Err(AllocError);
+            }
         }
         Ok(())
     }

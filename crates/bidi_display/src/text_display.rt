@@ -33,6 +33,10 @@ impl ClusterWidth for NoWidth {
     fn width(&self, _cluster: &str) -> usize {
         0
     }
+
+    fn width_of_char(&self, _c: char) -> usize {
+        0
+    }
 }
 
 // Gives both lists this many entries. If an allocation fails, they may have any number.

@@ -1,8 +1,8 @@
 //! The widths of clusters.
 
-ghost use Rattle.std.specs.Prelude.{◌≡◌, ℕ, List, false};
+ghost use Rattle.std.specs.Prelude.{◌≡◌, ℕ, List, [], ◌∷◌, false};
 ghost use Rattle.std.specs.Str.{chars};
-ghost use Rattle.bidi_display.specs.Widths.{columns as columns_of, begins_with_control as begins_with_control_in, columns_of_cluster, sum_of_columns};
+ghost use Rattle.bidi_display.specs.Widths.{columns as columns_of, begins_with_control as begins_with_control_in, columns_of_cluster, is_narrow, sum_of_columns};
 
 use unicode_width::{UnicodeWidthChar, UnicodeWidthStr};
 
@@ -16,6 +16,16 @@ pub trait ClusterWidth {
     /// The same characters must always give the same width.
     fn width(&self, cluster: &str) -> usize
         ensures { result ≡ width_of self.now (chars cluster.now) };
+
+    /// Returns the width of a cluster that has one displayed character.
+    ///
+    /// The default calls `width`. Most clusters are one character, so a line is shown faster if this needs no string.
+    fn width_of_char(&self, c: char) -> usize
+        ensures { result ≡ width_of self.now (c ∷ []) }
+    {
+        let mut buffer = [0; 4];
+        self.width(c.encode_utf8(&mut buffer))
+    }
 }
 
 /// The width of each cluster by the kit's `unicode_width`.
@@ -69,12 +79,26 @@ impl ClusterWidth for ClusterColumns {
             cluster.width()
         }
     }
+
+    fn width_of_char(&self, c: char) -> usize {
+        columns(self.wide_ambiguous, c)
+    }
+}
+
+// Returns whether a character is one of these frequent ones, which take one column.
+fn is_narrow(c: char) -> bool
+    ensures { result ≡ is_narrow c }
+{
+    matches!(c, ' '..='~' | '\u{05D0}'..='\u{05EA}' | '\u{0620}'..='\u{064A}')
 }
 
 // Returns the columns of a character by itself, or 0 if it has no width.
 fn columns(wide_ambiguous: bool, c: char) -> usize
     ensures { result ≡ columns_of wide_ambiguous c }
 {
+    if is_narrow(c) {
+        return 1;
+    }
     let width = if wide_ambiguous {
         c.width_cjk()
     } else {
@@ -103,5 +127,9 @@ impl ClusterWidth for CharColumns {
             width = width.saturating_add(columns(self.wide_ambiguous, c));
         }
         width
+    }
+
+    fn width_of_char(&self, c: char) -> usize {
+        columns(self.wide_ambiguous, c)
     }
 }

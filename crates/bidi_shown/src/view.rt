@@ -115,4 +115,12 @@ impl ClusterWidth for View {
             Widths::Characters => CharColumns { wide_ambiguous }.width(cluster),
         }
     }
+
+    fn width_of_char(&self, c: char) -> usize {
+        let wide_ambiguous = self.wide_ambiguous;
+        match self.widths {
+            Widths::Clusters => ClusterColumns { wide_ambiguous }.width_of_char(c),
+            Widths::Characters => CharColumns { wide_ambiguous }.width_of_char(c),
+        }
+    }
 }

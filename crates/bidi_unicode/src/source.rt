@@ -2,7 +2,7 @@
 ghost use Rattle.std.specs.Prelude.{◌≡◌, ◌<◌, Some, option_map, option_and_then, None, IsSome, IfSome, IfNone, IsTrue};
 ghost use Rattle.bidi_unicode.specs.Unicode.{class_named, bracket_of, bracket_in, normal_form, mirrored_of, unicode_source, is_opening, is_closing, other_bracket, is_mirrored_in};
 ghost use Rattle.bidi_unicode.specs.Rows.{row_value, IsRowOf};
-ghost use Rattle.bidi_unicode.specs.declared.tables.TheConstants.{BRACKETS};
+ghost use Rattle.bidi_unicode.specs.declared.tables.TheConstants.{BRACKETS, MIRRORED};
 ghost use Rattle.ucd_bidi.specs.Binary.{is_bidi_mirrored};
 ghost use Rattle.ucd_category.specs.declared.GeneralCategory.TheVariants.{OpenPunctuation, ClosePunctuation};
 
@@ -54,8 +54,8 @@ impl BidiDataSource for UnicodeData {
 
 /// Returns the mirrored partner of a character (L4), which is displayed instead of it at an odd level.
 ///
-/// Returns `None` if the table has no partner. Some characters that Unicode calls mirrored have none. Uses a binary
-/// search.
+/// Returns `None` if the table has no partner. Some characters that Unicode calls mirrored have none. A character from
+/// U+0F3A on takes a binary search.
 ///
 /// The table has the partners of Unicode 15.0, and the pair of brackets U+2E62 and U+2E63. The other
 /// characters that have become mirrored since then, up to `UNICODE_VERSION`, have no partner here: U+226D,
@@ -65,7 +65,12 @@ pub fn mirrored(c: char) -> Option<char>
     ensures mirrored { IsSome result → IsTrue (is_bidi_mirrored c) }
     ensures back { IfSome result (λ partner. mirrored_of partner ≡ Some c) }
 {
-    let (_, partner) = MIRRORED[rows::index_of(&MIRRORED, c)?];
+    let index = if c < '\u{0F3A}' {
+        early_mirrored_row(c)?
+    } else {
+        rows::index_of(&MIRRORED, c)?
+    };
+    let (_, partner) = MIRRORED[index];
     Some(partner)
 }
 
@@ -113,6 +118,27 @@ fn early_row(c: char) -> Option<usize>
         ']' => Some(3),
         '{' => Some(4),
         '}' => Some(5),
+        _ => None,
+    }
+}
+
+/// Returns the index in the table of mirrored characters of a character below U+0F3A, or `None` if it has no partner.
+fn early_mirrored_row(c: char) -> Option<usize>
+    requires { c < 0x0F3A }
+    ensures found { IfSome result (IsRowOf MIRRORED c) }
+    ensures absent { IfNone result (row_value MIRRORED c ≡ None) }
+{
+    match c {
+        '(' => Some(0),
+        ')' => Some(1),
+        '<' => Some(2),
+        '>' => Some(3),
+        '[' => Some(4),
+        ']' => Some(5),
+        '{' => Some(6),
+        '}' => Some(7),
+        '«' => Some(8),
+        '»' => Some(9),
         _ => None,
     }
 }

@@ -2,7 +2,7 @@ use Rattle.std.proofs.Common.{◌≡◌, ◌++◌, [], List, ℕ, flat_map, map,
 use Rattle.bidi_base.specs.Indexes.{at_indexes}
 use Rattle.bidi_display.specs.Shown.{chars, clusters, cluster_text, options}
 use Rattle.bidi_display.specs.DisplayedLine.{cluster_order}
-use Rattle.bidi_display.proofs.displayed_line.DisplayedLine.append_text.Given as goal
+use Rattle.bidi_display.proofs.displayed_line.DisplayedLine.push_text.Given as goal
 
 abbrev pub invariant-loop-index : goal.invariant-loop-index
 invariant-loop-index g l = string_bytes l.out ≡ string_bytes l.fn.out

@@ -3,7 +3,7 @@ use Rattle.bidi_base.specs.Display.{run_of}
 use Rattle.bidi_display.specs.Extends.{Extends}
 use Rattle.bidi_display.specs.Shown.{laid_out}
 use Rattle.bidi_display.proofs.SelectionLemmas.{IsSelectedTo}
-use Rattle.bidi_display.proofs.displayed_line.DisplayedLine.append_selection.Given as goal
+use Rattle.bidi_display.proofs.displayed_line.DisplayedLine.push_selection.Given as goal
 
 abbrev pub invariant-loop-visual : goal.invariant-loop-visual
 invariant-loop-visual l = record {

@@ -6,8 +6,8 @@ use Rattle.bidi_display.specs.Shown.{clusters, laid_out}
 use Rattle.bidi_display.proofs.ColumnLemmas.{length-cluster_order, cluster_order-below}
 use Rattle.bidi_display.proofs.Extending.{Extends-same, Extends-trans}
 use Rattle.bidi_display.proofs.SelectionLemmas.{IsSelectedTo, selected_at-is, selected-start, selected-skip, selected-touching, selected-apart, selected-end}
-use Rattle.bidi_display.proofs.displayed_line.DisplayedLine.append_selection.Goals as goal
-use Rattle.bidi_display.proofs.displayed_line.DisplayedLine.append_selection.Goals.{then-is_selected, then-left-open+in_ok-push_columns, else-left-open, else-is_selected}
+use Rattle.bidi_display.proofs.displayed_line.DisplayedLine.push_selection.Goals as goal
+use Rattle.bidi_display.proofs.displayed_line.DisplayedLine.push_selection.Goals.{then-is_selected, then-left-open+in_ok-push_columns, else-left-open, else-is_selected}
 
 pub loop-visual-init : goal.loop-visual-init
 loop-visual-init c = record {

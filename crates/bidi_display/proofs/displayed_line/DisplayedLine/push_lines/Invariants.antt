@@ -2,7 +2,7 @@ use Rattle.bidi_base.proofs.Common.{◌≡◌, ◌≤◌, ◌-◌, ◌++◌, dro
 use Rattle.bidi_display.specs.Extends.{Extends}
 use Rattle.bidi_display.specs.LineBreaks.{lines_of}
 use Rattle.bidi_display.specs.Shown.{chars, clusters, laid_out, options}
-use Rattle.bidi_display.proofs.displayed_line.DisplayedLine.append_lines.Given as goal
+use Rattle.bidi_display.proofs.displayed_line.DisplayedLine.push_lines.Given as goal
 
 abbrev pub invariant-loop-from : goal.invariant-loop-from
 invariant-loop-from g l =
