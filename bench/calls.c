@@ -1,6 +1,7 @@
 /* Times the calls of the static library with a file of UTF-8, in nanoseconds a character, a line or a short text;
  * main.rt.in times such calls of unicode_bidi. Lines have 60 characters, and fewer where a paragraph ends. A short text
- * is a piece of three words, and of fewer where a paragraph ends. It is analysed, and then shown as one line. */
+ * is a piece of three words, and of fewer where a paragraph ends. It is analysed, and then shown as one line. Short texts
+ * are also analysed alone, and by the classes and the brackets of their characters. */
 #include "unicode_bidi.h"
 #include <stdio.h>
 #include <stdlib.h>
@@ -16,8 +17,13 @@ typedef enum {
   LINE_MAP,
   REORDER_LINE,
   SHOW_LINE,
+  DISPLAY_PLAINLY, /* as reorder_line writes it, and both maps */
+  DISPLAY_LINE,
   REORDER_VISUAL,
+  ANALYSE_CLASSES, /* from here on, what the analysis wrote is overwritten */
   SHORT_TEXTS,
+  SHORT_ANALYSES,
+  SHORT_CLASSES,
   CALLS
 } call;
 
@@ -25,17 +31,19 @@ typedef struct {
   size_t paragraph, start, end;
 } text_line;
 
+/* A piece, as a range of bytes and as one of characters. */
 typedef struct {
-  size_t start, end;
+  size_t start, end, first, last;
 } text_piece;
 
-static uint8_t *text, *classes, *levels, *line_levels, *bytes;
-static size_t *places;
+static uint8_t *text, *classes, *levels, *line_levels, *bytes, *char_classes;
+static uint32_t *char_brackets;
+static size_t *places, *inverse;
 static unicode_bidi_run *runs;
 static unicode_bidi_paragraph *paragraphs;
 static text_line *lines;
 static text_piece *pieces;
-static size_t length, lines_len, pieces_len, characters_len;
+static size_t length, lines_len, pieces_len, characters_len, chars_len, shown_len;
 
 static double now(void) {
   struct timespec time;
@@ -47,6 +55,12 @@ static int64_t analyse(size_t start, size_t end) {
   const size_t count = end - start;
   return unicode_bidi_analyse_utf8(text + start, count, UNICODE_BIDI_AUTO, UNICODE_BIDI_EACH_SEPARATOR, classes, count,
                                    levels, count, paragraphs, count);
+}
+
+static int64_t analyse_classes(size_t first, size_t last) {
+  const size_t count = last - first;
+  return unicode_bidi_analyse_classes(char_classes + first, count, char_brackets + first, count, UNICODE_BIDI_AUTO,
+                                      UNICODE_BIDI_EACH_SEPARATOR, classes, count, levels, count, paragraphs, count);
 }
 
 /* Analyses a piece as a text of its own, and writes its one line from left to right. */
@@ -66,6 +80,15 @@ static int64_t show_pieces(void) {
   return 0;
 }
 
+static int64_t analyse_pieces(call call) {
+  for (size_t at = 0; at < pieces_len; at++) {
+    const text_piece *piece = &pieces[at];
+    int64_t answer = call == SHORT_CLASSES ? analyse_classes(piece->first, piece->last) : analyse(piece->start, piece->end);
+    if (answer < 0) return answer;
+  }
+  return 0;
+}
+
 static int64_t call_line(call call, const text_line *line) {
   const unicode_bidi_paragraph *paragraph = &paragraphs[line->paragraph];
   const size_t start = line->start, end = line->end;
@@ -79,6 +102,14 @@ static int64_t call_line(call call, const text_line *line) {
     case SHOW_LINE: return unicode_bidi_show_line_utf8(text, length, classes, length, levels, length, paragraph, start,
                                                        end, line_levels, length, runs, length, places, length, bytes,
                                                        length, &characters_len);
+    case DISPLAY_PLAINLY:
+    case DISPLAY_LINE: {
+      const uint32_t flags = call == DISPLAY_PLAINLY ? UNICODE_BIDI_MOVE_CHARACTERS
+          : UNICODE_BIDI_MOVE_CLUSTERS + UNICODE_BIDI_MIRROR + UNICODE_BIDI_DROP_CONTROLS;
+      return unicode_bidi_display_line_utf8(text, length, classes, length, levels, length, paragraph, start, end, flags,
+                                            bytes, 2 * length, places, length, inverse, length, &shown_len,
+                                            &characters_len);
+    }
     default: return unicode_bidi_reorder_line_utf8(text, length, classes, length, levels, length, paragraph, start,
                                                    end, bytes, length);
   }
@@ -87,9 +118,11 @@ static int64_t call_line(call call, const text_line *line) {
 /* Makes the call over the whole text. */
 static int64_t make(call call) {
   if (call == ANALYSE) return analyse(0, length);
+  if (call == ANALYSE_CLASSES) return analyse_classes(0, chars_len);
   if (call == BASE_DIRECTION) return unicode_bidi_base_direction_utf8(text, length, 1);
   if (call == REORDER_VISUAL) return unicode_bidi_reorder_visual(levels, length, places, length);
   if (call == SHORT_TEXTS) return show_pieces();
+  if (call == SHORT_ANALYSES || call == SHORT_CLASSES) return analyse_pieces(call);
   for (size_t at = 0; at < lines_len; at++) {
     int64_t answer = call_line(call, &lines[at]);
     if (answer < 0) return answer;
@@ -128,17 +161,36 @@ static void cut_pieces(size_t paragraphs_len) {
     for (size_t at = start; at < paragraphs[index].end; at++) {
       words += !ends_word(at) && (at == start || ends_word(at - 1));
       if (at + 1 < paragraphs[index].end && (words < PIECE_WORDS || !ends_word(at))) continue;
-      if (words > 0) pieces[pieces_len++] = (text_piece){start, at + 1};
+      if (words > 0) pieces[pieces_len++] = (text_piece){start, at + 1, 0, 0};
       start = at + 1;
       words = 0;
     }
   }
 }
 
-static int is_by_lines(call call) { return call >= LINE_LEVELS && call <= SHOW_LINE; }
+/* Reads the class and the bracket of each character, and counts the characters before each piece. */
+static int read_characters(void) {
+  uint32_t *brackets = malloc(length * sizeof *brackets);
+  if (!brackets || unicode_bidi_brackets_utf8(text, length, brackets, length) < 0) return -1;
+  if (unicode_bidi_classes_utf8(text, length, bytes, length) < 0) return -1;
+  text_piece *piece = pieces;
+  for (size_t at = 0; at < length; at++) {
+    if (begins_character(at)) {
+      char_classes[chars_len] = bytes[at];
+      char_brackets[chars_len] = brackets[at];
+      if (piece < pieces + pieces_len && at == piece->start) piece->first = chars_len;
+      chars_len++;
+    }
+    if (piece < pieces + pieces_len && at + 1 == piece->end) piece++->last = chars_len;
+  }
+  free(brackets);
+  return 0;
+}
+
+static int is_by_lines(call call) { return call >= LINE_LEVELS && call <= DISPLAY_LINE; }
 
 static void print_time(const char *name, call call, double nanoseconds, double characters) {
-  if (call == SHORT_TEXTS) printf("%s: %.0f ns a text\n", name, nanoseconds / (double)pieces_len);
+  if (call >= SHORT_TEXTS) printf("%s: %.0f ns a text\n", name, nanoseconds / (double)pieces_len);
   else if (!is_by_lines(call)) printf("%s: %.2f ns a character\n", name, nanoseconds / characters);
   else
     printf("%s: %.2f ns a character, %.0f ns a line\n", name, nanoseconds / characters,
@@ -152,9 +204,10 @@ static void *room(size_t size) {
 }
 
 int main(int count, char **words) {
-  static const char *const names[CALLS] = {"analyse",      "base_direction, full", "line_levels",
-                                           "line_runs",    "line_map",             "reorder_line",
-                                           "show_line",    "reorder_visual",       "short texts"};
+  static const char *const names[CALLS] = {
+      "analyse",   "base_direction, full", "line_levels",     "line_runs",   "line_map",             "reorder_line",
+      "show_line", "display_line, plainly", "display_line",   "reorder_visual", "analyse_classes", "short texts",
+      "short texts analysed", "by classes"};
   FILE *file = count == 2 ? fopen(words[1], "rb") : NULL;
   if (!file || fseek(file, 0, SEEK_END)) return 2;
   length = (size_t)ftell(file);
@@ -164,8 +217,11 @@ int main(int count, char **words) {
   classes = room(1);
   levels = room(1);
   line_levels = room(1);
-  bytes = room(1);
+  char_classes = room(1);
+  char_brackets = room(sizeof *char_brackets);
+  bytes = room(2);
   places = room(sizeof *places);
+  inverse = room(sizeof *inverse);
   runs = room(sizeof *runs);
   paragraphs = room(sizeof *paragraphs);
   lines = room(sizeof *lines);
@@ -174,8 +230,9 @@ int main(int count, char **words) {
   if (paragraphs_len < 0) return 2;
   double characters = (double)cut_lines((size_t)paragraphs_len);
   cut_pieces((size_t)paragraphs_len);
+  if (read_characters()) return 2;
   for (call call = ANALYSE; call < CALLS; call++) {
-    if (call == SHORT_TEXTS && pieces_len == 0) continue;
+    if (call >= SHORT_TEXTS && pieces_len == 0) continue;
     double shortest = 1e300;
     for (int round = 0; round < ROUNDS; round++) {
       double start = now();

@@ -6,10 +6,9 @@
  * ensure that:
  *
  *   - A pointer that is followed by a length points to that many elements, with the alignment of their type.
- *     If the length is 0, the pointer may be any pointer that is aligned and not null. With a null pointer the
- *     behaviour is undefined, as with memcpy.
- *   - `paragraph` points to one paragraph, aligned and not null.
- *   - A buffer that a call writes overlaps no other argument.
+ *     If the length is 0, the pointer may be null. This is tested for each such argument, and not proved.
+ *   - `paragraph` points to one paragraph, and `shown` and `characters` to one number each, aligned and not null.
+ *   - A buffer that a call writes overlaps no other argument. It may begin where another one ends.
  *   - The text and the tables do not change during the call.
  *
  * The caller owns every buffer. A call keeps nothing: it frees what it allocated with malloc before it returns.
@@ -57,19 +56,25 @@ extern "C" {
 #define UNICODE_BIDI_NO_MEMORY        (-1)  /* an allocation failed */
 #define UNICODE_BIDI_NOT_UTF8         (-2)  /* the text, or the given line of it, is not UTF-8 */
 #define UNICODE_BIDI_NOT_SCALAR       (-3)  /* a character is above U+10FFFF or a surrogate */
-#define UNICODE_BIDI_BAD_BASE_LEVEL   (-4)  /* base is above 125 and not UNICODE_BIDI_AUTO */
+#define UNICODE_BIDI_BAD_BASE_LEVEL   (-4)  /* base is from 126 to 252 */
 #define UNICODE_BIDI_BAD_SPLIT        (-5)  /* split is above 2 */
 #define UNICODE_BIDI_BAD_CLASS        (-6)  /* a class is above 22 */
 #define UNICODE_BIDI_BAD_LEVEL        (-7)  /* a level is above 126 */
-#define UNICODE_BIDI_UNEQUAL_LENGTHS  (-8)  /* text, classes and levels do not have the same length */
+#define UNICODE_BIDI_UNEQUAL_LENGTHS  (-8)  /* lists that must have the same length do not */
 #define UNICODE_BIDI_BAD_LINE         (-9)  /* not: paragraph start <= start <= end <= paragraph end <= units */
 #define UNICODE_BIDI_CUT_CHARACTER    (-10) /* the line begins or ends inside a character */
 #define UNICODE_BIDI_UNEVEN_CHARACTER (-11) /* the units of one character differ in class or in level */
 #define UNICODE_BIDI_NO_ROOM          (-12) /* a buffer that the call writes is too short */
 #define UNICODE_BIDI_BAD_RANGES       (-13) /* a range has first > last, or first <= last of the previous range */
+#define UNICODE_BIDI_BAD_BRACKET      (-14) /* not: 0, or a character from U+0020 to U+7FFFF, alone or plus OPENING */
+#define UNICODE_BIDI_BAD_FLAGS        (-15) /* flags are not a sum as the section on displayed lines says */
 
-/* Base levels: a number up to 125, or this. With this each paragraph finds its own level (P2, P3). */
-#define UNICODE_BIDI_AUTO 255
+/* Base levels: a number up to 125 is the level of every paragraph (HL1). With one of these, each paragraph finds its own
+ * level (P2, P3). If no character of the paragraph decides, the level is 0 with AUTO and AUTO_LTR, which are the same, and
+ * 1 with AUTO_RTL. */
+#define UNICODE_BIDI_AUTO     255
+#define UNICODE_BIDI_AUTO_LTR 254
+#define UNICODE_BIDI_AUTO_RTL 253
 
 /* Where paragraphs end (P1). */
 #define UNICODE_BIDI_ONE_PARAGRAPH   0 /* the text is one paragraph, even if it is empty */
@@ -118,6 +123,62 @@ typedef struct {
 typedef struct {
   uint32_t opening, closing, normal_form;
 } unicode_bidi_bracket_pair;
+
+/* -------- Names --------
+ *
+ * The names of the numbers above, for messages. These two functions are in this header alone, and not in the library. */
+
+/* Returns the name of a fault without UNICODE_BIDI_, such as "NOT_UTF8", or "UNKNOWN_FAULT" for any other number. */
+static inline const char *unicode_bidi_fault_name(int64_t fault) {
+  switch (fault) {
+    case UNICODE_BIDI_NO_MEMORY: return "NO_MEMORY";
+    case UNICODE_BIDI_NOT_UTF8: return "NOT_UTF8";
+    case UNICODE_BIDI_NOT_SCALAR: return "NOT_SCALAR";
+    case UNICODE_BIDI_BAD_BASE_LEVEL: return "BAD_BASE_LEVEL";
+    case UNICODE_BIDI_BAD_SPLIT: return "BAD_SPLIT";
+    case UNICODE_BIDI_BAD_CLASS: return "BAD_CLASS";
+    case UNICODE_BIDI_BAD_LEVEL: return "BAD_LEVEL";
+    case UNICODE_BIDI_UNEQUAL_LENGTHS: return "UNEQUAL_LENGTHS";
+    case UNICODE_BIDI_BAD_LINE: return "BAD_LINE";
+    case UNICODE_BIDI_CUT_CHARACTER: return "CUT_CHARACTER";
+    case UNICODE_BIDI_UNEVEN_CHARACTER: return "UNEVEN_CHARACTER";
+    case UNICODE_BIDI_NO_ROOM: return "NO_ROOM";
+    case UNICODE_BIDI_BAD_RANGES: return "BAD_RANGES";
+    case UNICODE_BIDI_BAD_BRACKET: return "BAD_BRACKET";
+    case UNICODE_BIDI_BAD_FLAGS: return "BAD_FLAGS";
+    default: return "UNKNOWN_FAULT";
+  }
+}
+
+/* Returns the name of a class, such as "AL", or "?" for a number that is no class. */
+static inline const char *unicode_bidi_class_name(int64_t class_number) {
+  switch (class_number) {
+    case UNICODE_BIDI_L: return "L";
+    case UNICODE_BIDI_R: return "R";
+    case UNICODE_BIDI_AL: return "AL";
+    case UNICODE_BIDI_EN: return "EN";
+    case UNICODE_BIDI_ES: return "ES";
+    case UNICODE_BIDI_ET: return "ET";
+    case UNICODE_BIDI_AN: return "AN";
+    case UNICODE_BIDI_CS: return "CS";
+    case UNICODE_BIDI_NSM: return "NSM";
+    case UNICODE_BIDI_BN: return "BN";
+    case UNICODE_BIDI_B: return "B";
+    case UNICODE_BIDI_S: return "S";
+    case UNICODE_BIDI_WS: return "WS";
+    case UNICODE_BIDI_ON: return "ON";
+    case UNICODE_BIDI_LRE: return "LRE";
+    case UNICODE_BIDI_LRO: return "LRO";
+    case UNICODE_BIDI_RLE: return "RLE";
+    case UNICODE_BIDI_RLO: return "RLO";
+    case UNICODE_BIDI_PDF: return "PDF";
+    case UNICODE_BIDI_LRI: return "LRI";
+    case UNICODE_BIDI_RLI: return "RLI";
+    case UNICODE_BIDI_FSI: return "FSI";
+    case UNICODE_BIDI_PDI: return "PDI";
+    default: return "?";
+  }
+}
 
 /* -------- Versions --------
  *
@@ -192,11 +253,11 @@ int64_t unicode_bidi_base_direction_of_classes(const uint8_t *classes, size_t cl
  *                           1. With 0 the call only counts them.
  * Faults   NOT_UTF8, NOT_SCALAR (by the encoding), BAD_BASE_LEVEL, BAD_SPLIT, NO_ROOM for classes and
  *          levels, NO_ROOM for paragraphs
- * Cost     the text. Memory: some bytes for each unit. The call does not allocate if the text is in UTF-8 or
- *          UTF-16, has up to 256 units, is one paragraph, and has no bracket and no character that opens an
- *          embedding or an isolate.
- * Proved   the classes, the levels and the paragraphs are those of the definitions (text_classes, text_levels,
- *          ranges_from and paragraph_levels of bidi_base), each repeated on the units of its character. */
+ * Cost     the text. Memory: some bytes for each unit. The call does not allocate if the text has up to 256 units, is
+ *          one paragraph, and has no bracket and no character that opens an embedding or an isolate.
+ * Proved   the classes, the levels and the paragraphs are those of the definitions (text_classes and ranges_from of
+ *          bidi_base, stored_levels_with and level_with of unicode_bidi), each repeated on the units of its
+ *          character. */
 int64_t unicode_bidi_analyse_utf8(const uint8_t *text, size_t text_len, uint8_t base, uint8_t split,
                                   uint8_t *classes, size_t classes_len, uint8_t *levels, size_t levels_len,
                                   unicode_bidi_paragraph *paragraphs, size_t paragraphs_len);
@@ -209,7 +270,7 @@ int64_t unicode_bidi_analyse_utf32(const uint32_t *text, size_t text_len, uint8_
 
 /* Returns the base direction of the first paragraph: UNICODE_BIDI_LTR, _RTL or _MIXED. If full is not 0, returns the
  * direction of the first paragraph that has one. utf8 and utf32 check the whole text, even if the first character
- * decides. utf32 allocates a copy.
+ * decides.
  * Faults   NOT_UTF8, NOT_SCALAR (by the encoding)
  * Proved   the direction (base_direction, full_base_direction). */
 int64_t unicode_bidi_base_direction_utf8(const uint8_t *text, size_t text_len, uint8_t full);
@@ -266,6 +327,33 @@ int64_t unicode_bidi_base_direction_by_tables_utf32(
     const unicode_bidi_bracket_pair *brackets, size_t brackets_len,
     const uint32_t *text, size_t text_len, uint8_t full);
 
+/* -------- The same without a text --------
+ *
+ * Writes the class and the level (X1 to I2, before L1) of each character, and the paragraphs, by the classes and the
+ * brackets of the characters alone. Returns the number of paragraphs. A unit is a character here. If a character decides
+ * the direction of an FSI, the FSI gets class RLI or LRI (X5c). A paragraph ends after each class B, unless split is
+ * UNICODE_BIDI_ONE_PARAGRAPH: a list of classes has no CR and no LF that could stay together.
+ *
+ * classes                the class of each character: what unicode_bidi_classes_utf32 writes, or any others
+ * brackets               the bracket of each character, as unicode_bidi_brackets_utf32 writes it: 0 for none, otherwise the
+ *                        opening bracket of its pair in normal form, a character from U+0020 to U+7FFFF, plus
+ *                        UNICODE_BIDI_OPENING if it opens. Two brackets can be a pair (BD16) if their numbers are equal
+ *                        without UNICODE_BIDI_OPENING. A bracket counts only where the class is ON.
+ * brackets_len           classes_len, or 0: then no character is a bracket
+ * stored_len, levels_len at least classes_len
+ * paragraphs_len         at least the number of paragraphs: at most classes_len if the text is split, otherwise 1. With
+ *                        0 the call only counts them.
+ * Faults   UNEQUAL_LENGTHS of classes and brackets, BAD_CLASS, BAD_BRACKET, BAD_BASE_LEVEL, BAD_SPLIT, NO_ROOM for
+ *          stored and levels, NO_ROOM for paragraphs
+ * Cost     the lists. Memory: some bytes for each character. The call does not allocate for up to 256 characters that
+ *          are one paragraph, with no bracket that counts and none that opens an embedding or an isolate.
+ * Proved   the classes, the levels and the paragraphs are those of the definitions above, for characters with these
+ *          classes and brackets (listed_chars, with class_source as the data source). */
+int64_t unicode_bidi_analyse_classes(const uint8_t *classes, size_t classes_len,
+                                     const uint32_t *brackets, size_t brackets_len, uint8_t base, uint8_t split,
+                                     uint8_t *stored, size_t stored_len, uint8_t *levels, size_t levels_len,
+                                     unicode_bidi_paragraph *paragraphs, size_t paragraphs_len);
+
 /* -------- Lines --------
  *
  * Pass the classes and levels that an analysis wrote for the units of the whole text, and the paragraph that contains
@@ -276,7 +364,8 @@ int64_t unicode_bidi_base_direction_by_tables_utf32(
  * For a line of up to 256 units and 16 visual runs, the calls do not allocate.
  *
  * Every line call checks these faults first: UNEQUAL_LENGTHS of classes and levels, BAD_LINE, BAD_CLASS and
- * BAD_LEVEL in the line, BAD_LEVEL of the paragraph. */
+ * BAD_LEVEL in the line, BAD_LEVEL of the paragraph. In the calls that take a text in UTF-8, a line that begins
+ * or ends at a continuation byte is CUT_CHARACTER, also if that is the first byte of the text. */
 
 /* Writes the level of each unit of the line after L1. Returns their number, end - start.
  * Faults   further: NO_ROOM
@@ -380,6 +469,65 @@ int64_t unicode_bidi_show_line_utf32(const uint32_t *text, size_t text_len,
  * Proved   the order (visual_order). */
 int64_t unicode_bidi_reorder_visual(const uint8_t *levels, size_t levels_len,
                                     size_t *order, size_t order_len);
+
+/* -------- Displayed lines --------
+ *
+ * A line as a device displays it. The arguments are those of the line calls above, and flags: the sum of one
+ * UNICODE_BIDI_MOVE_ number, of UNICODE_BIDI_MIRROR or 0, and of at most one UNICODE_BIDI_DROP_ number. Any other number is
+ * BAD_FLAGS. */
+
+/* What L2 moves as a whole. The characters of a cluster stay in the order of the text, at every level. */
+#define UNICODE_BIDI_MOVE_CHARACTERS 0 /* each character (L2) */
+#define UNICODE_BIDI_MOVE_MARKS      1 /* a character with the marks (NSM) that follow it at its level (L3) */
+#define UNICODE_BIDI_MOVE_CLUSTERS   2 /* a grapheme cluster (UAX #29) of the displayed characters */
+
+/* Characters at odd levels are displayed as their partners by Unicode's data (L4), as unicode_bidi_mirrored says. */
+#define UNICODE_BIDI_MIRROR 4
+
+/* Which characters are not displayed: without either of these none. The twelve direction controls are ALM, LRM, RLM,
+ * LRE, RLE, PDF, LRO, RLO, LRI, RLI, FSI and PDI. Class BN has ZWJ and ZWNJ too, which emoji and Persian words need. */
+#define UNICODE_BIDI_DROP_CONTROLS           8 /* the twelve direction controls */
+#define UNICODE_BIDI_DROP_BOUNDARY_NEUTRALS 16 /* the same and the characters of class BN */
+
+/* In place of the visual index of a character that is not displayed: the maximum of a size_t. */
+#define UNICODE_BIDI_NOWHERE SIZE_MAX
+
+/* Writes a displayed line: its text from left to right (L2 to L4), and two maps. order[i] is the index of the character
+ * at visual index i, and places[j] is the visual index of the character j, or UNICODE_BIDI_NOWHERE if it is dropped.
+ * Both count characters from the line's first one. Returns the length of the text in units. Writes the number of
+ * displayed characters (the entries of order) to *shown, and the number of the line's characters (the entries of places)
+ * to *characters. Both must be aligned and not null. Each buffer is optional: pass a length of 0 for a part that is not
+ * needed. After a fault nothing is written, *shown and *characters included. In UTF-16 an unpaired surrogate becomes
+ * 0xFFFD.
+ * Faults   those of a line call; further: UNEQUAL_LENGTHS of the text, CUT_CHARACTER (utf8, utf16), NOT_UTF8,
+ *          NOT_SCALAR (by the encoding), UNEVEN_CHARACTER (utf8, utf16), BAD_FLAGS, NO_ROOM of any buffer with a length
+ *          that is not 0
+ * Room     end - start entries are enough for the maps, and 2 * (end - start) units for the text
+ * Cost     the line, except for its order: the number of clusters, times the nesting depth of the ranges that L2
+ *          reverses. Memory: a few hundred bytes for each character.
+ * Proved   the text (line_text of TextDisplay), the order (shown_order) and the places (places_of). That each
+ *          character is in the order at most once, and that the room is enough, is tested, not proved. */
+int64_t unicode_bidi_display_line_utf8(const uint8_t *text, size_t text_len,
+                                       const uint8_t *classes, size_t classes_len,
+                                       const uint8_t *levels, size_t levels_len,
+                                       const unicode_bidi_paragraph *paragraph, size_t start, size_t end,
+                                       uint32_t flags, uint8_t *out, size_t out_len,
+                                       size_t *order, size_t order_len, size_t *places, size_t places_len,
+                                       size_t *shown, size_t *characters);
+int64_t unicode_bidi_display_line_utf16(const uint16_t *text, size_t text_len,
+                                        const uint8_t *classes, size_t classes_len,
+                                        const uint8_t *levels, size_t levels_len,
+                                        const unicode_bidi_paragraph *paragraph, size_t start, size_t end,
+                                        uint32_t flags, uint16_t *out, size_t out_len,
+                                        size_t *order, size_t order_len, size_t *places, size_t places_len,
+                                        size_t *shown, size_t *characters);
+int64_t unicode_bidi_display_line_utf32(const uint32_t *text, size_t text_len,
+                                        const uint8_t *classes, size_t classes_len,
+                                        const uint8_t *levels, size_t levels_len,
+                                        const unicode_bidi_paragraph *paragraph, size_t start, size_t end,
+                                        uint32_t flags, uint32_t *out, size_t out_len,
+                                        size_t *order, size_t order_len, size_t *places, size_t places_len,
+                                        size_t *shown, size_t *characters);
 
 #ifdef __cplusplus
 }

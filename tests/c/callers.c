@@ -1,5 +1,5 @@
-/* The library as a caller in C has it: the worked rows in three encodings, each fault, want of memory at each
- * request, and random calls.
+/* The library as a caller in C has it: the worked rows in three encodings, each fault, null pointers, want of memory at
+ * each request, and random calls.
  *   callers FOLDER CALLS SEED
  * FOLDER is that of the rows.
  * Each buffer ends where a page without leave to read or write begins, and the units before it are
@@ -208,6 +208,22 @@ static int64_t show_line(int e, const void *text, size_t n, const uint8_t *c, si
     return unicode_bidi_show_line_utf32(text, n, c, nc, l, nl, p, start, end, s->levels, s->levels_len, s->runs, s->runs_len, s->order, s->order_len, s->out, s->out_len, characters);
 }
 
+/* The buffers of unicode_bidi_display_line_*: the length of each, and where it is. */
+typedef struct {
+    size_t out_len, order_len, places_len;
+    void *out;
+    size_t *order, *places;
+} displayed_line;
+
+static int64_t display_line(int e, const void *text, size_t n, const uint8_t *c, size_t nc, const uint8_t *l, size_t nl,
+                            const unicode_bidi_paragraph *p, size_t start, size_t end, uint32_t flags, const displayed_line *d, size_t *shown, size_t *characters) {
+    if (e == UTF8)
+        return unicode_bidi_display_line_utf8(text, n, c, nc, l, nl, p, start, end, flags, d->out, d->out_len, d->order, d->order_len, d->places, d->places_len, shown, characters);
+    if (e == UTF16)
+        return unicode_bidi_display_line_utf16(text, n, c, nc, l, nl, p, start, end, flags, d->out, d->out_len, d->order, d->order_len, d->places, d->places_len, shown, characters);
+    return unicode_bidi_display_line_utf32(text, n, c, nc, l, nl, p, start, end, flags, d->out, d->out_len, d->order, d->order_len, d->places, d->places_len, shown, characters);
+}
+
 /* ---- texts: characters, and in each encoding their units and places ---- */
 
 enum { MOST = 512 };
@@ -252,7 +268,7 @@ static void read_utf8(text *t, const char *from) {
     }
 }
 
-static arena texts, classes_at, levels_at, rows_at, out_at, order_at, shown_at;
+static arena texts, classes_at, levels_at, rows_at, out_at, order_at, shown_at, places_at;
 
 /* Whether a list is one entry a character, on each of its units. A dash fits any entry. */
 static void see_list(const char *name, int e, const text *t, const list *wanted, const uint8_t *found, const char *const *names) {
@@ -308,7 +324,66 @@ static size_t place_of(const row *r, const text *t, int e, size_t k) {
     return t->at[e][k];
 }
 
-static long texts_seen, lines_seen, orders_seen, characters_seen, left_out;
+static long texts_seen, lines_seen, orders_seen, characters_seen, classes_seen, left_out;
+
+static bool all_are(const void *from, size_t bytes, unsigned char value) {
+    for (size_t i = 0; i < bytes; i++)
+        if (((const unsigned char *)from)[i] != value) return false;
+    return true;
+}
+
+/* The class and the bracket of a character by the tables of `now`, as the numbers of the calls. */
+static uint8_t class_by_table(uint32_t c) {
+    for (size_t i = 0; i < now->ranges; i++)
+        if (now->range[i].first <= c && c <= now->range[i].last) return now->range[i].class_number;
+    return UNICODE_BIDI_L;
+}
+
+static uint32_t bracket_by_table(uint32_t c) {
+    for (size_t i = 0; i < now->brackets; i++) {
+        const unicode_bidi_bracket_pair *pair = &now->bracket[i];
+        if (pair->opening == c) return pair->normal_form + UNICODE_BIDI_OPENING;
+        if (pair->closing == c) return pair->normal_form;
+    }
+    return 0;
+}
+
+static bool is_bracket_code(uint32_t code) {
+    uint32_t c = code & ~UNICODE_BIDI_OPENING;
+    return !code || (c >= 0x20 && c < 0x80000 && c - 0xD800 >= 0x800);
+}
+
+/* The classes and the brackets of a text have alone what the text has: each class, level and paragraph. */
+static void see_by_classes(const char *what, const text *t, bool tables, uint8_t base, uint8_t split,
+                           const uint8_t *wanted_classes, const uint8_t *wanted_levels, const unicode_bidi_paragraph *wanted, int64_t count) {
+    uint8_t given[MOST];
+    uint32_t codes[MOST];
+    for (size_t k = 0; k < t->len; k++) {
+        uint32_t c = t->chars[k] - 0xD800 < 0x800 ? 0xFFFD : t->chars[k];
+        given[k] = tables ? class_by_table(c) : (uint8_t)unicode_bidi_class_of(c);
+        codes[k] = tables ? bracket_by_table(c) : (uint32_t)unicode_bidi_bracket_of(c);
+        if (!is_bracket_code(codes[k])) return;
+        if (split == TOGETHER && k && t->chars[k - 1] == '\r' && t->chars[k] == '\n') return;
+    }
+    size_t n = t->len;
+    const uint8_t *in = copied(texts, given, n);
+    const uint32_t *brackets = copied(order_at, codes, n * sizeof *brackets);
+    for (size_t more = 0; more < 2; more++) {
+        uint8_t *c = buffer(classes_at, n + more, 99), *l = buffer(levels_at, n + more, 99);
+        unicode_bidi_paragraph *p = buffer(rows_at, (count + more) * sizeof *p, 99);
+        if (unicode_bidi_analyse_classes(in, n, brackets, n, base, split, c, n + more, l, n + more, p, count + more) != count)
+            FAIL("%s: paragraphs by classes", what);
+        if (memcmp(c, wanted_classes, n) || memcmp(l, wanted_levels, n)) FAIL("%s: levels by classes", what);
+        for (int64_t k = 0; k < count; k++)
+            if (p[k].start != wanted[k].start || p[k].end != wanted[k].end || p[k].level != wanted[k].level) FAIL("%s: a paragraph by classes", what);
+        if (!all_are(c + n, more, 99) || !all_are(l + n, more, 99) || !all_are(p + count, more * sizeof *p, 99)) FAIL("%s: past the classes", what);
+        watch(classes_at, n + more, what), watch(levels_at, n + more, what), watch(rows_at, (count + more) * sizeof *p, what);
+    }
+    uint8_t *c = buffer(classes_at, n, 99), *l = buffer(levels_at, n, 99);
+    if (unicode_bidi_analyse_classes(in, n, brackets, n, base, split, c, n, l, n, (unicode_bidi_paragraph *)rows_at.end, 0) != count)
+        FAIL("%s: counted by classes", what);
+    classes_seen++;
+}
 
 static void try_text(const row *r) {
     if (strcmp(r->kind, "text")) return;
@@ -339,6 +414,12 @@ static void try_text(const row *r) {
         }
         if (analyse(e, true, in, n, base_of(r), split, c, n, l, n, p, 0) != count) BAD_ROW(r, "%s: counted", NAMES[e]);
         watch(classes_at, n, r->name), watch(levels_at, n, r->name);
+        if (e == UTF32) {
+            uint8_t classes[MOST], levels[MOST];
+            unicode_bidi_paragraph paragraphs[MOST + 1];
+            memcpy(classes, c, n), memcpy(levels, l, n), memcpy(paragraphs, p, count * sizeof *p);
+            see_by_classes(r->name, &t, true, base_of(r), split, classes, levels, paragraphs, count);
+        }
     }
 }
 
@@ -366,12 +447,6 @@ static shown_line shown_buffers(int e, size_t levels, size_t runs, size_t order,
 static void watch_shown(int e, const shown_line *s, const char *what) {
     watch(shown_at, s->levels_len, what), watch(rows_at, s->runs_len * sizeof *s->runs, what);
     watch(order_at, s->order_len * sizeof *s->order, what), watch(out_at, s->out_len * SIZES[e], what);
-}
-
-static bool all_are(const void *from, size_t bytes, unsigned char value) {
-    for (size_t i = 0; i < bytes; i++)
-        if (((const unsigned char *)from)[i] != value) return false;
-    return true;
 }
 
 /* A call that tells a fault has written nothing. */
@@ -429,6 +504,122 @@ static long see_shown_refused(int e, const void *in, size_t n, const uint8_t *c,
         if (!was_refused) return k;
         if (found != UNICODE_BIDI_NO_MEMORY) FAIL("show_line: request %ld refused: %lld", k, (long long)found);
         see_unwritten(e, &s, characters, 0x77, "request refused");
+    }
+}
+
+/* ---- a line as it is displayed, in one call ---- */
+
+/* Buffers of so many entries, each byte with this value. */
+static displayed_line displayed_buffers(int e, size_t out, size_t order, size_t places, unsigned char value) {
+    return (displayed_line){out, order, places, buffer(out_at, out * SIZES[e], value), buffer(order_at, order * sizeof(size_t), value), buffer(places_at, places * sizeof(size_t), value)};
+}
+
+static void watch_displayed(int e, const displayed_line *d, const char *what) {
+    watch(out_at, d->out_len * SIZES[e], what), watch(order_at, d->order_len * sizeof *d->order, what), watch(places_at, d->places_len * sizeof *d->places, what);
+}
+
+/* A call that tells a fault has written nothing. */
+static void see_undisplayed(int e, const displayed_line *d, size_t shown, size_t characters, const char *what) {
+    if (!all_are(d->out, d->out_len * SIZES[e], 0x77) || !all_are(d->order, d->order_len * sizeof *d->order, 0x77)
+        || !all_are(d->places, d->places_len * sizeof *d->places, 0x77) || shown != 99 || characters != 99)
+        FAIL("%s in %s: a fault of display_line that wrote", what, NAMES[e]);
+}
+
+/* The character that is displayed for another at a level. */
+static uint32_t displayed_char(uint32_t c, uint8_t level, uint32_t flags) {
+    if (c - 0xD800 < 0x800) c = 0xFFFD;
+    return flags & UNICODE_BIDI_MIRROR && level & 1 ? (uint32_t)unicode_bidi_mirrored(c) : c;
+}
+
+static uint32_t flags_of(const row *r) {
+    const char *moves = get(r, "moves"), *dropped = get(r, "dropped");
+    return (!moves || !strcmp(moves, "clusters") ? UNICODE_BIDI_MOVE_CLUSTERS : !strcmp(moves, "marks") ? UNICODE_BIDI_MOVE_MARKS : UNICODE_BIDI_MOVE_CHARACTERS)
+        + (!dropped || !strcmp(dropped, "controls") ? UNICODE_BIDI_DROP_CONTROLS : !strcmp(dropped, "neutrals") ? UNICODE_BIDI_DROP_BOUNDARY_NEUTRALS : 0);
+}
+
+/* A displayed line of characters from a up to b: its maps agree with each other and with its text. With each choice of buffers the call
+ * writes the same, and too little room in any of them is a fault. If `wanted` is no null, it is the displayed text, and the other way
+ * round `found` is told the order. Returns the number of displayed characters. */
+static size_t see_displayed(const char *what, int e, const text *t, const void *in, const uint8_t *c, const uint8_t *l, const unicode_bidi_paragraph *p,
+                            size_t a, size_t b, uint32_t flags, const text *wanted, size_t *found) {
+    static unsigned char out[8 * MOST];
+    static size_t order[MOST], places[MOST];
+    static uint8_t after_l1[4 * MOST];
+    size_t n = t->units[e], start = t->at[e][a], end = t->at[e][b], len = end - start, shown = 99, characters = 99;
+    displayed_line d = displayed_buffers(e, 2 * len, b - a, b - a, 0x77);
+    int64_t units = display_line(e, in, n, c, n, l, n, p, start, end, flags, &d, &shown, &characters);
+    if (units < 0 || characters != b - a || shown > characters) FAIL("%s: display_line in %s: %lld", what, NAMES[e], (long long)units);
+    if (!all_are((unsigned char *)d.out + units * SIZES[e], (d.out_len - units) * SIZES[e], 0x77) || !all_are(d.order + shown, (d.order_len - shown) * sizeof *d.order, 0x77))
+        FAIL("%s: display_line in %s wrote past its result", what, NAMES[e]);
+    memcpy(out, d.out, units * SIZES[e]), memcpy(order, d.order, shown * sizeof *order), memcpy(places, d.places, characters * sizeof *places);
+    if (unicode_bidi_line_levels(c, n, l, n, p, start, end, after_l1, len) != (int64_t)len) FAIL("%s: levels", what);
+    size_t dropped = 0;
+    for (size_t j = 0; j < characters; j++) dropped += places[j] == UNICODE_BIDI_NOWHERE;
+    if (dropped + shown != characters) FAIL("%s: %zu places in %s", what, characters - dropped, NAMES[e]);
+    text from_map;
+    memset(&from_map, 0, sizeof from_map);
+    for (size_t i = 0; i < shown; i++) {
+        if (order[i] >= characters || places[order[i]] != i) FAIL("%s: the maps in %s", what, NAMES[e]);
+        size_t k = a + order[i];
+        push(&from_map, displayed_char(t->chars[k], after_l1[t->at[e][k] - start], flags));
+    }
+    if (from_map.units[e] != (size_t)units || memcmp(from_map.in[e], out, units * SIZES[e])) FAIL("%s: a displayed text in %s", what, NAMES[e]);
+    if (wanted && (wanted->units[e] != (size_t)units || memcmp(wanted->in[e], out, units * SIZES[e]))) FAIL("%s: another displayed text in %s", what, NAMES[e]);
+    for (int chosen = 0; chosen < 8; chosen++)
+        for (size_t more = 0; more < 2; more++) {
+            d = displayed_buffers(e, chosen & 1 ? units + more : 0, chosen & 2 ? shown + more : 0, chosen & 4 ? characters + more : 0, 0x77);
+            size_t again = 99, all = 99;
+            if (display_line(e, in, n, c, n, l, n, p, start, end, flags, &d, &again, &all) != units || again != shown || all != characters) FAIL("%s: display_line in %s, buffers %d", what, NAMES[e], chosen);
+            if (d.out_len && (memcmp(d.out, out, units * SIZES[e]) || !all_are((unsigned char *)d.out + units * SIZES[e], more * SIZES[e], 0x77))) FAIL("%s: displayed text in %s", what, NAMES[e]);
+            if (d.order_len && (memcmp(d.order, order, shown * sizeof *order) || !all_are(d.order + shown, more * sizeof *order, 0x77))) FAIL("%s: displayed order in %s", what, NAMES[e]);
+            if (d.places_len && (memcmp(d.places, places, characters * sizeof *places) || !all_are(d.places + characters, more * sizeof *places, 0x77))) FAIL("%s: places in %s", what, NAMES[e]);
+            watch_displayed(e, &d, what);
+        }
+    for (int part = 0; part < 3; part++) { /* one entry too few, where that is not none */
+        size_t rooms[3] = {units, shown, characters};
+        if (rooms[part] < 2) continue;
+        rooms[part]--;
+        d = displayed_buffers(e, rooms[0], rooms[1], rooms[2], 0x77);
+        size_t again = 99, all = 99;
+        if (display_line(e, in, n, c, n, l, n, p, start, end, flags, &d, &again, &all) != UNICODE_BIDI_NO_ROOM) FAIL("%s: display_line in %s with little room", what, NAMES[e]);
+        see_undisplayed(e, &d, again, all, what);
+    }
+    if (found) memcpy(found, order, shown * sizeof *order);
+    return shown;
+}
+
+/* The same call with each of its requests for memory refused in turn. */
+static long see_displayed_refused(int e, const void *in, size_t n, const uint8_t *c, const uint8_t *l, const unicode_bidi_paragraph *p, uint32_t flags) {
+    for (long k = 0;; k++) {
+        displayed_line d = displayed_buffers(e, 2 * n, n, n, 0x77);
+        size_t shown = 99, characters = 99;
+        until_refusal = k, was_refused = false;
+        int64_t found = display_line(e, in, n, c, n, l, n, p, 0, n, flags, &d, &shown, &characters);
+        until_refusal = -1;
+        if (!was_refused) return k;
+        if (found != UNICODE_BIDI_NO_MEMORY) FAIL("display_line: request %ld refused: %lld", k, (long long)found);
+        see_undisplayed(e, &d, shown, characters, "request refused");
+    }
+}
+
+static long displayed_seen;
+
+static void try_displayed(const row *r) {
+    static text t, wanted;
+    if (strcmp(r->kind, "displayed line") || !get(r, "shown")) return;
+    if (!read_text(r, "text", &t)) { left_out++; return; }
+    if (!read_text(r, "shown", &wanted)) memset(&wanted, 0, sizeof wanted);
+    displayed_seen++;
+    size_t a = 0, b = t.len;
+    if (get(r, "line") && sscanf(get(r, "line"), "%zu..%zu", &a, &b) != 2) BAD_ROW(r, "a line");
+    for (int e = UTF8; e <= UTF32; e++) {
+        if (t.is_utf16_alone && e != UTF16) continue;
+        size_t n = t.units[e];
+        const void *in = copied(texts, t.in[e], n * SIZES[e]);
+        uint8_t *c = buffer(classes_at, n, 99), *l = buffer(levels_at, n, 99);
+        unicode_bidi_paragraph p;
+        if (analyse(e, false, in, n, base_of(r), WHOLE, c, n, l, n, &p, 1) != 1) BAD_ROW(r, "a paragraph");
+        see_displayed(r->name, e, &t, in, c, l, &p, a, b, flags_of(r) + UNICODE_BIDI_MIRROR, &wanted, NULL);
     }
 }
 
@@ -682,6 +873,55 @@ static void try_each_call(void) {
     see("levels by a table of one range", UTF32, &t, "0 0 1 1 0", l, NULL);
 }
 
+/* Classes alone: worked by hand, each fault, each two faults at once, and no request for memory. */
+static void try_classes(void) {
+    static const uint8_t given[] = {UNICODE_BIDI_L, UNICODE_BIDI_ON, UNICODE_BIDI_R, UNICODE_BIDI_ON, UNICODE_BIDI_R};
+    static const uint32_t codes[] = {0, '(' + UNICODE_BIDI_OPENING, 0, '(', 0}, none[] = {0x1F, 0x80000, 0xD800, 0xDFFF, UNICODE_BIDI_OPENING, UNICODE_BIDI_OPENING + 0x1F, UINT32_MAX};
+    static const uint32_t some[] = {0x20, 0x7FFFF, UNICODE_BIDI_OPENING + 0x20, UNICODE_BIDI_OPENING + 0x7FFFF, 0xD7FF, 0xE000};
+    static const uint8_t paired[] = {0, 0, 1, 0, 1}, unpaired[] = {0, 0, 1, 1, 1}, bad[] = {0, 22, 23};
+    uint8_t c[6] = {99, 99, 99, 99, 99, 99}, l[6] = {99, 99, 99, 99, 99, 99};
+    unicode_bidi_paragraph p[2];
+    expect("classes and brackets", unicode_bidi_analyse_classes(given, 5, codes, 5, AUTO, SPLIT, c, 6, l, 6, p, 2), 1);
+    if (memcmp(c, given, 5) || memcmp(l, paired, 5) || c[5] != 99 || l[5] != 99 || p->start || p->end != 5 || p->level) FAIL("a pair by classes");
+    expect("classes", unicode_bidi_analyse_classes(given, 5, codes, 0, AUTO, SPLIT, c, 5, l, 5, p, 2), 1);
+    if (memcmp(l, unpaired, 5)) FAIL("no pair by classes");
+    static const uint8_t crlf[] = {UNICODE_BIDI_B, UNICODE_BIDI_B};
+    expect("no CR and LF", unicode_bidi_analyse_classes(crlf, 2, codes, 0, AUTO, TOGETHER, c, 5, l, 5, p, 2), 2);
+    for (size_t i = 0; i < COUNT(some); i++) {
+        const uint32_t one[] = {some[i], 0};
+        expect("a bracket code", unicode_bidi_analyse_classes(given, 2, one, 2, AUTO, SPLIT, c, 5, l, 5, p, 2), 1);
+    }
+    memset(c, 0x77, 6), memset(l, 0x77, 6), memset(p, 0x77, sizeof p);
+    for (size_t i = 0; i < COUNT(none); i++) {
+        const uint32_t two[] = {0, none[i]};
+        expect("no bracket code", unicode_bidi_analyse_classes(given, 2, two, 2, AUTO, SPLIT, c, 6, l, 6, p, 2), UNICODE_BIDI_BAD_BRACKET);
+        expect("a class above 22", unicode_bidi_analyse_classes(bad + 1, 2, two, 2, AUTO, SPLIT, c, 6, l, 6, p, 2), UNICODE_BIDI_BAD_CLASS);
+        expect("lengths", unicode_bidi_analyse_classes(bad, 3, two, 2, AUTO, SPLIT, c, 6, l, 6, p, 2), UNICODE_BIDI_UNEQUAL_LENGTHS);
+        expect("lengths", unicode_bidi_analyse_classes(bad, 0, two, 1, AUTO, SPLIT, c, 6, l, 6, p, 2), UNICODE_BIDI_UNEQUAL_LENGTHS);
+        expect("no bracket code", unicode_bidi_analyse_classes(given, 2, two, 2, 126, 3, c, 1, l, 1, p, 2), UNICODE_BIDI_BAD_BRACKET);
+    }
+    expect("base level", unicode_bidi_analyse_classes(given, 5, codes, 5, 126, 3, c, 4, l, 4, p, 2), UNICODE_BIDI_BAD_BASE_LEVEL);
+    expect("split rule", unicode_bidi_analyse_classes(given, 5, codes, 5, AUTO, 3, c, 4, l, 4, p, 2), UNICODE_BIDI_BAD_SPLIT);
+    expect("room for classes", unicode_bidi_analyse_classes(given, 5, codes, 5, AUTO, SPLIT, c, 4, l, 5, p, 2), UNICODE_BIDI_NO_ROOM);
+    expect("room for levels", unicode_bidi_analyse_classes(given, 5, codes, 5, AUTO, SPLIT, c, 5, l, 4, p, 2), UNICODE_BIDI_NO_ROOM);
+    expect("room for paragraphs", unicode_bidi_analyse_classes(crlf, 2, codes, 0, AUTO, SPLIT, c, 5, l, 5, p, 1), UNICODE_BIDI_NO_ROOM);
+    if (!all_are(c, 6, 0x77) || !all_are(l, 6, 0x77) || !all_are(p, sizeof p, 0x77)) FAIL("a fault in classes that wrote");
+    uint8_t many[256], stored[256], levels[256];
+    for (size_t i = 0; i < 256; i++) many[i] = i % 2 ? UNICODE_BIDI_R : UNICODE_BIDI_AN;
+    until_refusal = 0, was_refused = false;
+    expect("short classes", unicode_bidi_analyse_classes(many, 256, codes, 0, AUTO, WHOLE, stored, 256, levels, 256, p, 2), 1);
+    if (was_refused) FAIL("classes take memory");
+    until_refusal = -1;
+}
+
+/* The names of classes, and of numbers that have none. tests/names compares all names. */
+static void try_names(void) {
+    for (int k = -1; k <= 23; k++)
+        if (strcmp(unicode_bidi_class_name(k), 0 <= k && k < 23 ? CLASSES[k] : "?")) FAIL("the name of the class %d", k);
+    if (strcmp(unicode_bidi_fault_name(UNICODE_BIDI_NOT_UTF8), "NOT_UTF8") || strcmp(unicode_bidi_fault_name(UNICODE_BIDI_BAD_BRACKET), "BAD_BRACKET")) FAIL("the name of a fault");
+    if (strcmp(unicode_bidi_fault_name(0), "UNKNOWN_FAULT") || strcmp(unicode_bidi_fault_name(UNICODE_BIDI_BAD_FLAGS - 1), "UNKNOWN_FAULT") || strcmp(unicode_bidi_fault_name(INT64_MIN), "UNKNOWN_FAULT")) FAIL("the name of no fault");
+}
+
 /* The versions that the header names are those of the library. */
 static void try_versions(void) {
     expect("version", unicode_bidi_version(), UNICODE_BIDI_VERSION);
@@ -744,7 +984,10 @@ static void try_faults(void) {
     expect("direction of what is not UTF-8", unicode_bidi_base_direction_utf8(broken, 2, 0), UNICODE_BIDI_NOT_UTF8);
     expect("no scalar value", unicode_bidi_analyse_utf32(no_char, 2, AUTO, SPLIT, out, 4, more, 4, ps, 2), UNICODE_BIDI_NOT_SCALAR);
     expect("direction of no scalar value", unicode_bidi_base_direction_utf32(half, 2, 1), UNICODE_BIDI_NOT_SCALAR);
-    expect("base level", unicode_bidi_analyse_utf8(hebrew, 4, 126, SPLIT, out, 4, more, 4, ps, 2), UNICODE_BIDI_BAD_BASE_LEVEL);
+    for (int base = 0; base < 256; base++) {
+        bool good = base < 126 || base == AUTO || base == UNICODE_BIDI_AUTO_LTR || base == UNICODE_BIDI_AUTO_RTL;
+        expect("base level", unicode_bidi_analyse_utf8(hebrew, 4, base, SPLIT, out, 4, more, 4, ps, 2), good ? 1 : UNICODE_BIDI_BAD_BASE_LEVEL);
+    }
     expect("split rule", unicode_bidi_analyse_utf8(hebrew, 4, AUTO, 3, out, 4, more, 4, ps, 2), UNICODE_BIDI_BAD_SPLIT);
     expect("room for classes", unicode_bidi_analyse_utf8(hebrew, 4, AUTO, SPLIT, out, 3, more, 4, ps, 2), UNICODE_BIDI_NO_ROOM);
     expect("room for levels", unicode_bidi_analyse_utf8(hebrew, 4, AUTO, SPLIT, out, 4, more, 3, ps, 2), UNICODE_BIDI_NO_ROOM);
@@ -799,6 +1042,17 @@ static void try_faults(void) {
         size_t characters = 99;
         expect(shown[i].what, show_line(shown[i].e, shown[i].in, shown[i].n, shown[i].c, shown[i].nc, shown[i].l, shown[i].nl, shown[i].p, shown[i].start, shown[i].end, &s, &characters), shown[i].wanted);
         see_unwritten(shown[i].e, &s, characters, 0x77, shown[i].what);
+        displayed_line d = displayed_buffers(shown[i].e, 1, 1, 1, 0x77);
+        size_t displayed = 99;
+        expect(shown[i].what, display_line(shown[i].e, shown[i].in, shown[i].n, shown[i].c, shown[i].nc, shown[i].l, shown[i].nl, shown[i].p, shown[i].start, shown[i].end, 3, &d, &displayed, &characters), shown[i].wanted);
+        see_undisplayed(shown[i].e, &d, displayed, characters, shown[i].what);
+    }
+    static const uint32_t bad_flags[] = {3, 7, 11, 19, 23, 24, 25, 32, 64, 256, 1u << 31, UINT32_MAX};
+    for (size_t i = 0; i < COUNT(bad_flags); i++) { /* also with too little room, which is tested last */
+        displayed_line d = displayed_buffers(UTF8, 1, 1, 1, 0x77);
+        size_t displayed = 99, characters = 99;
+        expect("flags", display_line(UTF8, hebrew, 4, c, 4, l, 4, &p, 0, 4, bad_flags[i], &d, &displayed, &characters), UNICODE_BIDI_BAD_FLAGS);
+        see_undisplayed(UTF8, &d, displayed, characters, "flags");
     }
     static const struct { unicode_bidi_class_range rows[2]; unicode_bidi_bracket_pair pair; int64_t wanted; } tables[] = {
         {{{'b', 'a', 0}, {'c', 'c', 0}}, {'(', ')', '('}, UNICODE_BIDI_BAD_RANGES},
@@ -836,6 +1090,21 @@ static void try_faults(void) {
 
 static long refusals;
 
+/* The analysis of a short text without brackets and without characters that open, and the base direction: no request. */
+static void try_short_texts(void) {
+    text t;
+    read_utf8(&t, u8"a\u05D0 12 \u0627b.");
+    for (int e = UTF8; e <= UTF32; e++) {
+        uint8_t c[4 * MOST], l[4 * MOST];
+        unicode_bidi_paragraph p[1];
+        size_t n = t.units[e];
+        until_refusal = 0, was_refused = false;
+        if (analyse(e, false, t.in[e], n, AUTO, SPLIT, c, n, l, n, p, 1) != 1 || was_refused) FAIL("a short text takes memory in %s", NAMES[e]);
+        if (direction(e, false, t.in[e], n, 1) != UNICODE_BIDI_LTR || was_refused) FAIL("a base direction takes memory in %s", NAMES[e]);
+        until_refusal = -1;
+    }
+}
+
 static void try_refusals(void) {
     text t;
     read_utf8(&t, u8"a\u05D0 (\u05D1) 12\u202Bb\u202C\u2067c\u2068\u05D0\u2069\u2069 \u05D0a\u05D0a\u05D0a\u05D0a\u05D0a\u05D0a\u05D0a\u05D0a\u05D0\nb");
@@ -858,11 +1127,17 @@ static void try_refusals(void) {
         SWEEP("line_runs", rows_at, n * sizeof(unicode_bidi_run), unicode_bidi_line_runs(c, n, l, n, p, 0, end, (unicode_bidi_run *)rows_at.end - n, n));
         SWEEP("line_map", order_at, n * sizeof *order, line_map(e, in, n, c, n, l, n, p, 0, end, order, n));
         SWEEP("reorder_line", out_at, n * SIZES[e], reorder_line(e, in, n, c, n, l, n, p, 0, end, out_at.end - n * SIZES[e], n));
+        uint8_t given[4 * MOST], stored[4 * MOST];
+        unicode_bidi_paragraph pieces[4 * MOST];
+        if (classes_of(e, in, n, given, n) != (int64_t)n) FAIL("classes in %s", NAMES[e]);
+        SWEEP("analyse_classes", levels_at, n, unicode_bidi_analyse_classes(given, n, (const uint32_t *)out_at.end, 0, AUTO, SPLIT, stored, n, levels_at.end - n, n, pieces, n));
         SWEEP("reorder_visual", order_at, n * sizeof *order, unicode_bidi_reorder_visual(l, n, order, n));
         long shown = see_shown_refused(e, in, n, c, l, p, 0, end);
         if (!shown) FAIL("a line of many runs is shown without memory in %s", NAMES[e]);
         refusals += shown;
         if (see_shown_refused(e, in, n, c, l, p, 0, t.at[e][16])) FAIL("a line of few runs takes memory in %s", NAMES[e]);
+        unicode_bidi_paragraph whole = {0, n, p[0].level};
+        refusals += see_displayed_refused(e, in, n, c, l, &whole, UNICODE_BIDI_MOVE_CLUSTERS + UNICODE_BIDI_MIRROR);
     }
 }
 
@@ -878,6 +1153,7 @@ static void try_long_lines(void) {
             size_t n = t.units[e];
             if (analyse(e, false, t.in[e], n, AUTO, SPLIT, c, n, l, n, p, 1) != 1) FAIL("a long line in %s", NAMES[e]);
             see_shown("a long line", e, t.in[e], n, c, l, p, 0, n);
+            see_displayed("a long line", e, &t, t.in[e], c, l, p, 0, t.len, UNICODE_BIDI_MOVE_CLUSTERS + UNICODE_BIDI_MIRROR, NULL, NULL);
             refusals += see_shown_refused(e, t.in[e], n, c, l, p, 0, n);
         }
     }
@@ -911,7 +1187,7 @@ static size_t place(size_t n) { return below(40) ? below(n + 2) : SIZE_MAX - bel
 
 static void unchanged(int64_t answer, arena a, const void *before, size_t bytes, const char *what) {
     if (answer < 0 && bytes && memcmp(a.end - bytes, before, bytes)) FAIL("%s: a fault that wrote", what);
-    if (answer < UNICODE_BIDI_BAD_RANGES) FAIL("%s: the answer %lld", what, (long long)answer);
+    if (answer < UNICODE_BIDI_BAD_FLAGS) FAIL("%s: the answer %lld", what, (long long)answer);
     if (answer == UNICODE_BIDI_NO_MEMORY) FAIL("%s: no memory", what);
     watch(a, bytes, what);
 }
@@ -944,7 +1220,7 @@ static void call_at_random(void) {
     if (start > end && below(8)) { size_t s = start; start = end, end = s; }
     uint8_t base = below(2) ? AUTO : below(8) ? below(126) : next() >> 56, split = below(9) ? below(3) : next() >> 56;
     int64_t answer;
-    switch (below(9)) {
+    switch (below(10)) {
     case 0: case 1: {
         unicode_bidi_paragraph *ps = copied(rows_at, seed, np * sizeof p);
         answer = analyse(e, below(2), in, m, base, split, c, nc, l, nl, ps, np);
@@ -1009,6 +1285,28 @@ static void call_at_random(void) {
         if (good ? found < UNICODE_BIDI_LTR || found > UNICODE_BIDI_MIXED : found != UNICODE_BIDI_BAD_CLASS) FAIL("the direction of classes at random");
         break;
     }
+    case 8: {
+        size_t rooms[3], shown = 99, characters = 99;
+        for (int i = 0; i < 3; i++) rooms[i] = below(3) ? near(i ? n : 2 * n) : 0;
+        uint32_t flags = below(8) ? below(24) : (uint32_t)next() >> below(32);
+        displayed_line d = displayed_buffers(e, rooms[0], rooms[1], rooms[2], 0x77);
+        answer = display_line(e, in, m, c, nc, l, nl, &p, start, end, flags, &d, &shown, &characters);
+        watch_displayed(e, &d, "display_line");
+        if (answer < 0) see_undisplayed(e, &d, shown, characters, "at random");
+        static uint32_t out[4096];
+        int64_t wanted = reorder_line(e, in, m, c, nc, l, nl, &p, start, end, out, COUNT(out));
+        if (wanted >= 0 && (flags >= 24 || flags % 4 == 3)) wanted = UNICODE_BIDI_BAD_FLAGS;
+        if (wanted >= 0) {
+            displayed_line counted = {0, 0, 0, out_at.end, (size_t *)order_at.end, (size_t *)places_at.end};
+            wanted = display_line(e, in, m, c, nc, l, nl, &p, start, end, flags, &counted, &shown, &characters);
+            if (wanted < 0 || (size_t)wanted > 2 * (end - start) || shown > characters || characters > end - start) FAIL("display_line counted at random: %lld", (long long)wanted);
+            size_t parts[3] = {wanted, shown, characters};
+            for (int i = 0; i < 3; i++)
+                if (rooms[i] && rooms[i] < parts[i]) wanted = UNICODE_BIDI_NO_ROOM;
+        }
+        expect("display_line at random", answer, wanted);
+        break;
+    }
     default: {
         size_t *order = copied(order_at, seed, room * sizeof *order);
         answer = unicode_bidi_reorder_visual(l, nl, order, room);
@@ -1020,6 +1318,34 @@ static void call_at_random(void) {
         break;
     }
     }
+}
+
+/* Any classes and brackets: the first fault, and then nothing is written, or an analysis. */
+static void classes_at_random(void) {
+    static const uint32_t codes[] = {0, 0, '(', '(' + UNICODE_BIDI_OPENING, '[', '[' + UNICODE_BIDI_OPENING, 0x7FFFF, UNICODE_BIDI_OPENING + 0x20};
+    static const unsigned char seed[1024] = {1, 2, 3};
+    size_t n = below(24), nb = below(3) ? n : below(3) ? 0 : near(n), nc = near(n), nl = below(8) ? nc : near(n), np = near(below(4));
+    uint8_t given[24], base = below(2) ? AUTO : below(20) ? below(126) : next() >> 56, split = below(20) ? below(3) : next() >> 56;
+    uint32_t brackets[32];
+    bool has_classes = true, has_brackets = true;
+    for (size_t i = 0; i < n; i++) given[i] = below(200) ? below(23) : next() >> 56, has_classes &= given[i] < 23;
+    for (size_t i = 0; i < nb; i++)
+        brackets[i] = below(100) ? codes[below(COUNT(codes))] : (uint32_t)next() >> below(32), has_brackets &= is_bracket_code(brackets[i]);
+    const uint8_t *in = copied(texts, given, n);
+    const uint32_t *b = copied(order_at, brackets, nb * sizeof *b);
+    uint8_t *c = copied(classes_at, seed, nc), *l = copied(levels_at, seed, nl);
+    unicode_bidi_paragraph *p = copied(rows_at, seed, np * sizeof *p);
+    int64_t wanted = nb && nb != n ? UNICODE_BIDI_UNEQUAL_LENGTHS : !has_classes ? UNICODE_BIDI_BAD_CLASS : !has_brackets ? UNICODE_BIDI_BAD_BRACKET
+        : base > 125 && base < UNICODE_BIDI_AUTO_RTL ? UNICODE_BIDI_BAD_BASE_LEVEL : split > 2 ? UNICODE_BIDI_BAD_SPLIT : nc < n || nl < n ? UNICODE_BIDI_NO_ROOM : 0;
+    if (!wanted) {
+        uint8_t own[24], levels[24];
+        wanted = unicode_bidi_analyse_classes(in, n, b, nb, base, split, own, n, levels, n, p, 0);
+        if (wanted < 0) FAIL("classes at random: %lld", (long long)wanted);
+        if (np && np < (size_t)wanted) wanted = UNICODE_BIDI_NO_ROOM;
+    }
+    expect("classes at random", unicode_bidi_analyse_classes(in, n, b, nb, base, split, c, nc, l, nl, p, np), wanted);
+    unchanged(wanted, classes_at, seed, nc, "analyse_classes"), unchanged(wanted, levels_at, seed, nl, "analyse_classes");
+    unchanged(wanted, rows_at, seed, np * sizeof *p, "analyse_classes");
 }
 
 /* A text in which one character is made faulty: the direction of those before it, if they decide, and else the fault. */
@@ -1039,12 +1365,37 @@ static void try_fault_at_random(const text *t, uint8_t full) {
     }
 }
 
+/* With AUTO_RTL a paragraph in which no character decides is as with the base level 1, and any other as with AUTO.
+ * AUTO_LTR is AUTO. */
+static void see_fallback(const text *t, uint8_t split) {
+    static const uint8_t bases[] = {AUTO, UNICODE_BIDI_AUTO_LTR, UNICODE_BIDI_AUTO_RTL, 1};
+    size_t n = t->len;
+    const uint32_t *in = copied(texts, t->in[UTF32], n * sizeof *in);
+    uint8_t own[MOST], c[4][MOST], l[4][MOST];
+    static unicode_bidi_paragraph p[4][MOST + 1];
+    int64_t count[4];
+    if (unicode_bidi_classes_utf32(in, n, own, n) != (int64_t)n) FAIL("classes");
+    for (size_t k = 0; split == WHOLE && k < n; k++)
+        if (own[k] == UNICODE_BIDI_B) return; /* a direction of classes ends there */
+    for (int b = 0; b < 4; b++) {
+        count[b] = unicode_bidi_analyse_utf32(in, n, bases[b], split, c[b], n, l[b], n, p[b], n + 1);
+        if (count[b] != count[0] || memcmp(c[b], c[0], n)) FAIL("the base changes classes or paragraphs");
+    }
+    for (int64_t q = 0; q < count[0]; q++) {
+        size_t start = p[0][q].start, end = p[0][q].end;
+        int like = unicode_bidi_base_direction_of_classes(own + start, end - start, 0) == UNICODE_BIDI_MIXED ? 3 : 0;
+        if (p[2][q].start != start || p[2][q].end != end || p[2][q].level != p[like][q].level || memcmp(l[2] + start, l[like] + start, end - start))
+            FAIL("the levels with AUTO_RTL");
+        if (p[1][q].level != p[0][q].level || memcmp(l[1] + start, l[0] + start, end - start)) FAIL("the levels with AUTO_LTR");
+    }
+}
+
 /* A text in the three encodings: all calls answer alike, character by character. */
 static void compare_at_random(void) {
     text t;
     memset(&t, 0, sizeof t);
     for (size_t n = below(24); t.len < n;) push(&t, PALETTE[below(COUNT(PALETTE))]);
-    uint8_t base = below(2) ? AUTO : below(126), split = below(3), c[3][96], l[3][96];
+    uint8_t base = (uint8_t[]){AUTO, UNICODE_BIDI_AUTO_LTR, UNICODE_BIDI_AUTO_RTL, below(126)}[below(4)], split = below(3), c[3][96], l[3][96];
     unicode_bidi_paragraph p[3][25];
     bool tables = below(2), full = below(2);
     int64_t count[3];
@@ -1065,6 +1416,8 @@ static void compare_at_random(void) {
         if (e == UTF32 && unicode_bidi_base_direction_of_classes(own, n, full) != direction(e, false, t.in[e], n, full)) FAIL("the direction of classes differs");
     }
     see_characters("at random", &t);
+    see_by_classes("at random", &t, tables, base, split, c[UTF32], l[UTF32], p[UTF32], count[UTF32]);
+    see_fallback(&t, split);
     try_fault_at_random(&t, full);
     if (!count[0]) return;
     size_t q = below(count[0]), first = 0, last = 0;
@@ -1098,7 +1451,20 @@ static void compare_at_random(void) {
         if (v != b - a) FAIL("runs differ in %s", NAMES[e]);
         see_shown("at random", e, t.in[e], n, c[e], l[e], &p[e][q], start, end);
     }
+    static const uint32_t dropped[] = {0, UNICODE_BIDI_DROP_CONTROLS, UNICODE_BIDI_DROP_BOUNDARY_NEUTRALS};
+    uint32_t flags = below(3) + (below(2) ? UNICODE_BIDI_MIRROR : 0) + dropped[below(3)];
+    size_t displayed[3][24], many[3], plain[24];
+    for (int e = UTF8; e <= UTF32; e++) {
+        out[e].units[e] = t.at[e][b] - t.at[e][a];
+        many[e] = see_displayed("displayed at random", e, &t, t.in[e], c[e], l[e], &p[e][q], a, b, flags, NULL, displayed[e]);
+        if (many[e] != many[0] || memcmp(displayed[e], displayed[0], many[0] * sizeof *displayed[0])) FAIL("displayed orders differ in %s", NAMES[e]);
+        if (see_displayed("plainly displayed", e, &t, t.in[e], c[e], l[e], &p[e][q], a, b, UNICODE_BIDI_MOVE_CHARACTERS, &out[e], plain) != b - a
+            || memcmp(plain, order[0], (b - a) * sizeof *order[0]))
+            FAIL("display_line differs from line_map in %s", NAMES[e]);
+    }
 }
+
+#include "nulls.h"
 
 int main(int argc, char **argv) {
     if (argc < 2) FAIL("usage: callers FOLDER [CALLS [SEED]]");
@@ -1106,7 +1472,7 @@ int main(int argc, char **argv) {
     long calls = argc > 2 ? atol(argv[2]) : 20000;
     state = argc > 3 ? strtoull(argv[3], NULL, 10) | 1 : 88172645463325252u;
     texts = new_arena(), classes_at = new_arena(), levels_at = new_arena();
-    rows_at = new_arena(), out_at = new_arena(), order_at = new_arena(), shown_at = new_arena();
+    rows_at = new_arena(), out_at = new_arena(), order_at = new_arena(), shown_at = new_arena(), places_at = new_arena();
     each_row(folder, "sources.rows", read_source);
     each_row(folder, "texts.rows", try_text);
     each_row(folder, "limits.rows", try_text);
@@ -1114,19 +1480,28 @@ int main(int argc, char **argv) {
     each_row(folder, "orders.rows", try_order);
     each_row(folder, "directions.rows", try_direction);
     each_row(folder, "characters.rows", try_character);
+    each_row(folder, "../../bidi_vectors_display/data/breaks.rows", try_displayed);
+    each_row(folder, "../../bidi_vectors_display/data/carets.rows", try_displayed);
+    each_row(folder, "../../bidi_vectors_display/data/clusters.rows", try_displayed);
+    each_row(folder, "../../bidi_vectors_display/data/shown.rows", try_displayed);
     now = &sources[0];
     try_each_call();
+    try_classes();
+    try_names();
     try_versions();
     try_faults();
     try_first_direction();
     try_characters();
+    try_short_texts();
+    try_nulls();
     try_refusals();
     try_long_lines();
     for (long i = 0; i < calls; i++) {
-        if (i % 4) call_at_random();
+        if (i % 8 == 5) classes_at_random();
+        else if (i % 4) call_at_random();
         else compare_at_random();
     }
-    printf("ok callers: %ld rows of texts, %ld of lines, %ld of orders, %ld of characters, %ld left out as too long, each fault, %ld refusals of memory, and %ld random calls\n",
-           texts_seen, lines_seen, orders_seen, characters_seen, left_out, refusals, calls);
+    printf("ok callers: %ld rows of texts, %ld of lines, %ld of orders, %ld of characters, %ld of displayed lines, %ld texts by their classes alone, %ld left out as too long, each fault, %ld null pointers, %ld refusals of memory, and %ld random calls\n",
+           texts_seen, lines_seen, orders_seen, characters_seen, displayed_seen, classes_seen, left_out, nulls_seen, refusals, calls);
     return 0;
 }

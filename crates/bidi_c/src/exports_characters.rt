@@ -2,11 +2,12 @@
 //! direction of classes.
 use crate::mirroring::partner_or_self;
 use bidi_calls::characters::{
-    Brackets, Classes, base_direction_of_classes, bracket_number_of, class_number_of, numbers_utf8,
-    numbers_utf16, numbers_utf32,
+    Brackets, Classes, base_direction_of_classes, bracket_number_of, class_number_of, numbers,
 };
 use bidi_numbers::fault::answer;
+use bidi_numbers::utf32_text::Utf32Text;
 use bidi_unicode::UnicodeData;
+use unicode_bidi::text::{StrText, Utf16Text};
 
 #[unsafe(no_mangle)]
 pub extern "C" fn unicode_bidi_class_of(character: u32) -> i64 {
@@ -25,32 +26,32 @@ pub extern "C" fn unicode_bidi_mirrored(character: u32) -> i64 {
 
 #[unsafe(no_mangle)]
 pub extern "C" fn unicode_bidi_classes_utf8(text: &[u8], classes: &mut [u8]) -> i64 {
-    answer(numbers_utf8(&UnicodeData, Classes, text, classes))
+    answer(numbers::<StrText, _, _>(&UnicodeData, Classes, text, classes))
 }
 
 #[unsafe(no_mangle)]
 pub extern "C" fn unicode_bidi_classes_utf16(text: &[u16], classes: &mut [u8]) -> i64 {
-    answer(numbers_utf16(&UnicodeData, Classes, text, classes))
+    answer(numbers::<Utf16Text, _, _>(&UnicodeData, Classes, text, classes))
 }
 
 #[unsafe(no_mangle)]
 pub extern "C" fn unicode_bidi_classes_utf32(text: &[u32], classes: &mut [u8]) -> i64 {
-    answer(numbers_utf32(&UnicodeData, Classes, text, classes))
+    answer(numbers::<Utf32Text, _, _>(&UnicodeData, Classes, text, classes))
 }
 
 #[unsafe(no_mangle)]
 pub extern "C" fn unicode_bidi_brackets_utf8(text: &[u8], brackets: &mut [u32]) -> i64 {
-    answer(numbers_utf8(&UnicodeData, Brackets, text, brackets))
+    answer(numbers::<StrText, _, _>(&UnicodeData, Brackets, text, brackets))
 }
 
 #[unsafe(no_mangle)]
 pub extern "C" fn unicode_bidi_brackets_utf16(text: &[u16], brackets: &mut [u32]) -> i64 {
-    answer(numbers_utf16(&UnicodeData, Brackets, text, brackets))
+    answer(numbers::<Utf16Text, _, _>(&UnicodeData, Brackets, text, brackets))
 }
 
 #[unsafe(no_mangle)]
 pub extern "C" fn unicode_bidi_brackets_utf32(text: &[u32], brackets: &mut [u32]) -> i64 {
-    answer(numbers_utf32(&UnicodeData, Brackets, text, brackets))
+    answer(numbers::<Utf32Text, _, _>(&UnicodeData, Brackets, text, brackets))
 }
 
 #[unsafe(no_mangle)]

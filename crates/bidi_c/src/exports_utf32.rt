@@ -1,10 +1,13 @@
 //! The exports over lists of numbers of characters.
+use bidi_calls::analysis::{analyse, base_direction};
 use bidi_calls::buffers::{AnalysisBuffers, LineBuffers, Settings};
-use bidi_calls::by_tables::{analyse_utf32, base_direction_utf32};
+use bidi_calls::by_tables;
 use bidi_calls::line::CallerLine;
-use bidi_calls::utf32::{analyse, base_direction, line_map, reorder_line, show_line};
+use bidi_calls::line_text::{line_map, reorder_line};
+use bidi_calls::show::show_line;
 use bidi_numbers::fault::answer;
 use bidi_numbers::structs::{BracketPair, ClassRange, Paragraph, Run};
+use bidi_numbers::utf32_text::Utf32Text;
 use bidi_unicode::UnicodeData;
 use std::alloc::Global;
 
@@ -24,12 +27,12 @@ pub extern "C" fn unicode_bidi_analyse_utf32(
         levels,
         paragraphs,
     };
-    answer(analyse(alloc, &UnicodeData, text, settings, &mut out))
+    answer(analyse::<Utf32Text, _>(alloc, &UnicodeData, text, settings, &mut out))
 }
 
 #[unsafe(no_mangle)]
-pub extern "C" fn unicode_bidi_base_direction_utf32(alloc: Global, text: &[u32], full: u8) -> i64 {
-    answer(base_direction(alloc, &UnicodeData, text, full != 0))
+pub extern "C" fn unicode_bidi_base_direction_utf32(text: &[u32], full: u8) -> i64 {
+    answer(base_direction::<Utf32Text, _>(&UnicodeData, text, full != 0))
 }
 
 #[unsafe(no_mangle)]
@@ -50,7 +53,7 @@ pub extern "C" fn unicode_bidi_analyse_by_tables_utf32(
         levels,
         paragraphs,
     };
-    answer(analyse_utf32(alloc, ranges, brackets, text, settings, &mut out))
+    answer(by_tables::analyse::<Utf32Text>(alloc, ranges, brackets, text, settings, &mut out))
 }
 
 #[unsafe(no_mangle)]
@@ -61,7 +64,7 @@ pub extern "C" fn unicode_bidi_base_direction_by_tables_utf32(
     text: &[u32],
     full: u8,
 ) -> i64 {
-    answer(base_direction_utf32(alloc, ranges, brackets, text, full != 0))
+    answer(by_tables::base_direction::<Utf32Text>(alloc, ranges, brackets, text, full != 0))
 }
 
 #[unsafe(no_mangle)]
@@ -82,7 +85,7 @@ pub extern "C" fn unicode_bidi_line_map_utf32(
         start,
         end,
     };
-    answer(line_map(alloc, text, line, order))
+    answer(line_map::<Utf32Text>(alloc, text, line, order))
 }
 
 #[unsafe(no_mangle)]
@@ -103,7 +106,7 @@ pub extern "C" fn unicode_bidi_reorder_line_utf32(
         start,
         end,
     };
-    answer(reorder_line(alloc, text, line, out))
+    answer(reorder_line::<Utf32Text>(alloc, text, line, out))
 }
 
 #[unsafe(no_mangle)]
@@ -135,5 +138,5 @@ pub extern "C" fn unicode_bidi_show_line_utf32(
         text: out,
         characters,
     };
-    answer(show_line(alloc, text, line, &mut buffers))
+    answer(show_line::<Utf32Text>(alloc, text, line, &mut buffers))
 }

@@ -1,12 +1,15 @@
 //! The exports over texts of UTF-8.
+use bidi_calls::analysis::{analyse, base_direction};
 use bidi_calls::buffers::{AnalysisBuffers, LineBuffers, Settings};
-use bidi_calls::by_tables::{analyse_utf8, base_direction_utf8};
+use bidi_calls::by_tables;
 use bidi_calls::line::CallerLine;
-use bidi_calls::utf8::{analyse, base_direction, line_map, reorder_line, show_line};
+use bidi_calls::line_text::{line_map, reorder_line};
+use bidi_calls::show::show_line;
 use bidi_numbers::fault::answer;
 use bidi_numbers::structs::{BracketPair, ClassRange, Paragraph, Run};
 use bidi_unicode::UnicodeData;
 use std::alloc::Global;
+use unicode_bidi::text::StrText;
 
 #[unsafe(no_mangle)]
 pub extern "C" fn unicode_bidi_analyse_utf8(
@@ -24,12 +27,12 @@ pub extern "C" fn unicode_bidi_analyse_utf8(
         levels,
         paragraphs,
     };
-    answer(analyse(alloc, &UnicodeData, text, settings, &mut out))
+    answer(analyse::<StrText, _>(alloc, &UnicodeData, text, settings, &mut out))
 }
 
 #[unsafe(no_mangle)]
 pub extern "C" fn unicode_bidi_base_direction_utf8(text: &[u8], full: u8) -> i64 {
-    answer(base_direction(&UnicodeData, text, full != 0))
+    answer(base_direction::<StrText, _>(&UnicodeData, text, full != 0))
 }
 
 #[unsafe(no_mangle)]
@@ -50,7 +53,7 @@ pub extern "C" fn unicode_bidi_analyse_by_tables_utf8(
         levels,
         paragraphs,
     };
-    answer(analyse_utf8(alloc, ranges, brackets, text, settings, &mut out))
+    answer(by_tables::analyse::<StrText>(alloc, ranges, brackets, text, settings, &mut out))
 }
 
 #[unsafe(no_mangle)]
@@ -61,7 +64,7 @@ pub extern "C" fn unicode_bidi_base_direction_by_tables_utf8(
     text: &[u8],
     full: u8,
 ) -> i64 {
-    answer(base_direction_utf8(alloc, ranges, brackets, text, full != 0))
+    answer(by_tables::base_direction::<StrText>(alloc, ranges, brackets, text, full != 0))
 }
 
 #[unsafe(no_mangle)]
@@ -82,7 +85,7 @@ pub extern "C" fn unicode_bidi_line_map_utf8(
         start,
         end,
     };
-    answer(line_map(alloc, text, line, order))
+    answer(line_map::<StrText>(alloc, text, line, order))
 }
 
 #[unsafe(no_mangle)]
@@ -103,7 +106,7 @@ pub extern "C" fn unicode_bidi_reorder_line_utf8(
         start,
         end,
     };
-    answer(reorder_line(alloc, text, line, out))
+    answer(reorder_line::<StrText>(alloc, text, line, out))
 }
 
 #[unsafe(no_mangle)]
@@ -135,5 +138,5 @@ pub extern "C" fn unicode_bidi_show_line_utf8(
         text: out,
         characters,
     };
-    answer(show_line(alloc, text, line, &mut buffers))
+    answer(show_line::<StrText>(alloc, text, line, &mut buffers))
 }

@@ -7,7 +7,9 @@
 
 mod exports;
 mod exports_characters;
+mod exports_classes;
 mod exports_direction;
+mod exports_display;
 mod exports_utf16;
 mod exports_utf32;
 mod exports_utf8;

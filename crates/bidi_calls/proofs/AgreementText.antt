@@ -2,7 +2,8 @@
 use Rattle.bidi_base.proofs.Common.{◌≡◌, ◌==◌, ℕ, zero, suc, ◌+◌, ◌-◌, ◌<◌, ◌≤◌, Bool, true, false, not, ◌&&◌, ◌↔◌, IsTrue, nat_tests, List, length, get_or, take, drop, map, refl, sym, ap, ◌∙◌}
 use Rattle.bidi_base.proofs.Common.{subst, inl, inr, arith, cases_Bool, cases_lt, eqb-true, list_all, length-map, length-take-le, get_or-map, get_or-range_with_len, range_with_len}
 use Rattle.bidi_base.proofs.Common.{text_len, is_per_char, is_boundary, class_count, class_number, zero-add, len_utf8, chars, IsUtf8, utf16_text, utf16_len, splits_pair}
-use Rattle.bidi_base.proofs.Common.{is_character}
+use Rattle.bidi_base.proofs.Common.{is_character, one_unit, unit_index}
+use Rattle.bidi_base.proofs.UnitIndexLemmas.{unit_index-one_unit, text_len-one_unit, is_boundary-unit_index}
 use Rattle.std.proofs.lemmas.List.Sums.{AllPass-from_list_all}
 use Rattle.bidi_base.specs.declared.char_data.BidiClass.{BidiClass}
 use Rattle.bidi_base.specs.declared.char_data.BidiClass.TheVariants.{L}
@@ -141,3 +142,16 @@ per_char-utf16 us ns ls r classes levels below e =
 -- in a text without surrogates no code unit continues a character
 pub agree-plain : (us ns ls : List ℕ) → list_all is_character us ≡ true → AgreeBetween (splits_pair us) ns ls 1 (length us)
 agree-plain us ns ls plain k from to pair = let here = AllPass-from_list_all is_character us plain k 0 to in absurd (grind (arith, nat_tests))
+
+-- ---- UTF-32
+
+-- in a list of characters none does either
+pub per_char-utf32 : (cs ns ls : List ℕ) → length ns ≡ text_len one_unit cs → length ls ≡ text_len one_unit cs → IsTrue (list_all is_class ns)
+    → true ≡ (is_per_char class_eq one_unit cs (map class_numbered ns) && is_per_char level_eq one_unit cs ls)
+per_char-utf32 cs ns ls classes levels below =
+    let some : HasUnits one_unit = λ c. omega arith in
+    let inner : (k : ℕ) → k < text_len one_unit cs → false ≡ not (is_boundary one_unit cs k) = λ k within.
+    let at : unit_index one_unit cs k ≡ k = unit_index-one_unit cs k (omega (arith, text_len-one_unit cs)) in
+    let begins : is_boundary one_unit cs k ≡ true = ap (is_boundary one_unit cs) (sym at) ∙ is_boundary-unit_index one_unit cs k in
+    ap not (sym begins) in
+    per_char_result one_unit some cs ns ls (λ _. false) (text_len one_unit cs) refl classes levels below inner true ((λ _ k from to goes. absurd (cc goes)), λ _. refl)

@@ -5,6 +5,7 @@ use Rattle.bidi_lines.proofs.LineInText.{length-part}
 use Rattle.bidi_lines.proofs.LineLevels.{length-line_levels}
 use Rattle.bidi_calls.specs.declared.line.CallerLine.{CallerLine}
 use Rattle.bidi_calls.specs.CallerLine.{IsValid, own_classes, own_levels, caller_line_levels}
+use Rattle.bidi_calls.specs.LineText.{own_units}
 use Rattle.bidi_numbers.specs.Numbers.{class_numbered}
 
 pub length-own_levels : (l : CallerLine) → IsValid l → length (own_levels l) ≡ l.end - l.start
@@ -22,3 +23,7 @@ caller_line_levels-own l h level n classes levels same of_classes of_levels e = 
 pub length-caller_line_levels : (l : CallerLine) → IsValid l → length (caller_line_levels l) + l.start ≡ l.end
 unfolding caller_line_levels
 length-caller_line_levels l h = grind (arith, length-map, length-own_classes, length-line_levels, length-own_levels)
+
+-- a line of a text has as many code units as entries
+pub length-own_units : {X : Type 0} (text : List X) (l : CallerLine) → IsValid l → length text ≡ length l.levels.now → length (own_units text l) + l.start ≡ l.end
+length-own_units text l valid same = omega (arith, length-part text l.start l.end (omega (arith, valid.within, same)), valid.ordered)

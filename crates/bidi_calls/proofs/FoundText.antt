@@ -1,8 +1,9 @@
 -- What an analysis holds, as a caller's buffers have it.
-use Rattle.bidi_base.proofs.Common.{length-take-le, ◌≡◌, ◌∙◌, ℕ, ◌≤◌, take, List, [], ◌∷◌, map, length, refl, ap}
+use Rattle.bidi_base.proofs.Common.{◌≡◌, ◌∙◌, List, [], ◌∷◌, map, length, refl, ap}
 use Rattle.bidi_base.proofs.Common.{ap₂, sym, Option, length-map, AnalysedText, Source}
+use Rattle.unicode_bidi.specs.Base.{IsAnalysisWith}
+use Rattle.unicode_bidi.specs.declared.base.Base.{Base}
 use Rattle.unicode_bidi.specs.ParagraphInfo.{range_of, level_of, ranges_of, levels_of}
-use Rattle.bidi_base.specs.AnalysedText.{IsAnalysis}
 use Rattle.bidi_paragraphs.specs.declared.paragraph_info.ParagraphInfo.{ParagraphInfo}
 use Rattle.bidi_base.specs.declared.split_rule.SplitRule.{SplitRule}
 use Rattle.bidi_numbers.specs.declared.structs.Paragraph.{Paragraph}
@@ -18,15 +19,11 @@ structs_of [] = refl
 structs_of (p ∷ ps) = ap (λ structs. struct_of p ∷ structs) (structs_of ps)
 
 -- the paragraphs of an analysis
-pub structs-found : (source : Source) (base_level : Option ℕ) (rule : Option SplitRule) (a : AnalysedText) (ps : List ParagraphInfo)
-    → IsAnalysis source base_level rule a (ranges_of ps) (levels_of ps) → map struct_of ps ≡ paragraphs_in source base_level rule a.len_of a.chars
-structs-found source base_level rule a ps h = structs_of ps ∙ ap₂ paragraph_structs h.paragraphs.ranges h.paragraphs.para_levels
+pub structs-found : (source : Source) (base : Base) (rule : Option SplitRule) (a : AnalysedText) (ps : List ParagraphInfo)
+    → IsAnalysisWith source base rule a (ranges_of ps) (levels_of ps) → map struct_of ps ≡ paragraphs_in source base rule a.len_of a.chars
+structs-found source base rule a ps h = structs_of ps ∙ ap₂ paragraph_structs h.ranges h.para_levels
 
 -- their number
-pub count-found : (source : Source) (base_level : Option ℕ) (rule : Option SplitRule) (a : AnalysedText) (ps : List ParagraphInfo)
-    → IsAnalysis source base_level rule a (ranges_of ps) (levels_of ps) → length ps ≡ length (paragraphs_in source base_level rule a.len_of a.chars)
-count-found source base_level rule a ps h = sym (length-map ps struct_of) ∙ ap length (structs-found source base_level rule a ps h)
-
--- a front of a buffer is as long as what goes there
-pub length-front : {X Y : Type 0} (n : ℕ) (buffer : List X) (xs : List Y) → n ≤ length buffer → length xs ≡ n → length (take n buffer) ≡ length xs
-length-front n buffer xs fits e = length-take-le n buffer fits ∙ sym e
+pub count-found : (source : Source) (base : Base) (rule : Option SplitRule) (a : AnalysedText) (ps : List ParagraphInfo)
+    → IsAnalysisWith source base rule a (ranges_of ps) (levels_of ps) → length ps ≡ length (paragraphs_in source base rule a.len_of a.chars)
+count-found source base rule a ps h = sym (length-map ps struct_of) ∙ ap length (structs-found source base rule a ps h)

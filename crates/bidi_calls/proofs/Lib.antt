@@ -7,9 +7,11 @@ mod CountLemmas
 mod EqualInside
 mod FirstDirectionLemmas
 mod FoundText
-mod OneUnit
 mod OrderOfRuns
+mod PartsLemmas
 mod PartsOfLine
+mod PlacesLemmas
 mod RunStructs
+mod ShownLemmas
+mod TextOfRuns
 mod Utf8Fronts
-mod WrittenChars

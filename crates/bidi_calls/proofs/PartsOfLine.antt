@@ -1,12 +1,12 @@
 -- Everything about a line: how much room it needs.
-use Rattle.bidi_base.proofs.Common.{◌≡◌, ℕ, ◌&&◌, Bool, true, List, length, refl, ◌∙◌, per_char}
+use Rattle.bidi_base.proofs.Common.{◌≡◌, ℕ, ◌&&◌, Bool, List, length, refl, ◌∙◌, per_char}
 use Rattle.bidi_base.proofs.PerUnit.{length-per_char}
 use Rattle.bidi_lines.proofs.RunLengths.{length-visual_order}
 use Rattle.bidi_calls.specs.declared.line.CallerLine.{CallerLine}
 use Rattle.bidi_calls.specs.declared.buffers.LineBuffers.{LineBuffers}
-use Rattle.bidi_calls.specs.LineParts.{line_parts, run_structs, room_fault, parts_of_line, fault_of_parts}
+use Rattle.bidi_calls.specs.LineParts.{line_parts, run_structs, room_fault}
 use Rattle.bidi_calls.specs.CallerLine.{caller_line_levels}
-use Rattle.bidi_calls.specs.LineText.{are_entries_per_char, order_of_line}
+use Rattle.bidi_calls.specs.LineText.{order_of_line}
 use Rattle.bidi_numbers.specs.Faults.{fault_unless, has_room_or_none}
 use Rattle.bidi_numbers.specs.declared.fault.Fault.TheVariants.{NoRoom}
 
@@ -23,8 +23,3 @@ pub reported-room : {X : Type 0} (len_of : ℕ → ℕ) (chars : List ℕ) (l : 
     && (has_room_or_none many (length before.order.now) && has_room_or_none units (length before.text.now))))
     → room_fault (line_parts len_of chars l text) before ≡ fault_unless fits NoRoom
 reported-room len_of chars l text before units runs many fits of_levels of_runs of_text of_chars e = simp (of_levels, of_runs, of_text, length-order len_of chars l, ← of_chars, e) refl
-
--- what the call reports of a line whose units are equal within each character
-pub reported-per_char : (len_of : ℕ → ℕ) (encode : ℕ → List ℕ) (chars units : List ℕ) (l : CallerLine) (before : LineBuffers ℕ) → are_entries_per_char len_of chars l ≡ true
-    → fault_of_parts len_of encode chars units l before ≡ room_fault (parts_of_line len_of encode chars units l) before
-reported-per_char len_of encode chars units l before equal = simp (equal) refl

@@ -49,9 +49,6 @@ length-structs by levels ranges e = ap length (sym (structs-moved by levels rang
 pub runs_within : (levels : List ℕ) (ranges : List (Range ℕ)) → AreVisualRuns 0 levels (map run_of ranges) → All (λ r. (r.start < length levels) × (r.end ≤ length levels)) ranges
 runs_within levels ranges h k d fits = grind (arith, get_or-map run_of ranges k d (0, 0), length-map, h.are_runs k (0, 0))
 
-pub runs_ordered : (levels : List ℕ) (ranges : List (Range ℕ)) → AreVisualRuns 0 levels (map run_of ranges) → All (λ r. r.start ≤ r.end) ranges
-runs_ordered levels ranges h k d fits = grind (arith, get_or-map run_of ranges k d (0, 0), length-map, h.are_runs k (0, 0))
-
 -- as many as the visual runs of the line, wherever these are counted from
 pub length-moved : (by : ℕ) (levels : List ℕ) (ranges : List (Range ℕ)) → map run_of ranges ≡ visual_runs 0 levels → length ranges ≡ length (visual_runs by levels)
 length-moved by levels ranges e =

@@ -1,23 +1,23 @@
 -- What a call writes to the buffers of its caller, and its faults.
-use Rattle.std.specs.Prelude.{◌≡◌, ℕ, ◌==◌, ◌&&◌, nat_le, IsTrue, if◌then◌else◌, List, length, ◌++◌, drop, map, Option, Some, IsUtf8, Result, OnOk, OnErr, IfOk}
+use Rattle.std.specs.Prelude.{◌≡◌, ℕ, ◌==◌, ◌&&◌, nat_le, IsTrue, if◌then◌else◌, List, length, ◌++◌, drop, map, flat_map, Option, Result, OnOk, OnErr, IfOk}
 use Rattle.std.specs.Option.{option_or}
 use Rattle.bidi_base.specs.Classes.{class_number}
 use Rattle.bidi_base.specs.Paragraphs.{ranges_from}
 use Rattle.bidi_base.specs.Source.{Source}
-use Rattle.bidi_base.specs.Stored.{text_classes, text_levels, paragraph_levels}
+use Rattle.bidi_base.specs.Stored.{text_classes}
 use Rattle.bidi_base.specs.Text.{per_unit}
+use Rattle.unicode_bidi.specs.Base.{level_with, stored_levels_with}
 use Rattle.unicode_bidi.specs.SplitRule.{pieces_by}
+use Rattle.unicode_bidi.specs.declared.base.Base.{Base}
 use Rattle.bidi_base.specs.declared.split_rule.SplitRule.{SplitRule}
 use Rattle.bidi_numbers.specs.declared.fault.Fault.{Fault}
-use Rattle.bidi_numbers.specs.declared.fault.Fault.TheVariants.{BadBaseLevel, BadSplit, NoRoom, NotUtf8}
-use Rattle.bidi_numbers.specs.declared.structs.BracketPair.{BracketPair}
-use Rattle.bidi_numbers.specs.declared.structs.ClassRange.{ClassRange}
+use Rattle.bidi_numbers.specs.declared.fault.Fault.TheVariants.{BadBaseLevel, BadSplit, NoRoom}
 use Rattle.bidi_numbers.specs.declared.structs.Paragraph.{Paragraph}
-use Rattle.bidi_numbers.specs.Tables.{tables_fault}
+use Rattle.bidi_calls.specs.BaseNumbers.{base_of, is_base}
 use Rattle.bidi_calls.specs.declared.buffers.AnalysisBuffers.{AnalysisBuffers}
 use Rattle.bidi_calls.specs.declared.buffers.Settings.{Settings}
-use Rattle.bidi_numbers.specs.Faults.{FaultsAs, fault_unless, has_room_or_none}
-use Rattle.bidi_numbers.specs.Numbers.{is_base, is_split, base_of, split_of}
+use Rattle.bidi_numbers.specs.Faults.{fault_unless, has_room_or_none}
+use Rattle.bidi_numbers.specs.Numbers.{is_split, split_of}
 use Rattle.bidi_numbers.specs.Structs.{paragraph_structs}
 
 -- a buffer after a list was written to its front
@@ -44,13 +44,15 @@ class_numbers source rule len_of chars =
     map class_number (per_unit len_of chars (text_classes source (pieces_by rule source chars)))
 
 -- the stored levels of a text's code units (X1 to I2)
-abbrev pub level_numbers : Source → Option ℕ → Option SplitRule → (ℕ → ℕ) → List ℕ → List ℕ
-level_numbers source base_level rule len_of chars = per_unit len_of chars (text_levels source base_level (pieces_by rule source chars))
+abbrev pub level_numbers : Source → Base → Option SplitRule → (ℕ → ℕ) → List ℕ → List ℕ
+level_numbers source base rule len_of chars =
+    per_unit len_of chars (flat_map (stored_levels_with source base) (pieces_by rule source chars))
 
 -- the paragraphs of a text (P1) with their levels (P2, P3)
-abbrev pub paragraphs_in : Source → Option ℕ → Option SplitRule → (ℕ → ℕ) → List ℕ → List Paragraph
-paragraphs_in source base_level rule len_of chars =
-    let pieces = pieces_by rule source chars in paragraph_structs (ranges_from len_of 0 pieces) (paragraph_levels source base_level pieces)
+abbrev pub paragraphs_in : Source → Base → Option SplitRule → (ℕ → ℕ) → List ℕ → List Paragraph
+paragraphs_in source base rule len_of chars =
+    let pieces = pieces_by rule source chars in
+    paragraph_structs (ranges_from len_of 0 pieces) (map (level_with source base) pieces)
 
 -- what a call finds of a text: the numbers of the class and the level of each code unit, and the paragraphs
 pub record AnalysisAsNumbers : Type 0 where
@@ -58,11 +60,11 @@ pub record AnalysisAsNumbers : Type 0 where
   pub levels : List ℕ
   pub paragraphs : List Paragraph
 
-abbrev pub analysis_of : Source → Option ℕ → Option SplitRule → (ℕ → ℕ) → List ℕ → AnalysisAsNumbers
-analysis_of source base_level rule len_of chars = record {
+abbrev pub analysis_of : Source → Base → Option SplitRule → (ℕ → ℕ) → List ℕ → AnalysisAsNumbers
+analysis_of source base rule len_of chars = record {
   classes = class_numbers source rule len_of chars;
-  levels = level_numbers source base_level rule len_of chars;
-  paragraphs = paragraphs_in source base_level rule len_of chars;
+  levels = level_numbers source base rule len_of chars;
+  paragraphs = paragraphs_in source base rule len_of chars;
 }
 
 -- the same, from the numbers that a caller passes
@@ -104,8 +106,3 @@ pub record WritesAnalysis (found : AnalysisAsNumbers) (result : Result ℕ Fault
   pub paragraphs : OnOk result (after.paragraphs.now ≡ written_if_room found.paragraphs before.paragraphs.now)
   pub count : IfOk result (λ count. count ≡ length found.paragraphs)
   pub buffers : AreTheSameBuffers before after
-
--- what a call that reads tables returns for a text that is not UTF-8: a fault of the tables first
-abbrev pub ReportsNotUtf8ByTables : Result ℕ Fault → List ClassRange → List BracketPair → List ℕ → Type 0
-ReportsNotUtf8ByTables result ranges brackets text =
-    ¬ (IsUtf8 text) → FaultsAs result (option_or (tables_fault ranges brackets) (Some NotUtf8))

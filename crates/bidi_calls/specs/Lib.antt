@@ -1,7 +1,13 @@
-pub mod Characters
-pub mod PerChar
-pub mod LineParts
-pub mod FirstDirection
+pub mod BaseNumbers
 pub mod Buffers
 pub mod CallerLine
+pub mod CallerText
+pub mod Characters
+pub mod ClassLists
+pub mod DisplayParts
+pub mod FirstDirection
+pub mod Flags
+pub mod LineParts
 pub mod LineText
+pub mod PerChar
+pub mod ShownOrder

@@ -3,12 +3,12 @@ use Rattle.std.specs.Prelude.{◌≡◌, ℕ, ◌<◌, ◌≤◌, All, IsTrue, B
 use Rattle.std.specs.Option.{option_or}
 use Rattle.std.specs.declared.ops.Range.{Range}
 use Rattle.bidi_base.specs.Display.{visual_runs}
-use Rattle.bidi_base.specs.Text.{one_unit, text_len}
+use Rattle.bidi_base.specs.Text.{text_len}
 use Rattle.bidi_calls.specs.declared.buffers.LineBuffers.{LineBuffers}
 use Rattle.bidi_calls.specs.declared.line.CallerLine.{CallerLine}
 use Rattle.bidi_calls.specs.Buffers.{written_if_room}
 use Rattle.bidi_calls.specs.CallerLine.{caller_line_levels}
-use Rattle.bidi_calls.specs.LineText.{are_entries_per_char, order_of_line, reordered, reordered_chars}
+use Rattle.bidi_calls.specs.LineText.{are_entries_per_char, order_of_line, reordered}
 use Rattle.bidi_numbers.specs.declared.fault.Fault.{Fault}
 use Rattle.bidi_numbers.specs.declared.fault.Fault.TheVariants.{UnevenCharacter, NoRoom}
 use Rattle.bidi_numbers.specs.declared.structs.Run.{Run}
@@ -75,19 +75,15 @@ pub record WritesLine {X : Type 0} (line : LineParts X) (result : Result ℕ Fau
   pub count : IfOk result (λ count. count ≡ length line.runs)
   pub buffers : AreTheSameBuffers before after
 
--- a line of UTF-8 or UTF-16 with these characters and code units, and its text from left to right
-abbrev pub parts_of_line : (ℕ → ℕ) → (ℕ → List ℕ) → List ℕ → List ℕ → CallerLine → LineParts ℕ
+-- a line with these characters and code units, and its text from left to right
+abbrev pub parts_of_line : {X : Type 0} → (ℕ → ℕ) → (ℕ → List X) → List ℕ → List X → CallerLine → LineParts X
 parts_of_line len_of encode chars units l = line_parts len_of chars l (reordered len_of encode chars units l)
 
 -- the first fault of the code units of that line, and of the room for all parts
-abbrev pub fault_of_parts : (ℕ → ℕ) → (ℕ → List ℕ) → List ℕ → List ℕ → CallerLine → LineBuffers ℕ → Option Fault
+abbrev pub fault_of_parts : {X : Type 0} → (ℕ → ℕ) → (ℕ → List X) → List ℕ → List X → CallerLine → LineBuffers X → Option Fault
 fault_of_parts len_of encode chars units l before =
     option_or (fault_unless (are_entries_per_char len_of chars l) UnevenCharacter)
     (room_fault (parts_of_line len_of encode chars units l) before)
-
--- a line of characters of one code unit each
-abbrev pub parts_of_chars : List ℕ → CallerLine → LineParts ℕ
-parts_of_chars chars l = line_parts one_unit chars l (reordered_chars chars l)
 
 -- a byte of UTF-8 begins a character
 abbrev pub begins_character : ℕ → Bool

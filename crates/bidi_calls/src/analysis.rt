@@ -1,24 +1,29 @@
-//! The calls over a whole text in any encoding.
-ghost use Rattle.std.specs.Prelude.{◌≡◌, ◌<◌, ◌≤◌, ◌&&◌, nat_le, length, map, slice_index, IfSome};
+//! The calls over a whole text.
+ghost use Rattle.std.specs.Prelude.{◌≡◌, ◌<◌, ◌≤◌, ◌&&◌, nat_le, length, map, slice_index, Err, IfSome};
+ghost use Rattle.std.specs.Option.{option_or};
 ghost use Rattle.bidi_base.specs.Classes.{class_number};
 ghost use Rattle.bidi_base.specs.Texts.{text_len};
 ghost use Rattle.std.specs.Result.{result_err};
 ghost use Rattle.bidi_numbers.specs.Faults.{FaultsAs, fault_unless};
+ghost use Rattle.bidi_calls.specs.CallerText.{unless_fault};
 ghost use Rattle.bidi_calls.specs.Buffers.{written, written_if_room, HasRoomOrNone, analysis_of, analysis_by, analysis_fault, paragraphs_fault, WritesAnalysis};
 ghost use Rattle.bidi_numbers.specs.Numbers.{direction_number, direction_in};
 ghost use Rattle.bidi_numbers.specs.Structs.{paragraph_struct};
+ghost use Rattle.unicode_bidi.specs.Base.{HasLowLevel};
 ghost use Rattle.unicode_bidi.specs.ParagraphInfo.{range_of, level_of};
 
+use crate::base_numbers::base_numbered;
 use crate::buffers::{AnalysisBuffers, Settings};
+use crate::caller_text::CallerText;
 use bidi_lines::reused_levels::FEW_UNITS;
 use bidi_numbers::fault::{Fault, check, check_room_or_none};
-use bidi_numbers::numbers::{base_level, number_of, split_rule};
+use bidi_numbers::numbers::{number_of, split_rule};
 use bidi_numbers::structs::Paragraph;
 use std::alloc::Global;
 use unicode_bidi::engine::Analyser;
 use unicode_bidi::{
-    BidiClass, BidiDataSource, Direction, LTR_LEVEL, Level, ParagraphInfo, SplitRule, TextSource,
-    get_base_direction_full_with_data_source, get_base_direction_with_data_source,
+    Base, BidiClass, BidiDataSource, Direction, LTR_LEVEL, Level, ParagraphInfo, SplitRule,
+    TextSource, get_base_direction_full_with_data_source, get_base_direction_with_data_source,
 };
 
 // Writes the numbers of classes.
@@ -111,7 +116,7 @@ fn check_room(units: usize, class_room: usize, level_room: usize) -> Result<(), 
 struct AnalysisCall<'a, D: BidiDataSource, T: TextSource> {
     data_source: &'a D,
     text: T,
-    base: Option<Level>,
+    base: Base,
     rule: Option<SplitRule>,
 }
 
@@ -124,7 +129,7 @@ fn write_analysis<D: BidiDataSource, T: TextSource>(
     own_levels: &mut [Level],
     out: &mut AnalysisBuffers<'_>,
 ) -> Result<usize, Fault>
-    requires low { IfSome call.now.base (λ level. level ≤ 125) }
+    requires low { HasLowLevel call.now.base }
     requires own_classes { length own_classes.old ≡ text_len (T.text call.now.text) }
     requires own_levels { length own_levels.old ≡ text_len (T.text call.now.text) }
     requires class_room { text_len (T.text call.now.text) ≤ length out.old.classes.now }
@@ -137,7 +142,7 @@ fn write_analysis<D: BidiDataSource, T: TextSource>(
         WritesAnalysis found result out.old out.new }
 {
     let mut analyser = Analyser::new(alloc);
-    analyser.analyse(
+    analyser.analyse_with_base(
         alloc,
         call.data_source,
         call.text,
@@ -154,13 +159,8 @@ fn write_analysis<D: BidiDataSource, T: TextSource>(
     Ok(found.len())
 }
 
-/// Writes the class and the level of each code unit of a text, and its paragraphs.
-///
-/// Returns the number of paragraphs. If the buffer for paragraphs is empty, only counts them. The faults are
-/// `BadBaseLevel`, `BadSplit`, and `NoRoom` for classes and levels or for paragraphs, in this order. Writes nothing
-/// after a fault. A text of up to 256 code units that is one paragraph needs no allocation if no character opens an
-/// embedding or an isolate, and none is a bracket.
-pub fn analyse<D: BidiDataSource, T: TextSource>(
+// Writes the class and the level of each code unit of a text, and its paragraphs.
+pub(crate) fn analyse_text<D: BidiDataSource, T: TextSource>(
     alloc: Global,
     data_source: &D,
     text: T,
@@ -172,7 +172,7 @@ pub fn analyse<D: BidiDataSource, T: TextSource>(
     ensures writes { WritesAnalysis (analysis_by (D.source data_source.now) settings T.encoding.len_of (T.text text).chars)
         result out.old out.new }
 {
-    let base = base_level(settings.base)?;
+    let base = base_numbered(settings.base)?;
     let rule = split_rule(settings.split)?;
     let len = text.len();
     check_room(len, out.classes.len(), out.levels.len())?;
@@ -205,6 +205,29 @@ pub fn analyse<D: BidiDataSource, T: TextSource>(
     }
 }
 
+/// Writes the class and the level of each code unit of a text, and its paragraphs.
+///
+/// Returns the number of paragraphs. If the buffer for paragraphs is empty, only counts them. The faults are that of code
+/// units that are ill-formed, `BadBaseLevel`, `BadSplit`, and `NoRoom` for classes and levels or for paragraphs, in this
+/// order. Writes nothing after a fault. A text of up to 256 code units that is one paragraph needs no allocation if no
+/// character opens an embedding or an isolate, and none is a bracket.
+pub fn analyse<'t, T: CallerText<'t>, D: BidiDataSource>(
+    alloc: Global,
+    data_source: &D,
+    text: &'t [T::Unit],
+    settings: Settings,
+    out: &mut AnalysisBuffers<'_>,
+) -> Result<usize, Fault>
+    ensures no_text { IfSome (T.fault_of text.now) (λ fault. result ≡ Err fault) }
+    ensures fault { let found = analysis_by (D.source data_source.now) settings T.encoding.len_of (T.chars_of text.now) in
+        FaultsAs result (option_or (T.fault_of text.now) (analysis_fault settings (length text.now) found out.old)) }
+    ensures writes { WritesAnalysis (analysis_by (D.source data_source.now) settings T.encoding.len_of (T.chars_of text.now))
+        result out.old out.new }
+{
+    let text = T::read(text)?;
+    analyse_text(alloc, data_source, text, settings, out)
+}
+
 // Returns the number of a direction.
 pub(crate) fn number_of_direction(direction: Direction) -> usize
     ensures { result ≡ direction_number direction }
@@ -216,15 +239,9 @@ pub(crate) fn number_of_direction(direction: Direction) -> usize
     }
 }
 
-/// Returns the number of a text's base direction: 0 for left to right, 1 for right to left, 2 for mixed.
-///
-/// Without `full` it is that of the first paragraph, and with `full` that of the first paragraph that has one.
+// Returns the number of a text's base direction.
 #[tactic(auto, unfolding(bidi_numbers::specs::Numbers::direction_in))]
-pub fn base_direction<D: BidiDataSource, T: TextSource>(
-    data_source: &D,
-    text: T,
-    full: bool,
-) -> usize
+fn direction_of<D: BidiDataSource, T: TextSource>(data_source: &D, text: T, full: bool) -> usize
     ensures { result ≡ direction_in (D.source data_source.now) full (T.text text).chars }
 {
     if full {
@@ -232,4 +249,23 @@ pub fn base_direction<D: BidiDataSource, T: TextSource>(
     } else {
         number_of_direction(get_base_direction_with_data_source(data_source, text))
     }
+}
+
+/// Returns the number of a text's base direction: 0 for left to right, 1 for right to left, 2 for mixed.
+///
+/// Without `full` it is that of the first paragraph, and with `full` that of the first paragraph that has one. Returns
+/// the fault of ill-formed code units, even if a character before it decides. In UTF-16, which has no such fault,
+/// stops at the character that decides. Does not allocate.
+// Inlined, so that the export of UTF-16 returns the direction in a register.
+#[inline(always)]
+pub fn base_direction<'t, T: CallerText<'t>, D: BidiDataSource>(
+    data_source: &D,
+    text: &'t [T::Unit],
+    full: bool,
+) -> Result<usize, Fault>
+    ensures { result
+        ≡ unless_fault (T.fault_of text.now) (direction_in (D.source data_source.now) full (T.chars_of text.now)) }
+{
+    let text = T::read(text)?;
+    Ok(direction_of(data_source, text, full))
 }

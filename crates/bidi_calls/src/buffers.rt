@@ -3,8 +3,8 @@ use bidi_numbers::structs::{Paragraph, Run};
 
 /// The settings of an analysis, as numbers.
 ///
-/// `base` is a base level up to 125, or 255 for none. `split` is 0 for one paragraph, 1 for `EachSeparator`, or 2 for
-/// `CrLfTogether`.
+/// `base` is a number that [`base_numbered`](crate::base_numbers::base_numbered) takes. `split` is 0 for one paragraph, 1 for
+/// `EachSeparator`, or 2 for `CrLfTogether`.
 #[derive(Clone, Copy, Debug)]
 pub struct Settings {
     pub base: u8,

@@ -2,28 +2,25 @@
 //!
 //! The number of a bracket is 0 if the character is no bracket. Otherwise it is the opening bracket of its pair in
 //! normal form (BD16), plus `OPENING` if the character is an opening bracket.
-ghost use Rattle.std.specs.Prelude.{◌≡◌, ℕ, true, nat_le, IsUtf8, if◌then◌else◌, length, map, replicate};
-ghost use Rattle.std.specs.Char.{len_utf8};
+ghost use Rattle.std.specs.Prelude.{◌≡◌, ℕ, nat_le, if◌then◌else◌, length, replicate};
 ghost use Rattle.std.specs.List.{list_all};
 ghost use Rattle.std.specs.Option.{option_or};
 ghost use Rattle.std.specs.Result.{result_err};
-ghost use Rattle.std.specs.Str.{chars};
 ghost use Rattle.bidi_base.specs.Source.{Source};
 ghost use Rattle.bidi_base.specs.Texts.{text_len};
-ghost use Rattle.bidi_base.specs.Utf16.{utf16_text, utf16_len};
 ghost use Rattle.bidi_calls.specs.Characters.{bracket_number, class_number_in, bracket_number_in, if_scalar, numbers_of, numbered_source};
 ghost use Rattle.bidi_calls.specs.Buffers.{WritesList};
 ghost use Rattle.bidi_numbers.specs.Faults.{fault_unless};
 ghost use Rattle.bidi_numbers.specs.Numbers.{is_class, direction_in};
-ghost use Rattle.bidi_numbers.specs.Texts.{is_scalar};
 
 use crate::analysis::number_of_direction;
+use crate::caller_text::CallerText;
 use bidi_base::data_source::BidiMatchedOpeningBracket;
 use bidi_numbers::fault::{Fault, check};
 use bidi_numbers::numbers::{check_classes, class_of as class_numbered, number_of};
-use bidi_numbers::texts::{all_scalar, char_of, is_scalar, utf8};
+use bidi_numbers::texts::{char_of, is_scalar};
 use unicode_bidi::direction_search::{DirectionSearch, search_class};
-use unicode_bidi::text::{StrText, TextSource, Utf16Text};
+use unicode_bidi::text::TextSource;
 use unicode_bidi::{BidiDataSource, Direction};
 
 /// The difference between the number of an opening bracket and that of its closing bracket.
@@ -162,77 +159,23 @@ fn write_numbers<D: BidiDataSource, T: TextSource, N: Numbering>(
     Ok(len)
 }
 
-/// Writes the number of each byte's character in a text of UTF-8, and returns the number of bytes.
+/// Writes the number of each code unit's character, and returns the number of code units.
 ///
-/// Returns `NotUtf8` if the text is not UTF-8, or else `NoRoom` if `out` is shorter than the text. Writes nothing after
-/// a fault. Does not allocate.
-pub fn numbers_utf8<D: BidiDataSource, N: Numbering>(
+/// Returns the fault of ill-formed code units, or else `NoRoom` if `out` is shorter than the text. Writes nothing
+/// after a fault. Does not allocate.
+pub fn numbers<'t, T: CallerText<'t>, D: BidiDataSource, N: Numbering>(
     data_source: &D,
     numbering: N,
-    text: &[u8],
+    text: &'t [T::Unit],
     out: &mut [N::Number],
 ) -> Result<usize, Fault>
-    ensures not_utf8 { ¬ (IsUtf8 text.now) → result ≡ Err Fault.NotUtf8 }
-    ensures fault { IsUtf8 text.now
-        → result_err result ≡ fault_unless (nat_le (length text.now) (length out.old)) Fault.NoRoom }
-    ensures writes { WritesList (numbers_of (N.number (D.source data_source.now)) len_utf8 (chars text.now))
+    ensures fault { result_err result
+        ≡ option_or (T.fault_of text.now) (fault_unless (nat_le (length text.now) (length out.old)) Fault.NoRoom) }
+    ensures writes { WritesList (numbers_of (N.number (D.source data_source.now)) T.encoding.len_of (T.chars_of text.now))
         result out.old out.new }
 {
-    let text = StrText::new(utf8(text)?);
+    let text = T::read(text)?;
     write_numbers(data_source, text, numbering, out)
-}
-
-/// Writes the number of each code unit's character in a text of UTF-16, and returns the number of code units.
-///
-/// An unpaired surrogate is the character U+FFFD. The only fault is `NoRoom`, after which nothing is written. Does not
-/// allocate.
-pub fn numbers_utf16<D: BidiDataSource, N: Numbering>(
-    data_source: &D,
-    numbering: N,
-    text: &[u16],
-    out: &mut [N::Number],
-) -> Result<usize, Fault>
-    ensures fault { result_err result ≡ fault_unless (nat_le (length text.now) (length out.old)) Fault.NoRoom }
-    ensures writes { WritesList (numbers_of (N.number (D.source data_source.now)) utf16_len (utf16_text text.now))
-        result out.old out.new }
-{
-    write_numbers(data_source, Utf16Text::new(text), numbering, out)
-}
-
-// Writes the number of each character of a list.
-fn write_listed<D: BidiDataSource, N: Numbering>(
-    data_source: &D,
-    numbering: N,
-    text: &[u32],
-    out: &mut [N::Number],
-)
-    requires scalars { list_all is_scalar text.now ≡ true }
-    requires room { length out.old ≡ length text.now }
-    ensures { out.new ≡ map (N.number (D.source data_source.now)) text.now }
-{
-    for i in 0..text.len() {
-        out[i] = numbering.number(data_source, char_of(text[i]));
-    }
-}
-
-/// Writes the number of each character of a list, and returns how many there are.
-///
-/// Returns `NotScalar` if a number is not a scalar value, or else `NoRoom` if `out` is shorter than the text. Writes
-/// nothing after a fault. Does not allocate.
-pub fn numbers_utf32<D: BidiDataSource, N: Numbering>(
-    data_source: &D,
-    numbering: N,
-    text: &[u32],
-    out: &mut [N::Number],
-) -> Result<usize, Fault>
-    ensures fault { result_err result ≡ option_or (fault_unless (list_all is_scalar text.now) Fault.NotScalar)
-        (fault_unless (nat_le (length text.now) (length out.old)) Fault.NoRoom) }
-    ensures writes { WritesList (map (N.number (D.source data_source.now)) text.now) result out.old out.new }
-{
-    check(all_scalar(text), Fault::NotScalar)?;
-    check(text.len() <= out.len(), Fault::NoRoom)?;
-    write_listed(data_source, numbering, text, &mut out[..text.len()]);
-    Ok(text.len())
 }
 
 /// Returns the number of the base direction of characters with these classes (P2, P3): 0 for left to right, 1 for right

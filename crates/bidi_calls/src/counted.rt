@@ -1,20 +1,33 @@
 //! Texts that count their characters.
-ghost use Rattle.std.specs.Prelude.{◌≡◌, ◌≤◌, length};
+ghost use Rattle.std.specs.Prelude.{◌≡◌, ℕ, ◌≤◌, length, refl};
 ghost use Rattle.std.specs.List.{count_by};
+ghost use Rattle.std.proofs.lemmas.Str.{length-encode};
 ghost use Rattle.std.specs.Str.{chars};
 ghost use Rattle.bidi_base.specs.Texts.{text_len};
 ghost use Rattle.bidi_base.specs.Utf16.{utf16_text};
-ghost use Rattle.bidi_calls.specs.LineParts.{begins_character};
+ghost use Rattle.bidi_calls.specs.CallerText.{length-encode_utf16};
+ghost use Rattle.bidi_calls.specs.LineParts.{begins_character, AreCharsIf};
 ghost use Rattle.bidi_calls.specs.declared.counted.TheConstants.{FEW_BYTES};
 
 use bidi_lines::line_text::LineText;
+use bidi_numbers::utf32_text::Utf32Text;
 use unicode_bidi::text::{StrText, TextSource, Utf16Text, are_characters};
 
 /// A text that can count its characters.
 pub trait CountedText: LineText {
-    /// Returns how many characters the text has. Takes time linear in the text, and does not allocate.
+    /// Returns how many characters the text has. Takes time at most linear in the text, and does not allocate.
     fn count_characters(self) -> usize
         ensures { result ≡ length (Self.text self).chars };
+
+    /// Returns true only if each code unit is a character. Returns false if the text would have to be read first.
+    fn has_one_unit_each(self) -> bool
+        ensures { AreCharsIf result Self.encoding.len_of (Self.text self).chars }
+    {
+        false
+    }
+
+    /// A character is encoded with as many code units as it has.
+    ghost encoded: { (c : ℕ) → length (Self.encode c) ≡ Self.encoding.len_of c };
 }
 
 // Returns whether a byte of UTF-8 begins a character.
@@ -58,6 +71,8 @@ impl<'t> CountedText for StrText<'t> {
     fn count_characters(self) -> usize {
         count_utf8(self.as_str())
     }
+
+    ghost encoded = { length-encode };
 }
 
 // Returns how many characters a text of `units` code units has. Counts them one by one.
@@ -86,4 +101,18 @@ impl<'t> CountedText for Utf16Text<'t> {
     fn count_characters(self) -> usize {
         count_utf16(self.units())
     }
+
+    ghost encoded = { length-encode_utf16 };
+}
+
+impl<'t> CountedText for Utf32Text<'t> {
+    fn count_characters(self) -> usize {
+        self.numbers().len()
+    }
+
+    fn has_one_unit_each(self) -> bool {
+        true
+    }
+
+    ghost encoded = { λ _. refl };
 }

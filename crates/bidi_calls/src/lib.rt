@@ -6,16 +6,24 @@
 #![tactic(auto)]
 
 pub mod analysis;
+pub mod base_numbers;
 pub mod buffers;
 pub mod by_tables;
+pub mod caller_text;
 pub mod char_order;
 pub mod characters;
+pub mod class_lists;
 pub mod counted;
+pub mod display_buffers;
+pub mod display_line;
+pub mod display_text;
 pub mod first_direction;
+mod flags;
 pub mod line;
+pub mod line_text;
 pub mod per_char;
 pub mod run_structs;
 pub mod show;
-pub mod utf16;
-pub mod utf32;
-pub mod utf8;
+mod shown;
+#[cfg(test)]
+mod tests;

@@ -1,20 +1,16 @@
 //! The calls over a line, given the classes and levels that the caller passes.
-ghost use Rattle.std.specs.Prelude.{◌≡◌, ◌+◌, ◌-◌, ◌<◌, ◌&&◌, length, map, nat_le, OnOk, OnErr, IfOk};
+ghost use Rattle.std.specs.Prelude.{◌≡◌, ◌+◌, ◌-◌, length, map, OnOk, OnErr, IfOk};
 ghost use Rattle.std.specs.Result.{result_err};
 ghost use Rattle.bidi_base.specs.Display.{visual_runs};
 ghost use Rattle.bidi_base.specs.Order.{visual_order as visual_order_of};
-ghost use Rattle.bidi_base.specs.Texts.{text_len};
 ghost use Rattle.bidi_lines.specs.LineLevels.{levels as levels_of};
-ghost use Rattle.bidi_numbers.specs.Faults.{FaultsAs, fault_unless};
-ghost use Rattle.bidi_calls.specs.Buffers.{written, written_if_room, WritesList};
-ghost use Rattle.bidi_calls.specs.CallerLine.{lies_in, IsValid, IsAsLongAs, own_classes, own_levels, line_fault, levels_fault, runs_fault, order_fault, caller_line_levels};
-ghost use Rattle.bidi_calls.specs.LineText.{HasEntriesPerChar, order_of_line, map_fault};
-ghost use Rattle.bidi_lines.specs.InText.{visual_units};
+ghost use Rattle.bidi_numbers.specs.Faults.{FaultsAs};
+ghost use Rattle.bidi_calls.specs.Buffers.{written, written_if_room};
+ghost use Rattle.bidi_calls.specs.CallerLine.{lies_in, IsValid, own_classes, own_levels, line_fault, levels_fault, runs_fault, order_fault, caller_line_levels};
 ghost use Rattle.bidi_numbers.specs.Structs.{run_struct};
 
 use crate::analysis::write_levels;
 use crate::run_structs::put_runs;
-use bidi_lines::line_text::{LineText, StoredLine, write_line};
 use bidi_lines::reused_levels::LineLevels;
 use bidi_lines::visual_order::write_visual_order;
 use bidi_lines::visual_runs::LineRuns;
@@ -23,8 +19,7 @@ use bidi_numbers::fault::{Fault, check, check_room_or_none};
 use bidi_numbers::numbers::{all_below, check_classes};
 use bidi_numbers::structs::{Paragraph, Run};
 use std::alloc::{AllocError, Global};
-use std::ops::Range;
-use unicode_bidi::{Level, TextSource};
+use unicode_bidi::Level;
 
 /// A line, as the caller passes it.
 ///
@@ -113,34 +108,6 @@ impl<'t> CallerLine<'t> {
     }
 }
 
-/// Writes the text of a line from left to right (L2).
-///
-/// The line must be valid. `text` is the line's text, `out` is as long, and all code units of a character have one
-/// class and one level. Takes time linear in the line. If an allocation fails, writes nothing.
-pub fn write_text<T: LineText>(
-    alloc: Global,
-    text: T,
-    line: &CallerLine<'_>,
-    out: &mut [T::Unit],
-) -> Result<(), AllocError>
-    requires valid { IsValid line.now }
-    requires per_char { HasEntriesPerChar (T.text text) line.now }
-    requires same_len { IsAsLongAs T.encoding.len_of (T.text text).chars line.now }
-    requires room { length out.old ≡ text_len (T.text text) }
-    ensures text { OnOk result (out.new ≡ visual_units (T.text text) T.encode (T.units_of text) 0 (caller_line_levels line.now)) }
-    ensures unchanged { OnErr result (out.new ≡ out.old) }
-{
-    let units = 0..out.len();
-    let classes = ClassNumbers::new(line.class_numbers());
-    let levels = line.level_numbers();
-    let stored = StoredLine {
-        level: line.level(),
-        classes,
-        levels,
-    };
-    write_line(alloc, text, units, &stored, out)
-}
-
 /// Writes the level of each code unit of a line after L1, and returns their number.
 ///
 /// Returns a fault of [`CallerLine::check`], or else `NoRoom` if `out` is shorter than the line. Writes nothing after a
@@ -182,47 +149,6 @@ pub fn line_runs(alloc: Global, line: &CallerLine<'_>, out: &mut [Run]) -> Resul
     check_room_or_none(runs.len(), out.len())?;
     put_runs(out, after_l1.as_slice(), line.start, runs);
     Ok(runs.len())
-}
-
-/// Writes the visual order of a line's characters (L2), and returns their number.
-///
-/// The line must be valid, and `text` is its text. Returns `NoRoom` if `out` has fewer entries than the line has
-/// characters. Writes nothing after a fault.
-pub fn map_characters<T: TextSource>(
-    alloc: Global,
-    text: T,
-    line: &CallerLine<'_>,
-    out: &mut [usize],
-) -> Result<usize, Fault>
-    requires valid { IsValid line.now }
-    requires same_len { IsAsLongAs T.encoding.len_of (T.text text).chars line.now }
-    ensures fault { FaultsAs result (map_fault T.encoding.len_of (T.text text).chars line.now (length out.old)) }
-    ensures writes { WritesList (order_of_line T.encoding.len_of (T.text text).chars line.now) result out.old out.new }
-{
-    let mut after_l1 = line.after_l1(alloc)?;
-    after_l1.keep_first_units(text);
-    let levels = after_l1.as_slice();
-    let characters = levels.len();
-    check(characters <= out.len(), Fault::NoRoom)?;
-    write_visual_order(levels, &mut out[..characters]);
-    Ok(characters)
-}
-
-/// Writes the visual order of a line's code units (L2), and returns their number. Each code unit is a character.
-///
-/// The line must be valid. Returns `NoRoom` if `out` is shorter than the line. Writes nothing after a fault.
-pub fn order_units(alloc: Global, line: &CallerLine<'_>, out: &mut [usize]) -> Result<usize, Fault>
-    requires { IsValid line.now }
-    ensures fault { FaultsAs result (fault_unless (nat_le (line.now.end - line.now.start) (length out.old)) Fault.NoRoom) }
-    ensures unchanged { OnErr result (out.new ≡ out.old) }
-    ensures order { OnOk result (out.new ≡ written (visual_order_of (caller_line_levels line.now)) out.old) }
-    ensures count { IfOk result (λ count. count ≡ line.now.end - line.now.start) }
-{
-    let units = line.end - line.start;
-    check(units <= out.len(), Fault::NoRoom)?;
-    let after_l1 = line.after_l1(alloc)?;
-    write_visual_order(after_l1.as_slice(), &mut out[..units]);
-    Ok(units)
 }
 
 /// Writes the visual order of items by their levels (L2), and returns their number.

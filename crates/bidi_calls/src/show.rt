@@ -1,23 +1,26 @@
 //! All parts of a line in one call: its levels, its visual runs, the order of its characters, and its text from left to
 //! right.
-ghost use Rattle.std.specs.Prelude.{◌≡◌, ℕ, ◌+◌, ◌-◌, ◌<◌, ◌≤◌, ◌&&◌, if◌then◌else◌, IsTrue, length, map, flat_map, reverse, sum_by, All};
+ghost use Rattle.std.specs.Prelude.{◌≡◌, ◌&&◌, IsTrue, length, map, flat_map, All};
+ghost use Rattle.std.specs.Option.{option_or};
 ghost use Rattle.bidi_base.specs.Display.{run_of, visual_runs, AreVisualRuns};
 ghost use Rattle.bidi_base.specs.Order.{visual_order as visual_order_of};
 ghost use Rattle.bidi_base.specs.Text.{IsLine};
 ghost use Rattle.bidi_base.specs.Texts.{text_len, per_char, IsPerChar};
-ghost use Rattle.bidi_calls.specs.LineParts.{parts_of_chars, line_parts, room_fault, WritesLine, AreWithin};
+ghost use Rattle.bidi_calls.specs.LineParts.{parts_of_line, fault_of_parts, room_fault, WritesLine};
 ghost use Rattle.bidi_calls.specs.Buffers.{written_if_room, HasRoomOrNone};
-ghost use Rattle.bidi_calls.specs.CallerLine.{IsValid, IsAsLongAs, caller_line_levels};
-ghost use Rattle.bidi_calls.specs.LineText.{HasEntriesPerChar, chars_at};
+ghost use Rattle.bidi_calls.specs.CallerLine.{IsValid, IsAsLongAs};
+ghost use Rattle.bidi_calls.specs.LineText.{HasEntriesPerChar, own_units, fault_of_line, KeepsFirstUnits};
 ghost use Rattle.bidi_numbers.specs.Faults.{FaultsAs, has_room_or_none};
 ghost use Rattle.bidi_lines.specs.LineLevels.{levels as levels_of};
-ghost use Rattle.bidi_lines.specs.InText.{run_units, visual_units};
+ghost use Rattle.bidi_lines.specs.InText.{run_units};
 
 use crate::analysis::write_levels;
 use crate::buffers::LineBuffers;
+use crate::caller_text::CallerText;
 use crate::char_order::{COUNTED_RUNS, write_char_order};
 use crate::counted::CountedText;
 use crate::line::CallerLine;
+use crate::line_text::own_text;
 use crate::run_structs::put_runs;
 use bidi_lines::line_text::{LineText, write_runs};
 use bidi_lines::reused_levels::LineLevels;
@@ -53,16 +56,6 @@ fn put_text<T: LineText>(text: T, levels: &[Level], runs: &[Range<usize>], out: 
     }
 }
 
-// Writes the visual order of levels to the front of a buffer, unless the buffer is empty.
-fn put_order(out: &mut [usize], levels: &[Level])
-    requires { HasRoomOrNone levels.now out.old }
-    ensures { out.new ≡ written_if_room (visual_order_of levels.now) out.old }
-{
-    if !out.is_empty() {
-        write_visual_order(levels, &mut out[..levels.len()]);
-    }
-}
-
 // Returns whether a buffer is empty or has room for `count` entries.
 fn has_room(count: usize, room: usize) -> bool
     ensures { result ≡ has_room_or_none count room }
@@ -88,7 +81,7 @@ fn have_room<U>(units: usize, runs: usize, characters: usize, out: &LineBuffers<
 fn keep_characters<T: TextSource>(text: T, len: usize, after_l1: &mut LineLevels)
     requires units_same_len { length (levels_of after_l1.old) ≡ text_len (T.text text) }
     requires same_len { len ≡ length (T.text text).chars }
-    ensures { levels_of after_l1.new ≡ per_char 0 (T.text text) (levels_of after_l1.old) }
+    ensures { KeepsFirstUnits (T.text text) after_l1.old after_l1.new }
 {
     if len < after_l1.as_slice().len() {
         after_l1.keep_first_units(text);
@@ -136,13 +129,12 @@ fn put_order_of<T: CountedText>(
     }
 }
 
-/// Writes all parts of a line: its levels after L1, its visual runs, its character order, and its text (L2).
-///
-/// Writes each part to its buffer, unless that buffer is empty. Also writes the number of the line's characters, and
-/// returns the number of runs. The line must be valid. `text` is the line's text, and all code units of a character
-/// have one class and one level. Returns `NoRoom` if a buffer is too short and not empty. A line of up to 256 code
-/// units with up to 16 runs needs no allocation. Writes nothing after a fault.
-pub fn show_text<T: CountedText>(
+// Writes all parts of a line: its levels after L1, its visual runs, its character order, and its text (L2).
+//
+// Writes each part to its buffer, unless that buffer is empty. Also writes the number of the line's characters, and
+// returns the number of runs. `text` is the line's text. Returns `NoRoom` if a buffer is too short and not empty. Writes
+// nothing after a fault.
+fn show_text<T: CountedText>(
     alloc: Global,
     text: T,
     line: &CallerLine<'_>,
@@ -152,12 +144,9 @@ pub fn show_text<T: CountedText>(
     requires per_char { HasEntriesPerChar (T.text text) line.now }
     requires units_same_len { IsAsLongAs T.encoding.len_of (T.text text).chars line.now }
     requires same_len { length (T.units_of text) ≡ text_len (T.text text) }
-    requires encoded { (c : ℕ) → length (T.encode c) ≡ T.encoding.len_of c }
-    ensures fault { let parts = line_parts T.encoding.len_of (T.text text).chars line.now
-        (visual_units (T.text text) T.encode (T.units_of text) 0 (caller_line_levels line.now)) in
+    ensures fault { let parts = parts_of_line T.encoding.len_of T.encode (T.text text).chars (T.units_of text) line.now in
         FaultsAs result (room_fault parts out.old) }
-    ensures writes { let parts = line_parts T.encoding.len_of (T.text text).chars line.now
-        (visual_units (T.text text) T.encode (T.units_of text) 0 (caller_line_levels line.now)) in
+    ensures writes { let parts = parts_of_line T.encoding.len_of T.encode (T.text text).chars (T.units_of text) line.now in
         WritesLine parts result out.old out.new }
 {
     let mut after_l1 = line.after_l1(alloc)?;
@@ -176,91 +165,26 @@ pub fn show_text<T: CountedText>(
     Ok(count)
 }
 
-// Writes a run of a line, with its characters in reverse order at an odd level. Each code unit is a character.
-fn write_run(chars: &[u32], is_rtl: bool, out: &mut [u32])
-    requires { length out.old ≡ length chars.now }
-    ensures { out.new ≡ (if is_rtl then reverse chars.now else chars.now) }
-{
-    out.copy_from_slice(chars);
-    if is_rtl {
-        out.reverse();
-    }
-}
-
-// Writes the runs of a line, one after another.
-fn write_each_run(chars: &[u32], levels: &[Level], runs: &[Range<usize>], out: &mut [u32])
-    requires same_len { length chars.now ≡ length levels.now }
-    requires room { length out.old ≡ length levels.now }
-    requires visual { AreVisualRuns 0 levels.now (map run_of runs.now) }
-    requires within { AreWithin (length levels.now) runs.now }
-    requires ordered { All (λ r. r.start ≤ r.end) runs.now }
-    requires whole { sum_by (λ r. r.end - r.start) runs.now ≡ length levels.now }
-    ensures { out.new ≡ chars_at chars.now (visual_order_of levels.now) }
-{
-    let mut at = 0;
-    for run in runs {
-        let end = at + (run.end - run.start);
-        let is_rtl = levels[run.start].is_rtl();
-        let own = &chars[run.start..run.end];
-        write_run(own, is_rtl, &mut out[at..end]);
-        at = end;
-    }
-}
-
-/// Writes the characters of a line from left to right (L2). Each code unit is a character.
-///
-/// `levels` has the level of each character after L1, and `out` is as long. `runs` has the visual runs, counted from
-/// the line's first character. Takes time linear in the line, and does not allocate.
-pub fn write_chars(chars: &[u32], levels: &[Level], runs: &[Range<usize>], out: &mut [u32])
-    requires same_len { length chars.now ≡ length levels.now }
-    requires room { length out.old ≡ length levels.now }
-    requires visual { AreVisualRuns 0 levels.now (map run_of runs.now) }
-    ensures { out.new ≡ chars_at chars.now (visual_order_of levels.now) }
-{
-    write_each_run(chars, levels, runs, out);
-}
-
-// Writes the characters of a line from left to right to the front of a buffer, unless the buffer is empty.
-fn put_chars(chars: &[u32], levels: &[Level], runs: &[Range<usize>], out: &mut [u32])
-    requires same_len { length chars.now ≡ length levels.now }
-    requires room { HasRoomOrNone levels.now out.old }
-    requires visual { AreVisualRuns 0 levels.now (map run_of runs.now) }
-    ensures { out.new ≡ written_if_room (chars_at chars.now (visual_order_of levels.now)) out.old }
-{
-    if !out.is_empty() {
-        write_chars(chars, levels, runs, &mut out[..levels.len()]);
-    }
-}
-
-/// Writes all parts of a line of a list of characters: its levels after L1, its visual runs, its character order, and
-/// its text (L2).
+/// Writes all parts of a line: its levels after L1, its visual runs, its character order, and its text (L2).
 ///
 /// Writes each part to its buffer, unless that buffer is empty. Also writes the number of the line's characters, and
-/// returns the number of runs. The line must be valid, and `chars` has its characters. Returns `NoRoom` if a buffer is
-/// too short and not empty. A line of up to 256 characters with up to 16 runs needs no allocation. Writes nothing after
-/// a fault.
-pub fn show_chars(
+/// returns the number of its runs. The faults are those of [`reorder_line`](crate::line_text::reorder_line), with
+/// `NoRoom` if a buffer is too short and not empty. Writes nothing after a fault. Takes time linear in the line. A line
+/// of up to 256 code units with up to 16 runs needs no allocation.
+pub fn show_line<'t, T: CallerText<'t>>(
     alloc: Global,
-    chars: &[u32],
+    text: &'t [T::Unit],
     line: &CallerLine<'_>,
-    out: &mut LineBuffers<'_, u32>,
+    out: &mut LineBuffers<'_, T::Unit>,
 ) -> Result<usize, Fault>
-    requires valid { IsValid line.now }
-    requires same_len { length chars.now + line.now.start ≡ line.now.end }
-    ensures fault { FaultsAs result (room_fault (parts_of_chars chars.now line.now) out.old) }
-    ensures writes { WritesLine (parts_of_chars chars.now line.now) result out.old out.new }
+    ensures fault { let units = own_units text.now line.now in
+        FaultsAs result (option_or (fault_of_line T.cuts_at T.fault_of text.now line.now)
+        (fault_of_parts T.encoding.len_of T.encode (T.chars_of units) units line.now out.old)) }
+    ensures writes { let units = own_units text.now line.now in
+        WritesLine (parts_of_line T.encoding.len_of T.encode (T.chars_of units) units line.now) result out.old out.new }
 {
-    let after_l1 = line.after_l1(alloc)?;
-    let mut found = LineRuns::new(alloc);
-    found.find(after_l1.as_slice(), 0)?;
-    let units = chars.len();
-    let count = found.as_slice().len();
-    let fits = have_room(units, count, units, out);
-    check(fits, Fault::NoRoom)?;
-    put_levels(out.levels, after_l1.as_slice());
-    put_runs(out.runs, after_l1.as_slice(), line.start, found.as_slice());
-    put_chars(chars, after_l1.as_slice(), found.as_slice(), out.text);
-    put_order(out.order, after_l1.as_slice());
-    *out.characters = units;
-    Ok(count)
+    let own = own_text::<T>(text, line)?;
+    let per_char = own.is_per_char(line.class_numbers(), line.level_numbers());
+    check(per_char, Fault::UnevenCharacter)?;
+    show_text(alloc, own, line, out)
 }

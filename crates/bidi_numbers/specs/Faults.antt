@@ -1,7 +1,7 @@
 -- Why a call returns an error, and the number of each error.
 use Rattle.std.specs.Prelude.{◌≡◌, ◌≢◌, ℕ, ℤ, pos, negsuc, ◌-◌, ◌^◌, min, Bool, ◌||◌, ◌==◌, nat_le, if◌then◌else◌, Option, Some, None, Result, Ok, Err, MatchResult}
 use Rattle.bidi_numbers.specs.declared.fault.Fault.{Fault}
-use Rattle.bidi_numbers.specs.declared.fault.Fault.TheVariants.{NoMemory, NotUtf8, NotScalar, BadBaseLevel, BadSplit, BadClass, BadLevel, UnequalLengths, BadLine, CutCharacter, UnevenCharacter, NoRoom, BadRanges}
+use Rattle.bidi_numbers.specs.declared.fault.Fault.TheVariants.{NoMemory, NotUtf8, NotScalar, BadBaseLevel, BadSplit, BadClass, BadLevel, UnequalLengths, BadLine, CutCharacter, UnevenCharacter, NoRoom, BadRanges, BadBracket, BadFlags}
 
 -- the fault of a test that fails
 abbrev pub fault_unless : Bool → Fault → Option Fault
@@ -26,6 +26,8 @@ code_of CutCharacter = negsuc 9
 code_of UnevenCharacter = negsuc 10
 code_of NoRoom = negsuc 11
 code_of BadRanges = negsuc 12
+code_of BadBracket = negsuc 13
+code_of BadFlags = negsuc 14
 
 -- what an export returns: a count, at most 2^63 - 1, or the number of a fault
 abbrev pub answer_of : Result ℕ Fault → ℤ

@@ -1,5 +1,5 @@
--- The numbers of classes, base levels, split rules and directions.
-use Rattle.std.specs.Prelude.{ℕ, Bool, ◌==◌, ◌||◌, nat_lt, nat_le, if◌then◌else◌, List, map, Option, Some, None}
+-- The numbers of classes, levels, split rules and directions.
+use Rattle.std.specs.Prelude.{ℕ, Bool, ◌==◌, nat_lt, if◌then◌else◌, List, map, Option, Some, None}
 use Rattle.bidi_base.specs.declared.char_data.BidiClass.{BidiClass}
 use Rattle.bidi_base.specs.declared.char_data.BidiClass.TheVariants.{L, R, AL, EN, ES, ET, AN, CS, NSM, BN, B, S, WS, ON, LRE, LRO, RLE, RLO, PDF, LRI, RLI, FSI, PDI}
 use Rattle.bidi_base.specs.declared.char_data.Direction.{Direction}
@@ -28,14 +28,6 @@ class_numbered n =
 -- the number is that of a level
 abbrev pub is_level : ℕ → Bool
 is_level n = nat_lt n 127
-
--- the number is that of a base level, or that of none
-abbrev pub is_base : ℕ → Bool
-is_base n = n == 255 || nat_le n 125
-
--- the base level of such a number
-abbrev pub base_of : ℕ → Option ℕ
-base_of n = if n == 255 then None else Some n
 
 -- the number is that of a split rule, or that of none
 abbrev pub is_split : ℕ → Bool

@@ -14,7 +14,7 @@ pub enum Fault {
     NotUtf8,
     /// A number that stands for a character is not a scalar value.
     NotScalar,
-    /// A base level is above 125, and is not the number for no base level.
+    /// The number of a base level is from 126 to 252.
     BadBaseLevel,
     /// A number is not that of a split rule.
     BadSplit,
@@ -34,6 +34,10 @@ pub enum Fault {
     NoRoom,
     /// A range of a table is reversed, or the ranges do not ascend.
     BadRanges,
+    /// A bracket number is invalid.
+    BadBracket,
+    /// The flags of a displayed line are invalid.
+    BadFlags,
 }
 
 impl From<AllocError> for Fault {
@@ -78,6 +82,8 @@ fn code(fault: Fault) -> i64
         Fault::UnevenCharacter => -11,
         Fault::NoRoom => -12,
         Fault::BadRanges => -13,
+        Fault::BadBracket => -14,
+        Fault::BadFlags => -15,
     }
 }
 

@@ -8,3 +8,4 @@ pub mod numbers;
 pub mod structs;
 pub mod tables;
 pub mod texts;
+pub mod utf32_text;

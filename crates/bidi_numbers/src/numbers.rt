@@ -1,20 +1,16 @@
-//! The numbers of classes, levels and split rules.
+//! The numbers of classes and split rules.
 ghost use Rattle.std.specs.Prelude.{◌≡◌, IfOk, not, length, slice_index, nat_lt};
 ghost use Rattle.std.specs.List.{list_all};
 ghost use Rattle.std.specs.Result.{result_err};
 ghost use Rattle.bidi_numbers.specs.Faults.{fault_unless};
 ghost use Rattle.bidi_base.specs.Classes.{class_number};
-ghost use Rattle.bidi_numbers.specs.Numbers.{class_numbered, is_class, base_of, is_base, split_of, is_split};
+ghost use Rattle.bidi_numbers.specs.Numbers.{class_numbered, is_class, split_of, is_split};
 
 use crate::fault::{Fault, check};
 use bidi_base::char_data::BidiClass;
 use bidi_base::classes::CLASS_COUNT;
-use bidi_base::level::Level;
 use bidi_base::search::{Tested, first_passing};
 use bidi_base::split_rule::SplitRule;
-
-/// The number for no base level.
-const AUTO: u8 = 255;
 
 /// The number of classes.
 pub(crate) const CLASSES: u8 = CLASS_COUNT as u8;
@@ -116,20 +112,6 @@ pub fn check_classes(numbers: &[u8]) -> Result<(), Fault>
     ensures { result_err result ≡ fault_unless (list_all is_class numbers.now) Fault.BadClass }
 {
     check(all_below(numbers, CLASSES), Fault::BadClass)
-}
-
-/// Returns the base level of a number: none for 255, and `BadBaseLevel` for 126 to 254.
-pub fn base_level(number: u8) -> Result<Option<Level>, Fault>
-    ensures fault { result_err result ≡ fault_unless (is_base number) Fault.BadBaseLevel }
-    ensures level { IfOk result (λ base. base ≡ base_of number) }
-{
-    if number == AUTO {
-        return Ok(None);
-    }
-    match Level::new_explicit(number) {
-        Ok(level) => Ok(Some(level)),
-        Err(_) => Err(Fault::BadBaseLevel),
-    }
 }
 
 /// Returns the split rule of a number.

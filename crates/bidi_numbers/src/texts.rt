@@ -1,10 +1,9 @@
 //! Texts as callers in other languages pass them: bytes, code units and numbers of characters.
-ghost use Rattle.std.specs.Prelude.{◌≡◌, ◌<◌, IsUtf8, IfOk, MatchResult, true};
+ghost use Rattle.std.specs.Prelude.{◌≡◌, ◌<◌, IsUtf8, MatchResult, true};
 ghost use Rattle.std.specs.List.{list_all};
 ghost use Rattle.bidi_numbers.specs.Texts.{is_scalar, goes_on};
 
 use crate::fault::Fault;
-use std::alloc::{AllocError, Global};
 
 /// Returns bytes as a text, or `NotUtf8` if they are not UTF-8. Reads all bytes, and does not allocate.
 pub fn utf8(bytes: &[u8]) -> Result<&str, Fault>
@@ -55,16 +54,4 @@ pub fn char_of(number: u32) -> char
         Some(c) => c,
         None => unreachable!(),
     }
-}
-
-/// Returns the characters with these scalar values. Allocates only the list that it returns.
-pub fn chars_of(alloc: Global, numbers: &[u32]) -> Result<Vec<char>, AllocError>
-    requires { list_all is_scalar numbers.now ≡ true }
-    ensures { IfOk result (λ v. v.items ≡ numbers.now) }
-{
-    let mut chars = Vec::with_capacity(alloc, numbers.len())?;
-    for number in numbers {
-        chars.push(char_of(*number))?;
-    }
-    Ok(chars)
 }

@@ -7,17 +7,17 @@ use Rattle.bidi_calls.proofs.analysis.write_analysis.Goals as goal
 pub returns-in_err-check_room_or_none-clause-fault : goal.returns-in_err-check_room_or_none-clause-fault
 returns-in_err-check_room_or_none-clause-fault g c =
     let call = c.args.call.now in
-    let a = with_lists (g.T.TextSource.text call.text) c.analyse.new.classes c.analyse.new.levels in
+    let a = with_lists (g.T.TextSource.text call.text) c.analyse_with_base.new.classes c.analyse_with_base.new.levels in
     let count = ap length c.paragraphs-found.ensures
-    ∙ count-found (g.D.BidiDataSource.source call.data_source.now) call.base call.rule a (found_paragraphs c.analyse.new.self) c.in_ok-analyse.ensures.analysis in
+    ∙ count-found (g.D.BidiDataSource.source call.data_source.now) call.base call.rule a (found_paragraphs c.analyse_with_base.new.self) c.in_ok-analyse_with_base.ensures.analysis in
     rw (← count) (search rules)
 
 pub returns-clause-fault : goal.returns-clause-fault
 returns-clause-fault g c =
     let call = c.args.call.now in
-    let a = with_lists (g.T.TextSource.text call.text) c.analyse.new.classes c.analyse.new.levels in
+    let a = with_lists (g.T.TextSource.text call.text) c.analyse_with_base.new.classes c.analyse_with_base.new.levels in
     let count = ap length c.paragraphs-found.ensures
-    ∙ count-found (g.D.BidiDataSource.source call.data_source.now) call.base call.rule a (found_paragraphs c.analyse.new.self) c.in_ok-analyse.ensures.analysis in
+    ∙ count-found (g.D.BidiDataSource.source call.data_source.now) call.base call.rule a (found_paragraphs c.analyse_with_base.new.self) c.in_ok-analyse_with_base.ensures.analysis in
     rw (← count) (search rules)
 
 pub put_paragraphs-requires : goal.put_paragraphs-requires
@@ -26,15 +26,15 @@ put_paragraphs-requires g c = grind arith
 pub returns-clause-writes : goal.returns-clause-writes
 returns-clause-writes g c =
     let call = c.args.call.now in
-    let a = with_lists (g.T.TextSource.text call.text) c.analyse.new.classes c.analyse.new.levels in
+    let a = with_lists (g.T.TextSource.text call.text) c.analyse_with_base.new.classes c.analyse_with_base.new.levels in
     let source = g.D.BidiDataSource.source call.data_source.now in
     let count = ap length c.paragraphs-found.ensures
-    ∙ count-found source call.base call.rule a (found_paragraphs c.analyse.new.self) c.in_ok-analyse.ensures.analysis in
-    let structs = structs-found source call.base call.rule a (found_paragraphs c.analyse.new.self) c.in_ok-analyse.ensures.analysis in
+    ∙ count-found source call.base call.rule a (found_paragraphs c.analyse_with_base.new.self) c.in_ok-analyse_with_base.ensures.analysis in
+    let structs = structs-found source call.base call.rule a (found_paragraphs c.analyse_with_base.new.self) c.in_ok-analyse_with_base.ensures.analysis in
     record {
       unchanged = search rules;
-      classes = search (rules, c.in_ok-analyse.ensures.analysis.paragraphs.classes);
-      levels = search (rules, c.in_ok-analyse.ensures.analysis.levels);
+      classes = search (rules, c.in_ok-analyse_with_base.ensures.analysis.classes);
+      levels = search (rules, c.in_ok-analyse_with_base.ensures.analysis.levels);
       paragraphs = rw (← structs) (search rules);
       count = count;
       buffers = search rules;
