@@ -63,7 +63,9 @@ enum class Fault : int {
     cut_character = UNICODE_BIDI_CUT_CHARACTER,       ///< the line begins or ends inside a character
     uneven_character = UNICODE_BIDI_UNEVEN_CHARACTER, ///< the units of one character differ in class or in level
     no_room = UNICODE_BIDI_NO_ROOM,                   ///< the caller's buffer is too short
-    bad_ranges = UNICODE_BIDI_BAD_RANGES              ///< a range is reversed, or does not follow the previous one
+    bad_ranges = UNICODE_BIDI_BAD_RANGES,             ///< a range is reversed, or does not follow the previous one
+    bad_bracket = UNICODE_BIDI_BAD_BRACKET,           ///< a bracket number is invalid
+    bad_flags = UNICODE_BIDI_BAD_FLAGS                ///< the flags of a displayed line are invalid
 };
 
 /// Returns the name of a fault as unicode_bidi.h has it, without its prefix: "NOT_UTF8".
@@ -82,6 +84,8 @@ constexpr const char *name(Fault fault) noexcept {
     case Fault::uneven_character: return "UNEVEN_CHARACTER";
     case Fault::no_room: return "NO_ROOM";
     case Fault::bad_ranges: return "BAD_RANGES";
+    case Fault::bad_bracket: return "BAD_BRACKET";
+    case Fault::bad_flags: return "BAD_FLAGS";
     }
     return "UNKNOWN_FAULT";
 }
@@ -102,6 +106,8 @@ constexpr const char *message(Fault fault) noexcept {
     case Fault::uneven_character: return "UNEVEN_CHARACTER: the units of one character differ in class or in level";
     case Fault::no_room: return "NO_ROOM: the buffer is too short";
     case Fault::bad_ranges: return "BAD_RANGES: a range is reversed, or does not follow the previous one";
+    case Fault::bad_bracket: return "BAD_BRACKET: a bracket number is invalid";
+    case Fault::bad_flags: return "BAD_FLAGS: the flags of a displayed line are invalid";
     }
     return "UNKNOWN_FAULT: the library returned a code that this header does not have";
 }
@@ -481,7 +487,7 @@ struct IsString<std::basic_string<Char, Traits, Allocator>> : std::true_type {};
 template <class String>
 using IfTemporary = std::enable_if_t<IsString<std::remove_const_t<String>>::value>;
 
-/// Returns a pointer for the library, which must not be null even if nothing is read or written there.
+/// Returns a pointer that is not null. The library also takes null with length 0, but that is not proved.
 template <class T>
 T *not_null(T *pointer) noexcept {
     alignas(std::max_align_t) static std::remove_const_t<T> nothing{};
@@ -503,9 +509,10 @@ inline const std::uint8_t *numbers(Span<const Class> classes) noexcept {
     return reinterpret_cast<const std::uint8_t *>(not_null(classes.data()));
 }
 
-/// Returns a base level as the library takes it. A number that is no level must not become one, or UNICODE_BIDI_AUTO.
+/// Returns a base level as the library takes it. A number that is no level must not become one, or UNICODE_BIDI_AUTO and
+/// its like.
 inline std::uint8_t base_number(std::optional<int> base) noexcept {
-    constexpr int no_level = UNICODE_BIDI_AUTO - 1;
+    constexpr int no_level = 126;
     if (!base) return UNICODE_BIDI_AUTO;
     return static_cast<std::uint8_t>(*base < 0 || *base > no_level ? no_level : *base);
 }

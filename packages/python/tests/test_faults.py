@@ -7,7 +7,9 @@ import unittest
 import unicode_bidi
 from unicode_bidi import (
     BadBaseLevelError,
+    BadBracketError,
     BadClassError,
+    BadFlagsError,
     BadLevelError,
     BadLineError,
     BadRangesError,
@@ -31,7 +33,8 @@ from unicode_bidi.faults import checked
 
 #: The faults in the order of their numbers, from -1.
 FAULTS = (NoMemoryError, NotUtf8Error, NotScalarError, BadBaseLevelError, BadSplitError, BadClassError, BadLevelError,
-          UnequalLengthsError, BadLineError, CutCharacterError, UnevenCharacterError, NoRoomError, BadRangesError)
+          UnequalLengthsError, BadLineError, CutCharacterError, UnevenCharacterError, NoRoomError, BadRangesError,
+          BadBracketError, BadFlagsError)
 L, R = 0, 1
 FAR = 2 ** 64
 

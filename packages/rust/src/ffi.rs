@@ -25,7 +25,7 @@ const NO_MEMORY: i64 = -1;
 const NO_ROOM: i64 = -12;
 
 /// The faults, except `NO_MEMORY`.
-const FAULTS: [(i64, &str); 12] = [
+const FAULTS: [(i64, &str); 14] = [
     (-2, "UNICODE_BIDI_NOT_UTF8: the text is not UTF-8"),
     (-3, "UNICODE_BIDI_NOT_SCALAR: a character is above U+10FFFF or a surrogate"),
     (-4, "UNICODE_BIDI_BAD_BASE_LEVEL: the level of a paragraph is above 125"),
@@ -38,10 +38,15 @@ const FAULTS: [(i64, &str); 12] = [
     (-11, "UNICODE_BIDI_UNEVEN_CHARACTER: the code units of one character differ in class or in level"),
     (NO_ROOM, "UNICODE_BIDI_NO_ROOM: a buffer is too short"),
     (-13, "UNICODE_BIDI_BAD_RANGES: the ranges of a table do not ascend"),
+    (-14, "UNICODE_BIDI_BAD_BRACKET: a bracket number is invalid"),
+    (-15, "UNICODE_BIDI_BAD_FLAGS: the flags of a displayed line are invalid"),
 ];
 
 /// The base level with which each paragraph finds its own level.
 const AUTO: u8 = 255;
+
+/// A number that is no base level.
+const NO_BASE_LEVEL: u8 = 126;
 
 /// The bit that `unicode_bidi_bracket_of` sets if the bracket opens.
 const OPENING: u32 = 0x8000_0000;
@@ -333,7 +338,7 @@ pub fn analyse<U: Unit>(
     split: Split,
 ) -> Analysis {
     // An unchecked level can be 255. It must not become AUTO.
-    let base = base.map_or(AUTO, |level| level.number().min(AUTO - 1));
+    let base = base.map_or(AUTO, |level| level.number().min(NO_BASE_LEVEL));
     let mut classes = vec![BidiClass::L; text.len()];
     let mut levels = vec![LTR_LEVEL; text.len()];
     let mut paragraphs = Vec::with_capacity(usual_paragraphs(text.len(), split));

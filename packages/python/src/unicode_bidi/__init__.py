@@ -27,7 +27,9 @@ from ._text import (
 from .algorithm import get_base_level, get_display
 from .faults import (
     BadBaseLevelError,
+    BadBracketError,
     BadClassError,
+    BadFlagsError,
     BadLevelError,
     BadLineError,
     BadRangesError,
@@ -45,7 +47,9 @@ from .faults import (
 __all__ = [
     "UNICODE_VERSION",
     "BadBaseLevelError",
+    "BadBracketError",
     "BadClassError",
+    "BadFlagsError",
     "BadLevelError",
     "BadLineError",
     "BadRangesError",

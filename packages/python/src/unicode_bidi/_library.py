@@ -18,6 +18,8 @@ PATH = os.path.join(os.path.dirname(os.path.abspath(__file__)), "libunicode_bidi
 
 #: The base level with which each paragraph finds its own (P2, P3).
 AUTO = 255
+#: The greatest base level.
+MAX_BASE_LEVEL = 125
 #: The bit of a bracket that opens.
 OPENING = 0x80000000
 

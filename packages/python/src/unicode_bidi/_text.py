@@ -99,7 +99,7 @@ class BidiText:
     def __init__(self, text: str, base_level: Optional[int] = None, *, split: int = Split.CR_LF_TOGETHER,
                  tables: Optional[Tables] = None) -> None:
         base = library.AUTO if base_level is None else operator.index(base_level)
-        if base_level is not None and not 0 <= base < library.AUTO:
+        if base_level is not None and not 0 <= base <= library.MAX_BASE_LEVEL:
             raise BadBaseLevelError
         rule = operator.index(split)
         if not 0 <= rule <= 255:

@@ -10,7 +10,9 @@ from typing import Dict, Optional, Type
 
 __all__ = [
     "BadBaseLevelError",
+    "BadBracketError",
     "BadClassError",
+    "BadFlagsError",
     "BadLevelError",
     "BadLineError",
     "BadRangesError",
@@ -118,6 +120,18 @@ class BadRangesError(BidiError, ValueError):
     code, name, meaning = -13, "BAD_RANGES", "a range has first > last, or does not come after the previous range"
 
 
+class BadBracketError(BidiError, ValueError):
+    """A bracket number is invalid. No call of the package raises it yet."""
+
+    code, name, meaning = -14, "BAD_BRACKET", "a bracket number is invalid"
+
+
+class BadFlagsError(BidiError, ValueError):
+    """The flags of a displayed line are invalid. No call of the package raises it yet."""
+
+    code, name, meaning = -15, "BAD_FLAGS", "the flags of a displayed line are invalid"
+
+
 _FAULTS: Dict[int, Type[BidiError]] = {
     fault.code: fault
     for fault in (
@@ -134,6 +148,8 @@ _FAULTS: Dict[int, Type[BidiError]] = {
         UnevenCharacterError,
         NoRoomError,
         BadRangesError,
+        BadBracketError,
+        BadFlagsError,
     )
 }
 
