@@ -268,6 +268,24 @@ int64_t unicode_bidi_analyse_utf32(const uint32_t *text, size_t text_len, uint8_
                                    uint8_t *classes, size_t classes_len, uint8_t *levels, size_t levels_len,
                                    unicode_bidi_paragraph *paragraphs, size_t paragraphs_len);
 
+/* Finds the paragraphs of a text (P1) with their levels (P2, P3), and the class of each unit, without levels. Returns the
+ * number of paragraphs. The classes are those that unicode_bidi_analyse_* writes (X5c). Each buffer is optional: pass a
+ * length of 0 for a part that is not needed. So a caller can count the paragraphs first.
+ * Faults   NOT_UTF8, NOT_SCALAR (by the encoding), BAD_BASE_LEVEL, BAD_SPLIT, NO_ROOM of any buffer with a length that is
+ *          not 0
+ * Cost     the text, in less time than an analysis. The call does not allocate if the text has up to 256 units and is one
+ *          paragraph without FSI.
+ * Proved   the paragraphs and the classes are those of unicode_bidi_analyse_* (analysis_by). */
+int64_t unicode_bidi_paragraphs_utf8(const uint8_t *text, size_t text_len, uint8_t base, uint8_t split,
+                                     uint8_t *classes, size_t classes_len,
+                                     unicode_bidi_paragraph *paragraphs, size_t paragraphs_len);
+int64_t unicode_bidi_paragraphs_utf16(const uint16_t *text, size_t text_len, uint8_t base, uint8_t split,
+                                      uint8_t *classes, size_t classes_len,
+                                      unicode_bidi_paragraph *paragraphs, size_t paragraphs_len);
+int64_t unicode_bidi_paragraphs_utf32(const uint32_t *text, size_t text_len, uint8_t base, uint8_t split,
+                                      uint8_t *classes, size_t classes_len,
+                                      unicode_bidi_paragraph *paragraphs, size_t paragraphs_len);
+
 /* Returns the base direction of the first paragraph: UNICODE_BIDI_LTR, _RTL or _MIXED. If full is not 0, returns the
  * direction of the first paragraph that has one. utf8 and utf32 check the whole text, even if the first character
  * decides.
@@ -470,7 +488,7 @@ int64_t unicode_bidi_show_line_utf32(const uint32_t *text, size_t text_len,
 int64_t unicode_bidi_reorder_visual(const uint8_t *levels, size_t levels_len,
                                     size_t *order, size_t order_len);
 
-/* -------- Displayed lines --------
+/* -------- Displayed lines and texts --------
  *
  * A line as a device displays it. The arguments are those of the line calls above, and flags: the sum of one
  * UNICODE_BIDI_MOVE_ number, of UNICODE_BIDI_MIRROR or 0, and of at most one UNICODE_BIDI_DROP_ number. Any other number is
@@ -528,6 +546,49 @@ int64_t unicode_bidi_display_line_utf32(const uint32_t *text, size_t text_len,
                                         uint32_t flags, uint32_t *out, size_t out_len,
                                         size_t *order, size_t order_len, size_t *places, size_t places_len,
                                         size_t *shown, size_t *characters);
+
+/* Analyses a text and displays it, each paragraph as one line (P1 to L4). The arguments are those of the analysis and of a
+ * displayed line. Writes the level of each unit after L1, the displayed text, and the two maps as above: here they count
+ * the characters of the whole text. The paragraphs follow one another. The separators (B) at the end of a paragraph stay
+ * behind its displayed content, in the order of the text. Returns the length of the displayed text in units.
+ * Faults   NOT_UTF8, NOT_SCALAR (by the encoding), BAD_BASE_LEVEL, BAD_SPLIT, BAD_FLAGS, NO_ROOM of any buffer with a
+ *          length that is not 0
+ * Room     text_len entries are enough for the levels and the maps, and 2 * text_len units for the displayed text
+ * Cost     the analysis, and that of unicode_bidi_display_line_* for each paragraph. Memory: a few hundred bytes for each
+ *          character of the longest paragraph, and some tens for each unit of the text.
+ * Proved   the levels (paragraph_levels), the displayed text (paragraph_text), the order (paragraph_order) and the places
+ *          (places_of), each paragraph by the definitions of the analysis and of a displayed line. */
+int64_t unicode_bidi_display_text_utf8(const uint8_t *text, size_t text_len, uint8_t base, uint8_t split,
+                                       uint32_t flags, uint8_t *levels, size_t levels_len, uint8_t *out, size_t out_len,
+                                       size_t *order, size_t order_len, size_t *places, size_t places_len,
+                                       size_t *shown, size_t *characters);
+int64_t unicode_bidi_display_text_utf16(const uint16_t *text, size_t text_len, uint8_t base, uint8_t split,
+                                        uint32_t flags, uint8_t *levels, size_t levels_len, uint16_t *out, size_t out_len,
+                                        size_t *order, size_t order_len, size_t *places, size_t places_len,
+                                        size_t *shown, size_t *characters);
+int64_t unicode_bidi_display_text_utf32(const uint32_t *text, size_t text_len, uint8_t base, uint8_t split,
+                                        uint32_t flags, uint8_t *levels, size_t levels_len, uint32_t *out, size_t out_len,
+                                        size_t *order, size_t order_len, size_t *places, size_t places_len,
+                                        size_t *shown, size_t *characters);
+
+/* Writes the two maps of a line (L1 to L3) from the classes and the levels of its characters alone, without a text: a unit
+ * is a character here. flags is UNICODE_BIDI_MOVE_CHARACTERS or UNICODE_BIDI_MOVE_MARKS. Returns the number of entries of
+ * order. Each buffer is optional: pass a length of 0 for a part that is not needed.
+ * Faults   those of a line call; further: BAD_FLAGS, NO_ROOM of any buffer with a length that is not 0
+ * Room     end - start entries are enough for each map (for order this is tested, not proved)
+ * Cost     that of unicode_bidi_display_line_utf32
+ * Proved   the order (order_by_classes) and the places (places_of). */
+int64_t unicode_bidi_line_order(const uint8_t *classes, size_t classes_len,
+                                const uint8_t *levels, size_t levels_len,
+                                const unicode_bidi_paragraph *paragraph, size_t start, size_t end,
+                                uint32_t flags, size_t *order, size_t order_len,
+                                size_t *places, size_t places_len);
+
+/* Writes the inverse of a map: places[order[i]] is i, for any order that a call of this header wrote. A place that order
+ * does not name is UNICODE_BIDI_NOWHERE, and one that it names twice gets the first index. Entries of order from places_len
+ * on are passed over. Returns places_len. Does not allocate.
+ * Proved   the places (places_of). */
+int64_t unicode_bidi_places(const size_t *order, size_t order_len, size_t *places, size_t places_len);
 
 #ifdef __cplusplus
 }

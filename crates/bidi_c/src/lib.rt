@@ -10,6 +10,7 @@ mod exports_characters;
 mod exports_classes;
 mod exports_direction;
 mod exports_display;
+mod exports_paragraphs;
 mod exports_utf16;
 mod exports_utf32;
 mod exports_utf8;

@@ -21,7 +21,7 @@ structs_of (p ∷ ps) = ap (λ structs. struct_of p ∷ structs) (structs_of ps)
 -- the paragraphs of an analysis
 pub structs-found : (source : Source) (base : Base) (rule : Option SplitRule) (a : AnalysedText) (ps : List ParagraphInfo)
     → IsAnalysisWith source base rule a (ranges_of ps) (levels_of ps) → map struct_of ps ≡ paragraphs_in source base rule a.len_of a.chars
-structs-found source base rule a ps h = structs_of ps ∙ ap₂ paragraph_structs h.ranges h.para_levels
+structs-found source base rule a ps h = structs_of ps ∙ ap₂ paragraph_structs h.paragraphs.ranges h.paragraphs.para_levels
 
 -- their number
 pub count-found : (source : Source) (base : Base) (rule : Option SplitRule) (a : AnalysedText) (ps : List ParagraphInfo)

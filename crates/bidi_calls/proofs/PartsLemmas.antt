@@ -39,29 +39,29 @@ module _ (options : DisplayOptions) (a : AnalysedText) (level : ℕ) (range : Ra
       ∙ ap (λ (ks : List LineCluster). text_of mirrored_of options (line_chars a level range) ks) clusters-is
 
   -- its order
-  order-is : shown_order (options_of line) (chars line) (clusters line)
-      ≡ shown_order options (line_chars a level range) (clusters_of options no_width (line_chars a level range))
-  order-is =
-      ap (λ (o : DisplayOptions). shown_order o (chars line) (clusters line)) same
-      ∙ ap (λ (cs : List LineChar). shown_order options cs (clusters line)) shown.chars
-      ∙ ap (λ (ks : List LineCluster). shown_order options (line_chars a level range) ks) clusters-is
+  order-is : (first : ℕ) → shown_order (options_of line) first (chars line) (clusters line)
+      ≡ shown_order options first (line_chars a level range) (clusters_of options no_width (line_chars a level range))
+  order-is first =
+      ap (λ (o : DisplayOptions). shown_order o first (chars line) (clusters line)) same
+      ∙ ap (λ (cs : List LineChar). shown_order options first cs (clusters line)) shown.chars
+      ∙ ap (λ (ks : List LineCluster). shown_order options first (line_chars a level range) ks) clusters-is
 
   -- all that was found of it
   parts-is : {X : Type 0} (encode : ℕ → List X) (mirrored_of : ℕ → ℕ) (text : List X) (order : List ℕ) (count : ℕ)
-      → text ≡ flat_map encode (displayed_text mirrored_of line) → order ≡ shown_order (options_of line) (chars line) (clusters line) → count ≡ length (chars line)
+      → text ≡ flat_map encode (displayed_text mirrored_of line) → order ≡ shown_order (options_of line) 0 (chars line) (clusters line) → count ≡ length (chars line)
       → found_parts text order count ≡ display_parts options mirrored_of encode a level range
   parts-is {X = X} encode mirrored_of text order count of_text of_order of_count =
       let found : List X = flat_map encode (line_text options mirrored_of a level range) in
-      let whole : List ℕ = shown_order options (line_chars a level range) (clusters_of options no_width (line_chars a level range)) in
+      let whole : List ℕ = shown_order options 0 (line_chars a level range) (clusters_of options no_width (line_chars a level range)) in
       ap (λ (ts : List X). found_parts ts order count) (of_text ∙ ap (flat_map encode) (text-is mirrored_of))
-      ∙ ap (λ (ks : List ℕ). found_parts found ks count) (of_order ∙ order-is)
+      ∙ ap (λ (ks : List ℕ). found_parts found ks count) (of_order ∙ order-is 0)
       ∙ ap (λ (n : ℕ). found_parts found whole n) (of_count ∙ ap length shown.chars)
 
 -- the same by the flags of a call
 pub found-is : {X : Type 0} (encode : ℕ → List X) (options : DisplayOptions) (flags : ℕ) (on : Bool) (len_of : ℕ → ℕ) (cs : List ℕ) (l : CallerLine) (line : DisplayedLine)
     (text : List X) (order : List ℕ) (count : ℕ) → options ≡ options_by flags → on ≡ mirrors flags → options_of line ≡ options
     → Displays no_width (own_analysed len_of cs l) l.paragraph.now.level (whole_line len_of cs) line → text ≡ flat_map encode (displayed_text (mirrored_if on) line)
-    → order ≡ shown_order (options_of line) (chars line) (clusters line) → count ≡ length (chars line) → found_parts text order count ≡ parts_by len_of encode cs l flags
+    → order ≡ shown_order (options_of line) 0 (chars line) (clusters line) → count ≡ length (chars line) → found_parts text order count ≡ parts_by len_of encode cs l flags
 found-is encode options flags on len_of cs l line text order count of_options of_mirrors same shown of_text of_order of_count =
     let a : AnalysedText = own_analysed len_of cs l in
     parts-is options a l.paragraph.now.level (whole_line len_of cs) line same shown encode (mirrored_if on) text order count of_text of_order of_count

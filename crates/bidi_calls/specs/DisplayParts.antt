@@ -34,7 +34,7 @@ abbrev pub display_parts : {X : Type 0} → DisplayOptions → (ℕ → ℕ) →
 display_parts options mirrored_of encode a level line =
     let chars = line_chars a level line in
     found_parts (flat_map encode (line_text options mirrored_of a level line))
-    (shown_order options chars (clusters_of options (λ cluster. 0) chars)) (length chars)
+    (shown_order options 0 chars (clusters_of options (λ cluster. 0) chars)) (length chars)
 
 -- a line that a caller passes, as a text of its own, with the classes and the levels of the line
 abbrev pub own_analysed : (ℕ → ℕ) → List ℕ → CallerLine → AnalysedText

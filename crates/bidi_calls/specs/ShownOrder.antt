@@ -13,14 +13,14 @@ shown_from options at [] = []
 shown_from options at (c ∷ cs) =
     if is_dropped options.dropped c then shown_from options (at + 1) cs else at ∷ shown_from options (at + 1) cs
 
--- those of a cluster of a line with these characters
-abbrev pub shown_in : DisplayOptions → List LineChar → LineCluster → List ℕ
-shown_in options chars k = shown_from options k.chars_start (slice_range chars k.chars_start k.chars_end)
+-- those of a cluster of a line with these characters, whose first one has the index `first`
+abbrev pub shown_in : DisplayOptions → ℕ → List LineChar → LineCluster → List ℕ
+shown_in options first chars k = shown_from options (first + k.chars_start) (slice_range chars k.chars_start k.chars_end)
 
 -- those of the line, from left to right: its clusters in their visual order (L2), each in the order of the text
-unfoldable pub shown_order : DisplayOptions → List LineChar → List LineCluster → List ℕ
-shown_order options chars clusters =
-    flat_map (λ indexes. indexes) (at_indexes [] (map (shown_in options chars) clusters) (cluster_order clusters))
+unfoldable pub shown_order : DisplayOptions → ℕ → List LineChar → List LineCluster → List ℕ
+shown_order options first chars clusters =
+    flat_map (λ indexes. indexes) (at_indexes [] (map (shown_in options first chars) clusters) (cluster_order clusters))
 
 -- the place of a character that is not displayed: the maximum of a usize
 abbrev pub nowhere : ℕ

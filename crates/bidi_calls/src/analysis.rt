@@ -26,8 +26,8 @@ use unicode_bidi::{
     TextSource, get_base_direction_full_with_data_source, get_base_direction_with_data_source,
 };
 
-// Writes the numbers of classes.
-fn write_classes(out: &mut [u8], classes: &[BidiClass])
+/// Writes the numbers of classes.
+pub(crate) fn write_classes(out: &mut [u8], classes: &[BidiClass])
     requires { length out.old ≡ length classes.now }
     ensures { out.new ≡ map class_number classes.now }
 {
@@ -92,8 +92,8 @@ fn write_paragraphs(out: &mut [Paragraph], paragraphs: &[ParagraphInfo])
     }
 }
 
-// Writes paragraphs as structs to the front of a buffer, unless the buffer is empty.
-fn put_paragraphs(out: &mut [Paragraph], paragraphs: &[ParagraphInfo])
+/// Writes paragraphs as structs to the front of a buffer, unless the buffer is empty.
+pub(crate) fn put_paragraphs(out: &mut [Paragraph], paragraphs: &[ParagraphInfo])
     requires { HasRoomOrNone paragraphs.now out.old }
     ensures { out.new
         ≡ written_if_room

@@ -22,6 +22,16 @@ pub struct AnalysisBuffers<'b> {
     pub paragraphs: &'b mut [Paragraph],
 }
 
+/// The buffers for the classes and the paragraphs of a text.
+///
+/// `classes` needs an entry for each code unit, and `paragraphs` one for each paragraph. A call leaves out a part if its
+/// buffer is empty.
+#[derive(Drop)]
+pub struct ParagraphBuffers<'b> {
+    pub classes: &'b mut [u8],
+    pub paragraphs: &'b mut [Paragraph],
+}
+
 /// The buffers for all parts of a line: its levels, visual runs, character order, text, and number of characters.
 ///
 /// `levels` and `text` need an entry for each code unit of the line, `runs` one for each run, and `order` one for each

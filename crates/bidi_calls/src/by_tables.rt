@@ -37,7 +37,9 @@ pub fn analyse<'t, T: CallerText<'t>>(
 {
     let tables = Tables::new(alloc, ranges, brackets)?;
     match tables.source() {
-        Ok(source) => analysis::analyse::<T, _>(alloc, &source, text, settings, out),
+        Ok(table) => {
+            analysis::analyse::<T, _>(alloc, &tables.searched(&table), text, settings, out)
+        }
         Err(fault) => Err(fault),
     }
 }
@@ -58,7 +60,7 @@ pub fn base_direction<'t, T: CallerText<'t>>(
 {
     let tables = Tables::new(alloc, ranges, brackets)?;
     match tables.source() {
-        Ok(source) => analysis::base_direction::<T, _>(&source, text, full),
+        Ok(table) => analysis::base_direction::<T, _>(&tables.searched(&table), text, full),
         Err(fault) => Err(fault),
     }
 }

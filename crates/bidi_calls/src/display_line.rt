@@ -5,7 +5,7 @@ ghost use Rattle.std.specs.List.{list_all};
 ghost use Rattle.std.specs.Option.{option_or};
 ghost use Rattle.bidi_calls.specs.Buffers.{written_if_room, HasRoomOrNone};
 ghost use Rattle.bidi_calls.specs.CallerLine.{IsValid};
-ghost use Rattle.bidi_calls.specs.LineText.{HasEntriesPerChar, own_units, fault_of_line};
+ghost use Rattle.bidi_calls.specs.LineText.{HasEntriesPerChar, own_units, fault_of_line, line_classes};
 ghost use Rattle.bidi_display.specs.Shown.{options as options_of, Displays};
 ghost use Rattle.bidi_calls.specs.DisplayParts.{fault_of_parts, found_parts, own_analysed, parts_by, room_fault, whole_line, WritesDisplay};
 ghost use Rattle.bidi_calls.specs.Flags.{options_by as options_of_flags};
@@ -21,14 +21,14 @@ use crate::line_text::own_text;
 use crate::shown::{Shown, shown_of, write_places};
 use bidi_display::displayed_line::DisplayedLine;
 use bidi_display::options::DisplayOptions;
-use bidi_display::width::ClusterWidth;
-use bidi_numbers::fault::{Fault, check};
+use bidi_display::width::NoWidth;
+use bidi_numbers::fault::{Fault, check, has_room_or_none};
 use bidi_numbers::numbers::class_of;
 use std::alloc::{AllocError, Global};
 use unicode_bidi::{BidiClass, Level, TextSource};
 
-// Returns the classes with these numbers.
-fn classes_of(alloc: Global, numbers: &[u8]) -> Result<Vec<BidiClass>, AllocError>
+/// Returns the classes with these numbers.
+pub(crate) fn classes_of(alloc: Global, numbers: &[u8]) -> Result<Vec<BidiClass>, AllocError>
     ensures { IfOk result (λ classes. classes.items ≡ map class_numbered numbers.now) }
 {
     let mut classes = Vec::with_capacity(alloc, numbers.len())?;
@@ -61,41 +61,27 @@ fn levels_of(alloc: Global, numbers: &[u8]) -> Result<Vec<Level>, AllocError>
     Ok(levels)
 }
 
-// No width for any cluster. No part of the line depends on the widths.
-struct NoWidth;
-
-impl ClusterWidth for NoWidth {
-    ghost width_of = { λ _ cluster. 0 };
-
-    fn width(&self, _cluster: &str) -> usize {
-        0
-    }
-
-    fn width_of_char(&self, _c: char) -> usize {
-        0
-    }
-}
-
-// Displays a line as a text of its own.
-fn displayed_of<T: TextSource>(
+/// Displays a line as a text of its own. `classes` has the classes of the line.
+pub(crate) fn displayed_of<T: TextSource>(
     alloc: Global,
     text: T,
+    classes: &[BidiClass],
     line: &CallerLine<'_>,
     options: DisplayOptions,
 ) -> Result<DisplayedLine, AllocError>
     requires valid { IsValid line.now }
     requires per_char { HasEntriesPerChar (T.text text) line.now }
+    requires classes { classes.now ≡ line_classes line.now }
     ensures options { IfOk result (λ d. options_of d ≡ options) }
     ensures displays { IfOk result (λ d. Displays (λ cluster. 0) (own_analysed T.encoding.len_of (T.text text).chars line.now)
         line.now.paragraph.now.level (whole_line T.encoding.len_of (T.text text).chars) d) }
 {
-    let classes = classes_of(alloc, line.class_numbers())?;
     let levels = levels_of(alloc, line.level_numbers())?;
     let mut displayed = DisplayedLine::new(alloc, options);
     let whole = 0..text.len();
     displayed.show(
         text,
-        classes.as_slice(),
+        classes,
         levels.as_slice(),
         line.level(),
         whole,
@@ -104,10 +90,7 @@ fn displayed_of<T: TextSource>(
     Ok(displayed)
 }
 
-// Returns whether a buffer is empty or has room for `count` entries.
-fn has_room(count: usize, room: usize) -> bool
-    ensures { result ≡ has_room_or_none count room }
-{
+
     room == 0 || count <= room
 }
 
@@ -118,13 +101,13 @@ fn have_room<U>(units: usize, shown: usize, characters: usize, out: &DisplayBuff
         && (has_room_or_none shown (length out.now.order.now)
         && has_room_or_none characters (length out.now.places.now))) }
 {
-    has_room(units, out.text.len())
-        && has_room(shown, out.order.len())
-        && has_room(characters, out.places.len())
+    has_room_or_none(units, out.text.len())
+        && has_room_or_none(shown, out.order.len())
+        && has_room_or_none(characters, out.places.len())
 }
 
-// Writes a list to the front of a buffer, unless the buffer is empty.
-fn put<U: Copy>(list: &[U], out: &mut [U])
+/// Writes a list to the front of a buffer, unless the buffer is empty.
+pub(crate) fn put<U: Copy>(list: &[U], out: &mut [U])
     requires { HasRoomOrNone list.now out.old }
     ensures { out.new ≡ written_if_room list.now out.old }
 {
@@ -133,8 +116,8 @@ fn put<U: Copy>(list: &[U], out: &mut [U])
     }
 }
 
-// Writes the places of a line's `count` characters to the front of a buffer, unless the buffer is empty.
-fn put_places(order: &[usize], count: usize, out: &mut [usize])
+/// Writes the places of a line's `count` characters to the front of a buffer, unless the buffer is empty.
+pub(crate) fn put_places(order: &[usize], count: usize, out: &mut [usize])
     requires { IsTrue (has_room_or_none count (length out.old)) }
     ensures { out.new ≡ written_if_room (places_of order.now count) out.old }
 {
@@ -143,9 +126,9 @@ fn put_places(order: &[usize], count: usize, out: &mut [usize])
     }
 }
 
-// Writes the parts of a displayed line to their buffers, unless one is too short and not empty. Returns the number of
-// code units of the text.
-fn write_parts<U: Copy>(
+/// Writes the parts of a displayed line to their buffers, unless one is too short and not empty. Returns the number of
+/// code units of the text.
+pub(crate) fn write_parts<U: Copy>(
     shown: &Shown<U>,
     characters: usize,
     out: &mut DisplayBuffers<'_, U>,
@@ -180,7 +163,8 @@ fn display_text<'t, T: DisplayText<'t>>(
     ensures fault { FaultsAs result (room_fault (parts_by T.encoding.len_of T.encode (T.text text).chars line.now flags) out.old) }
     ensures writes { WritesDisplay (parts_by T.encoding.len_of T.encode (T.text text).chars line.now flags) result out.old out.new }
 {
-    let displayed = displayed_of(alloc, text, line, options)?;
+    let classes = classes_of(alloc, line.class_numbers())?;
+    let displayed = displayed_of(alloc, text, classes.as_slice(), line, options)?;
     let shown = shown_of::<T, _>(alloc, &displayed, &mirrors_by(flags))?;
     write_parts(&shown, displayed.chars().len(), out)
 }

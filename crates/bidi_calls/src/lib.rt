@@ -20,10 +20,13 @@ pub mod display_text;
 pub mod first_direction;
 mod flags;
 pub mod line;
+pub mod line_order;
 pub mod line_text;
+pub mod paragraph_search;
 pub mod per_char;
 pub mod run_structs;
 pub mod show;
-mod shown;
+pub mod shown;
+pub mod whole_text;
 #[cfg(test)]
 mod tests;

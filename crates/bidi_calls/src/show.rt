@@ -26,13 +26,13 @@ use bidi_lines::line_text::{LineText, write_runs};
 use bidi_lines::reused_levels::LineLevels;
 use bidi_lines::visual_order::write_visual_order;
 use bidi_lines::visual_runs::LineRuns;
-use bidi_numbers::fault::{Fault, check};
+use bidi_numbers::fault::{Fault, check, has_room_or_none};
 use std::alloc::Global;
 use std::ops::Range;
 use unicode_bidi::{Level, TextSource};
 
-// Writes levels to the front of a buffer, unless the buffer is empty.
-fn put_levels(out: &mut [u8], levels: &[Level])
+/// Writes levels to the front of a buffer, unless the buffer is empty.
+pub(crate) fn put_levels(out: &mut [u8], levels: &[Level])
     requires { HasRoomOrNone levels.now out.old }
     ensures { out.new ≡ written_if_room levels.now out.old }
 {
@@ -56,13 +56,6 @@ fn put_text<T: LineText>(text: T, levels: &[Level], runs: &[Range<usize>], out: 
     }
 }
 
-// Returns whether a buffer is empty or has room for `count` entries.
-fn has_room(count: usize, room: usize) -> bool
-    ensures { result ≡ has_room_or_none count room }
-{
-    room == 0 || count <= room
-}
-
 // Returns whether each buffer is empty or has room for its part of the line.
 fn have_room<U>(units: usize, runs: usize, characters: usize, out: &LineBuffers<'_, U>) -> bool
     ensures { result
@@ -71,10 +64,10 @@ fn have_room<U>(units: usize, runs: usize, characters: usize, out: &LineBuffers<
         && (has_room_or_none characters (length out.now.order.now)
         && has_room_or_none units (length out.now.text.now)))) }
 {
-    has_room(units, out.levels.len())
-        && has_room(runs, out.runs.len())
-        && has_room(characters, out.order.len())
-        && has_room(units, out.text.len())
+    has_room_or_none(units, out.levels.len())
+        && has_room_or_none(runs, out.runs.len())
+        && has_room_or_none(characters, out.order.len())
+        && has_room_or_none(units, out.text.len())
 }
 
 // Keeps one level for each of a line's `len` characters. If each character is one code unit, this does nothing.

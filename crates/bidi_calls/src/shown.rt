@@ -1,13 +1,13 @@
 //! The displayed characters of a line from left to right: their indexes and their code units.
 ghost use Rattle.std.specs.Prelude.{◌≡◌, ◌+◌, ◌≤◌, ◌++◌, length, flat_map, IfOk, OnOk};
-ghost use Rattle.bidi_display.specs.Shown.{chars as chars_in, clusters as clusters_in, displayed_char as displayed_char_by, displayed_part, displayed_text, options as options_of};
+ghost use Rattle.bidi_display.specs.Shown.{chars as chars_in, clusters as clusters_in, displayed_part, displayed_text, options as options_of};
 ghost use Rattle.bidi_calls.specs.ShownOrder.{places_of, shown_from, shown_order};
 
 use crate::display_text::DisplayText;
 use bidi_display::displayed_line::DisplayedLine;
 use bidi_display::line_char::LineChar;
 use bidi_display::options::DisplayOptions;
-use bidi_display::text::MirroredCharacters;
+use bidi_display::text::{MirroredCharacters, displayed_char};
 use std::alloc::{AllocError, Global};
 
 /// The displayed characters of a line from left to right: their indexes in the line, and their code units.
@@ -35,17 +35,6 @@ fn push_indexes(
     Ok(())
 }
 
-// Returns the character that is displayed for a character of a line: its mirrored one at an odd level (L4).
-fn displayed_char<M: MirroredCharacters>(mirrors: &M, c: &LineChar) -> char
-    ensures { result ≡ displayed_char_by (M.mirrored_of mirrors.now) c.now }
-{
-    if c.level.is_rtl() {
-        mirrors.mirrored(c.char)
-    } else {
-        c.char
-    }
-}
-
 // Appends the code units of the displayed ones of some characters, mirrored at odd levels.
 fn push_units<'t, T: DisplayText<'t>, M: MirroredCharacters>(
     options: DisplayOptions,
@@ -64,24 +53,63 @@ fn push_units<'t, T: DisplayText<'t>, M: MirroredCharacters>(
     Ok(())
 }
 
+/// Appends the indexes of the displayed characters of a line from left to right. Its first character has the index
+/// `first`.
+///
+/// Takes time linear in the line. If an allocation fails, `out` may have some of them.
+pub(crate) fn push_order(
+    line: &DisplayedLine,
+    first: usize,
+    out: &mut Vec<usize>,
+) -> Result<(), AllocError>
+    requires { first + length (chars_in line.now) ≤ usize.MAX }
+    ensures { OnOk result (out.new.items
+        ≡ out.old.items ++ shown_order (options_of line.now) first (chars_in line.now) (clusters_in line.now)) }
+{
+    let options = line.options();
+    out.reserve(line.chars().len())?;
+    for index in line.order() {
+        let cluster = line.clusters()[*index];
+        let chars = &line.chars()[cluster.chars_start..cluster.chars_end];
+        push_indexes(options, first + cluster.chars_start, chars, out)?;
+    }
+    Ok(())
+}
+
+/// Appends the code units of the displayed characters of a line from left to right, mirrored at odd levels (L4).
+///
+/// Takes time linear in the line. If an allocation fails, `out` may have some of them.
+pub(crate) fn push_line_text<'t, T: DisplayText<'t>, M: MirroredCharacters>(
+    line: &DisplayedLine,
+    mirrors: &M,
+    out: &mut Vec<T::Unit>,
+) -> Result<(), AllocError>
+    ensures { OnOk result (out.new.items
+        ≡ out.old.items ++ flat_map T.encode (displayed_text (M.mirrored_of mirrors.now) line.now)) }
+{
+    let options = line.options();
+    out.reserve(line.chars().len())?;
+    for index in line.order() {
+        let cluster = line.clusters()[*index];
+        let chars = &line.chars()[cluster.chars_start..cluster.chars_end];
+        push_units::<T, M>(options, mirrors, chars, out)?;
+    }
+    Ok(())
+}
+
 /// Returns the displayed characters of a line from left to right. Takes time linear in the line.
 pub(crate) fn shown_of<'t, T: DisplayText<'t>, M: MirroredCharacters>(
     alloc: Global,
     line: &DisplayedLine,
     mirrors: &M,
 ) -> Result<Shown<T::Unit>, AllocError>
-    ensures order { IfOk result (λ s. s.order.items ≡ shown_order (options_of line.now) (chars_in line.now) (clusters_in line.now)) }
+    ensures order { IfOk result (λ s. s.order.items ≡ shown_order (options_of line.now) 0 (chars_in line.now) (clusters_in line.now)) }
     ensures text { IfOk result (λ s. s.text.items ≡ flat_map T.encode (displayed_text (M.mirrored_of mirrors.now) line.now)) }
 {
-    let options = line.options();
     let mut order = Vec::new(alloc);
     let mut text = Vec::new(alloc);
-    for index in line.order() {
-        let cluster = line.clusters()[*index];
-        let chars = &line.chars()[cluster.chars_start..cluster.chars_end];
-        push_indexes(options, cluster.chars_start, chars, &mut order)?;
-        push_units::<T, M>(options, mirrors, chars, &mut text)?;
-    }
+    push_order(line, 0, &mut order)?;
+    push_line_text::<T, M>(line, mirrors, &mut text)?;
     Ok(Shown { order, text })
 }
 
@@ -90,7 +118,7 @@ const NOWHERE: usize = usize::MAX;
 
 /// Writes the place of each character of a line in the order of its displayed characters, and `usize::MAX` for the
 /// others.
-pub(crate) fn write_places(order: &[usize], out: &mut [usize])
+pub fn write_places(order: &[usize], out: &mut [usize])
     ensures { out.new ≡ places_of order.now (length out.old) }
 {
     out.fill(NOWHERE);

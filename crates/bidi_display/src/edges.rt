@@ -15,6 +15,7 @@ fn collect_levels(clusters: &[LineCluster], out: &mut Vec<Level>) -> Result<(), 
     ensures { OnOk result (out.new.items ≡ levels_of clusters.now) }
 {
     out.clear();
+    out.reserve(clusters.len())?;
     for cluster in clusters {
         out.push(cluster.level)?;
     }
@@ -57,6 +58,7 @@ pub(crate) fn find_right_edges(
     ensures { OnOk result (right_edges.new.items ≡ drop 1 (edges_of clusters.now)) }
 {
     right_edges.clear();
+    right_edges.reserve(order.len())?;
     let mut column = 0usize;
     for index in order {
         column = column.saturating_add(clusters[*index].width);

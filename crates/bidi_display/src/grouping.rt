@@ -289,6 +289,7 @@ pub(crate) fn find_clusters<W: ClusterWidth>(
     ensures { OnOk result (out.new.items ≡ clusters_of options (W.width_of widths.now) chars.now) }
 {
     out.clear();
+    out.reserve(chars.len())?;
     let mut joining = Joining::new(options.moves);
     let mut column = 0usize;
     let mut from = 0;

@@ -44,6 +44,7 @@ pub(crate) fn read_chars<T: TextSource>(
         (per_char L (subrange (T.text text) line.start line.end) (slice_range classes.now line.start line.end)) levels.now) }
 {
     out.clear();
+    out.reserve(levels.len())?;
     let start = line.start;
     for (offset, char) in text.subrange(line).char_indices() {
         let at = start + offset;

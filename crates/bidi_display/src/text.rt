@@ -46,8 +46,8 @@ impl MirroredCharacters for UnicodeData {
     }
 }
 
-// Returns the character that is displayed for a character of a line: its mirrored one at an odd level (L4).
-fn displayed_char<M: MirroredCharacters>(mirrors: &M, c: &LineChar) -> char
+/// Returns the character that is displayed for a character of a line: its mirrored one at an odd level (L4).
+pub fn displayed_char<M: MirroredCharacters>(mirrors: &M, c: &LineChar) -> char
     ensures { result ≡ displayed_char_by (M.mirrored_of mirrors.now) c.now }
 {
     if c.level.is_rtl() {

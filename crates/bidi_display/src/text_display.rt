@@ -12,7 +12,7 @@ ghost use Rattle.bidi_display.specs.TextDisplay.{displayed_paragraph, displayed_
 use crate::displayed_line::DisplayedLine;
 use crate::options::DisplayOptions;
 use crate::text::MirroredCharacters;
-use crate::width::ClusterWidth;
+use crate::width::{ClusterWidth, NoWidth};
 use bidi_base::char_data::BidiClass;
 use bidi_base::data_source::BidiDataSource;
 use bidi_base::level::{LTR_LEVEL, Level};
@@ -23,21 +23,6 @@ use std::ops::Range;
 use unicode_bidi::content::content_len;
 use unicode_bidi::engine::Analyser;
 use unicode_bidi::{Base, ParagraphInfo};
-
-// No width for any cluster. The displayed text does not depend on the widths.
-struct NoWidth;
-
-impl ClusterWidth for NoWidth {
-    ghost width_of = { λ _ cluster. 0 };
-
-    fn width(&self, _cluster: &str) -> usize {
-        0
-    }
-
-    fn width_of_char(&self, _c: char) -> usize {
-        0
-    }
-}
 
 // Gives both lists this many entries. If an allocation fails, they may have any number.
 fn resize_lists(

@@ -46,6 +46,22 @@ pub struct CharColumns {
     pub wide_ambiguous: bool,
 }
 
+/// No width for any cluster, for callers that read no columns.
+#[derive(Clone, Copy, Debug)]
+pub struct NoWidth;
+
+impl ClusterWidth for NoWidth {
+    ghost width_of = { λ _ cluster. 0 };
+
+    fn width(&self, _cluster: &str) -> usize {
+        0
+    }
+
+    fn width_of_char(&self, _c: char) -> usize {
+        0
+    }
+}
+
 // Returns whether a cluster begins with a control character, which has no width.
 fn begins_with_control(cluster: &str) -> bool
     ensures { result ≡ begins_with_control_in (chars cluster.now) }

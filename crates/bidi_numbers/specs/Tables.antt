@@ -1,9 +1,12 @@
 -- The caller's tables as a data source.
-use Rattle.std.specs.Prelude.{ℕ, Bool, ◌&&◌, List, map, Option, Some, is_none}
+use Rattle.std.specs.BTreeMap.{get, BTreeMap}
+use Rattle.std.specs.Ordering.{nat_cmp}
+use Rattle.std.specs.Prelude.{◌≡◌, ℕ, Bool, ◌&&◌, List, map, Option, Some, is_none}
 use Rattle.std.specs.List.{list_all}
 use Rattle.std.specs.Option.{option_or}
 use Rattle.bidi_base.specs.declared.char_data.BidiClass.{BidiClass}
-use Rattle.bidi_base.specs.Source.{Source, table_fault, table_source}
+use Rattle.bidi_base.specs.declared.data_source.BidiMatchedOpeningBracket.{BidiMatchedOpeningBracket}
+use Rattle.bidi_base.specs.Source.{Source, table_bracket, table_fault, table_source}
 use Rattle.bidi_numbers.specs.declared.fault.Fault.{Fault}
 use Rattle.bidi_numbers.specs.declared.fault.Fault.TheVariants.{NotScalar, BadClass, BadRanges}
 use Rattle.bidi_numbers.specs.declared.structs.BracketPair.{BracketPair}
@@ -29,6 +32,13 @@ range_of r = (r.first, r.last, class_numbered r.class)
 
 abbrev pub bracket_of : BracketPair → ℕ × ℕ × Option ℕ
 bracket_of p = (p.opening, p.closing, Some p.normal_form)
+
+-- a map has the bracket data that a source, or a table of pairs, gives each character
+abbrev pub HasBracketsOf : Source → BTreeMap ℕ BidiMatchedOpeningBracket → Type 0
+HasBracketsOf source map = (c : ℕ) → get nat_cmp map c ≡ source.bracket_of c
+
+abbrev pub HasBrackets : List (ℕ × ℕ × Option ℕ) → BTreeMap ℕ BidiMatchedOpeningBracket → Type 0
+HasBrackets brackets map = (c : ℕ) → get nat_cmp map c ≡ table_bracket brackets c
 
 -- the first fault of the rows, each by itself
 abbrev pub rows_fault : List ClassRange → List BracketPair → Option Fault

@@ -57,11 +57,18 @@ pub fn check(holds: bool, fault: Fault) -> Result<(), Fault>
     if holds { Ok(()) } else { Err(fault) }
 }
 
+/// Returns whether a buffer of `room` entries is empty or has room for `count` entries.
+pub fn has_room_or_none(count: usize, room: usize) -> bool
+    ensures { result ≡ has_room_or_none count room }
+{
+    room == 0 || count <= room
+}
+
 /// Returns `NoRoom` if a buffer of `room` entries is not empty, but too short for `count` entries.
 pub fn check_room_or_none(count: usize, room: usize) -> Result<(), Fault>
     ensures { result_err result ≡ fault_unless (has_room_or_none count room) Fault.NoRoom }
 {
-    check(room == 0 || count <= room, Fault::NoRoom)
+    check(has_room_or_none(count, room), Fault::NoRoom)
 }
 
 /// Returns the number that the C header gives a fault. It is below 0.

@@ -1,24 +1,60 @@
 //! A data source that reads the caller's tables.
-ghost use Rattle.std.specs.Prelude.{◌≡◌, true, map, IsTrue, IfOk};
+ghost use Rattle.std.specs.BTreeMap.{get};
+ghost use Rattle.std.specs.Ordering.{nat_cmp};
+ghost use Rattle.std.specs.Prelude.{◌≡◌, ◌==◌, ℕ, true, map, if◌then◌else◌, Some, IsTrue, IfOk, IfSome, OnOk};
 ghost use Rattle.std.specs.List.{list_all};
 ghost use Rattle.bidi_base.specs.Source.{table_source};
 ghost use Rattle.bidi_base.specs.Table.{source_of};
 ghost use Rattle.bidi_numbers.specs.Faults.{FaultsAs};
-ghost use Rattle.bidi_numbers.specs.Tables.{has_scalars, has_brackets, has_class, range_of, bracket_of, rows_fault, order_fault};
+ghost use Rattle.bidi_numbers.specs.Tables.{has_scalars, has_brackets, has_class, range_of, bracket_of, rows_fault, order_fault, HasBrackets, HasBracketsOf};
 
 use crate::fault::{Fault, check};
 use crate::numbers::{CLASSES, class_of};
 use crate::structs::{BracketPair, ClassRange};
 use crate::texts::{char_of, is_scalar};
 use bidi_base::char_data::BidiClass;
-use bidi_base::data_source::TableBidiData;
+use bidi_base::data_source::{BidiDataSource, BidiMatchedOpeningBracket, TableBidiData};
 use std::alloc::{AllocError, Global};
+use std::collections::BTreeMap;
+
+/// The maximum number of pairs that are searched one after another, as [`TableBidiData`] does.
+const FEW_PAIRS: usize = 255;
+
+// The bracket data of characters.
+type BracketMap = BTreeMap<char, BidiMatchedOpeningBracket>;
 
 /// The rows of a table of classes and a table of brackets, in the types of the library.
+///
+/// If there are more than 255 pairs, it also has the bracket data of each of their characters.
 #[derive(Drop)]
 pub struct Tables {
     ranges: Vec<(char, char, BidiClass)>,
     brackets: Vec<(char, char, Option<char>)>,
+    by_char: Option<BracketMap>,
+    ghost same: { IfSome by_char (λ map. HasBrackets brackets.items map) },
+}
+
+/// The caller's tables as a data source. A bracket takes a search by its character if there are many pairs.
+#[derive(Clone, Copy)]
+pub struct CallerTables<'s, 't> {
+    table: &'s TableBidiData<'t>,
+    by_char: Option<&'s BracketMap>,
+    ghost same: { IfSome by_char (λ map. HasBracketsOf (source_of table.now) map.now) },
+}
+
+impl<'s, 't> BidiDataSource for CallerTables<'s, 't> {
+    ghost source = { λ t. source_of t.table.now };
+
+    fn bidi_class(&self, c: char) -> BidiClass {
+        self.table.bidi_class(c)
+    }
+
+    fn bidi_matched_opening_bracket(&self, c: char) -> Option<BidiMatchedOpeningBracket> {
+        match self.by_char {
+            Some(map) => map.get(&c).copied(),
+            None => self.table.bidi_matched_opening_bracket(c),
+        }
+    }
 }
 
 // Returns whether both ends of a range are scalar values.
@@ -87,6 +123,65 @@ fn brackets_of(
     Ok(brackets)
 }
 
+// Gives a character its bracket data, in place of what it had.
+fn put_bracket(
+    map: &mut BracketMap,
+    c: char,
+    bracket: BidiMatchedOpeningBracket,
+) -> Result<(), AllocError>
+    ensures { OnOk result ((d : ℕ) → get nat_cmp map.new d ≡ (if d == c then Some bracket else get nat_cmp map.old d)) }
+{
+    match map.insert(c, bracket) {
+        Ok(_) => Ok(()),
+        Err(_) => Err(AllocError),
+    }
+}
+
+// Returns the bracket data of the characters of all pairs. The first pair that has a character decides, and its opening
+// bracket if it has it twice.
+fn brackets_by_char(
+    alloc: Global,
+    rows: &[(char, char, Option<char>)],
+) -> Result<BracketMap, AllocError>
+    ensures { IfOk result (λ map. HasBrackets rows.now map) }
+{
+    let mut map = BTreeMap::new(alloc);
+    for done in 0..rows.len() {
+        let (first, second, normal_form) = rows[rows.len() - 1 - done];
+        let opening = normal_form.unwrap_or(first);
+        put_bracket(
+            &mut map,
+            second,
+            BidiMatchedOpeningBracket {
+                opening,
+                is_open: false,
+            },
+        )?;
+        put_bracket(
+            &mut map,
+            first,
+            BidiMatchedOpeningBracket {
+                opening,
+                is_open: true,
+            },
+        )?;
+    }
+    Ok(map)
+}
+
+// Returns the bracket data of the characters of all pairs, if there are many pairs.
+fn searched_brackets(
+    alloc: Global,
+    rows: &[(char, char, Option<char>)],
+) -> Result<Option<BracketMap>, AllocError>
+    ensures { IfOk result (λ found. IfSome found (λ map. HasBrackets rows.now map)) }
+{
+    if rows.len() <= FEW_PAIRS {
+        return Ok(None);
+    }
+    Ok(Some(brackets_by_char(alloc, rows)?))
+}
+
 // Returns whether all ends of all ranges are scalar values.
 fn all_have_scalars(rows: &[ClassRange]) -> bool
     ensures { result ≡ list_all has_scalars rows.now }
@@ -125,9 +220,13 @@ impl Tables {
         check(all_have_scalars(ranges), Fault::NotScalar)?;
         check(all_have_brackets(brackets), Fault::NotScalar)?;
         check(all_have_classes(ranges), Fault::BadClass)?;
+        let ranges = ranges_of(alloc, ranges)?;
+        let brackets = brackets_of(alloc, brackets)?;
+        let by_char = searched_brackets(alloc, brackets.as_slice())?;
         Ok(Tables {
-            ranges: ranges_of(alloc, ranges)?,
-            brackets: brackets_of(alloc, brackets)?,
+            ranges,
+            brackets,
+            by_char,
         })
     }
 
@@ -139,6 +238,17 @@ impl Tables {
         match TableBidiData::new(self.ranges.as_slice(), self.brackets.as_slice()) {
             Ok(source) => Ok(source),
             Err(_) => Err(Fault::BadRanges),
+        }
+    }
+
+    /// Returns the data source that also searches the brackets. `table` is that of [`Tables::source`].
+    pub fn searched<'s>(&'s self, table: &'s TableBidiData<'s>) -> CallerTables<'s, 's>
+        requires { source_of table.now ≡ table_source self.now.ranges.items self.now.brackets.items }
+        ensures { result.table.now ≡ table.now }
+    {
+        CallerTables {
+            table,
+            by_char: self.by_char.as_ref(),
         }
     }
 }

@@ -71,32 +71,39 @@ abbrev pub HasLevelBy : Source → Option ℕ → (ℕ → ℕ) → List ℕ →
 HasLevelBy source base_level len_of chars p =
     p.level ≡ paragraph_level base_level (map source.class_of (chars_of len_of chars p))
 
--- ---- an analysis with a base
+-- ---- what is found with a base, in a text that a split rule cuts into paragraphs; without one, it is one paragraph
 
--- P1 to I2: a text that a split rule cuts into paragraphs has these stored classes and levels, and its paragraphs these
--- ranges and levels; without a rule, it is one paragraph
-pub record IsAnalysisWith (source : Source) (base : Base) (rule : Option SplitRule) (a : AnalysedText)
-    (own_ranges : List (ℕ × ℕ)) (own_levels : List ℕ) : Type 0 where
-  pub classes : a.classes ≡ per_unit a.len_of a.chars (text_classes source (pieces_by rule source a.chars))
-  pub ranges : own_ranges ≡ ranges_from a.len_of 0 (pieces_by rule source a.chars)
-  pub para_levels : own_levels ≡ map (level_with source base) (pieces_by rule source a.chars)
-  pub levels : a.levels
-      ≡ per_unit a.len_of a.chars (flat_map (stored_levels_with source base) (pieces_by rule source a.chars))
-  -- ---- what follows from these four, here so that a caller need not prove it
-  -- with a split rule, every code unit is in one paragraph, and separators are only at the ends of paragraphs; with
-  -- `CrLfTogether`, a U+000D may also come directly before the U+000A that ends its paragraph
-  pub partition : IfSome rule (λ r. AreParagraphRanges r source a.len_of a.chars own_ranges)
-  -- without a split rule, there is one paragraph, the whole text
-  pub whole : rule ≡ None → own_ranges ≡ (0, text_len a.len_of a.chars) ∷ []
-  -- the classes and the levels of the characters depend only on the characters, the data source, the base and the split
-  -- rule; so two texts with the same characters have the same ones in all encodings
-  pub classes_by_characters : per_char L a.len_of a.chars a.classes ≡ text_classes source (pieces_by rule source a.chars)
-  pub levels_by_characters : per_char 0 a.len_of a.chars a.levels
-      ≡ flat_map (stored_levels_with source base) (pieces_by rule source a.chars)
-  -- all code units of a character have the same class, and the same level
-  pub per_char_classes : HaveClass a.len_of a.chars a.classes
-  pub per_char_levels : HaveLevel a.len_of a.chars a.levels
-  -- no level is below that of its paragraph or above the maximum
-  pub bounded : All (λ p. AreLevelsFrom p.1 (slice_range a.levels p.0.0 p.0.1)) (zip own_ranges own_levels)
-  -- each paragraph has the levels that its characters would have as the whole text
-  pub each_by_itself : All (HasOwnUnits a.len_of (stored_levels_with source base) a.chars a.levels) own_ranges
+module _ (source : Source) (base : Base) (rule : Option SplitRule) where
+  -- P1 to P3 and X5c: these are the stored classes of the text, and the ranges and the levels of its paragraphs
+  pub record AreParagraphsWith (len_of : ℕ → ℕ) (chars : List ℕ) (original_classes : List BidiClass)
+      (own_ranges : List (ℕ × ℕ)) (own_levels : List ℕ) : Type 0 where
+    pub classes : original_classes ≡ per_unit len_of chars (text_classes source (pieces_by rule source chars))
+    pub ranges : own_ranges ≡ ranges_from len_of 0 (pieces_by rule source chars)
+    pub para_levels : own_levels ≡ map (level_with source base) (pieces_by rule source chars)
+    -- ---- what follows from these three, here so that a caller need not prove it
+    -- with a split rule, every code unit is in one paragraph, and separators are only at the ends of paragraphs; with
+    -- `CrLfTogether`, a U+000D may also come directly before the U+000A that ends its paragraph
+    pub partition : IfSome rule (λ r. AreParagraphRanges r source len_of chars own_ranges)
+    -- without a split rule, there is one paragraph, the whole text
+    pub whole : rule ≡ None → own_ranges ≡ (0, text_len len_of chars) ∷ []
+    -- the classes of the characters depend only on the characters, the data source and the split rule; so two texts
+    -- with the same characters have the same ones in all encodings
+    pub by_characters : per_char L len_of chars original_classes ≡ text_classes source (pieces_by rule source chars)
+    -- all code units of a character have the same class
+    pub per_char : HaveClass len_of chars original_classes
+
+  -- P1 to I2: the text also has its stored levels
+  pub record IsAnalysisWith (a : AnalysedText) (own_ranges : List (ℕ × ℕ)) (own_levels : List ℕ) : Type 0 where
+    pub paragraphs : AreParagraphsWith a.len_of a.chars a.classes own_ranges own_levels
+    pub levels : a.levels
+        ≡ per_unit a.len_of a.chars (flat_map (stored_levels_with source base) (pieces_by rule source a.chars))
+    -- ---- what follows from these two
+    -- the levels of the characters depend only on the characters, the data source, the base and the split rule
+    pub by_characters : per_char 0 a.len_of a.chars a.levels
+        ≡ flat_map (stored_levels_with source base) (pieces_by rule source a.chars)
+    -- all code units of a character have the same level
+    pub per_char : HaveLevel a.len_of a.chars a.levels
+    -- no level is below that of its paragraph or above the maximum
+    pub bounded : All (λ p. AreLevelsFrom p.1 (slice_range a.levels p.0.0 p.0.1)) (zip own_ranges own_levels)
+    -- each paragraph has the levels that its characters would have as the whole text
+    pub each_by_itself : All (HasOwnUnits a.len_of (stored_levels_with source base) a.chars a.levels) own_ranges

@@ -8,7 +8,7 @@ ghost use Rattle.bidi_base.specs.Paragraphs.{pieces_by};
 ghost use Rattle.bidi_base.specs.Texts.{char_index, per_char, text_len, HaveClass, HaveLevel, IsLine};
 ghost use Rattle.bidi_base.specs.declared.char_data.BidiClass.TheVariants.{L};
 ghost use Rattle.bidi_lines.specs.Analysed.{with_lists};
-ghost use Rattle.unicode_bidi.specs.Base.{HasLowLevel, IsAnalysisWith};
+ghost use Rattle.unicode_bidi.specs.Base.{HasLowLevel, AreParagraphsWith, IsAnalysisWith};
 ghost use Rattle.unicode_bidi.specs.Engine.{with_analysis, found_paragraphs, found_flags, original_classes as original_classes_of, levels as stored_levels_of, paragraphs as paragraphs_of_analysis, flags as flags_of_analysis, unit_levels, own_flags, CanWrite, Follow, IsFlaggedAnalysis};
 ghost use Rattle.bidi_paragraphs.specs.ParagraphFlags.{paragraph_flags};
 ghost use Rattle.bidi_paragraphs.specs.ParagraphInfo.{ranges_of, levels_of};
@@ -213,6 +213,41 @@ impl Analyser {
         )
     }
 
+    /// Finds the paragraphs of a text with their levels (P1 to P3), and writes the class of each character to the
+    /// caller's list.
+    ///
+    /// `base` says how the paragraphs get their levels, and `rule` where they end. Without a rule the whole text is one
+    /// paragraph. Writes the stored class of each code unit to `classes`, which has one entry for each code unit.
+    /// [`Analyser::paragraphs`] then returns the paragraphs, and [`Analyser::flags`] their classes. No level of a
+    /// character is found, so this takes less time than an analysis. With [`Base::AutoOr`], each paragraph of level 0 is
+    /// read once more, up to the character that decides. A text of one paragraph without FSI needs no allocation. If an
+    /// allocation fails, the list holds anything, and there are no paragraphs.
+    pub fn find_paragraphs<D: BidiDataSource, T: TextSource>(
+        &mut self,
+        alloc: Global,
+        data_source: &D,
+        text: T,
+        base: Base,
+        rule: Option<SplitRule>,
+        classes: &mut [BidiClass],
+    ) -> Result<(), AllocError>
+        requires class_room { length classes.old ≡ text_len (T.text text) }
+        ensures paragraphs { OnOk result (AreParagraphsWith (D.source data_source.now) base rule T.encoding.len_of
+            (T.text text).chars classes.new (ranges_of (found_paragraphs self.new)) (levels_of (found_paragraphs self.new))) }
+        ensures flags { let pieces = pieces_by rule (D.source data_source.now) (T.text text).chars in
+            OnOk result (found_flags self.new ≡ paragraph_flags (D.source data_source.now) pieces) }
+        ensures emptied { OnErr result (found_paragraphs self.new ≡ []) }
+        ensures no_flags { OnErr result (found_flags self.new ≡ []) }
+    {
+        prove!(classes.len() == text.len());
+        let memory = mem::replace(&mut self.found, FoundParagraphs::new(alloc));
+        let fixed = base.fixed_level();
+        let mut found = first_pass::walk(data_source, text, fixed, rule, classes, memory)?;
+        apply_base(data_source, text, base, &mut found);
+        self.found = found;
+        Ok(())
+    }
+
     /// Finds the paragraphs of a text, and the class and the level of each character (P1 to I2), as
     /// [`Analyser::analyse`] does, with a base.
     ///
@@ -240,26 +275,24 @@ impl Analyser {
         ensures no_flags { OnErr result (found_flags self.new ≡ []) }
     {
         prove!(base.has_low_level());
-        prove!(classes.len() == text.len());
         prove!(levels.len() == text.len());
-        let memory = mem::replace(&mut self.found, FoundParagraphs::new(alloc));
-        let fixed = base.fixed_level();
-        let mut found = first_pass::walk(data_source, text, fixed, rule, classes, memory)?;
-        apply_base(data_source, text, base, &mut found);
+        self.find_paragraphs(alloc, data_source, text, base, rule, classes)?;
         let classified = ClassifiedText {
             data_source,
             text,
             original_classes: classes,
         };
-        write_paragraphs(
+        let written = write_paragraphs(
             &mut self.resolver,
             &classified,
-            found.paragraphs.as_slice(),
-            found.flags.as_slice(),
+            self.found.paragraphs.as_slice(),
+            self.found.flags.as_slice(),
             levels,
-        )?;
-        self.found = found;
-        Ok(())
+        );
+        if written.is_err() {
+            self.found = FoundParagraphs::new(alloc);
+        }
+        written
     }
 }
 

@@ -33,7 +33,7 @@ returns-clause-writes g c =
     let structs = structs-found source call.base call.rule a (found_paragraphs c.analyse_with_base.new.self) c.in_ok-analyse_with_base.ensures.analysis in
     record {
       unchanged = search rules;
-      classes = search (rules, c.in_ok-analyse_with_base.ensures.analysis.classes);
+      classes = search (rules, c.in_ok-analyse_with_base.ensures.analysis.paragraphs.classes);
       levels = search (rules, c.in_ok-analyse_with_base.ensures.analysis.levels);
       paragraphs = rw (← structs) (search rules);
       count = count;

@@ -21,7 +21,7 @@ returns g c =
     let ps : List ParagraphInfo = c.in_ok-found.found.paragraphs.items in
     let analysis = c.in_ok-found.ensures.analysis in
     let one : c.in_ok-found.found.flags.items ≡ flags_of (map source.class_of cs) ∷ [] = rw (← flags-one) c.in_ok-found.ensures.flags in
-    let own : levels_of ps ≡ level_with source base cs ∷ [] = analysis.para_levels in
+    let own : levels_of ps ≡ level_with source base cs ∷ [] = analysis.paragraphs.para_levels in
     let level : c.level-paragraph_level.result ≡ level_with source base cs =
     c.level-paragraph_level.ensures ∙ only level_of ps c.index-as_slice-0.result _ own (rw c.as_slice.ensures at c.index-as_slice-0.is) in
     record {

@@ -1,11 +1,11 @@
-use Rattle.bidi_base.proofs.Common.{◌∙◌, ◌++◌, [], ◌<◌, ◌≤◌, List, ℕ, length, get_or, map, refl, sym, ap, arith, flat_map, flat_map-append, take_all, at_indexes}
+use Rattle.bidi_base.proofs.Common.{◌∙◌, ◌++◌, [], ◌<◌, ◌≤◌, List, ℕ, length, get_or, map, refl, sym, ap, arith, flat_map, flat_map-append, take_all, at_indexes, append_assoc}
 use Rattle.bidi_display.specs.DisplayedLine.{cluster_order}
 use Rattle.bidi_display.specs.Shown.{chars, clusters, cluster_text, displayed_text, options}
 use Rattle.bidi_display.proofs.ColumnLemmas.{length-cluster_order, cluster_order-below}
 use Rattle.bidi_display.proofs.TextLemmas.{chars-ordered, chars-within}
 use Rattle.bidi_calls.specs.ShownOrder.{shown_in, shown_order}
 use Rattle.bidi_calls.proofs.ShownLemmas.{cluster-more}
-use Rattle.bidi_calls.proofs.shown.shown_of.Goals as goal
+use Rattle.bidi_calls.proofs.shown.push_line.Goals as goal
 
 pub offset_bounds-clusters-index : goal.offset_bounds-clusters-index
 offset_bounds-clusters-index g c =
@@ -52,14 +52,22 @@ loop-index-preserved g c =
     let fits = cluster_order-below (clusters c.args.line.now) c.loop-index.index-index (rw (c.order-index-items.ensures, length-cluster_order) at c.loop-index-test.true) in
     let read = rw (c.clusters.ensures, c.order-index-items.ensures) at c.index-clusters-index.is in
     let inside : c.loop-index.index-index < length order = rw c.order-index-items.ensures at c.loop-index-test.true in
-    let order_step = cluster-more (shown_in (options c.args.line.now) (chars c.args.line.now)) (clusters c.args.line.now) order c.loop-index.index-index _ x inside refl fits read in
+    let order_step = cluster-more (shown_in (options c.args.line.now) c.args.first (chars c.args.line.now)) (clusters c.args.line.now) order c.loop-index.index-index _ x inside refl fits read in
     let text_step = cluster-more (cluster_text (options c.args.line.now) mirrored_of (chars c.args.line.now)) (clusters c.args.line.now) order c.loop-index.index-index _ x inside refl fits read in
+    let old_order : List ℕ = c.args.out.now.order.items in
+    let old_text = c.args.out.now.text.items in
+    let own : List ℕ = shown_in (options c.args.line.now) c.args.first (chars c.args.line.now) x in
+    let units = flat_map g.T.LineText.encode (cluster_text (options c.args.line.now) mirrored_of (chars c.args.line.now) x) in
     record {
       order = (rw (c.options-options.ensures, c.chars.ensures) at c.in_ok-push_indexes.ensures)
-          ∙ ap (λ (ks : List ℕ). ks ++ shown_in (options c.args.line.now) (chars c.args.line.now) x) c.loop-index.invariant.order ∙ sym order_step;
+          ∙ ap (λ (ks : List ℕ). ks ++ own) c.loop-index.invariant.order
+          ∙ append_assoc old_order _ own
+          ∙ ap (λ (ks : List ℕ). old_order ++ ks) (sym order_step);
       text = (rw (c.options-options.ensures, c.chars.ensures) at c.in_ok-push_units.ensures)
-          ∙ ap (λ (us : List _). us ++ flat_map g.T.LineText.encode (cluster_text (options c.args.line.now) mirrored_of (chars c.args.line.now) x)) c.loop-index.invariant.text
-          ∙ sym (ap (flat_map g.T.LineText.encode) text_step ∙ flat_map-append g.T.LineText.encode _ (cluster_text (options c.args.line.now) mirrored_of (chars c.args.line.now) x));
+          ∙ ap (λ (us : List _). us ++ units) c.loop-index.invariant.text
+          ∙ append_assoc old_text _ units
+          ∙ ap (λ (us : List _). old_text ++ us)
+          (sym (ap (flat_map g.T.LineText.encode) text_step ∙ flat_map-append g.T.LineText.encode _ (cluster_text (options c.args.line.now) mirrored_of (chars c.args.line.now) x)));
     }
 
 pub returns-clause-order : goal.returns-clause-order
@@ -68,7 +76,7 @@ returns-clause-order g c =
     let order : List ℕ = cluster_order (clusters c.args.line.now) in
     let all : length order ≤ c.loop-index.index-index = rw c.order-index-items.ensures at c.loop-index-test.false in
     c.loop-index.invariant.order
-    ∙ ap (λ (ps : List ℕ). flat_map (λ (ks : List ℕ). ks) (at_indexes [] (map (shown_in (options c.args.line.now) (chars c.args.line.now)) (clusters c.args.line.now)) ps)) (take_all c.loop-index.index-index order all)
+    ∙ ap (λ (ps : List ℕ). c.args.out.now.order.items ++ flat_map (λ (ks : List ℕ). ks) (at_indexes [] (map (shown_in (options c.args.line.now) c.args.first (chars c.args.line.now)) (clusters c.args.line.now)) ps)) (take_all c.loop-index.index-index order all)
 
 pub returns-clause-text : goal.returns-clause-text
 unfolding displayed_text
@@ -76,4 +84,4 @@ returns-clause-text g c =
     let order : List ℕ = cluster_order (clusters c.args.line.now) in
     let all : length order ≤ c.loop-index.index-index = rw c.order-index-items.ensures at c.loop-index-test.false in
     c.loop-index.invariant.text
-    ∙ ap (λ (ps : List ℕ). flat_map g.T.LineText.encode (flat_map (λ (text : List ℕ). text) (at_indexes [] (map (cluster_text (options c.args.line.now) (g.M.MirroredCharacters.mirrored_of c.args.mirrors.now) (chars c.args.line.now)) (clusters c.args.line.now)) ps))) (take_all c.loop-index.index-index order all)
+    ∙ ap (λ (ps : List ℕ). c.args.out.now.text.items ++ flat_map g.T.LineText.encode (flat_map (λ (text : List ℕ). text) (at_indexes [] (map (cluster_text (options c.args.line.now) (g.M.MirroredCharacters.mirrored_of c.args.mirrors.now) (chars c.args.line.now)) (clusters c.args.line.now)) ps))) (take_all c.loop-index.index-index order all)
