@@ -3,6 +3,7 @@ ghost use Rattle.std.specs.BTreeMap.{get};
 ghost use Rattle.std.specs.Ordering.{nat_cmp};
 ghost use Rattle.std.specs.Prelude.{◌≡◌, ◌==◌, ℕ, true, map, if◌then◌else◌, Some, IsTrue, IfOk, IfSome, OnOk};
 ghost use Rattle.std.specs.List.{list_all};
+ghost use Rattle.std.specs.Option.{ForSome};
 ghost use Rattle.bidi_base.specs.Source.{table_source};
 ghost use Rattle.bidi_base.specs.Table.{source_of};
 ghost use Rattle.bidi_numbers.specs.Faults.{FaultsAs};
@@ -31,7 +32,7 @@ pub struct Tables {
     ranges: Vec<(char, char, BidiClass)>,
     brackets: Vec<(char, char, Option<char>)>,
     by_char: Option<BracketMap>,
-    ghost same: { IfSome by_char (λ map. HasBrackets brackets.items map) },
+    ghost same: { ForSome by_char (λ map. HasBrackets brackets.items map) },
 }
 
 /// The caller's tables as a data source. A bracket takes a search by its character if there are many pairs.
@@ -39,7 +40,7 @@ pub struct Tables {
 pub struct CallerTables<'s, 't> {
     table: &'s TableBidiData<'t>,
     by_char: Option<&'s BracketMap>,
-    ghost same: { IfSome by_char (λ map. HasBracketsOf (source_of table.now) map.now) },
+    ghost same: { ForSome by_char (λ map. HasBracketsOf (source_of table.now) map.now) },
 }
 
 impl<'s, 't> BidiDataSource for CallerTables<'s, 't> {
