@@ -1,7 +1,8 @@
 -- What an analysis holds, as a caller's buffers have it.
-use Rattle.bidi_base.proofs.Common.{◌≡◌, ◌∙◌, List, [], ◌∷◌, map, length, refl, ap}
-use Rattle.bidi_base.proofs.Common.{ap₂, sym, Option, length-map, AnalysedText, Source}
-use Rattle.unicode_bidi.specs.Base.{IsAnalysisWith}
+use Rattle.bidi_base.proofs.Common.{◌≡◌, ◌∙◌, ℕ, List, [], ◌∷◌, map, length, refl, ap}
+use Rattle.bidi_base.proofs.Common.{ap₂, sym, Option, length-map, Source}
+use Rattle.unicode_bidi.specs.Base.{AreParagraphsWith}
+use Rattle.bidi_base.specs.declared.char_data.BidiClass.{BidiClass}
 use Rattle.unicode_bidi.specs.declared.base.Base.{Base}
 use Rattle.unicode_bidi.specs.ParagraphInfo.{range_of, level_of, ranges_of, levels_of}
 use Rattle.bidi_paragraphs.specs.declared.paragraph_info.ParagraphInfo.{ParagraphInfo}
@@ -18,12 +19,12 @@ structs_of : (ps : List ParagraphInfo) → map struct_of ps ≡ paragraph_struct
 structs_of [] = refl
 structs_of (p ∷ ps) = ap (λ structs. struct_of p ∷ structs) (structs_of ps)
 
--- the paragraphs of an analysis
-pub structs-found : (source : Source) (base : Base) (rule : Option SplitRule) (a : AnalysedText) (ps : List ParagraphInfo)
-    → IsAnalysisWith source base rule a (ranges_of ps) (levels_of ps) → map struct_of ps ≡ paragraphs_in source base rule a.len_of a.chars
-structs-found source base rule a ps h = structs_of ps ∙ ap₂ paragraph_structs h.paragraphs.ranges h.paragraphs.para_levels
+-- the paragraphs of a text
+pub structs-found : (source : Source) (base : Base) (rule : Option SplitRule) (len_of : ℕ → ℕ) (chars : List ℕ) (classes : List BidiClass) (ps : List ParagraphInfo)
+    → AreParagraphsWith source base rule len_of chars classes (ranges_of ps) (levels_of ps) → map struct_of ps ≡ paragraphs_in source base rule len_of chars
+structs-found source base rule len_of chars classes ps h = structs_of ps ∙ ap₂ paragraph_structs h.ranges h.para_levels
 
 -- their number
-pub count-found : (source : Source) (base : Base) (rule : Option SplitRule) (a : AnalysedText) (ps : List ParagraphInfo)
-    → IsAnalysisWith source base rule a (ranges_of ps) (levels_of ps) → length ps ≡ length (paragraphs_in source base rule a.len_of a.chars)
-count-found source base rule a ps h = sym (length-map ps struct_of) ∙ ap length (structs-found source base rule a ps h)
+pub count-found : (source : Source) (base : Base) (rule : Option SplitRule) (len_of : ℕ → ℕ) (chars : List ℕ) (classes : List BidiClass) (ps : List ParagraphInfo)
+    → AreParagraphsWith source base rule len_of chars classes (ranges_of ps) (levels_of ps) → length ps ≡ length (paragraphs_in source base rule len_of chars)
+count-found source base rule len_of chars classes ps h = sym (length-map ps struct_of) ∙ ap length (structs-found source base rule len_of chars classes ps h)

@@ -15,3 +15,4 @@ mod RunStructs
 mod ShownLemmas
 mod TextOfRuns
 mod Utf8Fronts
+mod WholeTextLemmas

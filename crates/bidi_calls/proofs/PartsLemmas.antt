@@ -31,7 +31,7 @@ module _ (options : DisplayOptions) (a : AnalysedText) (level : ℕ) (range : Ra
   clusters-is = shown.clusters ∙ ap (λ (o : DisplayOptions). clusters_of o no_width (line_chars a level range)) same
 
   -- its text, which does not depend on the widths
-  text-is : (mirrored_of : ℕ → ℕ) → displayed_text mirrored_of line ≡ line_text options mirrored_of a level range
+  pub text-is : (mirrored_of : ℕ → ℕ) → displayed_text mirrored_of line ≡ line_text options mirrored_of a level range
   unfolding displayed_text line_text
   text-is mirrored_of =
       ap (λ (o : DisplayOptions). text_of mirrored_of o (chars line) (clusters line)) same
@@ -39,7 +39,7 @@ module _ (options : DisplayOptions) (a : AnalysedText) (level : ℕ) (range : Ra
       ∙ ap (λ (ks : List LineCluster). text_of mirrored_of options (line_chars a level range) ks) clusters-is
 
   -- its order
-  order-is : (first : ℕ) → shown_order (options_of line) first (chars line) (clusters line)
+  pub order-is : (first : ℕ) → shown_order (options_of line) first (chars line) (clusters line)
       ≡ shown_order options first (line_chars a level range) (clusters_of options no_width (line_chars a level range))
   order-is first =
       ap (λ (o : DisplayOptions). shown_order o first (chars line) (clusters line)) same

@@ -1,5 +1,5 @@
 -- The displayed characters of a line, cluster by cluster.
-use Rattle.bidi_base.proofs.Common.{◌≡◌, ◌∙◌, ℕ, ◌+◌, ◌<◌, List, [], ◌∷◌, ◌++◌, true, false, length, map, flat_map, flat_map-append, map-append, get_or, get_or-map, take, take_more, append-nil, inl, inr, cases_Bool, sym, ap, refl, add-zero, arith, at_indexes}
+use Rattle.bidi_base.proofs.Common.{◌≡◌, ◌∙◌, ℕ, ◌+◌, ◌-◌, ◌<◌, ◌≤◌, List, [], ◌∷◌, ◌++◌, true, false, length, map, flat_map, flat_map-append, map-append, get_or, get_or-map, take, drop, slice_range, length-take, take_more, append-nil, inl, inr, cases_Bool, sym, ap, refl, add-zero, arith, at_indexes}
 use Rattle.bidi_lines.proofs.Pieces.{at_indexes-map}
 use Rattle.bidi_display.specs.LineClusters.{is_dropped}
 use Rattle.bidi_display.specs.declared.line_char.LineChar.{LineChar}
@@ -52,3 +52,7 @@ pub cluster-more : {X K : Type 0} (own : K → List X) (clusters : List K) (orde
     → flat_map (λ (p : List X). p) (at_indexes [] (map own clusters) (take (v + 1) order)) ≡ flat_map (λ (p : List X). p) (at_indexes [] (map own clusters) (take v order)) ++ own x
 cluster-more own clusters order v k x fits at within read =
     parts-more (map own clusters) order v k (own x) fits at (get_or-map own clusters k x [] within ∙ ap own (sym read))
+
+-- a part of a list is no longer than its range
+pub length-slice_range-le : {X : Type 0} (xs : List X) (start end : ℕ) → length (slice_range xs start end) ≤ end - start
+length-slice_range-le xs start end = grind (arith, length-take (end - start) (drop start xs))

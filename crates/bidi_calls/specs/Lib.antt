@@ -7,7 +7,6 @@ pub mod ClassLists
 pub mod DisplayParts
 pub mod FirstDirection
 pub mod Flags
-pub mod FoundLists
 pub mod LineOrder
 pub mod LineParts
 pub mod LineText

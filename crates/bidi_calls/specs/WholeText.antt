@@ -90,13 +90,23 @@ found_text options mirrored_of encode a ps = record {
       (flat_map (paragraph_order options a) ps) (length a.chars);
 }
 
+-- those that the analysis of a text finds
+abbrev pub found_in : {X : Type 0} → Source → Base → Option SplitRule → DisplayOptions → (ℕ → ℕ) → (ℕ → ℕ) → (ℕ → List X) → List ℕ → FoundText X
+found_in source base rule options mirrored_of len_of encode chars =
+    found_text options mirrored_of encode (analysed_by source base rule len_of chars)
+    (paragraphs_in source base rule len_of chars)
+
 -- the same from the numbers that a caller passes
 abbrev pub found_by : {X : Type 0} → Source → Settings → ℕ → (ℕ → ℕ) → (ℕ → List X) → List ℕ → FoundText X
 found_by source settings flags len_of encode chars =
-    let base = base_of settings.base in
-    let rule = split_of settings.split in
-    found_text (options_by flags) (mirrored_if (mirrors flags)) encode (analysed_by source base rule len_of chars)
-    (paragraphs_in source base rule len_of chars)
+    found_in source (base_of settings.base) (split_of settings.split) (options_by flags) (mirrored_if (mirrors flags)) len_of
+    encode chars
+
+-- these lists are what is found
+pub record AreParts {X : Type 0} (found : FoundText X) (own_levels : List ℕ) (own_text : List X) (own_order : List ℕ) : Type 0 where
+  pub levels : own_levels ≡ found.levels
+  pub text : own_text ≡ found.parts.text
+  pub order : own_order ≡ found.parts.order
 
 -- the first fault after that of the code units: of the settings, of the flags, and of the room
 abbrev pub fault_of_text : {X : Type 0} → FoundText X → Settings → ℕ → List ℕ → DisplayBuffers X → Option Fault

@@ -90,10 +90,6 @@ pub(crate) fn displayed_of<T: TextSource>(
     Ok(displayed)
 }
 
-
-    room == 0 || count <= room
-}
-
 // Returns whether each buffer is empty or has room for its part of the line.
 fn have_room<U>(units: usize, shown: usize, characters: usize, out: &DisplayBuffers<'_, U>) -> bool
     ensures { result

@@ -27,6 +27,6 @@ pub mod per_char;
 pub mod run_structs;
 pub mod show;
 pub mod shown;
-pub mod whole_text;
 #[cfg(test)]
 mod tests;
+pub mod whole_text;

@@ -5,14 +5,14 @@ ghost use Rattle.bidi_base.specs.Classes.{class_number};
 ghost use Rattle.bidi_base.specs.Texts.{text_len};
 ghost use Rattle.bidi_calls.specs.Buffers.{analysis_by, analysis_of, written_if_room, HasRoomOrNone};
 ghost use Rattle.bidi_calls.specs.ParagraphSearch.{search_fault, room_fault, WritesParagraphs};
-ghost use Rattle.bidi_numbers.specs.Faults.{FaultsAs};
+ghost use Rattle.bidi_numbers.specs.Faults.{FaultsAs, has_room_or_none};
 
 use crate::analysis::{put_paragraphs, write_classes};
 use crate::base_numbers::base_numbered;
 use crate::buffers::{ParagraphBuffers, Settings};
 use crate::caller_text::CallerText;
 use bidi_lines::reused_levels::FEW_UNITS;
-use bidi_numbers::fault::{Fault, check_room_or_none};
+use bidi_numbers::fault::{Fault, check, has_room_or_none};
 use bidi_numbers::numbers::split_rule;
 use std::alloc::Global;
 use unicode_bidi::engine::Analyser;
@@ -26,6 +26,14 @@ fn put_classes(out: &mut [u8], classes: &[BidiClass])
     if !out.is_empty() {
         write_classes(&mut out[..classes.len()], classes);
     }
+}
+
+// Returns whether each buffer is empty or has room for its part.
+fn have_room(units: usize, paragraphs: usize, out: &ParagraphBuffers<'_>) -> bool
+    ensures { result ≡ (has_room_or_none units (length out.now.classes.now)
+        && has_room_or_none paragraphs (length out.now.paragraphs.now)) }
+{
+    has_room_or_none(units, out.classes.len()) && has_room_or_none(paragraphs, out.paragraphs.len())
 }
 
 // A text and the arguments of a call.
@@ -63,8 +71,8 @@ fn write_search<D: BidiDataSource, T: TextSource>(
         own_classes,
     )?;
     let found = analyser.paragraphs();
-    check_room_or_none(own_classes.len(), out.classes.len())?;
-    check_room_or_none(found.len(), out.paragraphs.len())?;
+    let fits = have_room(own_classes.len(), found.len(), out);
+    check(fits, Fault::NoRoom)?;
     put_classes(out.classes, own_classes);
     put_paragraphs(out.paragraphs, found);
     Ok(found.len())

@@ -5,8 +5,7 @@ ghost use Rattle.bidi_base.specs.Indexes.{between};
 ghost use Rattle.bidi_base.specs.Texts.{char_index, text_len, AreLines, HaveClass, HaveLevel};
 ghost use Rattle.bidi_calls.specs.DisplayParts.{found_parts, has_room_for, WritesDisplay};
 ghost use Rattle.bidi_calls.specs.Flags.{mirrored_if};
-ghost use Rattle.bidi_calls.specs.FoundLists.{HasFound};
-ghost use Rattle.bidi_calls.specs.WholeText.{fault_of_text, found_by, of_info, paragraph_levels, paragraph_order, paragraph_text, WritesLevels};
+ghost use Rattle.bidi_calls.specs.WholeText.{fault_of_text, found_by, found_in, of_info, paragraph_levels, paragraph_order, paragraph_text, AreParts, WritesLevels};
 ghost use Rattle.bidi_display.specs.Shown.{options as options_of};
 ghost use Rattle.bidi_lines.specs.Analysed.{with_lists};
 ghost use Rattle.bidi_numbers.specs.Faults.{FaultsAs, fault_unless, has_room_or_none};
@@ -166,19 +165,21 @@ struct DisplayCall<'a, D: BidiDataSource> {
     mirrors: MirroredIf,
 }
 
-// Analyses a text and displays it.
-fn find_lists<'t, T: DisplayText<'t>, D: BidiDataSource>(
+// Analyses a text and displays it. Writes the levels after L1 to `levels`, and uses `classes` as a buffer.
+fn show_paragraphs<'t, T: DisplayText<'t>, D: BidiDataSource>(
     alloc: Global,
     text: T,
     call: &DisplayCall<'_, D>,
-) -> Result<FoundLists<T::Unit>, AllocError>
-    requires { HasLowLevel call.now.base }
-    ensures { IfOk result (λ lists. HasFound (D.source call.now.data_source.now) call.now.base call.now.rule call.now.options
-        (mirrored_if call.now.mirrors.on) T.encoding.len_of T.encode (T.text text).chars lists) }
+    classes: &mut [BidiClass],
+    levels: &mut [Level],
+) -> Result<Shown<T::Unit>, AllocError>
+    requires low { HasLowLevel call.now.base }
+    requires class_room { length classes.old ≡ text_len (T.text text) }
+    requires level_room { length levels.old ≡ text_len (T.text text) }
+    ensures { IfOk result (λ shown. AreParts (found_in (D.source call.now.data_source.now) call.now.base call.now.rule
+        call.now.options (mirrored_if call.now.mirrors.on) T.encoding.len_of T.encode (T.text text).chars)
+        levels.new shown.text.items shown.order.items) }
 {
-    let len = text.len();
-    let mut classes = vec![in alloc; BidiClass::L; len]?;
-    let mut levels = vec![in alloc; LTR_LEVEL; len]?;
     let mut analyser = Analyser::new(alloc);
     analyser.analyse_with_base(
         alloc,
@@ -186,22 +187,46 @@ fn find_lists<'t, T: DisplayText<'t>, D: BidiDataSource>(
         text,
         call.base,
         call.rule,
-        classes.as_mut_slice(),
-        levels.as_mut_slice(),
+        classes,
+        levels,
     )?;
+    let paragraphs = analyser.paragraphs();
     let shown_text = ShownText {
         text,
-        classes: classes.as_slice(),
-        levels: levels.as_slice(),
+        classes,
+        levels,
     };
     let mut line = DisplayedLine::new(alloc, call.options);
     let mut shown = Shown {
         order: Vec::new(alloc),
         text: Vec::new(alloc),
     };
-    let paragraphs = analyser.paragraphs();
     push_paragraphs(&shown_text, paragraphs, &call.mirrors, &mut line, &mut shown)?;
-    reset_paragraphs(classes.as_slice(), levels.as_mut_slice(), paragraphs);
+    reset_paragraphs(classes, levels, paragraphs);
+    Ok(shown)
+}
+
+// The same with lists of its own.
+fn find_lists<'t, T: DisplayText<'t>, D: BidiDataSource>(
+    alloc: Global,
+    text: T,
+    call: &DisplayCall<'_, D>,
+) -> Result<FoundLists<T::Unit>, AllocError>
+    requires { HasLowLevel call.now.base }
+    ensures { IfOk result (λ lists. AreParts (found_in (D.source call.now.data_source.now) call.now.base call.now.rule
+        call.now.options (mirrored_if call.now.mirrors.on) T.encoding.len_of T.encode (T.text text).chars)
+        lists.levels.items lists.shown.text.items lists.shown.order.items) }
+{
+    let len = text.len();
+    let mut classes = vec![in alloc; BidiClass::L; len]?;
+    let mut levels = vec![in alloc; LTR_LEVEL; len]?;
+    let shown = show_paragraphs(
+        alloc,
+        text,
+        call,
+        classes.as_mut_slice(),
+        levels.as_mut_slice(),
+    )?;
     Ok(FoundLists { levels, shown })
 }
 

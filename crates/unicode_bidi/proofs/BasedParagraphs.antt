@@ -1,9 +1,9 @@
 -- The paragraphs of a text, once they have the levels that a base gives them.
-use Rattle.bidi_base.proofs.Common.{◌≡◌, ◌∙◌, ℕ, List, map, flat_map, ap, sym, All, Option, AnalysedText, AreParagraphs, HasOwnUnits, pieces_by, ranges_from, per_unit, stored_levels, text_len, Source, map-map}
+use Rattle.bidi_base.proofs.Common.{◌≡◌, ◌∙◌, ℕ, List, [], IsLine, map, flat_map, ap, sym, All, Option, AnalysedText, AreParagraphs, HasOwnUnits, pieces_by, ranges_from, per_unit, stored_levels, text_len, Source, map-map}
 use Rattle.bidi_base.specs.declared.char_data.BidiClass.{BidiClass}
 use Rattle.bidi_base.specs.declared.split_rule.SplitRule.{SplitRule}
 use Rattle.bidi_base.proofs.TextLemmas.{HasUnits}
-use Rattle.bidi_laws.proofs.ParagraphsLemmas.{pieces_by-joined}
+use Rattle.bidi_laws.proofs.ParagraphsLemmas.{pieces_by-joined, ranges-lines}
 use Rattle.bidi_paragraphs.specs.declared.paragraph_info.ParagraphInfo.{ParagraphInfo}
 use Rattle.bidi_paragraphs.specs.ParagraphFlags.{paragraph_flags}
 use Rattle.bidi_paragraphs.specs.ParagraphInfo.{ranges_of, levels_of}
@@ -33,6 +33,10 @@ module _ (source : Source) (base : Base) (rule : Option SplitRule) (len_of : ℕ
 
   pub based-Follow : Follow 0 (text_len len_of chars) ps
   based-Follow = paragraphs-Follow source len_of units chars pieces (pieces_by-joined rule source chars) ps are.ranges
+
+  -- no range cuts a character
+  pub based-lines : All (λ (r : ℕ × ℕ). IsLine len_of chars r.0 r.1) (ranges_of ps)
+  based-lines = simp (pieces_by-joined rule source chars, ← are.ranges) at (ranges-lines len_of units [] pieces)
 
   pub based-flags : paragraph_flags source pieces ≡ map (own_flags source len_of chars) ps
   based-flags = paragraphs-flags source len_of units chars pieces (pieces_by-joined rule source chars) ps are.ranges

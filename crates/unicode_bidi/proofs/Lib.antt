@@ -1,14 +1,14 @@
 pub mod AloneLemmas
 mod BaseLaws
 mod BaseLemmas
-mod BasedParagraphs
+pub mod BasedParagraphs
 pub mod ContentLemmas
 mod DecidingSteps
 mod FoundLaws
 mod LogicalRuns
 mod ParagraphChanges
 mod ParagraphSearch
-mod ParagraphUnits
+pub mod ParagraphUnits
 mod RunsOfLine
 pub mod SearchLemmas
 mod StoredOrder

@@ -1,11 +1,11 @@
-use Rattle.bidi_base.proofs.Common.{◌≡◌, ◌+◌, ◌-◌, ◌∷◌, drop, refl, ap, ◌∙◌, arith}
+use Rattle.bidi_base.proofs.Common.{◌≡◌, ◌+◌, ◌-◌, ◌∷◌, drop, refl, ap, ◌∙◌, arith, rules}
 use Rattle.bidi_display.proofs.ClusterPass.{IsFoundTo-start, IsFoundTo-more, IsFoundTo-end, IsFoundPast-read, IsFoundPast-simple}
 use Rattle.bidi_display.proofs.GroupingLemmas.{drop-item}
 use Rattle.bidi_display.proofs.grouping.find_clusters.Goals as goal
 
 pub loop-from-init : goal.loop-from-init
 loop-from-init g c =
-    IsFoundTo-start c.args.options (g.W.ClusterWidth.width_of c.args.widths.now) c.args.chars.now c.new-joining.result c.clear.new.self.items c.new-joining.ensures c.clear.ensures.items
+    IsFoundTo-start c.args.options (g.W.ClusterWidth.width_of c.args.widths.now) c.args.chars.now c.new-joining.result c.reserve.new.self.items c.new-joining.ensures (search rules)
 
 pub pass-requires : goal.pass-requires
 pass-requires g c =
