@@ -1,7 +1,8 @@
 /* Times the calls of the static library with a file of UTF-8, in nanoseconds a character, a line or a short text;
  * main.rt.in times such calls of unicode_bidi. Lines have 60 characters, and fewer where a paragraph ends. A short text
  * is a piece of three words, and of fewer where a paragraph ends. It is analysed, and then shown as one line. Short texts
- * are also analysed alone, and by the classes and the brackets of their characters. */
+ * are also analysed alone, by the classes and the brackets of their characters, ordered by classes and levels, and
+ * displayed in one call. */
 #include "unicode_bidi.h"
 #include <stdio.h>
 #include <stdlib.h>
@@ -11,6 +12,7 @@ enum { ROUNDS = 5, LINE_LENGTH = 60, PIECE_WORDS = 3 };
 
 typedef enum {
   ANALYSE,
+  PARAGRAPHS,
   BASE_DIRECTION,
   LINE_LEVELS,
   LINE_RUNS,
@@ -20,10 +22,13 @@ typedef enum {
   DISPLAY_PLAINLY, /* as reorder_line writes it, and both maps */
   DISPLAY_LINE,
   REORDER_VISUAL,
+  DISPLAY_TEXT,
   ANALYSE_CLASSES, /* from here on, what the analysis wrote is overwritten */
   SHORT_TEXTS,
   SHORT_ANALYSES,
   SHORT_CLASSES,
+  SHORT_ORDERS, /* analysed by classes, and ordered by classes and levels */
+  SHORT_DISPLAYS,
   CALLS
 } call;
 
@@ -63,6 +68,25 @@ static int64_t analyse_classes(size_t first, size_t last) {
                                       UNICODE_BIDI_EACH_SEPARATOR, classes, count, levels, count, paragraphs, count);
 }
 
+/* Displays a text as a device does: with its marks, mirrored, without direction controls. */
+static int64_t display(size_t start, size_t end) {
+  const size_t count = end - start;
+  return unicode_bidi_display_text_utf8(text + start, count, UNICODE_BIDI_AUTO, UNICODE_BIDI_EACH_SEPARATOR,
+                                        UNICODE_BIDI_MOVE_CLUSTERS + UNICODE_BIDI_MIRROR + UNICODE_BIDI_DROP_CONTROLS,
+                                        line_levels, count, bytes, 2 * count, places, count, inverse, count, &shown_len,
+                                        &characters_len);
+}
+
+/* Orders characters by their classes and levels, as one line of one paragraph. */
+static int64_t order_characters(size_t first, size_t last) {
+  const size_t count = last - first;
+  int64_t found = analyse_classes(first, last);
+  if (found < 0) return found;
+  const unicode_bidi_paragraph whole = {0, count, paragraphs[0].level};
+  return unicode_bidi_line_order(classes, count, levels, count, &whole, 0, count, UNICODE_BIDI_MOVE_MARKS, places, count,
+                                 inverse, count);
+}
+
 /* Analyses a piece as a text of its own, and writes its one line from left to right. */
 static int64_t show_piece(const text_piece *piece) {
   const size_t count = piece->end - piece->start;
@@ -80,10 +104,18 @@ static int64_t show_pieces(void) {
   return 0;
 }
 
-static int64_t analyse_pieces(call call) {
+static int64_t call_piece(call call, const text_piece *piece) {
+  switch (call) {
+    case SHORT_CLASSES: return analyse_classes(piece->first, piece->last);
+    case SHORT_ORDERS: return order_characters(piece->first, piece->last);
+    case SHORT_DISPLAYS: return display(piece->start, piece->end);
+    default: return analyse(piece->start, piece->end);
+  }
+}
+
+static int64_t call_pieces(call call) {
   for (size_t at = 0; at < pieces_len; at++) {
-    const text_piece *piece = &pieces[at];
-    int64_t answer = call == SHORT_CLASSES ? analyse_classes(piece->first, piece->last) : analyse(piece->start, piece->end);
+    int64_t answer = call_piece(call, &pieces[at]);
     if (answer < 0) return answer;
   }
   return 0;
@@ -119,10 +151,14 @@ static int64_t call_line(call call, const text_line *line) {
 static int64_t make(call call) {
   if (call == ANALYSE) return analyse(0, length);
   if (call == ANALYSE_CLASSES) return analyse_classes(0, chars_len);
+  if (call == DISPLAY_TEXT) return display(0, length);
+  if (call == PARAGRAPHS)
+    return unicode_bidi_paragraphs_utf8(text, length, UNICODE_BIDI_AUTO, UNICODE_BIDI_EACH_SEPARATOR, classes, length,
+                                        paragraphs, length);
   if (call == BASE_DIRECTION) return unicode_bidi_base_direction_utf8(text, length, 1);
   if (call == REORDER_VISUAL) return unicode_bidi_reorder_visual(levels, length, places, length);
   if (call == SHORT_TEXTS) return show_pieces();
-  if (call == SHORT_ANALYSES || call == SHORT_CLASSES) return analyse_pieces(call);
+  if (call > SHORT_TEXTS) return call_pieces(call);
   for (size_t at = 0; at < lines_len; at++) {
     int64_t answer = call_line(call, &lines[at]);
     if (answer < 0) return answer;
@@ -205,9 +241,9 @@ static void *room(size_t size) {
 
 int main(int count, char **words) {
   static const char *const names[CALLS] = {
-      "analyse",   "base_direction, full", "line_levels",     "line_runs",   "line_map",             "reorder_line",
-      "show_line", "display_line, plainly", "display_line",   "reorder_visual", "analyse_classes", "short texts",
-      "short texts analysed", "by classes"};
+      "analyse", "paragraphs", "base_direction, full", "line_levels", "line_runs", "line_map", "reorder_line",
+      "show_line", "display_line, plainly", "display_line", "reorder_visual", "display_text", "analyse_classes",
+      "short texts", "short texts analysed", "by classes", "by classes, ordered", "displayed"};
   FILE *file = count == 2 ? fopen(words[1], "rb") : NULL;
   if (!file || fseek(file, 0, SEEK_END)) return 2;
   length = (size_t)ftell(file);

@@ -282,11 +282,12 @@ impl Analyser {
             text,
             original_classes: classes,
         };
+        let found = &self.found;
         let written = write_paragraphs(
             &mut self.resolver,
             &classified,
-            self.found.paragraphs.as_slice(),
-            self.found.flags.as_slice(),
+            found.paragraphs.as_slice(),
+            found.flags.as_slice(),
             levels,
         );
         if written.is_err() {
