@@ -1,8 +1,9 @@
 -- A text that a caller passes as the classes and the brackets of its characters alone.
-use Rattle.std.specs.Prelude.{ℕ, ◌==◌, ◌||◌, List, length, map, Option, is_none}
+use Rattle.std.specs.Prelude.{◌≡◌, ℕ, ◌<◌, ◌==◌, ◌||◌, List, length, map, Option, is_none}
 use Rattle.std.specs.List.{list_all}
 use Rattle.std.specs.Option.{option_or}
 use Rattle.bidi_base.specs.Texts.{one_each}
+use Rattle.bidi_base.specs.declared.char_data.BidiClass.{BidiClass}
 use Rattle.bidi_text.specs.ClassText.{bracket_codes_fault, class_chars, class_source}
 use Rattle.bidi_calls.specs.Buffers.{AnalysisAsNumbers, analysis_by}
 use Rattle.bidi_calls.specs.declared.buffers.Settings.{Settings}
@@ -10,6 +11,10 @@ use Rattle.bidi_numbers.specs.declared.fault.Fault.{Fault}
 use Rattle.bidi_numbers.specs.declared.fault.Fault.TheVariants.{UnequalLengths, BadClass, BadBracket}
 use Rattle.bidi_numbers.specs.Faults.{fault_unless}
 use Rattle.bidi_numbers.specs.Numbers.{class_numbered, is_class}
+
+-- there are no bracket codes, or one for each class
+abbrev pub HasCodesOrNone : List BidiClass → List ℕ → Type 0
+HasCodesOrNone classes codes = 0 < length codes → length codes ≡ length classes
 
 -- the first fault of the two lists. There are no bracket codes, or one for each class.
 abbrev pub lists_fault : List ℕ → List ℕ → Option Fault

@@ -1,11 +1,11 @@
 //! The call over a text that is known by the classes and the brackets of its characters alone.
-ghost use Rattle.std.specs.Prelude.{◌≡◌, ◌<◌, None, length, map, OnOk};
+ghost use Rattle.std.specs.Prelude.{◌≡◌, None, length, map, OnOk};
 ghost use Rattle.std.specs.Option.{option_or};
 ghost use Rattle.std.specs.Result.{result_err};
 ghost use Rattle.bidi_base.specs.Texts.{one_each};
 ghost use Rattle.bidi_text.specs.ClassText.{bracket_codes_fault, class_brackets, class_chars, class_source};
 ghost use Rattle.bidi_calls.specs.Buffers.{analysis_by, analysis_fault, WritesAnalysis};
-ghost use Rattle.bidi_calls.specs.ClassLists.{lists_fault, listed_chars, analysis_of_lists};
+ghost use Rattle.bidi_calls.specs.ClassLists.{lists_fault, listed_chars, analysis_of_lists, HasCodesOrNone};
 ghost use Rattle.bidi_numbers.specs.Faults.{FaultsAs};
 ghost use Rattle.bidi_numbers.specs.Numbers.{class_numbered};
 
@@ -50,7 +50,7 @@ fn analyse_listed(
     settings: Settings,
     out: &mut AnalysisBuffers<'_>,
 ) -> Result<usize, Fault>
-    requires lengths { 0 < length brackets.now → length brackets.now ≡ length classes.now }
+    requires lengths { HasCodesOrNone classes.now brackets.now }
     requires codes { bracket_codes_fault brackets.now ≡ None }
     ensures fault { let found = analysis_by class_source settings one_each.len_of (class_chars classes.now brackets.now) in
         FaultsAs result (analysis_fault settings (length classes.now) found out.old) }

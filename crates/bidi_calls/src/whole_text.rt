@@ -201,7 +201,13 @@ fn show_paragraphs<'t, T: DisplayText<'t>, D: BidiDataSource>(
         order: Vec::new(alloc),
         text: Vec::new(alloc),
     };
-    push_paragraphs(&shown_text, paragraphs, &call.mirrors, &mut line, &mut shown)?;
+    push_paragraphs(
+        &shown_text,
+        paragraphs,
+        &call.mirrors,
+        &mut line,
+        &mut shown,
+    )?;
     reset_paragraphs(classes, levels, paragraphs);
     Ok(shown)
 }

@@ -23,8 +23,10 @@ push_paragraph-requires g c =
     let next = next-in-order c.args.paragraphs.now c.loop-paragraph.paragraph-index c.paragraph-item.result c.loop-paragraph-test.true c.paragraph-item.is _ _ c.loop-paragraph.invariant.follow.2 in
     λ _. (
       (refl, tt),
-      (own-range (λ (r : ℕ × ℕ). IsLine len_of chars r.0 r.1) c.args.paragraphs.now c.loop-paragraph.paragraph-index c.paragraph-item.result c.loop-paragraph-test.true c.paragraph-item.is c.requires.lines,
-      c.loop-paragraph.invariant.follow.1 ∙ ap (char_index len_of chars) (sym next.0)),
+      (
+        own-range (λ (r : ℕ × ℕ). IsLine len_of chars r.0 r.1) c.args.paragraphs.now c.loop-paragraph.paragraph-index c.paragraph-item.result c.loop-paragraph-test.true c.paragraph-item.is c.requires.lines,
+        c.loop-paragraph.invariant.follow.1 ∙ ap (char_index len_of chars) (sym next.0),
+      ),
     )
 
 pub loop-paragraph-preserved : goal.loop-paragraph-preserved

@@ -16,8 +16,10 @@ push_paragraphs-requires g c =
     let are = c.in_ok-analyse_with_base.ensures.analysis.paragraphs in
     λ _. (
       (refl, tt),
-      (rw c.paragraphs-paragraphs.ensures (based-lines source call.base call.rule len_of some cs c.analyse_with_base.new.classes ps are),
-      rw c.paragraphs-paragraphs.ensures (based-Follow source call.base call.rule len_of some cs c.analyse_with_base.new.classes ps are)),
+      (
+        rw c.paragraphs-paragraphs.ensures (based-lines source call.base call.rule len_of some cs c.analyse_with_base.new.classes ps are),
+        rw c.paragraphs-paragraphs.ensures (based-Follow source call.base call.rule len_of some cs c.analyse_with_base.new.classes ps are),
+      ),
     )
 
 pub reset_paragraphs-requires-clause-follow : goal.reset_paragraphs-requires-clause-follow
