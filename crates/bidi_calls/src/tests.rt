@@ -1,11 +1,17 @@
-//! Worked lines, in each encoding. The expected ones come from the rules L2 to L4 and UAX #29.
+//! Worked lines and texts. The expected ones come from the rules P1 to L4 and UAX #29.
 
+use crate::buffers::{ParagraphBuffers, Settings};
 use crate::display_buffers::DisplayBuffers;
 use crate::display_line::display_line;
 use crate::line::CallerLine;
+use crate::line_order::line_order;
+use crate::paragraph_search::find_paragraphs;
+use crate::shown::write_places;
+use crate::whole_text::display_text;
 use bidi_numbers::fault::Fault;
 use bidi_numbers::structs::Paragraph;
 use bidi_numbers::utf32_text::Utf32Text;
+use bidi_unicode::UnicodeData;
 use std::process::Abort;
 
 const NONE: usize = usize::MAX;
@@ -195,4 +201,109 @@ fn emoji(rt: HostRuntime) {
         &[3, 2, 1, 0],
         &[3, 2, 1, 0],
     );
+}
+
+// The first paragraph is from right to left, and the second from left to right. Each gets its level from its characters.
+const TWO_PARAGRAPHS: [u32; 6] = [0x5D0, 0x5D1, 0x28, 0x0A, 0x61, 0x62];
+
+const BY_CHARACTERS: Settings = Settings {
+    base: 255,
+    split: 1,
+};
+
+// The bracket is mirrored, and the separator stays behind its paragraph.
+#[test]
+fn text_of_two_paragraphs(rt: HostRuntime) {
+    let mut levels = [0u8; 6];
+    let mut text = [0u32; 6];
+    let mut order = [0usize; 6];
+    let mut places = [0usize; 6];
+    let mut shown = 0;
+    let mut characters = 0;
+    let mut out = DisplayBuffers {
+        text: &mut text,
+        order: &mut order,
+        places: &mut places,
+        shown: &mut shown,
+        characters: &mut characters,
+    };
+    let result = display_text::<Utf32Text, _>(
+        rt.alloc(),
+        &UnicodeData,
+        &TWO_PARAGRAPHS,
+        BY_CHARACTERS,
+        4,
+        &mut levels,
+        &mut out,
+    );
+    assert_eq!(&rt; result, Ok(6));
+    assert_eq!(&rt; shown, 6);
+    assert_eq!(&rt; characters, 6);
+    assert!(&rt; levels == [1, 1, 1, 1, 0, 0]);
+    assert!(&rt; text == [0x29, 0x5D1, 0x5D0, 0x0A, 0x61, 0x62]);
+    assert!(&rt; order == [2, 1, 0, 3, 4, 5]);
+    assert!(&rt; places == [2, 1, 0, 3, 4, 5]);
+}
+
+#[test]
+fn paragraphs_without_levels(rt: HostRuntime) {
+    let none = Paragraph {
+        start: 0,
+        end: 0,
+        level: 0,
+    };
+    let mut classes = [0u8; 6];
+    let mut paragraphs = [none, none];
+    let mut out = ParagraphBuffers {
+        classes: &mut classes,
+        paragraphs: &mut paragraphs,
+    };
+    let result = find_paragraphs::<Utf32Text, _>(
+        rt.alloc(),
+        &UnicodeData,
+        &TWO_PARAGRAPHS,
+        BY_CHARACTERS,
+        &mut out,
+    );
+    assert_eq!(&rt; result, Ok(2));
+    assert!(&rt; classes == [1, 1, 13, 10, 0, 0]);
+    let first = Paragraph {
+        start: 0,
+        end: 4,
+        level: 1,
+    };
+    let second = Paragraph {
+        start: 4,
+        end: 6,
+        level: 0,
+    };
+    assert!(&rt; paragraphs == [first, second]);
+}
+
+// A mark stays behind its letter, and the places are the inverse of the order.
+#[test]
+fn order_by_classes(rt: HostRuntime) {
+    let paragraph = &Paragraph {
+        start: 0,
+        end: 3,
+        level: 1,
+    };
+    let line = &CallerLine {
+        classes: &[1, 8, 1],
+        levels: &[1, 1, 1],
+        paragraph,
+        start: 0,
+        end: 3,
+    };
+    let mut order = [0usize; 3];
+    let mut places = [0usize; 3];
+    let result = line_order(rt.alloc(), line, 1, &mut order, &mut places);
+    assert_eq!(&rt; result, Ok(3));
+    assert!(&rt; order == [2, 0, 1]);
+    assert!(&rt; places == [1, 2, 0]);
+    let mut again = [0usize; 3];
+    write_places(&order, &mut again);
+    assert!(&rt; again == places);
+    let result = line_order(rt.alloc(), line, 2, &mut order, &mut places);
+    assert_eq!(&rt; result, Err(Fault::BadFlags));
 }
