@@ -56,7 +56,8 @@ const CHECK: &str = "usage: bidi check [OPTION..] [--] [FILE..]\n\
     FILE          a file, or a directory for all files below it; - is standard input\n\
     \n\
     Without FILE and LIST, reads standard input. NUL bytes separate the names in LIST, or line\n\
-    feeds if it has no NUL. Below a directory, links are not followed.\n\
+    feeds if it has no NUL. Below a directory and in LIST, links are not followed. In LIST, the\n\
+    name of a link's target is searched.\n\
     \n\
     A file is in UTF-8, or in UTF-16 with a byte order mark. Any other file is searched too, but\n\
     it is reported, and the status is 2.\n\

@@ -143,7 +143,59 @@ fn walk(
     Ok(())
 }
 
-// Searches a file, or the files below a directory. A link is followed.
+// Reports an input that a list names, and that is neither a file, a directory nor a link. It could deliver bytes without
+// end, or none, so it is not opened.
+fn refuse_special(
+    rt: &(impl Eprint + AllocGlobal),
+    run: &mut Run<'_, '_, '_>,
+    name: &str,
+) -> Result<(), Status> {
+    let shown = or_end(rt, shown_name(rt.alloc(), name))?;
+    let _ = eprintln!(rt;
+        "bidi: {shown}: neither a file, a directory nor a link, so it was not opened; pass it as an argument"
+    );
+    run.note(Status::Refused);
+    Ok(())
+}
+
+// Searches what a link says: the name of its target. The target is not opened.
+fn check_link(
+    rt: &(impl Files + Print + Eprint + AllocGlobal),
+    run: &mut Run<'_, '_, '_>,
+    name: &str,
+) -> Result<(), Status> {
+    match fs::read_link(rt, name) {
+        Ok(target) => {
+            let mut bytes = target.as_path().as_str().as_bytes();
+            check_reader(rt, run, true, name, &mut bytes)
+        }
+        Err(error) => {
+            run.note(refuse(rt, name, &error)?);
+            Ok(())
+        }
+    }
+}
+
+// Searches what a list names: a file, the files below a directory, or the name of a link's target. So no name of a list
+// leads to another file.
+fn check_listed(
+    rt: &(impl Files + Print + Eprint + AllocGlobal),
+    run: &mut Run<'_, '_, '_>,
+    name: &str,
+) -> Result<(), Status> {
+    match fs::symlink_metadata(rt, name) {
+        Ok(metadata) if metadata.is_symlink() => check_link(rt, run, name),
+        Ok(metadata) if metadata.is_dir() => walk(rt, run, name),
+        Ok(metadata) if metadata.is_file() => check_file(rt, run, name),
+        Ok(_) => refuse_special(rt, run, name),
+        Err(error) => {
+            run.note(refuse(rt, name, &error)?);
+            Ok(())
+        }
+    }
+}
+
+// Searches a file, or the files below a directory, that an argument names. A link is followed.
 fn check_path(
     rt: &(impl Files + Print + Eprint + AllocGlobal),
     run: &mut Run<'_, '_, '_>,
@@ -196,7 +248,7 @@ fn check_list(
     let names = or_end(rt, listed_names(rt.alloc(), bytes.as_slice()))?;
     for name in names.as_slice() {
         match str::from_utf8(name) {
-            Ok(name) => check_path(rt, run, name)?,
+            Ok(name) => check_listed(rt, run, name)?,
             Err(_) => refuse_name(rt, run, name)?,
         }
     }
