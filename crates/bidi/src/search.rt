@@ -197,6 +197,23 @@ fn check_pieces(
     check_each(rt, run, name, reader, bytes, &mut pieces)
 }
 
+// As a gate, also searches an input that begins like UTF-16 as UTF-8, since a shell or a compiler may ignore the mark.
+// Invalid bytes are no fault then: UTF-16 has them.
+fn check_as_utf8(
+    rt: &(impl Print + Eprint + AllocGlobal),
+    run: &mut Run<'_, '_, '_>,
+    name: &str,
+    bytes: &[u8],
+) -> Result<(), Status> {
+    let mut search = FileSearch::new(rt.alloc(), run.options.wanted);
+    let mut found = Vec::new(rt.alloc());
+    if run.options.search.gate && search.has_room(bytes.len()) {
+        or_end(rt, search.push_last(rt.alloc(), bytes, &mut found))?;
+        report_found(rt, run, name, &mut found)?;
+    }
+    Ok(())
+}
+
 /// Searches an input, and writes what it finds. If `text` is false, reads only the first bytes of a binary input, and
 /// reports nothing of it. UTF-16 is read as a whole, and other inputs piece by piece. A failed read is reported and
 /// noted. Returns an error only if the run must end: an allocation or a write to standard output failed.
@@ -219,7 +236,10 @@ pub fn check_reader(
         return check_pieces(rt, run, name, reader, &mut bytes);
     }
     match reader.read_to_end(&mut bytes) {
-        Ok(_) => check_bytes(rt, run, name, bytes.as_slice()),
+        Ok(_) => {
+            check_bytes(rt, run, name, bytes.as_slice())?;
+            check_as_utf8(rt, run, name, bytes.as_slice())
+        }
         Err(error) => {
             run.note(refuse(rt, name, &error)?);
             Ok(())

@@ -11,7 +11,7 @@ use bidi_reports::form::Form;
 use bidi_reports::report::Report;
 use bidi_terminal::names::{shown_bytes, shown_name};
 use std::alloc::AllocError;
-use std::fs;
+use std::fs::{self, Metadata};
 use std::io::{self, ErrorKind, Read};
 use std::rt::Files;
 
@@ -68,8 +68,55 @@ fn read_directory(rt: &(impl Files + AllocGlobal), dir: &str) -> io::Result<Vec<
     Ok(listing)
 }
 
-// Searches a file of a directory, and keeps a directory for later. Skips links, pipes, sockets and
-// devices.
+// Reports an input that is neither a file, a directory nor a link. It could deliver bytes without
+// end, or none, so it is not opened.
+fn refuse_special(
+    rt: &(impl Eprint + AllocGlobal),
+    run: &mut Run<'_, '_, '_>,
+    name: &str,
+) -> Result<(), Status> {
+    let shown = or_end(rt, shown_name(rt.alloc(), name))?;
+    let _ = eprintln!(rt;
+        "bidi: {shown}: neither a file, a directory nor a link, so it was not opened; pass it on standard input"
+    );
+    run.note(Status::Refused);
+    Ok(())
+}
+
+// Searches what a link says: the name of its target. The target is not opened.
+fn check_link(
+    rt: &(impl Files + Print + Eprint + AllocGlobal),
+    run: &mut Run<'_, '_, '_>,
+    name: &str,
+) -> Result<(), Status> {
+    match fs::read_link(rt, name) {
+        Ok(target) => {
+            let mut bytes = target.as_path().as_str().as_bytes();
+            check_reader(rt, run, true, name, &mut bytes)
+        }
+        Err(error) => {
+            run.note(refuse(rt, name, &error)?);
+            Ok(())
+        }
+    }
+}
+
+// Searches what a link says, or reports an input that is neither a link, a file nor a directory.
+fn check_other(
+    rt: &(impl Files + Print + Eprint + AllocGlobal),
+    run: &mut Run<'_, '_, '_>,
+    metadata: &Metadata,
+    name: &str,
+) -> Result<(), Status> {
+    if metadata.is_symlink() {
+        check_link(rt, run, name)
+    } else {
+        refuse_special(rt, run, name)
+    }
+}
+
+// Searches a file of a directory, and keeps a directory for later. Skips links, pipes, sockets and devices, but not as a
+// gate.
 fn visit_path(
     rt: &(impl Files + Print + Eprint + AllocGlobal),
     run: &mut Run<'_, '_, '_>,
@@ -79,6 +126,7 @@ fn visit_path(
     match fs::symlink_metadata(rt, path) {
         Ok(metadata) if metadata.is_file() => check_file(rt, run, path),
         Ok(metadata) if metadata.is_dir() => or_end(rt, push_path(rt, below, path)),
+        Ok(metadata) if run.options.search.gate => check_other(rt, run, &metadata, path),
         Ok(_) => Ok(()),
         Err(error) => {
             run.note(refuse(rt, path, &error)?);
@@ -143,39 +191,6 @@ fn walk(
     Ok(())
 }
 
-// Reports an input that a list names, and that is neither a file, a directory nor a link. It could deliver bytes without
-// end, or none, so it is not opened.
-fn refuse_special(
-    rt: &(impl Eprint + AllocGlobal),
-    run: &mut Run<'_, '_, '_>,
-    name: &str,
-) -> Result<(), Status> {
-    let shown = or_end(rt, shown_name(rt.alloc(), name))?;
-    let _ = eprintln!(rt;
-        "bidi: {shown}: neither a file, a directory nor a link, so it was not opened; pass it as an argument"
-    );
-    run.note(Status::Refused);
-    Ok(())
-}
-
-// Searches what a link says: the name of its target. The target is not opened.
-fn check_link(
-    rt: &(impl Files + Print + Eprint + AllocGlobal),
-    run: &mut Run<'_, '_, '_>,
-    name: &str,
-) -> Result<(), Status> {
-    match fs::read_link(rt, name) {
-        Ok(target) => {
-            let mut bytes = target.as_path().as_str().as_bytes();
-            check_reader(rt, run, true, name, &mut bytes)
-        }
-        Err(error) => {
-            run.note(refuse(rt, name, &error)?);
-            Ok(())
-        }
-    }
-}
-
 // Searches what a list names: a file, the files below a directory, or the name of a link's target. So no name of a list
 // leads to another file.
 fn check_listed(
@@ -184,10 +199,9 @@ fn check_listed(
     name: &str,
 ) -> Result<(), Status> {
     match fs::symlink_metadata(rt, name) {
-        Ok(metadata) if metadata.is_symlink() => check_link(rt, run, name),
         Ok(metadata) if metadata.is_dir() => walk(rt, run, name),
         Ok(metadata) if metadata.is_file() => check_file(rt, run, name),
-        Ok(_) => refuse_special(rt, run, name),
+        Ok(metadata) => check_other(rt, run, &metadata, name),
         Err(error) => {
             run.note(refuse(rt, name, &error)?);
             Ok(())
@@ -195,12 +209,15 @@ fn check_listed(
     }
 }
 
-// Searches a file, or the files below a directory, that an argument names. A link is followed.
+// Searches a file, or the files below a directory, that an argument names. Follows a link, but not as a gate.
 fn check_path(
     rt: &(impl Files + Print + Eprint + AllocGlobal),
     run: &mut Run<'_, '_, '_>,
     name: &str,
 ) -> Result<(), Status> {
+    if run.options.search.gate {
+        return check_listed(rt, run, name);
+    }
     match fs::metadata(rt, name) {
         Ok(metadata) if metadata.is_dir() => walk(rt, run, name),
         _ => check_file(rt, run, name),

@@ -9,7 +9,7 @@ use Rattle.bidi_arguments.specs.declared.check_options.CheckOptions.{CheckOption
 use Rattle.bidi_arguments.specs.declared.check_options.Color.{Color}
 use Rattle.bidi_arguments.specs.declared.check_options.Color.TheVariants.{Auto, Always, Never}
 use Rattle.bidi_arguments.specs.declared.check_options.Flag.{Flag}
-use Rattle.bidi_arguments.specs.declared.check_options.Flag.TheVariants.{Any, Hidden, Quiet, Binary, OnlyUnmatched}
+use Rattle.bidi_arguments.specs.declared.check_options.Flag.TheVariants.{Any, Gate, Hidden, Quiet, Binary, OnlyUnmatched}
 use Rattle.bidi_arguments.specs.declared.check_options.Format.{Format}
 use Rattle.bidi_arguments.specs.declared.check_options.Format.TheVariants.{Text, Json, Sarif}
 use Rattle.bidi_arguments.specs.declared.check_options.ReportOptions.{ReportOptions}
@@ -21,7 +21,7 @@ use Rattle.bidi_arguments.specs.declared.search.Search.{Search}
 
 -- what `check` searches, how it reports and what it looks for without options
 abbrev pub first_search : Search
-first_search = record { hidden = false; text = false; list = None }
+first_search = record { hidden = false; text = false; gate = false; list = None }
 
 abbrev pub first_report : ReportOptions
 first_report = record { quiet = false; format = Text; color = Auto; allow = None }
@@ -48,6 +48,7 @@ color_named word =
 unfoldable pub flag_named : List ℕ → Option Flag
 flag_named word =
     if bytes_eq word (codes "--any") then Some Any
+    else if bytes_eq word (codes "--gate") then Some Gate
     else if bytes_eq word (codes "--hidden") then Some Hidden
     else if bytes_eq word (codes "--quiet") then Some Quiet
     else if bytes_eq word (codes "--text") then Some Binary
@@ -66,6 +67,8 @@ setting_named word =
 -- what options ask for with one more; if two exclude each other, the last counts
 unfoldable pub with_flag : Flag → CheckOptions → CheckOptions
 with_flag Any options = record options { wanted = Everything }
+with_flag Gate options =
+    record options { wanted = Everything; search = record options.search { hidden = true; text = true; gate = true } }
 with_flag Hidden options = record options { search = record options.search { hidden = true } }
 with_flag Quiet options = record options { report = record options.report { quiet = true } }
 with_flag Binary options = record options { search = record options.search { text = true } }

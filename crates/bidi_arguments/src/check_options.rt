@@ -115,6 +115,8 @@ impl ReportOptions<'_> {
 pub enum Flag {
     /// `--any`.
     Any,
+    /// `--gate`.
+    Gate,
     /// `--hidden`.
     Hidden,
     /// `--quiet`.
@@ -133,6 +135,7 @@ impl Flag {
     {
         match word {
             "--any" => Some(Flag::Any),
+            "--gate" => Some(Flag::Gate),
             "--hidden" => Some(Flag::Hidden),
             "--quiet" => Some(Flag::Quiet),
             "--text" => Some(Flag::Binary),
@@ -259,6 +262,17 @@ impl<'w> CheckOptions<'w> {
             Flag::Any => CheckOptions {
                 wanted: Wanted::Everything,
                 search,
+                report,
+            },
+            // All that `--any`, `--text` and `--hidden` ask for, and more.
+            Flag::Gate => CheckOptions {
+                wanted: Wanted::Everything,
+                search: Search {
+                    hidden: true,
+                    text: true,
+                    gate: true,
+                    ..search
+                },
                 report,
             },
             Flag::Hidden => CheckOptions {

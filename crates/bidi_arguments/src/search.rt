@@ -8,6 +8,8 @@ pub struct Search<'w> {
     pub hidden: bool,
     /// Whether binary files are searched.
     pub text: bool,
+    /// Whether nothing that an argument, a list or a directory names is passed over in silence, and no link is followed.
+    pub gate: bool,
     /// The file that lists further names, or `-` for standard input.
     pub list: Option<Word<'w>>,
 }
@@ -16,13 +18,14 @@ impl<'w> Default for Search<'w> {
     ghost use Rattle.std.specs.Prelude.{◌≡◌};
     ghost use Rattle.bidi_arguments.specs.Checks.{first_search};
 
-    /// Neither hidden nor binary files, and no list.
+    /// Neither hidden nor binary files, not as a gate, and no list.
     fn default() -> Search<'w>
         ensures { result ≡ first_search }
     {
         Search {
             hidden: false,
             text: false,
+            gate: false,
             list: None,
         }
     }
