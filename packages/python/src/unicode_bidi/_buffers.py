@@ -47,14 +47,20 @@ class Ranges:
         return tuple(ranges)
 
 
+_nothing = c_size_t()
+#: A pointer and the length 0, as arguments of C: for a list that is empty, or that C is not to write.
+NOTHING = (byref(_nothing), size(0))
+
+
 class Buffers:
     """What an analysis and a displayed line need: room for the classes, levels and characters of a text.
 
     ``shown`` has the bytes of the displayed characters. The pointers, and ``shown_room``, are arguments of C.
+    ``text_arguments`` are the last arguments of a displayed text that is wanted without levels and maps.
     """
 
     __slots__ = ("room", "shown_room", "classes", "classes_pointer", "levels", "levels_pointer", "shown", "shown_pointer",
-                 "characters_pointer", "paragraphs", "runs")
+                 "characters_pointer", "text_arguments", "paragraphs", "runs")
 
     def __init__(self, room: int) -> None:
         self.paragraphs = Ranges(4)
@@ -64,11 +70,13 @@ class Buffers:
 
     def make_room(self, room: int) -> None:
         """Makes new buffers for the characters of a text."""
-        classes, levels, shown = (c_uint8 * room)(), (c_uint8 * room)(), (c_uint32 * room)()
+        classes, levels, shown = (c_uint8 * room)(), (c_uint8 * room)(), (c_uint32 * (2 * room))()
         self.room = room
         self.classes, self.classes_pointer = memoryview(classes).cast("B"), byref(classes)
         self.levels, self.levels_pointer = memoryview(levels).cast("B"), byref(levels)
-        self.shown, self.shown_pointer, self.shown_room = memoryview(shown).cast("B"), byref(shown), size(room)
+        self.shown, self.shown_pointer, self.shown_room = memoryview(shown).cast("B"), byref(shown), size(2 * room)
+        self.text_arguments = (*NOTHING, self.shown_pointer, self.shown_room, *NOTHING, *NOTHING, byref(c_size_t()),
+                               self.characters_pointer)
 
     def shown_text(self, length: int) -> str:
         """Returns the characters of a displayed line of this length."""
