@@ -8,12 +8,16 @@ use alloc::vec::Vec;
 use core::char::{self, REPLACEMENT_CHARACTER};
 use core::ops::Range;
 
-use crate::ffi::{self, Analysis, Split};
+use crate::displayed::AnalysedText;
+use crate::ffi::{self, Analysis};
 use crate::info::{self, Analysed};
 use crate::level::has_rtl;
-use crate::tables::Tables;
+use crate::settings::{BaseLevel, Split};
+use crate::sources;
 use crate::text::private::Sealed;
-use crate::{BidiClass, BidiDataSource, Direction, Level, LevelRun, ParagraphInfo, TextSource};
+use crate::{
+    BidiClass, BidiDataSource, Direction, Level, LevelRun, ParagraphInfo, TextSource, LTR_LEVEL,
+};
 
 define_infos!([u16]);
 
