@@ -80,7 +80,7 @@ def line_order(classes: Sequence[int], levels: Sequence[int], paragraph: Paragra
     count = checked(library.line_order(
         class_bytes, len(class_bytes), level_bytes, len(level_bytes), byref(range_of(paragraph)), start, end,
         limited(moves, 2 ** 32 - 1), order, room, places, room))
-    return Maps(tuple(start + index for index in order[:count]), places_of(places))
+    return Maps(tuple(start + index for index in order[:count]), places_of(places[:]))
 
 
 def places(order: Iterable[int], count: int) -> Places:
@@ -91,7 +91,7 @@ def places(order: Iterable[int], count: int) -> Places:
     indexes = [limited(index, MOST_SIZE) for index in order]
     found = (c_size_t * count)()
     checked(library.places((c_size_t * len(indexes))(*indexes), len(indexes), found, count))
-    return places_of(found)
+    return places_of(found[:])
 
 
 def _bracket_number(bracket: Optional[Bracket]) -> int:

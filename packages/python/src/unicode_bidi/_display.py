@@ -4,7 +4,7 @@ from __future__ import annotations
 import enum
 from codecs import utf_32_le_decode
 from ctypes import byref, c_size_t, c_uint32
-from typing import Any, Iterable, NamedTuple, Optional, Tuple
+from typing import Any, List, NamedTuple, Optional, Tuple
 
 from ._analysis import restored
 from ._library import MIRROR, NOWHERE, size
@@ -64,6 +64,7 @@ class DisplayedText(NamedTuple):
     places: Places
 
 
+#: The flags of a displayed line, by ``moves``, ``mirror`` and ``dropped``.
 _FLAGS = {(moves, mirror, dropped): moves + MIRROR * mirror + dropped
           for moves in Moves for mirror in (False, True) for dropped in Dropped}
 
@@ -76,8 +77,10 @@ def flags_of(moves: int, mirror: bool, dropped: int) -> int:
     return flags
 
 
-def places_of(places: Iterable[int]) -> Places:
+def places_of(places: List[int]) -> Places:
     """Returns places that C wrote."""
+    if NOWHERE not in places:
+        return tuple(places)
     return tuple(None if place == NOWHERE else place for place in places)
 
 
@@ -93,11 +96,12 @@ class Displayed:
 
     def order(self, start: int = 0) -> Tuple[int, ...]:
         """Returns the index in a text of each displayed character. The first character that C read has index ``start``."""
-        return tuple(start + index for index in self._order[: self._shown.value])
+        order = self._order[: self._shown.value]
+        return tuple(start + index for index in order) if start else tuple(order)
 
     def places(self) -> Places:
         """Returns the visual index of each character."""
-        return places_of(self._places)
+        return places_of(self._places[:])
 
     def text(self, order: Tuple[int, ...], text: str, read_as: str) -> str:
         """Returns the displayed characters in an order. Those of ``text`` stand where C read ``read_as`` instead."""

@@ -5,6 +5,7 @@ Programs that call ``bidi.algorithm.get_display`` can import it from here.
 from __future__ import annotations
 
 import sys
+from codecs import utf_32_le_encode
 from typing import Dict, Optional, Union, overload
 
 from . import _library as library
@@ -20,6 +21,7 @@ __all__ = ["get_base_level", "get_display"]
 
 _BASE_LEVELS: Dict[Optional[str], int] = {None: library.AUTO, "L": 0, "R": 1, "AL": 1}
 _SPLIT = int(Split.CR_LF_TOGETHER)
+_CHARACTERS, _NOTHING = int(Moves.CHARACTERS), int(Dropped.NOTHING)
 _HEBREW_LETTER = "\u05d0"
 
 
@@ -36,7 +38,7 @@ def get_display(text: Union[bytes, bytearray], /, encoding: str = ..., upper_is_
 
 def get_display(text: Union[str, bytes, bytearray], /, encoding: str = "utf-8", upper_is_rtl: bool = False,
                 base_dir: Optional[str] = None, debug: bool = False, *, mirror: bool = True,
-                moves: int = Moves.CHARACTERS, dropped: Optional[int] = None) -> Union[str, bytes]:
+                moves: int = _CHARACTERS, dropped: Optional[int] = None) -> Union[str, bytes]:
     """Returns a text in visual order, from left to right, for a renderer that does not know the algorithm.
 
     ``bytes`` are decoded by ``encoding``, and the result is encoded by it. The whole text has one base level: 0 for
@@ -59,10 +61,10 @@ def get_display(text: Union[str, bytes, bytearray], /, encoding: str = "utf-8", 
     base = _BASE_LEVELS.get(base_dir)
     if base is None:
         raise ValueError(f"base_dir must be 'L', 'R', 'AL' or None, and not {base_dir!r}")
-    flags = flags_of(moves, mirror, Dropped.NOTHING if dropped is None else dropped)
-    # A printable text is one paragraph, and X9 removes none of its characters.
+    flags = flags_of(moves, mirror, _NOTHING if dropped is None else dropped)
+    # A printable text is one paragraph. X9 removes none of its characters, and C can read them all.
     if str.isprintable(text) and not upper_is_rtl:
-        read_as, shown = text, _displayed(readable(text)[1], len(text), base, flags)
+        read_as, shown = text, _displayed(utf_32_le_encode(text)[0], len(text), base, flags)
     else:
         read_as, characters = readable(_upper_as_hebrew(text) if upper_is_rtl else text)
         if base == library.AUTO:
