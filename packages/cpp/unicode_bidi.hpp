@@ -714,9 +714,9 @@ enum class Dropped : std::uint32_t {
 
 /// How a line or a text is displayed.
 struct DisplayOptions {
-    Moves moves = Moves::clusters;        ///< what L2 moves as a whole
-    bool mirror = true;                   ///< whether characters at odd levels are displayed as their partners (L4)
-    Dropped dropped = Dropped::controls;  ///< which characters are not displayed
+    Moves moves = Moves::clusters;       ///< what L2 moves as a whole
+    bool mirror = true;                  ///< whether characters at odd levels are displayed as their partners (L4)
+    Dropped dropped = Dropped::controls; ///< which characters are not displayed
 };
 
 /// In place of the visual index of a character that is not displayed.

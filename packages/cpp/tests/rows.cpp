@@ -905,12 +905,6 @@ void check_displays() {
 #ifdef UNICODE_BIDI_EXCEPTIONS
     check_throwing(row, std::nullopt, [&] { bidi::places(order, 4), bidi::line_order(classes, found.levels, {0, 5, 1}, 0, 5); });
 #endif
-
-    // The names of the header in C.
-    for (int number = -16; number < 0; number++)
-        row.check(bidi::name(static_cast<bidi::Fault>(number)) == std::string_view(unicode_bidi_fault_name(number)), "the name of a fault");
-    for (int number = 0; number < 24; number++)
-        row.check(bidi::name(static_cast<bidi::Class>(number)) == std::string_view(unicode_bidi_class_name(number)), "the name of a class");
 }
 
 #ifdef __cpp_lib_ranges

@@ -1,8 +1,6 @@
 """Displayed lines and texts, paragraphs, and classes without a text: results worked by hand from UAX #9."""
-import re
 import unittest
 
-from rows import CRATES
 from unicode_bidi import (
     AnalysedClasses,
     BidiClass,
@@ -18,7 +16,6 @@ from unicode_bidi import (
     Split,
     analyse_classes,
     displayed_text,
-    faults,
     find_paragraphs,
     line_order,
     places,
@@ -118,20 +115,6 @@ class Lists(unittest.TestCase):
         self.assertEqual((None, None), places([], 2))
         self.assertEqual((), places([1, 0], 0))
         self.assertEqual((None, 1), places([2 ** 64, 1], 2))
-
-
-class Names(unittest.TestCase):
-    """Names and numbers are those of the header for C."""
-
-    def test_names(self):
-        header = (CRATES / "bidi_c" / "unicode_bidi.h").read_text(encoding="utf-8")
-        codes = re.findall(r"^#define UNICODE_BIDI_(\w+) +\((-\d+)\)", header, re.MULTILINE)
-        self.assertEqual(dict(codes), {fault.name: str(code) for code, fault in faults._FAULTS.items()})
-        classes = re.findall(r"UNICODE_BIDI_(\w+)", re.search(r"enum \{(.*?)\};", header, re.DOTALL).group(1))
-        self.assertEqual(classes, [found.name for found in BidiClass])
-        flags = dict(re.findall(r"^#define UNICODE_BIDI_(MOVE_\w+|MIRROR|DROP_\w+) +(\d+)", header, re.MULTILINE))
-        self.assertEqual(flags, {**{f"MOVE_{moves.name}": str(int(moves)) for moves in Moves}, "MIRROR": "4",
-                                 **{f"DROP_{dropped.name}": str(int(dropped)) for dropped in Dropped if dropped}})
 
 
 if __name__ == "__main__":
