@@ -482,14 +482,15 @@ template <class Char>
 void check_displayed_line(const Row &row, const std::vector<char32_t> &characters) {
     const auto in = encoded<Char>(characters);
     const auto text = value_of(row, bidi::try_analyse(in.text, base_of(row), bidi::Split::one_paragraph));
-    check_units(row, "levels", in, value_of(row, text.paragraphs()[0].try_levels()), level_word);
-    if (!row.get("shown")) return;
     const auto range = range_of(row, row.get("line").value_or("0.." + std::to_string(characters.size())));
     const auto line = text.paragraphs()[0].line(index_of(row, in, range.first), index_of(row, in, range.second));
     const auto at = [&](std::size_t k) { return characters.begin() + static_cast<std::ptrdiff_t>(k); };
-    check_displayed(row, {at(range.first), at(range.second)}, value_of(row, line.try_display(options_of(row))));
+    const std::vector<char32_t> of_line(at(range.first), at(range.second));
+    check_units(row, "levels", encoded<Char>(of_line), value_of(row, line.try_levels()), level_word);
+    if (!row.get("shown")) return;
+    check_displayed(row, of_line, value_of(row, line.try_display(options_of(row))));
 #ifdef UNICODE_BIDI_EXCEPTIONS
-    check_displayed(row, {at(range.first), at(range.second)}, line.display(options_of(row)));
+    check_displayed(row, of_line, line.display(options_of(row)));
 #endif
 }
 

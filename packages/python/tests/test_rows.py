@@ -269,12 +269,13 @@ class Rows(unittest.TestCase):
 
     def see_displayed_line(self, row):
         text = BidiText(row.text(), base_of(row), split=Split.ONE_PARAGRAPH)
-        self.compare(row, "levels", text.line(0, len(text.text)).levels)
+        start, end = row.range("line") or (0, len(text.text))
+        line = text.line(start, end)
+        self.compare(row, "levels", line.levels)
         shown = row.text("shown")
         if shown is None:
             return
-        start, end = row.range("line") or (0, len(text.text))
-        found = text.line(start, end).displayed(**options_of(row))
+        found = line.displayed(**options_of(row))
         self.see_displayed(text.text, start, end, shown, found)
         if (start, end) == (0, len(text.text)) and BidiClass.B not in text.classes and row.get("base") in DISPLAY_BASES:
             given = get_display(text.text, base_dir=DISPLAY_BASES[row.get("base")], **options_of(row))

@@ -35,7 +35,7 @@ fn main() {
     assert!(total > 0, "no test vector was found");
     let displayed = rows::folder_of_displayed();
     if displayed.is_dir() {
-        println!("displayed lines:");
+        println!("test vectors of displayed lines:");
         total += run_folder(&displayed, &sources);
     } else {
         println!(
@@ -486,17 +486,18 @@ macro_rules! checks {
             pub fn displayed_line(row: &Row, _: &Sources, case: &Encoded<$Owned>) {
                 let text = $borrow(&case.text);
                 let info = ParagraphBidiInfo::new(text, row.base());
-                let levels = info.reordered_levels(0..text.len());
-                expect_entries(row, "levels", &case.at, &numbers(&levels));
-                let expected = match Text::of(row, "shown") {
-                    Some(expected) => expected,
-                    None => return,
-                };
                 let line = match row.get("line") {
                     Some(word) => row.parse_range(word),
                     None => 0..case.at.len() - 1,
                 };
                 let units = case.at[line.start]..case.at[line.end];
+                let each: Vec<usize> = (0..=line.len()).collect();
+                let levels = info.reordered_levels_per_char(units.clone());
+                expect_entries(row, "levels", &each, &numbers(&levels[line.clone()]));
+                let expected = match Text::of(row, "shown") {
+                    Some(expected) => expected,
+                    None => return,
+                };
                 let level = info.paragraph_level;
                 let shown = displayed::line(&info, level, units, display_options(row));
                 expect(
