@@ -93,7 +93,7 @@ class Analysis:
             buffers.runs = Ranges(0)
             buffers.runs = Ranges(self.line(buffers, paragraph, start, end)[0])
             return self.line(buffers, paragraph, start, end)
-        return checked(count), buffers.shown_text(end - start)
+        return checked(count), buffers.shown[: end - start]
 
     def levels_of_line(self, paragraph: Any, start: int, end: int) -> Iterable[int]:
         """Returns the level of each character of a line after L1."""

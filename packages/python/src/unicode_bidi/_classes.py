@@ -8,7 +8,7 @@ from typing import Iterable, NamedTuple, Optional, Sequence, Tuple
 from . import _library as library
 from ._analysis import write_paragraphs
 from ._arguments import MOST_SIZE, base_number, bytes_of, limited, split_number
-from ._buffers import borrow, give_back
+from ._buffers import borrow, give_back, new_sizes
 from ._characters import BidiClass, Bracket, named
 from ._display import Moves, Places, places_of
 from ._library import size
@@ -76,11 +76,12 @@ def line_order(classes: Sequence[int], levels: Sequence[int], paragraph: Paragra
     class_bytes, level_bytes = bytes_of(classes), bytes_of(levels)
     start, end = limited(start, MOST_SIZE), limited(end, MOST_SIZE)
     room = len(range(len(class_bytes))[start:end])
-    order, places = (c_size_t * room)(), (c_size_t * room)()
+    order_pointer, order = new_sizes(room)
+    places_pointer, places = new_sizes(room)
     count = checked(library.line_order(
         class_bytes, len(class_bytes), level_bytes, len(level_bytes), byref(range_of(paragraph)), start, end,
-        limited(moves, 2 ** 32 - 1), order, room, places, room))
-    return Maps(tuple(start + index for index in order[:count]), places_of(places[:]))
+        limited(moves, 2 ** 32 - 1), order_pointer, room, places_pointer, room))
+    return Maps(tuple(start + index for index in order[:count]), places_of(places.tolist()))
 
 
 def places(order: Iterable[int], count: int) -> Places:
@@ -89,9 +90,9 @@ def places(order: Iterable[int], count: int) -> Places:
     A character that is not in ``order`` has None. Numbers in ``order`` that are not below ``count`` are passed over.
     """
     indexes = [limited(index, MOST_SIZE) for index in order]
-    found = (c_size_t * count)()
-    checked(library.places((c_size_t * len(indexes))(*indexes), len(indexes), found, count))
-    return places_of(found[:])
+    pointer, found = new_sizes(count)
+    checked(library.places((c_size_t * len(indexes))(*indexes), len(indexes), pointer, count))
+    return places_of(found.tolist())
 
 
 def _bracket_number(bracket: Optional[Bracket]) -> int:

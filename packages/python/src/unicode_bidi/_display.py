@@ -2,11 +2,11 @@
 from __future__ import annotations
 
 import enum
-from codecs import utf_32_le_decode
-from ctypes import byref, c_size_t, c_uint32
+from ctypes import byref, c_size_t, c_wchar
 from typing import Any, List, NamedTuple, Optional, Tuple
 
 from ._analysis import restored
+from ._buffers import new_sizes
 from ._library import MIRROR, NOWHERE, size
 from .faults import BadFlagsError
 
@@ -64,14 +64,14 @@ class DisplayedText(NamedTuple):
     places: Places
 
 
-#: The flags of a displayed line, by ``moves``, ``mirror`` and ``dropped``.
-_FLAGS = {(moves, mirror, dropped): moves + MIRROR * mirror + dropped
-          for moves in Moves for mirror in (False, True) for dropped in Dropped}
+#: The flags of a displayed line, by ``moves``, ``mirror`` and ``dropped``. With None nothing is dropped.
+_FLAGS = {(moves, mirror, dropped): moves + MIRROR * mirror + (dropped or 0)
+          for moves in Moves for mirror in (False, True) for dropped in (None, *Dropped)}
 
 
-def flags_of(moves: int, mirror: bool, dropped: int) -> int:
+def flags_of(moves: int, mirror: bool, dropped: Optional[int]) -> int:
     """Returns the flags of a displayed line, or raises :class:`BadFlagsError`."""
-    flags = _FLAGS.get((moves, bool(mirror), dropped))
+    flags = _FLAGS.get((moves, not not mirror, dropped))
     if flags is None:
         raise BadFlagsError
     return flags
@@ -88,22 +88,23 @@ class Displayed:
     """Buffers for what is displayed of so many characters. ``arguments`` are the last arguments of C."""
 
     def __init__(self, count: int) -> None:
-        self._text, self._order, self._places = (c_uint32 * (2 * count))(), (c_size_t * count)(), (c_size_t * count)()
-        self._shown, self._characters = c_size_t(), c_size_t()
-        self.arguments: Tuple[Any, ...] = (
-            byref(self._text), size(2 * count), byref(self._order), size(count), byref(self._places), size(count),
-            byref(self._shown), byref(self._characters))
+        self._text, self._shown = (c_wchar * (2 * count))(), c_size_t()
+        order, self._order = new_sizes(count)
+        places, self._places = new_sizes(count)
+        length = size(count)
+        self.arguments: Tuple[Any, ...] = (byref(self._text), size(2 * count), order, length, places, length,
+                                           byref(self._shown), byref(c_size_t()))
 
     def order(self, start: int = 0) -> Tuple[int, ...]:
         """Returns the index in a text of each displayed character. The first character that C read has index ``start``."""
-        order = self._order[: self._shown.value]
-        return tuple(start + index for index in order) if start else tuple(order)
+        order = self._order[: self._shown.value].tolist()
+        return tuple([start + index for index in order] if start else order)
 
     def places(self) -> Places:
         """Returns the visual index of each character."""
-        return places_of(self._places[:])
+        return places_of(self._places.tolist())
 
     def text(self, order: Tuple[int, ...], text: str, read_as: str) -> str:
         """Returns the displayed characters in an order. Those of ``text`` stand where C read ``read_as`` instead."""
-        shown = utf_32_le_decode(memoryview(self._text).cast("B")[: 4 * len(order)])[0]
+        shown = self._text[: len(order)]
         return shown if read_as is text else restored(shown, order, text, read_as)

@@ -273,7 +273,7 @@ def displayed_text(text: str, base_level: Optional[int] = None, *, fallback: int
     displayed = Displayed(len(text))
     checked(library.display_text(characters, length, base, rule, flags, byref(levels), length, *displayed.arguments))
     order = displayed.order()
-    return DisplayedText(displayed.text(order, text, read_as), tuple(levels), order, displayed.places())
+    return DisplayedText(displayed.text(order, text, read_as), tuple(bytes(levels)), order, displayed.places())
 
 
 def find_paragraphs(text: str, base_level: Optional[int] = None, *, fallback: int = 0,

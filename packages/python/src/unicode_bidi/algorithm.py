@@ -12,7 +12,7 @@ from . import _library as library
 from ._analysis import without_removed
 from ._buffers import NOTHING, borrow, give_back
 from ._characters import class_numbers, readable
-from ._display import Displayed, Dropped, Moves, flags_of
+from ._display import Displayed, Moves, flags_of
 from ._library import size
 from ._text import BidiText, Direction, Split
 from .faults import checked
@@ -21,7 +21,7 @@ __all__ = ["get_base_level", "get_display"]
 
 _BASE_LEVELS: Dict[Optional[str], int] = {None: library.AUTO, "L": 0, "R": 1, "AL": 1}
 _SPLIT = int(Split.CR_LF_TOGETHER)
-_CHARACTERS, _NOTHING = int(Moves.CHARACTERS), int(Dropped.NOTHING)
+_CHARACTERS = int(Moves.CHARACTERS)
 _HEBREW_LETTER = "\u05d0"
 
 
@@ -61,7 +61,7 @@ def get_display(text: Union[str, bytes, bytearray], /, encoding: str = "utf-8", 
     base = _BASE_LEVELS.get(base_dir)
     if base is None:
         raise ValueError(f"base_dir must be 'L', 'R', 'AL' or None, and not {base_dir!r}")
-    flags = flags_of(moves, mirror, _NOTHING if dropped is None else dropped)
+    flags = flags_of(moves, mirror, dropped)
     # A printable text is one paragraph. X9 removes none of its characters, and C can read them all.
     if str.isprintable(text) and not upper_is_rtl:
         read_as, shown = text, _displayed(utf_32_le_encode(text)[0], len(text), base, flags)
@@ -102,8 +102,9 @@ def _displayed(characters: bytes, count: int, base: int, flags: int) -> str:
     """Returns a text with each paragraph as a line from left to right. ``characters`` are those that C reads."""
     buffers = borrow(count)
     try:
-        shown: int = library.display_text(characters, size(count), base, _SPLIT, flags, *buffers.text_arguments)
-        return buffers.shown_text(shown if shown >= 0 else checked(shown))
+        length: int = library.display_text(characters, size(count), base, _SPLIT, flags, *buffers.text_arguments)
+        shown: str = buffers.shown[: length if length >= 0 else checked(length)]
+        return shown
     finally:
         give_back(buffers)
 
