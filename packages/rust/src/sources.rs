@@ -1,13 +1,13 @@
 //! Analyses by a custom data source. The library gets the classes and brackets of the characters in place of their text.
 
 use alloc::collections::BTreeMap;
+use alloc::vec;
 use alloc::vec::Vec;
-use core::iter;
 
 use crate::data_source::BidiMatchedOpeningBracket;
 use crate::ffi::{self, Analysis, OPENING};
 use crate::settings::{BaseLevel, Split};
-use crate::{BidiClass, BidiDataSource, ParagraphInfo, TextSource};
+use crate::{BidiClass, BidiDataSource, ParagraphInfo, TextSource, LTR_LEVEL};
 
 /// Returns the analysis of a text.
 #[track_caller]
@@ -19,14 +19,15 @@ pub fn analyse<'text, D: BidiDataSource, T: TextSource<'text> + ?Sized>(
 ) -> Analysis {
     let classes = classes_of(source, text);
     let mut forms = NormalForms::default();
-    let brackets: Vec<u32> = text
-        .chars()
-        .zip(&classes)
-        .map(|(character, class)| match class {
-            BidiClass::ON => forms.number_of(source.bidi_matched_opening_bracket(character)),
-            _ => 0,
-        })
-        .collect();
+    let mut brackets = Vec::with_capacity(classes.len());
+    brackets.extend(
+        text.chars()
+            .zip(&classes)
+            .map(|(character, class)| match class {
+                BidiClass::ON => forms.number_of(source.bidi_matched_opening_bracket(character)),
+                _ => 0,
+            }),
+    );
     by_units(text, ffi::analyse_classes(&classes, &brackets, base, split))
 }
 
@@ -48,39 +49,37 @@ fn classes_of<'text, D: BidiDataSource, T: TextSource<'text> + ?Sized>(
     source: &D,
     text: &'text T,
 ) -> Vec<BidiClass> {
-    let characters = text.chars();
-    characters
-        .map(|character| source.bidi_class(character))
-        .collect()
+    let mut classes = Vec::with_capacity(text.len());
+    classes.extend(text.chars().map(|character| source.bidi_class(character)));
+    classes
 }
 
 /// Returns an analysis of characters as that of their text, with an entry for each code unit.
 fn by_units<'text, T: TextSource<'text> + ?Sized>(text: &'text T, listed: Analysis) -> Analysis {
-    let units = text.len();
-    if listed.levels.len() == units {
+    if listed.levels.len() == text.len() {
         return listed;
     }
-    let mut classes = Vec::with_capacity(units);
-    let mut levels = Vec::with_capacity(units);
-    let of_characters = listed.classes.iter().zip(&listed.levels);
-    for ((_, len), (&class, &level)) in text.indices_lengths().zip(of_characters) {
-        classes.extend(iter::repeat(class).take(len));
-        levels.extend(iter::repeat(level).take(len));
-    }
-    let mut lengths = text.indices_lengths().map(|(_, len)| len);
+    let mut classes = vec![BidiClass::L; text.len()];
+    let mut levels = vec![LTR_LEVEL; text.len()];
+    let mut paragraphs = listed.paragraphs;
+    let mut places = text.indices_lengths();
     let mut end = 0;
-    let mut units_of = |paragraph: ParagraphInfo| {
+    // Every character is in a paragraph, and the paragraphs follow one another.
+    for paragraph in &mut paragraphs {
         let start = end;
-        end += lengths.by_ref().take(paragraph.range.len()).sum::<usize>();
-        ParagraphInfo {
-            range: start..end,
-            level: paragraph.level,
+        for (character, (index, len)) in paragraph.range.clone().zip(&mut places) {
+            end = index + len;
+            for unit in index..end {
+                classes[unit] = listed.classes[character];
+                levels[unit] = listed.levels[character];
+            }
         }
-    };
+        paragraph.range = start..end;
+    }
     Analysis {
         classes,
         levels,
-        paragraphs: listed.paragraphs.into_iter().map(&mut units_of).collect(),
+        paragraphs,
     }
 }
 
