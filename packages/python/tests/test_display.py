@@ -14,6 +14,7 @@ from unicode_bidi import (
     BidiText,
     Dropped,
     Moves,
+    Split,
     bidi_classes,
     displayed_text,
     get_base_level,
@@ -178,11 +179,14 @@ class Agreement(unittest.TestCase):
                     self.assertEqual(displayed_text(text, level, moves=moves, dropped=dropped).text,
                                      get_display(text, base_dir=base_dir, moves=moves, dropped=dropped))
 
-    def test_printable_characters(self):
-        """None of them is a separator or removed by X9, which get_display relies on."""
-        printable = "".join(filter(str.isprintable, map(chr, range(0x110000))))
-        self.assertGreater(len(printable), 100000)
-        self.assertEqual(set(), {BidiClass.B, *REMOVED}.intersection(bidi_classes(printable)))
+    def test_characters(self):
+        """Each separator ends a line for Python too, and X9 removes no other character than C drops."""
+        every = "".join(chr(number) for number in range(0x110000) if not 0xD800 <= number <= 0xDFFF)
+        lines = "".join(character for character in every if len(f"a{character}a".splitlines()) > 1)
+        self.assertEqual(bidi_classes(every).count(BidiClass.B), bidi_classes(lines).count(BidiClass.B))
+        dropped = displayed_text(every, 0, split=Split.ONE_PARAGRAPH, dropped=Dropped.BOUNDARY_NEUTRALS)
+        kept = bidi_classes("".join(every[index] for index in dropped.order))
+        self.assertEqual(set(), set(REMOVED).intersection(kept))
 
 
 class AsBidi(unittest.TestCase):

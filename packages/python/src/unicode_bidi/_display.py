@@ -64,14 +64,14 @@ class DisplayedText(NamedTuple):
     places: Places
 
 
-#: The flags of a displayed line, by ``moves``, ``mirror`` and ``dropped``. With None nothing is dropped.
-_FLAGS = {(moves, mirror, dropped): moves + MIRROR * mirror + (dropped or 0)
-          for moves in Moves for mirror in (False, True) for dropped in (None, *Dropped)}
+#: The flags of a displayed line, by ``moves``, ``mirror`` and ``dropped``.
+_FLAGS = {(moves, mirror, dropped): moves + MIRROR * mirror + dropped
+          for moves in Moves for mirror in (False, True) for dropped in Dropped}
 
 
-def flags_of(moves: int, mirror: bool, dropped: Optional[int]) -> int:
+def flags_of(moves: int, mirror: bool, dropped: int) -> int:
     """Returns the flags of a displayed line, or raises :class:`BadFlagsError`."""
-    flags = _FLAGS.get((moves, not not mirror, dropped))
+    flags = _FLAGS.get((moves, bool(mirror), dropped))
     if flags is None:
         raise BadFlagsError
     return flags

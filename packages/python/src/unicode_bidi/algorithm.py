@@ -5,14 +5,13 @@ Programs that call ``bidi.algorithm.get_display`` can import it from here.
 from __future__ import annotations
 
 import sys
-from codecs import utf_32_le_encode
 from typing import Dict, Optional, Union, overload
 
 from . import _library as library
 from ._analysis import without_removed
 from ._buffers import NOTHING, borrow, give_back
 from ._characters import class_numbers, readable
-from ._display import Displayed, Moves, flags_of
+from ._display import Displayed, Dropped, Moves, flags_of
 from ._library import size
 from ._text import BidiText, Direction, Split
 from .faults import checked
@@ -21,7 +20,9 @@ __all__ = ["get_base_level", "get_display"]
 
 _BASE_LEVELS: Dict[Optional[str], int] = {None: library.AUTO, "L": 0, "R": 1, "AL": 1}
 _SPLIT = int(Split.CR_LF_TOGETHER)
-_CHARACTERS = int(Moves.CHARACTERS)
+_CHARACTERS, _NEUTRALS = int(Moves.CHARACTERS), int(Dropped.BOUNDARY_NEUTRALS)
+#: The flags of a call without options.
+_DEFAULT_FLAGS = flags_of(_CHARACTERS, True, _NEUTRALS)
 _HEBREW_LETTER = "\u05d0"
 
 
@@ -61,20 +62,17 @@ def get_display(text: Union[str, bytes, bytearray], /, encoding: str = "utf-8", 
     base = _BASE_LEVELS.get(base_dir)
     if base is None:
         raise ValueError(f"base_dir must be 'L', 'R', 'AL' or None, and not {base_dir!r}")
-    flags = flags_of(moves, mirror, dropped)
-    # A printable text is one paragraph. X9 removes none of its characters, and C can read them all.
-    if str.isprintable(text) and not upper_is_rtl:
-        read_as, shown = text, _displayed(utf_32_le_encode(text)[0], len(text), base, flags)
-    else:
-        read_as, characters = readable(_upper_as_hebrew(text) if upper_is_rtl else text)
-        if base == library.AUTO:
-            base = _base_level(characters)
-        if read_as is text:
-            shown = _displayed(characters, len(text), base, flags)
-        else:
-            shown = _restored(text, read_as, characters, base, flags)
-        if dropped is None:
-            shown = without_removed(shown, class_numbers(shown))
+    is_default = mirror is True and moves == _CHARACTERS and dropped is None
+    flags = _DEFAULT_FLAGS if is_default else flags_of(moves, mirror, _NEUTRALS if dropped is None else dropped)
+    read_as, characters = readable(_upper_as_hebrew(text) if upper_is_rtl else text)
+    # With AUTO each paragraph would have its own level. What is one line for Python is one paragraph.
+    if base == library.AUTO and len(str.splitlines(text)) > 1:
+        base = _base_level(characters)
+    shown = _displayed(text, read_as, characters, base, flags)
+    # If C drops nothing, X9 removes nothing.
+    if dropped is None and len(shown) < len(text):
+        shown = _displayed(text, read_as, characters, base, flags - _NEUTRALS)
+        shown = without_removed(shown, class_numbers(shown))
     if debug:
         _explain(read_as, base, shown)
     return shown
@@ -98,22 +96,18 @@ def _upper_as_hebrew(text: str) -> str:
     return "".join(_HEBREW_LETTER if str.isupper(character) else character for character in text)
 
 
-def _displayed(characters: bytes, count: int, base: int, flags: int) -> str:
-    """Returns a text with each paragraph as a line from left to right. ``characters`` are those that C reads."""
+def _displayed(text: str, read_as: str, characters: bytes, base: int, flags: int) -> str:
+    """Returns the text with each paragraph as a line from left to right. C reads ``read_as``, as ``characters``."""
+    count = len(text)
+    if read_as is not text:
+        displayed = Displayed(count)
+        checked(library.display_text(characters, size(count), base, _SPLIT, flags, *NOTHING, *displayed.arguments))
+        return displayed.text(displayed.order(), text, read_as)
     buffers = borrow(count)
-    try:
-        length: int = library.display_text(characters, size(count), base, _SPLIT, flags, *buffers.text_arguments)
-        shown: str = buffers.shown[: length if length >= 0 else checked(length)]
-        return shown
-    finally:
-        give_back(buffers)
-
-
-def _restored(text: str, read_as: str, characters: bytes, base: int, flags: int) -> str:
-    """Returns the same with the characters of ``text``, where C reads ``read_as``."""
-    displayed = Displayed(len(text))
-    checked(library.display_text(characters, size(len(text)), base, _SPLIT, flags, *NOTHING, *displayed.arguments))
-    return displayed.text(displayed.order(), text, read_as)
+    length: int = library.display_text(characters, size(count), base, _SPLIT, flags, *buffers.text_arguments)
+    shown: str = buffers.shown[: length if length >= 0 else checked(length)]
+    give_back(buffers)
+    return shown
 
 
 def _explain(text: str, base: int, shown: str) -> None:
