@@ -1,6 +1,6 @@
 //! Lines and texts as a device displays them, with both maps, and other calls that unicode-bidi 0.3.18 does not have.
 //!
-//! [`line`] displays a line of an analysed text, and [`text`] analyses a text and displays it. `BidiInfo::reorder_line`
+//! [`line()`] displays a line of an analysed text, and `text` analyses a text and displays it. `BidiInfo::reorder_line`
 //! returns the characters of a line in visual order (L2). The calls here also mirror characters (L4), keep marks behind
 //! their letters (L3) and leave out controls, by [`DisplayOptions`].
 //!
@@ -123,7 +123,7 @@ pub struct Maps {
     pub places: Vec<Option<usize>>,
 }
 
-/// The paragraphs of a text, from [`paragraphs`].
+/// The paragraphs of a text, from `paragraphs`.
 #[derive(Clone, Debug, PartialEq)]
 pub struct FoundParagraphs {
     /// The class of each code unit. An FSI has the class RLI or LRI if a character decides its direction (X5c).
