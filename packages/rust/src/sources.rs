@@ -68,10 +68,11 @@ fn by_units<'text, T: TextSource<'text> + ?Sized>(text: &'text T, listed: Analys
     for paragraph in &mut paragraphs {
         let start = end;
         for (character, (index, len)) in paragraph.range.clone().zip(&mut places) {
+            let (class, level) = (listed.classes[character], listed.levels[character]);
             end = index + len;
             for unit in index..end {
-                classes[unit] = listed.classes[character];
-                levels[unit] = listed.levels[character];
+                classes[unit] = class;
+                levels[unit] = level;
             }
         }
         paragraph.range = start..end;

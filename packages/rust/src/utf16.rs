@@ -34,6 +34,7 @@ impl Sealed for [u16] {
 }
 
 /// Returns the first character and its length, of a text that is not empty.
+#[inline]
 fn first_char(text: &[u16]) -> Option<(char, usize)> {
     let decoded = char::decode_utf16(text.iter().copied()).next()?;
     let character = decoded.unwrap_or(REPLACEMENT_CHARACTER);
@@ -99,6 +100,7 @@ impl<'text> Utf16CharIter<'text> {
 impl Iterator for Utf16CharIter<'_> {
     type Item = char;
 
+    #[inline]
     fn next(&mut self) -> Option<char> {
         let (character, len) = first_char(self.rest)?;
         self.rest = &self.rest[len..];
@@ -137,6 +139,7 @@ impl<'text> Utf16CharIndexIter<'text> {
 impl Iterator for Utf16CharIndexIter<'_> {
     type Item = (usize, char);
 
+    #[inline]
     fn next(&mut self) -> Option<(usize, char)> {
         let index = self.index;
         let (character, len) = first_char(&self.text[index..])?;
@@ -163,6 +166,7 @@ impl<'text> Utf16IndexLenIter<'text> {
 impl Iterator for Utf16IndexLenIter<'_> {
     type Item = (usize, usize);
 
+    #[inline]
     fn next(&mut self) -> Option<(usize, usize)> {
         let (index, character) = self.characters.next()?;
         Some((index, character.len_utf16()))

@@ -84,6 +84,7 @@ impl<'text> Utf8IndexLenIter<'text> {
 impl Iterator for Utf8IndexLenIter<'_> {
     type Item = (usize, usize);
 
+    #[inline]
     fn next(&mut self) -> Option<(usize, usize)> {
         let (index, character) = self.characters.next()?;
         Some((index, character.len_utf8()))
