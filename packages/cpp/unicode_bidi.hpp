@@ -61,7 +61,7 @@ enum class Fault : int {
     bad_split = UNICODE_BIDI_BAD_SPLIT,               ///< the split rule is none of `Split`
     bad_class = UNICODE_BIDI_BAD_CLASS,               ///< a class is none of `Class`
     bad_level = UNICODE_BIDI_BAD_LEVEL,               ///< a level is above 126
-    unequal_lengths = UNICODE_BIDI_UNEQUAL_LENGTHS,   ///< text, classes and levels do not have the same length
+    unequal_lengths = UNICODE_BIDI_UNEQUAL_LENGTHS,   ///< lists with an entry for each unit do not have the same length
     bad_line = UNICODE_BIDI_BAD_LINE,                 ///< the line is no range of its paragraph
     cut_character = UNICODE_BIDI_CUT_CHARACTER,       ///< the line begins or ends inside a character
     uneven_character = UNICODE_BIDI_UNEVEN_CHARACTER, ///< the units of one character differ in class or in level
@@ -103,7 +103,7 @@ constexpr const char *message(Fault fault) noexcept {
     case Fault::bad_split: return "BAD_SPLIT: there is no such split rule";
     case Fault::bad_class: return "BAD_CLASS: a class is above 22";
     case Fault::bad_level: return "BAD_LEVEL: a level is above 126";
-    case Fault::unequal_lengths: return "UNEQUAL_LENGTHS: text, classes and levels do not have the same length";
+    case Fault::unequal_lengths: return "UNEQUAL_LENGTHS: lists with an entry for each unit do not have the same length";
     case Fault::bad_line: return "BAD_LINE: the line is no range of its paragraph";
     case Fault::cut_character: return "CUT_CHARACTER: the line begins or ends inside a character";
     case Fault::uneven_character: return "UNEVEN_CHARACTER: the units of one character differ in class or in level";

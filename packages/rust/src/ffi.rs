@@ -32,7 +32,7 @@ const FAULTS: [(i64, &str); 14] = [
     (-5, "UNICODE_BIDI_BAD_SPLIT: the number for the end of paragraphs is above 2"),
     (-6, "UNICODE_BIDI_BAD_CLASS: a class is above 22"),
     (-7, "UNICODE_BIDI_BAD_LEVEL: a level is above 126"),
-    (-8, "UNICODE_BIDI_UNEQUAL_LENGTHS: lists that have an entry for each unit do not have the same length"),
+    (-8, "UNICODE_BIDI_UNEQUAL_LENGTHS: lists with an entry for each unit do not have the same length"),
     (-9, "UNICODE_BIDI_BAD_LINE: the line is reversed or out of range"),
     (-10, "UNICODE_BIDI_CUT_CHARACTER: the line begins or ends inside a character"),
     (-11, "UNICODE_BIDI_UNEVEN_CHARACTER: the code units of one character differ in class or in level"),

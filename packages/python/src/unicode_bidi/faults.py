@@ -85,9 +85,9 @@ class BadLevelError(BidiError, ValueError):
 
 
 class UnequalLengthsError(BidiError, ValueError):
-    """Lists that have an entry for each character do not have the same length."""
+    """Lists with an entry for each character do not have the same length."""
 
-    code, name, meaning = -8, "UNEQUAL_LENGTHS", "lists that have an entry for each character do not have the same length"
+    code, name, meaning = -8, "UNEQUAL_LENGTHS", "lists with an entry for each character do not have the same length"
 
 
 class BadLineError(BidiError, ValueError):
