@@ -19,6 +19,9 @@
 ///
 /// Cost. Each function makes one call of unicode_bidi.h, and has its cost. What a function adds is said with it.
 ///
+/// Displayed lines. `Line::displayed` returns the characters of a line in visual order (L2). `Line::display` and `display`
+/// return what a device displays, by options: mirrored characters (L4), marks behind their letters (L3), and no controls.
+///
 /// Threads. Any number of threads may use the same const object at the same time.
 #ifndef UNICODE_BIDI_HPP
 #define UNICODE_BIDI_HPP
@@ -58,7 +61,7 @@ enum class Fault : int {
     bad_split = UNICODE_BIDI_BAD_SPLIT,               ///< the split rule is none of `Split`
     bad_class = UNICODE_BIDI_BAD_CLASS,               ///< a class is none of `Class`
     bad_level = UNICODE_BIDI_BAD_LEVEL,               ///< a level is above 126
-    unequal_lengths = UNICODE_BIDI_UNEQUAL_LENGTHS,   ///< text, classes and levels do not have the same length
+    unequal_lengths = UNICODE_BIDI_UNEQUAL_LENGTHS,   ///< lists with an entry for each unit do not have the same length
     bad_line = UNICODE_BIDI_BAD_LINE,                 ///< the line is no range of its paragraph
     cut_character = UNICODE_BIDI_CUT_CHARACTER,       ///< the line begins or ends inside a character
     uneven_character = UNICODE_BIDI_UNEVEN_CHARACTER, ///< the units of one character differ in class or in level
@@ -100,7 +103,7 @@ constexpr const char *message(Fault fault) noexcept {
     case Fault::bad_split: return "BAD_SPLIT: there is no such split rule";
     case Fault::bad_class: return "BAD_CLASS: a class is above 22";
     case Fault::bad_level: return "BAD_LEVEL: a level is above 126";
-    case Fault::unequal_lengths: return "UNEQUAL_LENGTHS: text, classes and levels do not have the same length";
+    case Fault::unequal_lengths: return "UNEQUAL_LENGTHS: lists with an entry for each unit do not have the same length";
     case Fault::bad_line: return "BAD_LINE: the line is no range of its paragraph";
     case Fault::cut_character: return "CUT_CHARACTER: the line begins or ends inside a character";
     case Fault::uneven_character: return "UNEVEN_CHARACTER: the units of one character differ in class or in level";
@@ -295,6 +298,43 @@ using Level = std::uint8_t;
 /// Returns whether what has this level is displayed from right to left.
 constexpr bool is_rtl(Level level) noexcept { return level % 2 == 1; }
 
+/// The base level: the level of every paragraph, or how each paragraph finds its own. A number and `std::nullopt` convert
+/// to it.
+class BaseLevel {
+public:
+    /// Each paragraph finds its own level (P2, P3). If none of its characters decides, the level is 0.
+    constexpr BaseLevel(std::nullopt_t = std::nullopt) noexcept : number_(UNICODE_BIDI_AUTO) {}
+
+    /// Every paragraph has this level (HL1), from 0 to 125. Any other number is BAD_BASE_LEVEL.
+    constexpr BaseLevel(int level) noexcept
+        : number_(static_cast<std::uint8_t>(level < 0 || level > no_level ? no_level : level)) {}
+
+    /// Every paragraph has this level, or without one finds its own, as above.
+    constexpr BaseLevel(std::optional<int> level) noexcept
+        : number_(level ? BaseLevel(*level).number_ : std::uint8_t{UNICODE_BIDI_AUTO}) {}
+
+    /// Each paragraph finds its own level (P2, P3). If none of its characters decides, the level is 0.
+    static constexpr BaseLevel auto_ltr() noexcept { return from_number(UNICODE_BIDI_AUTO_LTR); }
+
+    /// Each paragraph finds its own level (P2, P3). If none of its characters decides, the level is 1.
+    static constexpr BaseLevel auto_rtl() noexcept { return from_number(UNICODE_BIDI_AUTO_RTL); }
+
+    /// Returns the number as unicode_bidi.h has it.
+    constexpr std::uint8_t number() const noexcept { return number_; }
+
+private:
+    /// A number that is no level. A wrong level must not become UNICODE_BIDI_AUTO or its like.
+    static constexpr int no_level = 126;
+
+    static constexpr BaseLevel from_number(std::uint8_t number) noexcept {
+        BaseLevel base;
+        base.number_ = number;
+        return base;
+    }
+
+    std::uint8_t number_;
+};
+
 /// A class (Bidi_Class). The numbers are those of unicode_bidi.h.
 enum class Class : std::uint8_t {
     L = UNICODE_BIDI_L,
@@ -432,6 +472,9 @@ struct Encoding<char> {
     static constexpr auto line_map = unicode_bidi_line_map_utf8;
     static constexpr auto reorder_line = unicode_bidi_reorder_line_utf8;
     static constexpr auto show_line = unicode_bidi_show_line_utf8;
+    static constexpr auto display_line = unicode_bidi_display_line_utf8;
+    static constexpr auto display_text = unicode_bidi_display_text_utf8;
+    static constexpr auto paragraphs = unicode_bidi_paragraphs_utf8;
 };
 
 template <>
@@ -447,6 +490,9 @@ struct Encoding<char16_t> {
     static constexpr auto line_map = unicode_bidi_line_map_utf16;
     static constexpr auto reorder_line = unicode_bidi_reorder_line_utf16;
     static constexpr auto show_line = unicode_bidi_show_line_utf16;
+    static constexpr auto display_line = unicode_bidi_display_line_utf16;
+    static constexpr auto display_text = unicode_bidi_display_text_utf16;
+    static constexpr auto paragraphs = unicode_bidi_paragraphs_utf16;
 };
 
 template <>
@@ -462,6 +508,9 @@ struct Encoding<char32_t> {
     static constexpr auto line_map = unicode_bidi_line_map_utf32;
     static constexpr auto reorder_line = unicode_bidi_reorder_line_utf32;
     static constexpr auto show_line = unicode_bidi_show_line_utf32;
+    static constexpr auto display_line = unicode_bidi_display_line_utf32;
+    static constexpr auto display_text = unicode_bidi_display_text_utf32;
+    static constexpr auto paragraphs = unicode_bidi_paragraphs_utf32;
 };
 
 #ifdef __cpp_char8_t
@@ -509,12 +558,8 @@ inline const std::uint8_t *numbers(Span<const Class> classes) noexcept {
     return reinterpret_cast<const std::uint8_t *>(not_null(classes.data()));
 }
 
-/// Returns a base level as the library takes it. A number that is no level must not become one, or UNICODE_BIDI_AUTO and
-/// its like.
-inline std::uint8_t base_number(std::optional<int> base) noexcept {
-    constexpr int no_level = 126;
-    if (!base) return UNICODE_BIDI_AUTO;
-    return static_cast<std::uint8_t>(*base < 0 || *base > no_level ? no_level : *base);
+inline const std::uint32_t *numbers(Span<const Bracket> brackets) noexcept {
+    return reinterpret_cast<const std::uint32_t *>(not_null(brackets.data()));
 }
 
 /// Returns the fault of a call that failed.
@@ -562,6 +607,10 @@ private:
     std::size_t room_;
 };
 
+inline std::uint8_t *numbers(Buffer<Class> &classes) noexcept {
+    return reinterpret_cast<std::uint8_t *>(classes.data());
+}
+
 /// Returns the elements that `write(data, room)` wrote. It returns how many, or a fault.
 template <class T, class Write>
 Result<Array<T>> written(std::size_t room, Write write) noexcept {
@@ -570,6 +619,18 @@ Result<Array<T>> written(std::size_t room, Write write) noexcept {
     const std::int64_t count = write(buffer.data(), room);
     if (count < 0) return fault_of(count);
     return std::move(buffer).take(static_cast<std::size_t>(count));
+}
+
+/// Returns the paragraphs that `write(data, room)` wrote. It returns how many, or a fault. If there are many, it is called
+/// twice, because their number is not known before.
+template <class Write>
+Result<Array<unicode_bidi_paragraph>> written_paragraphs(std::size_t units, Split split, Write write) noexcept {
+    std::size_t room = split == Split::one_paragraph ? 1 : std::min(units, units / 4 + 64);
+    for (;;) {
+        auto found = written<unicode_bidi_paragraph>(room, write);
+        if (found || found.error() != Fault::no_room || room >= units) return found;
+        room = units; // there are at most so many
+    }
 }
 
 /// Gives a string so many units. Returns whether there was memory for them.
@@ -631,6 +692,80 @@ private:
     Range range_;
     std::size_t index_ = 0;
 };
+
+} // namespace detail
+
+// ---- What is displayed ----
+
+/// What L2 moves as a whole. The characters of a cluster stay in the order of the text, at every level.
+enum class Moves : std::uint32_t {
+    characters = UNICODE_BIDI_MOVE_CHARACTERS, ///< each character (L2)
+    marks = UNICODE_BIDI_MOVE_MARKS,           ///< a character with the marks (NSM) that follow it at its level (L3)
+    clusters = UNICODE_BIDI_MOVE_CLUSTERS      ///< a grapheme cluster (UAX #29) of the displayed characters
+};
+
+/// Which characters are not displayed. The twelve direction controls are ALM, LRM, RLM, LRE, RLE, PDF, LRO, RLO, LRI, RLI,
+/// FSI and PDI. Class BN has ZWJ and ZWNJ too, which emoji and Persian words need.
+enum class Dropped : std::uint32_t {
+    nothing = 0,                                            ///< all characters are displayed
+    controls = UNICODE_BIDI_DROP_CONTROLS,                  ///< the twelve direction controls
+    boundary_neutrals = UNICODE_BIDI_DROP_BOUNDARY_NEUTRALS ///< the same and the characters of class BN
+};
+
+/// How a line or a text is displayed.
+struct DisplayOptions {
+    Moves moves = Moves::clusters;       ///< what L2 moves as a whole
+    bool mirror = true;                  ///< whether characters at odd levels are displayed as their partners (L4)
+    Dropped dropped = Dropped::controls; ///< which characters are not displayed
+};
+
+/// In place of the visual index of a character that is not displayed.
+inline constexpr std::size_t nowhere = UNICODE_BIDI_NOWHERE;
+
+/// The two maps of a line or of a text. Both count characters, also in UTF-8 and UTF-16.
+struct Maps {
+    Array<std::size_t> order;  ///< the index of the character at each visual index
+    Array<std::size_t> places; ///< the visual index of each character, or `nowhere` if it is not displayed
+};
+
+/// A displayed line: what `Line::display` returns. The maps count from the line's first character.
+template <class Char>
+struct DisplayedLine : Maps {
+    std::basic_string<Char> text; ///< the displayed characters from left to right
+};
+
+/// A displayed text: what `display` returns. The maps count from the text's first character.
+template <class Char>
+struct DisplayedText : DisplayedLine<Char> {
+    Array<Level> levels; ///< the level of each unit after L1
+};
+
+namespace detail {
+
+/// Returns options as the library takes them. Numbers that are no options must not become other ones.
+inline std::uint32_t flags_of(DisplayOptions options) noexcept {
+    constexpr std::uint32_t no_flags = 3;
+    const auto moves = static_cast<std::uint32_t>(options.moves), dropped = static_cast<std::uint32_t>(options.dropped);
+    if (moves > UNICODE_BIDI_MOVE_CLUSTERS || dropped % UNICODE_BIDI_DROP_CONTROLS != 0) return no_flags;
+    return moves + (options.mirror ? UNICODE_BIDI_MIRROR : 0) + dropped;
+}
+
+/// Writes what is displayed of so many units to `displayed`, by a call that gets the buffers. Returns its fault.
+template <class Char, class Call>
+std::optional<Fault> fault_of_display(DisplayedLine<Char> &displayed, std::size_t units, Call call) {
+    constexpr std::size_t most = static_cast<std::size_t>(-1) / 2;
+    Buffer<std::size_t> order(units), places(units);
+    if (units > most || !order.is_allocated() || !places.is_allocated() || !resize(displayed.text, 2 * units))
+        return Fault::no_memory;
+    std::size_t shown = 0, characters = 0;
+    const std::int64_t length = call(detail::units(displayed.text.data()), displayed.text.size(), order.data(), units,
+                                     places.data(), units, &shown, &characters);
+    if (length < 0) return fault_of(length);
+    displayed.text.resize(static_cast<std::size_t>(length));
+    displayed.order = std::move(order).take(shown);
+    displayed.places = std::move(places).take(characters);
+    return std::nullopt;
+}
 
 } // namespace detail
 
@@ -763,6 +898,20 @@ public:
         return shown;
     }
 
+    /// Returns the line as a device displays it: its text from left to right (L2 to L4), and both maps. In UTF-16 an
+    /// unpaired surrogate becomes U+FFFD. The call allocates a few hundred bytes for each character.
+    /// Faults: also those of `try_displayed`, BAD_FLAGS for options that are none.
+    Result<DisplayedLine<Char>> try_display(DisplayOptions options = {}) const {
+        DisplayedLine<Char> displayed;
+        const auto fault = detail::fault_of_display(displayed, size(), [&](auto... buffers) {
+            return Encoding::display_line(detail::units(text_), text_.size(), class_numbers(), classes_.size(),
+                                          level_numbers(), levels_.size(), &paragraph_, start_, end_,
+                                          detail::flags_of(options), buffers...);
+        });
+        if (fault) return *fault;
+        return displayed;
+    }
+
 #ifdef UNICODE_BIDI_EXCEPTIONS
     /// Like `try_levels`, but throws `Error`.
     Array<Level> levels() const { return try_levels().value(); }
@@ -781,6 +930,9 @@ public:
 
     /// Like `try_shown`, but throws `Error`.
     Shown<Char> shown(Parts parts = Parts::all) const { return try_shown(parts).value(); }
+
+    /// Like `try_display`, but throws `Error`.
+    DisplayedLine<Char> display(DisplayOptions options = {}) const { return try_display(options).value(); }
 #endif
 
 protected:
@@ -941,14 +1093,13 @@ template <class Char>
 class Text {
 public:
 #ifdef UNICODE_BIDI_EXCEPTIONS
-    /// Analyses a text by Unicode's own data. The base level is 0 to 125. Without one, each paragraph finds its own (P2,
-    /// P3). Throws `Error`.
-    explicit Text(std::basic_string_view<Char> text, std::optional<int> base = std::nullopt,
+    /// Analyses a text by Unicode's own data. Without a base level, each paragraph finds its own (P2, P3). Throws `Error`.
+    explicit Text(std::basic_string_view<Char> text, BaseLevel base = std::nullopt,
                   Split split = Split::each_separator)
         : Text(try_new(text, base, split).value()) {}
 
     /// Analyses a text by the caller's tables. Throws `Error`.
-    Text(const Tables &tables, std::basic_string_view<Char> text, std::optional<int> base = std::nullopt,
+    Text(const Tables &tables, std::basic_string_view<Char> text, BaseLevel base = std::nullopt,
          Split split = Split::each_separator)
         : Text(try_new(tables, text, base, split).value()) {}
 
@@ -975,22 +1126,22 @@ public:
 
     /// Analyses a text by Unicode's own data. Without a base level, each paragraph finds its own (P2, P3).
     /// `try_analyse` does the same, and finds the type of unit.
-    static Result<Text> try_new(std::basic_string_view<Char> text, std::optional<int> base = std::nullopt,
+    static Result<Text> try_new(std::basic_string_view<Char> text, BaseLevel base = std::nullopt,
                                 Split split = Split::each_separator) noexcept {
         return try_write(text, split, [&](auto... buffers) {
-            return Encoding::analyse(detail::units(text), text.size(), detail::base_number(base),
+            return Encoding::analyse(detail::units(text), text.size(), base.number(),
                                      static_cast<std::uint8_t>(split), buffers...);
         });
     }
 
     /// Analyses a text by the caller's tables. Without a base level, each paragraph finds its own (P2, P3).
     static Result<Text> try_new(const Tables &tables, std::basic_string_view<Char> text,
-                                std::optional<int> base = std::nullopt,
+                                BaseLevel base = std::nullopt,
                                 Split split = Split::each_separator) noexcept {
         return try_write(text, split, [&](auto... buffers) {
             return Encoding::analyse_by_tables(
                 detail::not_null(tables.ranges.data()), tables.ranges.size(), detail::not_null(tables.brackets.data()),
-                tables.brackets.size(), detail::units(text), text.size(), detail::base_number(base),
+                tables.brackets.size(), detail::units(text), text.size(), base.number(),
                 static_cast<std::uint8_t>(split), buffers...);
         });
     }
@@ -1028,18 +1179,11 @@ private:
         detail::Buffer<Class> classes(n);
         detail::Buffer<Level> levels(n);
         if (!classes.is_allocated() || !levels.is_allocated()) return Fault::no_memory;
-        auto *class_numbers = reinterpret_cast<std::uint8_t *>(classes.data());
-        std::size_t room = split == Split::one_paragraph ? 1 : std::min(n, n / 4 + 64);
-        for (;;) {
-            detail::Buffer<unicode_bidi_paragraph> paragraphs(room);
-            if (!paragraphs.is_allocated()) return Fault::no_memory;
-            const std::int64_t count = analyse(class_numbers, n, levels.data(), n, paragraphs.data(), room);
-            if (count >= 0)
-                return Text(text, std::move(classes).take(n), std::move(levels).take(n),
-                            std::move(paragraphs).take(static_cast<std::size_t>(count)));
-            if (detail::fault_of(count) != Fault::no_room || room >= n) return detail::fault_of(count);
-            room = n; // there are at most so many
-        }
+        auto paragraphs = detail::written_paragraphs(n, split, [&](unicode_bidi_paragraph *out, std::size_t room) {
+            return analyse(detail::numbers(classes), n, levels.data(), n, out, room);
+        });
+        if (!paragraphs) return paragraphs.error();
+        return Text(text, std::move(classes).take(n), std::move(levels).take(n), *std::move(paragraphs));
     }
 
     std::basic_string_view<Char> text_;
@@ -1058,7 +1202,7 @@ Text(const Tables &, const String &, Rest...) -> Text<detail::CharOf<String>>;
 /// Returns the analysis of a text by Unicode's own data, as `Text::try_new` does. `text` is a view, a string that stays, or
 /// a literal.
 template <class String>
-Result<Text<detail::CharOf<String>>> try_analyse(const String &text, std::optional<int> base = std::nullopt,
+Result<Text<detail::CharOf<String>>> try_analyse(const String &text, BaseLevel base = std::nullopt,
                                                  Split split = Split::each_separator) noexcept {
     return Text<detail::CharOf<String>>::try_new(detail::view(text), base, split);
 }
@@ -1066,7 +1210,7 @@ Result<Text<detail::CharOf<String>>> try_analyse(const String &text, std::option
 /// Returns the analysis of a text by the caller's tables, as `Text::try_new` does.
 template <class String>
 Result<Text<detail::CharOf<String>>> try_analyse(const Tables &tables, const String &text,
-                                                 std::optional<int> base = std::nullopt,
+                                                 BaseLevel base = std::nullopt,
                                                  Split split = Split::each_separator) noexcept {
     return Text<detail::CharOf<String>>::try_new(tables, detail::view(text), base, split);
 }
@@ -1076,6 +1220,53 @@ template <class String, class... Rest, class = detail::IfTemporary<String>>
 void try_analyse(String &&, Rest...) = delete;
 template <class String, class... Rest, class = detail::IfTemporary<String>>
 void try_analyse(const Tables &, String &&, Rest...) = delete;
+
+/// Analyses a text and displays it by one call, each paragraph as one line (P1 to L4). The paragraphs follow one another.
+/// The separators (B) at the end of a paragraph stay behind its displayed content.
+/// Faults: NOT_UTF8, NOT_SCALAR (by the encoding), BAD_BASE_LEVEL, BAD_SPLIT, BAD_FLAGS for options that are none.
+template <class String>
+Result<DisplayedText<detail::CharOf<String>>> try_display(const String &text, DisplayOptions options = {},
+                                                          BaseLevel base = std::nullopt,
+                                                          Split split = Split::each_separator) {
+    const auto view = detail::view(text);
+    const std::size_t n = view.size();
+    DisplayedText<detail::CharOf<String>> displayed;
+    detail::Buffer<Level> levels(n);
+    if (!levels.is_allocated()) return Fault::no_memory;
+    const auto fault = detail::fault_of_display(displayed, n, [&](auto... buffers) {
+        return detail::Encoding<detail::CharOf<String>>::display_text(
+            detail::units(view), n, base.number(), static_cast<std::uint8_t>(split), detail::flags_of(options),
+            levels.data(), n, buffers...);
+    });
+    if (fault) return *fault;
+    displayed.levels = std::move(levels).take(n);
+    return displayed;
+}
+
+/// The paragraphs of a text without its levels: what `paragraphs` returns.
+struct FoundParagraphs {
+    Array<Class> classes;                     ///< the class of each unit, as of `Text::classes`
+    Array<unicode_bidi_paragraph> paragraphs; ///< the paragraphs, each with its level
+};
+
+/// Returns the paragraphs of a text (P1) with their levels (P2, P3), and the class of each unit. It takes less time than
+/// an analysis. Like that, it makes two calls for a text of many paragraphs.
+/// Faults: NOT_UTF8, NOT_SCALAR (by the encoding), BAD_BASE_LEVEL, BAD_SPLIT.
+template <class String>
+Result<FoundParagraphs> try_paragraphs(const String &text, BaseLevel base = std::nullopt,
+                                       Split split = Split::each_separator) noexcept {
+    const auto view = detail::view(text);
+    const std::size_t n = view.size();
+    detail::Buffer<Class> classes(n);
+    if (!classes.is_allocated()) return Fault::no_memory;
+    auto paragraphs = detail::written_paragraphs(n, split, [&](unicode_bidi_paragraph *out, std::size_t room) {
+        return detail::Encoding<detail::CharOf<String>>::paragraphs(detail::units(view), n, base.number(),
+                                                                    static_cast<std::uint8_t>(split),
+                                                                    detail::numbers(classes), n, out, room);
+    });
+    if (!paragraphs) return paragraphs.error();
+    return FoundParagraphs{std::move(classes).take(n), *std::move(paragraphs)};
+}
 
 /// Returns the base direction of the first paragraph, or of the first paragraph that has one (P2, P3).
 /// Faults: NOT_UTF8, NOT_SCALAR (by the encoding). UTF-8 and UTF-32 are checked as a whole. UTF-32 allocates a copy.
@@ -1136,6 +1327,62 @@ Result<Array<Bracket>> try_brackets(const String &text) noexcept {
     });
 }
 
+// ---- Of classes, without a text ----
+
+/// The analysis of a list of classes: what `analyse_classes` returns.
+struct AnalysedClasses {
+    Array<Class> classes;                     ///< the class of each character, as of `Text::classes` (X5c)
+    Array<Level> levels;                      ///< the level of each character (X1 to I2, before L1)
+    Array<unicode_bidi_paragraph> paragraphs; ///< the paragraphs, in indexes of characters, each with its level
+};
+
+/// Returns the levels of characters by their classes and brackets alone, without a text. `brackets` has one bracket for
+/// each character, as `brackets` of a `std::u32string_view` returns it, or is empty: then no character is a bracket. A
+/// bracket counts only where the class is ON. A paragraph ends after each class B, unless the list is one paragraph.
+/// Faults: UNEQUAL_LENGTHS of classes and brackets, BAD_CLASS, BAD_BRACKET, BAD_BASE_LEVEL, BAD_SPLIT.
+inline Result<AnalysedClasses> try_analyse_classes(Span<const Class> classes, Span<const Bracket> brackets = {},
+                                                   BaseLevel base = std::nullopt,
+                                                   Split split = Split::each_separator) noexcept {
+    const std::size_t n = classes.size();
+    detail::Buffer<Class> stored(n);
+    detail::Buffer<Level> levels(n);
+    if (!stored.is_allocated() || !levels.is_allocated()) return Fault::no_memory;
+    auto paragraphs = detail::written_paragraphs(n, split, [&](unicode_bidi_paragraph *out, std::size_t room) {
+        return unicode_bidi_analyse_classes(detail::numbers(classes), n, detail::numbers(brackets), brackets.size(),
+                                            base.number(), static_cast<std::uint8_t>(split), detail::numbers(stored), n,
+                                            levels.data(), n, out, room);
+    });
+    if (!paragraphs) return paragraphs.error();
+    return AnalysedClasses{std::move(stored).take(n), std::move(levels).take(n), *std::move(paragraphs)};
+}
+
+/// Returns both maps of the line from `start` up to `end` (L1 to L3), by the classes and the levels of characters alone. It
+/// takes `Moves::characters` or `Moves::marks`. The maps count from the line's first character.
+/// Faults: those of a `Line`, BAD_FLAGS for other moves.
+inline Result<Maps> try_line_order(Span<const Class> classes, Span<const Level> levels,
+                                   const unicode_bidi_paragraph &paragraph, std::size_t start, std::size_t end,
+                                   Moves moves = Moves::characters) noexcept {
+    const std::size_t room = start <= end && end <= classes.size() ? end - start : 0;
+    detail::Buffer<std::size_t> places(room);
+    if (!places.is_allocated()) return Fault::no_memory;
+    auto order = detail::written<std::size_t>(room, [&](std::size_t *out, std::size_t) {
+        return unicode_bidi_line_order(detail::numbers(classes), classes.size(), detail::not_null(levels.data()),
+                                       levels.size(), &paragraph, start, end, static_cast<std::uint32_t>(moves), out, room,
+                                       places.data(), room);
+    });
+    if (!order) return order.error();
+    return Maps{*std::move(order), std::move(places).take(room)};
+}
+
+/// Returns the inverse of a map, for `count` characters: element j is the first visual index at which `order` has j, or
+/// `nowhere`. Elements of `order` that are not below `count` are passed over.
+/// Faults: NO_MEMORY alone.
+inline Result<Array<std::size_t>> try_places(Span<const std::size_t> order, std::size_t count) noexcept {
+    return detail::written<std::size_t>(count, [order](std::size_t *out, std::size_t room) {
+        return unicode_bidi_places(detail::not_null(order.data()), order.size(), out, room);
+    });
+}
+
 // ---- Of one character ----
 
 /// Returns the class of a character by Unicode's own data. Does not allocate.
@@ -1187,6 +1434,19 @@ inline Version unicode_version() noexcept { return detail::version_of(unicode_bi
 
 #ifdef UNICODE_BIDI_EXCEPTIONS
 
+/// Like `try_display`, but throws `Error`.
+template <class String>
+DisplayedText<detail::CharOf<String>> display(const String &text, DisplayOptions options = {},
+                                              BaseLevel base = std::nullopt, Split split = Split::each_separator) {
+    return try_display(text, options, base, split).value();
+}
+
+/// Like `try_paragraphs`, but throws `Error`.
+template <class String>
+FoundParagraphs paragraphs(const String &text, BaseLevel base = std::nullopt, Split split = Split::each_separator) {
+    return try_paragraphs(text, base, split).value();
+}
+
 /// Like `try_base_direction`, but throws `Error`.
 template <class String>
 Direction base_direction(const String &text, Search search = Search::first_paragraph) {
@@ -1220,6 +1480,23 @@ Array<Class> classes(const String &text) {
 template <class String>
 Array<Bracket> brackets(const String &text) {
     return try_brackets(text).value();
+}
+
+/// Like `try_analyse_classes`, but throws `Error`.
+inline AnalysedClasses analyse_classes(Span<const Class> classes, Span<const Bracket> brackets = {},
+                                       BaseLevel base = std::nullopt, Split split = Split::each_separator) {
+    return try_analyse_classes(classes, brackets, base, split).value();
+}
+
+/// Like `try_line_order`, but throws `Error`.
+inline Maps line_order(Span<const Class> classes, Span<const Level> levels, const unicode_bidi_paragraph &paragraph,
+                       std::size_t start, std::size_t end, Moves moves = Moves::characters) {
+    return try_line_order(classes, levels, paragraph, start, end, moves).value();
+}
+
+/// Like `try_places`, but throws `Error`.
+inline Array<std::size_t> places(Span<const std::size_t> order, std::size_t count) {
+    return try_places(order, count).value();
 }
 
 /// Like `try_class_of`, but throws `Error`.

@@ -1,8 +1,9 @@
 #!/usr/bin/env python3
-"""Measures get_display, BidiText and a line beside python-bidi 0.4.2, in one run, in microseconds a call.
+"""Measures get_display, displayed_text, BidiText and a line beside python-bidi 0.4.2, in one run, in microseconds a call.
 
 Each number is the minimum of several rounds in which the calls take turns. python-bidi is left out if it is not
-installed (apt-get install python3-bidi). One ctypes call is measured too, because it is the floor of this package.
+installed (apt-get install python3-bidi). One ctypes call with one argument is measured too, and the call of C that
+get_display makes, because these are the floor of this package.
 """
 from __future__ import annotations
 
@@ -11,7 +12,7 @@ import platform
 import time
 from typing import Any, Callable, Dict, List, Tuple
 
-from unicode_bidi import BidiText, _library, get_base_level, get_display
+from unicode_bidi import BidiText, _buffers, _library, displayed_text, get_base_level, get_display
 
 try:
     from bidi.algorithm import get_display as other_get_display
@@ -51,8 +52,13 @@ def measured(calls: Dict[str, Callable[[], Any]]) -> List[Tuple[str, float]]:
 def calls_of(text: str) -> Dict[str, Callable[[], Any]]:
     """Returns the calls that are measured for a text."""
     analysed = BidiText(text)
+    characters, length = text.encode("utf-32-le"), _library.size(len(text))
+    last = _buffers.Buffers(len(text)).text_arguments
     calls: Dict[str, Callable[[], Any]] = {
+        "the call of C in get_display": lambda: _library.display_text(characters, length, _library.AUTO, 2,
+                                                                      _library.MIRROR, *last),
         "get_display": lambda: get_display(text),
+        "displayed_text": lambda: displayed_text(text),
         "get_base_level": lambda: get_base_level(text),
         "BidiText(text)": lambda: BidiText(text),
         "BidiText(text).display()": lambda: BidiText(text).display(),

@@ -1465,6 +1465,7 @@ static void compare_at_random(void) {
 }
 
 #include "nulls.h"
+#include "whole.h"
 
 int main(int argc, char **argv) {
     if (argc < 2) FAIL("usage: callers FOLDER [CALLS [SEED]]");
@@ -1484,6 +1485,7 @@ int main(int argc, char **argv) {
     each_row(folder, "../../bidi_vectors_display/data/carets.rows", try_displayed);
     each_row(folder, "../../bidi_vectors_display/data/clusters.rows", try_displayed);
     each_row(folder, "../../bidi_vectors_display/data/shown.rows", try_displayed);
+    each_row(folder, "../../bidi_vectors_display/data/texts.rows", try_displayed_text);
     now = &sources[0];
     try_each_call();
     try_classes();
@@ -1494,14 +1496,19 @@ int main(int argc, char **argv) {
     try_characters();
     try_short_texts();
     try_nulls();
+    for (int e = UTF8; e <= UTF32; e++) try_nulls_of_whole_texts(e);
+    try_whole();
     try_refusals();
+    try_whole_refused();
     try_long_lines();
     for (long i = 0; i < calls; i++) {
         if (i % 8 == 5) classes_at_random();
+        else if (i % 8 == 6) whole_at_random();
+        else if (i % 8 == 7) whole_calls_at_random();
         else if (i % 4) call_at_random();
         else compare_at_random();
     }
-    printf("ok callers: %ld rows of texts, %ld of lines, %ld of orders, %ld of characters, %ld of displayed lines, %ld texts by their classes alone, %ld left out as too long, each fault, %ld null pointers, %ld refusals of memory, and %ld random calls\n",
-           texts_seen, lines_seen, orders_seen, characters_seen, displayed_seen, classes_seen, left_out, nulls_seen, refusals, calls);
+    printf("ok callers: %ld rows of texts, %ld of lines, %ld of orders, %ld of characters, %ld of displayed lines, %ld of displayed texts, %ld texts by their classes alone, %ld left out as too long, each fault, %ld null pointers, %ld refusals of memory, and %ld random calls\n",
+           texts_seen, lines_seen, orders_seen, characters_seen, displayed_seen, whole_seen, classes_seen, left_out, nulls_seen, refusals, calls);
     return 0;
 }

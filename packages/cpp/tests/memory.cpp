@@ -96,6 +96,23 @@ void sweep_all() {
     sweep("displayed", [&] { return line.try_displayed(); }, equal);
     sweep("shown", [&] { return line.try_shown(); },
           [](const auto &a, const auto &b) { return a.displayed == b.displayed && is_same(a.order, b.order); });
+    sweep("display a line", [&] { return line.try_display(); },
+          [](const auto &a, const auto &b) { return a.text == b.text && is_same(a.order, b.order) && is_same(a.places, b.places); });
+    sweep("display a text", [&] { return bidi::try_display(source); }, [](const auto &a, const auto &b) {
+        return a.text == b.text && is_same(a.order, b.order) && is_same(a.places, b.places) && is_same(a.levels, b.levels);
+    });
+    sweep("paragraphs", [&] { return bidi::try_paragraphs(lines_only); }, [](const auto &a, const auto &b) {
+        return is_same(a.classes, b.classes) && a.paragraphs.size() == b.paragraphs.size();
+    });
+    const auto brackets = bidi::try_brackets(source);
+    if (!brackets) fail("the brackets");
+    sweep("analyse classes", [&] { return bidi::try_analyse_classes(text->classes(), *brackets); },
+          [](const auto &a, const auto &b) { return is_same(a.classes, b.classes) && is_same(a.levels, b.levels); });
+    const unicode_bidi_paragraph whole = {0, source.size(), 1};
+    sweep("line order", [&] { return bidi::try_line_order(text->classes(), text->levels(), whole, 0, source.size()); },
+          [](const auto &a, const auto &b) { return is_same(a.order, b.order) && is_same(a.places, b.places); });
+    const std::size_t order[] = {2, 0, 1};
+    sweep("places", [&] { return bidi::try_places(order, 3); }, is_same<bidi::Array<std::size_t>>);
     sweep("reorder_visual", [&] { return bidi::try_reorder_visual(text->levels()); }, is_same<bidi::Array<std::size_t>>);
 }
 

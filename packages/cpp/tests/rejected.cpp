@@ -12,7 +12,8 @@ void program() {
     const std::string kept;
     const auto text = bidi::try_analyse(kept);
     const auto direction = bidi::try_base_direction(temporary());
-    if (text && direction) static_cast<void>(text->paragraphs());
+    const auto displayed = bidi::try_display(temporary());
+    if (text && direction && displayed) static_cast<void>(text->paragraphs());
 #elif CASE == 1
     static_cast<void>(bidi::try_analyse(temporary()));
 #elif CASE == 2

@@ -1,6 +1,7 @@
 /// Runs the shared test vectors through unicode_bidi.hpp, in UTF-8, UTF-16 and UTF-32, and causes each fault.
-///   rows FOLDER
-/// FOLDER is that of the vectors. If exceptions are on, each call is also made in the form that throws.
+///   rows FOLDER DISPLAYED
+/// FOLDER is that of the vectors, and DISPLAYED that of the vectors of displayed lines. If exceptions are on, each call is
+/// also made in the form that throws.
 #include "rows.hpp"
 #include "unicode_bidi.hpp"
 
@@ -168,10 +169,23 @@ std::optional<std::vector<bidi::Bracket>> brackets_of(const Row &row, const std:
     return brackets;
 }
 
-std::optional<int> base_of(const Row &row) {
+bidi::BaseLevel base_of(const Row &row) {
     const std::string base = row.get("base").value_or("auto");
-    if (base == "auto") return std::nullopt;
-    return std::stoi(base);
+    if (base != "auto") return std::stoi(base);
+    return row.get("fallback").value_or("0") == "1" ? bidi::BaseLevel::auto_rtl() : bidi::BaseLevel::auto_ltr();
+}
+
+/// Returns the options of a displayed line. Those that a row does not have are the defaults.
+bidi::DisplayOptions options_of(const Row &row) {
+    static const std::map<std::string, bidi::Moves> moves = {
+        {"characters", bidi::Moves::characters}, {"marks", bidi::Moves::marks}, {"clusters", bidi::Moves::clusters}};
+    static const std::map<std::string, bidi::Dropped> dropped = {{"nothing", bidi::Dropped::nothing},
+                                                                 {"controls", bidi::Dropped::controls},
+                                                                 {"neutrals", bidi::Dropped::boundary_neutrals}};
+    bidi::DisplayOptions options;
+    if (const auto word = row.get("moves")) options.moves = moves.at(*word);
+    if (const auto word = row.get("dropped")) options.dropped = dropped.at(*word);
+    return options;
 }
 
 bidi::Split split_of(const Row &row) {
@@ -196,15 +210,33 @@ struct Source {
     std::vector<bidi::BracketPair> brackets;
 
     bidi::Tables tables() const { return {ranges, brackets}; }
+
+    /// Returns the class of a character.
+    bidi::Class class_of(char32_t c) const {
+        for (const auto &range : ranges)
+            if (range.first <= c && c <= range.last) return static_cast<bidi::Class>(range.class_number);
+        return bidi::Class::L;
+    }
+
+    /// Returns the bracket that a character is.
+    bidi::Bracket bracket_of(char32_t c) const {
+        for (const auto &pair : brackets) {
+            if (pair.opening == c) return {pair.normal_form | UNICODE_BIDI_OPENING};
+            if (pair.closing == c) return {pair.normal_form};
+        }
+        return {0};
+    }
 };
 
 std::map<std::string, Source> sources;
 
-bidi::Tables tables_of(const Row &row) {
+const Source &source_of(const Row &row) {
     const auto found = sources.find(row.get("source").value_or("sample"));
     row.check(found != sources.end(), "no source of this name comes before it");
-    return found->second.tables();
+    return found->second;
 }
+
+bidi::Tables tables_of(const Row &row) { return source_of(row).tables(); }
 
 /// Checks that each unit has what a field lists for its character, if the row has the field. A dash fits anything.
 template <class Char, class List, class Word>
@@ -228,6 +260,56 @@ std::size_t index_of(const Row &row, const Encoded<Char> &encoded, std::size_t c
 
 // ---- Kinds of rows ----
 
+/// Checks the ranges and levels of paragraphs.
+template <class Char>
+void check_paragraphs(const Row &row, const Encoded<Char> &in, bidi::Span<const unicode_bidi_paragraph> paragraphs) {
+    const auto wanted = row.words("paragraphs");
+    if (!wanted) return;
+    row.check(wanted->size() == paragraphs.size(), "the number of paragraphs");
+    for (std::size_t k = 0; k < wanted->size(); k++) {
+        const auto parts = split_at((*wanted)[k], ':');
+        const auto range = range_of(row, parts[0]);
+        row.check(paragraphs[k].start == index_of(row, in, range.first) && paragraphs[k].end == index_of(row, in, range.second) &&
+                      level_word(paragraphs[k].level) == parts.at(1),
+                  "paragraph " + (*wanted)[k]);
+    }
+}
+
+/// Checks the paragraphs that are found without levels, by Unicode's data. An analysis has the same.
+template <class Char>
+void check_found_paragraphs(const Row &row, const Encoded<Char> &in) {
+    const auto found = value_of(row, bidi::try_paragraphs(in.text, base_of(row), split_of(row)));
+    const auto text = value_of(row, bidi::try_analyse(in.text, base_of(row), split_of(row)));
+    row.check(std::equal(found.classes.begin(), found.classes.end(), text.classes().begin(), text.classes().end()),
+              "the classes of paragraphs");
+    const auto is_same = [](const unicode_bidi_paragraph &a, const bidi::Paragraph<Char> &b) {
+        return a.start == b.start() && a.end == b.end() && a.level == b.level();
+    };
+    row.check(std::equal(found.paragraphs.begin(), found.paragraphs.end(), text.paragraphs().begin(),
+                         text.paragraphs().end(), is_same),
+              "the paragraphs of an analysis");
+}
+
+/// Checks the analysis of the classes and brackets of characters, without their text.
+void check_classes(const Row &row, const std::vector<char32_t> &characters) {
+    const auto in = encoded<char32_t>(characters);
+    std::vector<bidi::Class> classes;
+    std::vector<bidi::Bracket> brackets;
+    for (const char32_t c : characters) {
+        classes.push_back(source_of(row).class_of(c));
+        brackets.push_back(source_of(row).bracket_of(c));
+    }
+    const auto found = value_of(row, bidi::try_analyse_classes(classes, brackets, base_of(row), split_of(row)));
+    check_units(row, "classes", in, found.classes, class_word);
+    check_units(row, "levels", in, found.levels, level_word);
+    check_paragraphs(row, in, found.paragraphs);
+#ifdef UNICODE_BIDI_EXCEPTIONS
+    const auto same = bidi::analyse_classes(classes, brackets, base_of(row), split_of(row));
+    row.check(std::equal(same.levels.begin(), same.levels.end(), found.levels.begin(), found.levels.end()),
+              "the form that throws");
+#endif
+}
+
 template <class Char>
 void check_text(const Row &row, const std::vector<char32_t> &characters) {
     const auto in = encoded<Char>(characters);
@@ -235,28 +317,23 @@ void check_text(const Row &row, const std::vector<char32_t> &characters) {
     row.check(text.text().data() == in.text.data() && text.text().size() == in.text.size(), "the text is viewed in place");
     check_units(row, "classes", in, text.classes(), class_word);
     check_units(row, "levels", in, text.levels(), level_word);
-    const auto paragraphs = text.paragraphs();
     std::size_t end = 0;
-    for (const auto paragraph : paragraphs) {
+    std::vector<unicode_bidi_paragraph> paragraphs;
+    for (const auto paragraph : text.paragraphs()) {
         row.check(paragraph.start() == end, "paragraphs follow each other");
         end = paragraph.end();
+        paragraphs.push_back({paragraph.start(), end, paragraph.level()});
     }
     row.check(end == in.text.size(), "paragraphs end with the text");
-    const auto wanted = row.words("paragraphs");
-    if (!wanted) return;
-    row.check(wanted->size() == paragraphs.size(), "the number of paragraphs");
-    for (std::size_t k = 0; k < wanted->size(); k++) {
-        const auto parts = split_at((*wanted)[k], ':');
-        const auto range = range_of(row, parts[0]);
-        row.check(paragraphs[k].start() == index_of(row, in, range.first) && paragraphs[k].end() == index_of(row, in, range.second) &&
-                      level_word(paragraphs[k].level()) == parts.at(1),
-                  "paragraph " + (*wanted)[k]);
-    }
+    check_paragraphs(row, in, paragraphs);
+    check_found_paragraphs(row, in);
 }
 
 void run_text(const Row &row) {
     const auto characters = characters_of(row, "text");
     in_each_encoding(characters, [&](auto unit) { check_text<decltype(unit)>(row, characters); });
+    // A list of classes has no CR and no LF that could stay together.
+    if (split_of(row) != bidi::Split::cr_lf_together) check_classes(row, characters);
 #ifdef UNICODE_BIDI_EXCEPTIONS
     const auto utf16 = encoded<char16_t>(characters);
     check_throwing(row, std::nullopt, [&] { bidi::Text text(tables_of(row), utf16.text, base_of(row), split_of(row)); });
@@ -351,24 +428,97 @@ void run_line(const Row &row) {
     in_each_encoding(characters, [&](auto unit) { check_line<decltype(unit)>(row, characters); });
 }
 
+/// Checks the order of a row, and its places: those of a call, if there are any, and those that invert the order.
+void check_maps(const Row &row, const bidi::Array<std::size_t> &order, const bidi::Array<std::size_t> *places) {
+    const auto wanted = row.words("order"), wanted_places = row.words("places");
+    row.check(wanted && wanted_places && wanted->size() == order.size() && wanted_places->size() == order.size(),
+              "the number of characters");
+    const auto inverse = value_of(row, bidi::try_places(order, order.size()));
+    for (std::size_t k = 0; k < order.size(); k++) {
+        row.check(std::to_string(order[k]) == (*wanted)[k], "order");
+        row.check(std::to_string(inverse[k]) == (*wanted_places)[k], "places that invert the order");
+        row.check(!places || std::to_string((*places)[k]) == (*wanted_places)[k], "places");
+    }
+}
+
 template <class Char>
 void check_line_map(const Row &row, const std::vector<char32_t> &characters) {
     const auto in = encoded<Char>(characters);
     const auto text = value_of(row, bidi::try_analyse(tables_of(row), in.text, base_of(row)));
     const auto range = range_of(row, row.get("line").value());
     const auto line = text.paragraphs()[0].line(index_of(row, in, range.first), index_of(row, in, range.second));
-    const auto order = value_of(row, line.try_order());
-    const auto wanted = row.words("order"), places = row.words("places");
-    row.check(wanted && places && wanted->size() == order.size() && places->size() == order.size(), "the number of characters");
-    for (std::size_t k = 0; k < order.size(); k++) {
-        row.check(std::to_string(order[k]) == (*wanted)[k], "order");
-        row.check((*places)[order[k]] == std::to_string(k), "places");
+    check_maps(row, value_of(row, line.try_order()), nullptr);
+    if constexpr (sizeof(Char) == 4) {
+        const auto level = text.paragraphs()[0].level();
+        const unicode_bidi_paragraph paragraph = {0, in.text.size(), level};
+        const auto maps = value_of(row, bidi::try_line_order(text.classes(), text.levels(), paragraph, line.start(), line.end()));
+        check_maps(row, maps.order, &maps.places);
     }
 }
 
 void run_line_map(const Row &row) {
     const auto characters = characters_of(row, "text");
     in_each_encoding(characters, [&](auto unit) { check_line_map<decltype(unit)>(row, characters); });
+}
+
+/// Checks what is displayed of some characters: its text, and that both maps fit it and each other.
+template <class Char>
+void check_displayed(const Row &row, const std::vector<char32_t> &characters, const bidi::DisplayedLine<Char> &displayed) {
+    const auto shown = characters_of(row, "shown");
+    row.check(displayed.text == encoded<Char>(shown).text, "the displayed text");
+    row.check(displayed.order.size() == shown.size() && displayed.places.size() == characters.size(), "the lengths of the maps");
+    for (std::size_t k = 0; k < shown.size(); k++) {
+        const char32_t c = characters.at(displayed.order[k]);
+        row.check(shown[k] == c || c - 0xD800 < 0x800 || shown[k] == value_of(row, bidi::try_mirrored(c)),
+                  "the character at visual index " + std::to_string(k));
+    }
+    const auto places = value_of(row, bidi::try_places(displayed.order, characters.size()));
+    row.check(std::equal(places.begin(), places.end(), displayed.places.begin(), displayed.places.end()), "the places");
+    row.check(static_cast<std::size_t>(std::count(places.begin(), places.end(), bidi::nowhere)) == characters.size() - shown.size(),
+              "the number of characters that are not displayed");
+}
+
+template <class Char>
+void check_displayed_line(const Row &row, const std::vector<char32_t> &characters) {
+    const auto in = encoded<Char>(characters);
+    const auto text = value_of(row, bidi::try_analyse(in.text, base_of(row), bidi::Split::one_paragraph));
+    const auto range = range_of(row, row.get("line").value_or("0.." + std::to_string(characters.size())));
+    const auto line = text.paragraphs()[0].line(index_of(row, in, range.first), index_of(row, in, range.second));
+    const auto at = [&](std::size_t k) { return characters.begin() + static_cast<std::ptrdiff_t>(k); };
+    const std::vector<char32_t> of_line(at(range.first), at(range.second));
+    check_units(row, "levels", encoded<Char>(of_line), value_of(row, line.try_levels()), level_word);
+    if (!row.get("shown")) return;
+    check_displayed(row, of_line, value_of(row, line.try_display(options_of(row))));
+#ifdef UNICODE_BIDI_EXCEPTIONS
+    check_displayed(row, of_line, line.display(options_of(row)));
+#endif
+}
+
+void run_displayed_line(const Row &row) {
+    const auto characters = characters_of(row, "text");
+    in_each_encoding(characters, [&](auto unit) { check_displayed_line<decltype(unit)>(row, characters); });
+}
+
+template <class Char>
+void check_displayed_text(const Row &row, const std::vector<char32_t> &characters) {
+    const auto in = encoded<Char>(characters);
+    const auto displayed = value_of(row, bidi::try_display(in.text, options_of(row), base_of(row), split_of(row)));
+    check_displayed(row, characters, displayed);
+    const auto text = value_of(row, bidi::try_analyse(in.text, base_of(row), split_of(row)));
+    std::vector<bidi::Level> levels;
+    for (const auto paragraph : text.paragraphs())
+        for (const bidi::Level level : value_of(row, paragraph.try_levels())) levels.push_back(level);
+    row.check(std::equal(levels.begin(), levels.end(), displayed.levels.begin(), displayed.levels.end()), "levels after L1");
+    check_paragraphs(row, in, value_of(row, bidi::try_paragraphs(in.text, base_of(row), split_of(row))).paragraphs);
+#ifdef UNICODE_BIDI_EXCEPTIONS
+    check_displayed(row, characters, bidi::display(in.text, options_of(row), base_of(row), split_of(row)));
+    check_paragraphs(row, in, bidi::paragraphs(in.text, base_of(row), split_of(row)).paragraphs);
+#endif
+}
+
+void run_displayed_text(const Row &row) {
+    const auto characters = characters_of(row, "text");
+    in_each_encoding(characters, [&](auto unit) { check_displayed_text<decltype(unit)>(row, characters); });
 }
 
 std::vector<bidi::Level> levels_of(const Row &row) {
@@ -521,7 +671,8 @@ void run_file(const std::string &folder, const std::string &file) {
         {"order", run_order},   {"line map", run_line_map},
         {"source", run_source}, {"visual runs", run_visual_runs},
         {"base direction", run_direction}, {"character of Unicode", run_character},
-        {"characters of Unicode", run_characters}, {"format character", run_character}};
+        {"characters of Unicode", run_characters}, {"format character", run_character},
+        {"displayed line", run_displayed_line}, {"displayed text", run_displayed_text}};
     const auto rows = read_rows(folder, file);
     std::size_t count = 0;
     std::set<std::string> left_out;
@@ -551,6 +702,7 @@ void check_faults() {
     const std::u32string_view above(U"a\x110000", 2);
     const std::vector<Class> classes = {Class::R, Class::R, Class::WS, Class::L}, bad_classes = {Class::R, static_cast<Class>(23), Class::WS, Class::L};
     const std::vector<bidi::Level> levels = {1, 1, 1, 2}, high = {1, 1, 127, 0}, odd = {1, 0, 1, 2};
+    const std::vector<bidi::Bracket> one_bracket(1), bad_brackets = {{0}, {0x1F}, {0}, {0}};
     const unicode_bidi_paragraph whole = {0, 4, 1}, deep = {0, 4, 127};
     const bidi::Line<char> line(hebrew, classes, levels, whole, 0, 4);
     std::array<char, 3> small = {'x', 'x', 'x'};
@@ -569,6 +721,31 @@ void check_faults() {
     CHECK_FAULT(row, Fault::bad_split, bidi::try_analyse(hebrew, 0, static_cast<bidi::Split>(3)),
                 bidi::Text(hebrew, 0, static_cast<bidi::Split>(3)));
     CHECK_FAULT(row, Fault::bad_class, bidi::try_base_direction_of_classes(bad_classes), bidi::base_direction_of_classes(bad_classes));
+    CHECK_FAULT(row, Fault::bad_class, bidi::try_analyse_classes(bad_classes), bidi::analyse_classes(bad_classes));
+    CHECK_FAULT(row, Fault::unequal_lengths, bidi::try_analyse_classes(classes, one_bracket), bidi::analyse_classes(classes, one_bracket));
+    CHECK_FAULT(row, Fault::bad_bracket, bidi::try_analyse_classes(classes, bad_brackets), bidi::analyse_classes(classes, bad_brackets));
+    for (const int level : {-1, 126, 253, 254, 255, 256}) {
+        CHECK_FAULT(row, Fault::bad_base_level, bidi::try_analyse_classes(classes, {}, level), bidi::analyse_classes(classes, {}, level));
+        CHECK_FAULT(row, Fault::bad_base_level, bidi::try_paragraphs(hebrew, level), bidi::paragraphs(hebrew, level));
+        CHECK_FAULT(row, Fault::bad_base_level, bidi::try_display(hebrew, {}, level), bidi::display(hebrew, {}, level));
+    }
+    const auto no_split = static_cast<bidi::Split>(3);
+    CHECK_FAULT(row, Fault::bad_split, bidi::try_analyse_classes(classes, {}, 0, no_split), bidi::analyse_classes(classes, {}, 0, no_split));
+    CHECK_FAULT(row, Fault::bad_split, bidi::try_paragraphs(hebrew, 0, no_split), bidi::paragraphs(hebrew, 0, no_split));
+    CHECK_FAULT(row, Fault::bad_split, bidi::try_display(hebrew, {}, 0, no_split), bidi::display(hebrew, {}, 0, no_split));
+    CHECK_FAULT(row, Fault::not_utf8, bidi::try_paragraphs(broken), bidi::paragraphs(broken));
+    CHECK_FAULT(row, Fault::not_utf8, bidi::try_display(broken), bidi::display(broken));
+    CHECK_FAULT(row, Fault::not_scalar, bidi::try_display(above), bidi::display(above));
+    for (const unsigned number : {3u, 4u, 5u, 8u, 0xFFFFFFFFu}) {
+        const bidi::DisplayOptions options = {static_cast<bidi::Moves>(number), true, bidi::Dropped::controls};
+        CHECK_FAULT(row, Fault::bad_flags, bidi::try_display(hebrew, options), bidi::display(hebrew, options));
+        CHECK_FAULT(row, Fault::bad_flags, line.try_display(options), line.display(options));
+    }
+    for (const unsigned number : {1u, 4u, 12u, 24u, 0xFFFFFFF8u}) {
+        const bidi::DisplayOptions options = {bidi::Moves::clusters, false, static_cast<bidi::Dropped>(number)};
+        CHECK_FAULT(row, Fault::bad_flags, bidi::try_display(hebrew, options), bidi::display(hebrew, options));
+        CHECK_FAULT(row, Fault::bad_flags, line.try_display(options), line.display(options));
+    }
     CHECK_FAULT(row, Fault::bad_level, bidi::try_reorder_visual(high), bidi::reorder_visual(high));
     CHECK_FAULT(row, Fault::no_room, line.try_displayed_into(small), line.displayed_into(small));
     row.check(small == std::array<char, 3>{'x', 'x', 'x'}, "a fault that wrote");
@@ -576,6 +753,7 @@ void check_faults() {
     const auto check_line_fault = [&row](Fault wanted, const auto &faulty) {
         CHECK_FAULT(row, wanted, faulty.try_displayed(), faulty.displayed());
         CHECK_FAULT(row, wanted, faulty.try_shown(), faulty.shown());
+        CHECK_FAULT(row, wanted, faulty.try_display(), faulty.display());
     };
     const auto check_any_line_fault = [&](Fault wanted, const auto &faulty) {
         CHECK_FAULT(row, wanted, faulty.try_levels(), faulty.levels());
@@ -597,6 +775,18 @@ void check_faults() {
     check_line_fault(Fault::uneven_character, Line(hebrew, classes, odd, whole, 0, 4));
     check_line_fault(Fault::not_utf8, Line("a\xFF\xFF ", classes, levels, whole, 0, 4));
     check_line_fault(Fault::not_scalar, bidi::Line<char32_t>(above, {classes.data(), 2}, {levels.data(), 2}, {0, 2, 1}, 0, 2));
+    const auto check_order_fault = [&](Fault wanted, const auto &c, const auto &l, const unicode_bidi_paragraph &paragraph,
+                                       std::size_t start, std::size_t end, bidi::Moves moves = bidi::Moves::marks) {
+        CHECK_FAULT(row, wanted, bidi::try_line_order(c, l, paragraph, start, end, moves),
+                    bidi::line_order(c, l, paragraph, start, end, moves));
+    };
+    check_order_fault(Fault::unequal_lengths, three, levels, whole, 0, 3);
+    check_order_fault(Fault::bad_line, classes, levels, whole, 3, 2);
+    check_order_fault(Fault::bad_line, classes, levels, whole, 0, 5);
+    check_order_fault(Fault::bad_class, bad_classes, levels, whole, 0, 4);
+    check_order_fault(Fault::bad_level, classes, high, whole, 0, 4);
+    check_order_fault(Fault::bad_level, classes, levels, deep, 0, 4);
+    check_order_fault(Fault::bad_flags, classes, levels, whole, 0, 4, bidi::Moves::clusters);
     row.check(Line(hebrew, classes, levels, whole, 3, 2).text().empty() && Line(hebrew, classes, levels, whole, 0, 9).text().empty(),
               "the text of what is no line");
     const std::array bad_pair = {bidi::bracket_pair(U'(', U')', 0xD800)};
@@ -654,6 +844,70 @@ void check_objects() {
               "names of other numbers");
 }
 
+/// What is displayed, worked by hand from L1 to L4.
+void check_displays() {
+    const Row row{"rows.cpp", "", "displays", 0, {}};
+    const auto is = [](const bidi::Array<std::size_t> &found, std::initializer_list<std::size_t> wanted) {
+        return std::equal(found.begin(), found.end(), wanted.begin(), wanted.end());
+    };
+    using bidi::Dropped;
+    using bidi::Moves;
+    using bidi::nowhere;
+    // L4: at level 1 the bracket is mirrored. L3: the point of a letter stays behind it. The mark (RLM) is not displayed.
+    const auto text = u"a (\u05D0\u05B8\u200F\u05D1)"sv;
+    const auto by_default = value_of(row, bidi::try_display(text, {}, 1));
+    row.check(by_default.text == u"(\u05D1\u05D0\u05B8) a" && is(by_default.order, {7, 6, 3, 4, 2, 1, 0}) &&
+                  is(by_default.places, {6, 5, 4, 2, 3, nowhere, 1, 0}),
+              "by default");
+    const std::array<bidi::Level, 8> levels = {2, 1, 1, 1, 1, 1, 1, 1};
+    row.check(std::equal(levels.begin(), levels.end(), by_default.levels.begin(), by_default.levels.end()), "levels");
+    const auto plain = value_of(row, bidi::try_display(text, {Moves::characters, false, Dropped::nothing}, 1));
+    row.check(plain.text == u")\u05D1\u200F\u05B8\u05D0( a" && is(plain.order, {7, 6, 5, 4, 3, 2, 1, 0}), "without options");
+    // The same for a line: the word alone, of whose line L1 changes no level.
+    const auto analysed = value_of(row, bidi::try_analyse(text, 1));
+    const auto line = value_of(row, analysed.paragraphs()[0].line(3, 7).try_display());
+    row.check(line.text == u"\u05D1\u05D0\u05B8" && is(line.order, {3, 0, 1}) && is(line.places, {1, 2, nowhere, 0}), "a line");
+    const auto empty = value_of(row, analysed.paragraphs()[0].line(3, 3).try_display());
+    row.check(empty.text.empty() && empty.order.empty() && empty.places.empty(), "an empty line");
+    const auto nothing = value_of(row, bidi::try_display(""sv));
+    row.check(nothing.text.empty() && nothing.levels.empty() && nothing.places.empty(), "an empty text");
+
+    // P3: digits decide nothing, so the fallback does.
+    const auto level_of = [&](bidi::BaseLevel base) { return value_of(row, bidi::try_paragraphs("12"sv, base)).paragraphs[0].level; };
+    row.check(level_of({}) == 0 && level_of(std::nullopt) == 0 && level_of(bidi::BaseLevel::auto_ltr()) == 0 &&
+                  level_of(bidi::BaseLevel::auto_rtl()) == 1 && level_of(2) == 2 && level_of(std::optional<int>(3)) == 3,
+              "base levels");
+    row.check(value_of(row, bidi::try_display("1."sv, {}, bidi::BaseLevel::auto_rtl())).text == ".1", "a fallback");
+    const std::u16string many(1000, u'\n');
+    row.check(value_of(row, bidi::try_paragraphs(many)).paragraphs.size() == 1000, "many paragraphs");
+    row.check(value_of(row, bidi::try_paragraphs(""sv)).paragraphs.empty() &&
+                  value_of(row, bidi::try_paragraphs(""sv, 1, bidi::Split::one_paragraph)).paragraphs.size() == 1,
+              "the paragraphs of an empty text");
+
+    // L3: three marks follow their letter from right to left.
+    const std::vector<bidi::Class> classes = {bidi::Class::R, bidi::Class::R, bidi::Class::NSM, bidi::Class::NSM, bidi::Class::R};
+    const auto found = value_of(row, bidi::try_analyse_classes(classes));
+    const auto marks = value_of(row, bidi::try_line_order(found.classes, found.levels, found.paragraphs[0], 0, 5, Moves::marks));
+    row.check(is(marks.order, {4, 1, 2, 3, 0}) && is(marks.places, {4, 1, 2, 3, 0}), "the order of marks");
+    const auto each = value_of(row, bidi::try_line_order(found.classes, found.levels, found.paragraphs[0], 1, 4));
+    row.check(is(each.order, {2, 1, 0}) && is(each.places, {2, 1, 0}), "the order of characters");
+    // N0c: a pair that encloses an L behind an L is L. By itself, the last of these characters has the direction of the
+    // paragraph (N2).
+    const std::vector<bidi::Class> enclosing = {bidi::Class::L, bidi::Class::ON, bidi::Class::L, bidi::Class::ON};
+    const std::vector<bidi::Bracket> pair = {{0}, {U'(' | UNICODE_BIDI_OPENING}, {0}, {U'('}};
+    const auto last_level = [&](bidi::Span<const bidi::Bracket> brackets) {
+        return value_of(row, bidi::try_analyse_classes(enclosing, brackets, 1)).levels[3];
+    };
+    row.check(last_level(pair) == 2 && last_level({}) == 1, "brackets");
+    const std::array<std::size_t, 4> order = {2, 0, 2, 9};
+    row.check(is(value_of(row, bidi::try_places(order, 4)), {1, nowhere, 0, nowhere}), "places");
+    row.check(is(value_of(row, bidi::try_places({}, 2)), {nowhere, nowhere}) && value_of(row, bidi::try_places(order, 0)).empty(),
+              "places of nothing");
+#ifdef UNICODE_BIDI_EXCEPTIONS
+    check_throwing(row, std::nullopt, [&] { bidi::places(order, 4), bidi::line_order(classes, found.levels, {0, 5, 1}, 0, 5); });
+#endif
+}
+
 #ifdef __cpp_lib_ranges
 static_assert(std::ranges::forward_range<bidi::Paragraphs<char>> && std::ranges::forward_range<bidi::Lines<char>>);
 static_assert(std::ranges::contiguous_range<bidi::Array<bidi::Run>> && std::ranges::contiguous_range<bidi::Span<const bidi::Level>>);
@@ -662,12 +916,13 @@ static_assert(std::ranges::contiguous_range<bidi::Array<bidi::Run>> && std::rang
 } // namespace
 
 int main(int argc, char **argv) {
-    if (argc != 2) fail("usage: rows FOLDER");
-    const std::string folder = argv[1];
+    if (argc != 3) fail("usage: rows FOLDER DISPLAYED");
     for (const char *file : {"sources.rows", "characters.rows", "texts.rows", "limits.rows", "lines.rows", "layouts.rows", "orders.rows", "directions.rows"})
-        run_file(folder, file);
+        run_file(argv[1], file);
+    for (const char *file : {"shown.rows", "clusters.rows", "carets.rows", "breaks.rows", "texts.rows"}) run_file(argv[2], file);
     check_faults();
     check_objects();
+    check_displays();
 #ifdef UNICODE_BIDI_EXCEPTIONS
     std::puts("ok: rows, faults and objects in C++, also in the forms that throw");
 #else

@@ -1,8 +1,11 @@
-"""Reads the shared test vectors, ``crates/bidi_vectors/data/*.rows``. The README there says what a row has."""
+"""Reads the shared test vectors, ``crates/bidi_vectors/data/*.rows``, and those of displayed lines,
+``crates/bidi_vectors_display/data/*.rows``. The README in each folder says what a row has."""
 import pathlib
 import re
 
-FOLDER = pathlib.Path(__file__).resolve().parents[3] / "crates" / "bidi_vectors" / "data"
+CRATES = pathlib.Path(__file__).resolve().parents[3] / "crates"
+FOLDER = CRATES / "bidi_vectors" / "data"
+DISPLAYED = CRATES / "bidi_vectors_display" / "data"
 
 
 class Row:
@@ -34,10 +37,10 @@ class Row:
         return None if words is None else "".join(map(character, words))
 
 
-def rows(file):
+def rows(file, folder=FOLDER):
     """Returns the rows of a file."""
     found = []
-    for number, line in enumerate((FOLDER / file).read_text(encoding="ascii").splitlines(), 1):
+    for number, line in enumerate((folder / file).read_text(encoding="ascii").splitlines(), 1):
         line = line.strip()
         begin = re.match(r"\[([^]]*)\] (.*)", line)
         if begin:

@@ -8,9 +8,22 @@ import sys
 import unittest
 
 import unicode_bidi.algorithm
-from unicode_bidi import BidiClass, BidiText, _library, bidi_classes, get_base_level, get_display
+from unicode_bidi import (
+    BadFlagsError,
+    BidiClass,
+    BidiText,
+    Dropped,
+    Moves,
+    Split,
+    bidi_classes,
+    displayed_text,
+    get_base_level,
+    get_display,
+)
 
 RLI, LRI, PDI, RLE, RLO, PDF, ZWJ = "\u2067", "\u2066", "\u2069", "\u202b", "\u202e", "\u202c", "\u200d"
+RLM, QAMATS = "\u200f", "\u05b8"
+REMOVED = {BidiClass.BN, BidiClass.LRE, BidiClass.LRO, BidiClass.RLE, BidiClass.RLO, BidiClass.PDF}
 
 
 class Examples(unittest.TestCase):
@@ -85,6 +98,36 @@ class Arguments(unittest.TestCase):
         self.assertEqual(f"a{LRI}b{PDI}", get_display(f"a{LRI}b{PDI}"))
         self.assertEqual("", get_display(RLE))
 
+    def test_mirror(self):
+        self.assertEqual("(ב) א", get_display("א (ב)"))
+        self.assertEqual(")ב( א", get_display("א (ב)", mirror=False))
+
+    def test_moves(self):
+        """L3: a point stays behind its letter. UAX #29: an emoji sequence stays together."""
+        text = f"א{QAMATS}ב"
+        self.assertEqual(f"ב{QAMATS}א", get_display(text))
+        for moves in (Moves.MARKS, Moves.CLUSTERS, 1, 2):
+            self.assertEqual(f"בא{QAMATS}", get_display(text, moves=moves))
+        family = f"\U0001f469{ZWJ}\U0001f467"
+        self.assertEqual(f"{family}א", get_display(f"א{family}", moves=Moves.CLUSTERS, dropped=Dropped.CONTROLS))
+
+    def test_dropped(self):
+        """By default only the characters that X9 removes are left out."""
+        text = f"א{RLM}{ZWJ}{RLI}ב{PDI}"
+        self.assertEqual(f"{PDI}ב{RLI}{RLM}א", get_display(text, base_dir="R"))
+        for dropped, shown in ((Dropped.NOTHING, text[::-1]), (Dropped.CONTROLS, f"ב{ZWJ}א"),
+                               (Dropped.BOUNDARY_NEUTRALS, "בא")):
+            self.assertEqual(shown, get_display(text, base_dir="R", dropped=dropped))
+
+    def test_options(self):
+        """The options with other arguments, and what is no option."""
+        self.assertEqual(f"בא{QAMATS}".encode(), get_display(f"א{QAMATS}ב".encode(), moves=Moves.MARKS))
+        self.assertEqual(f"B{ZWJ}A", get_display(f"A{RLM}{ZWJ}B", upper_is_rtl=True, dropped=Dropped.CONTROLS))
+        self.assertEqual(f"B\ud800{QAMATS}A", get_display(f"A\ud800{QAMATS}B", upper_is_rtl=True, moves=Moves.MARKS))
+        for wrong in ({"moves": 3}, {"moves": -1}, {"moves": 4}, {"dropped": 4}, {"dropped": 24}, {"dropped": -8}):
+            with self.assertRaises(BadFlagsError):
+                get_display("a", **wrong)
+
     def test_upper_is_rtl(self):
         self.assertEqual("12 CBA x", get_display("ABC 12 x", upper_is_rtl=True, base_dir="L"))
         self.assertEqual("ABC 12", get_display("ABC 12"))
@@ -128,14 +171,22 @@ class Agreement(unittest.TestCase):
         for _ in range(3000):
             text = "".join(chance.choices(palette, k=chance.randint(1, 30)))
             base_dir, level = chance.choice(((None, get_base_level(text)), ("L", 0), ("R", 1)))
-            self.assertEqual(BidiText(text, level).display(keep_removed=False), get_display(text, base_dir=base_dir))
+            for mirror in (True, False):
+                self.assertEqual(BidiText(text, level).display(mirror=mirror, keep_removed=False),
+                                 get_display(text, base_dir=base_dir, mirror=mirror))
+            for moves in Moves:
+                for dropped in Dropped:
+                    self.assertEqual(displayed_text(text, level, moves=moves, dropped=dropped).text,
+                                     get_display(text, base_dir=base_dir, moves=moves, dropped=dropped))
 
-    def test_mirrored_characters_are_neutral(self):
-        """Only characters of class ON have a mirrored partner, which get_display relies on."""
-        characters = [number for number in range(0x110000) if not 0xD800 <= number <= 0xDFFF]
-        have_partner = {chr(number) for number in characters if _library.mirrored(number) != number}
-        self.assertGreater(len(have_partner), 300)
-        self.assertEqual({BidiClass.ON}, set(bidi_classes("".join(have_partner))))
+    def test_characters(self):
+        """Each separator ends a line for Python too, and X9 removes no other character than C drops."""
+        every = "".join(chr(number) for number in range(0x110000) if not 0xD800 <= number <= 0xDFFF)
+        lines = "".join(character for character in every if len(f"a{character}a".splitlines()) > 1)
+        self.assertEqual(bidi_classes(every).count(BidiClass.B), bidi_classes(lines).count(BidiClass.B))
+        dropped = displayed_text(every, 0, split=Split.ONE_PARAGRAPH, dropped=Dropped.BOUNDARY_NEUTRALS)
+        kept = bidi_classes("".join(every[index] for index in dropped.order))
+        self.assertEqual(set(), set(REMOVED).intersection(kept))
 
 
 class AsBidi(unittest.TestCase):

@@ -16,6 +16,7 @@ from unicode_bidi import (
     BadSplitError,
     BidiError,
     BidiText,
+    Bracket,
     CutCharacterError,
     NoMemoryError,
     NoRoomError,
@@ -26,7 +27,11 @@ from unicode_bidi import (
     UnequalLengthsError,
     UnevenCharacterError,
     _library,
+    analyse_classes,
     base_direction_of_classes,
+    displayed_text,
+    find_paragraphs,
+    line_order,
     reorder_visual,
 )
 from unicode_bidi.faults import checked
@@ -59,16 +64,33 @@ class Faults(unittest.TestCase):
 
     def test_arguments(self):
         """Numbers that C rejects, and numbers that no argument of C can have."""
-        for wrong in (126, 254, 255, 256, -1, FAR):
-            self.see(BadBaseLevelError, BidiText, "a", wrong)
-        for wrong in (3, 255, 256, -1, FAR):
-            self.see(BadSplitError, BidiText, "a", split=wrong)
+        for call, given in ((BidiText, "a"), (displayed_text, "a"), (find_paragraphs, "a"), (analyse_classes, [L])):
+            for wrong in (126, 253, 254, 255, 256, -1, FAR):
+                self.see(BadBaseLevelError, call, given, base_level=wrong)
+            for wrong in (2, -1, 255, FAR):
+                self.see(BadBaseLevelError, call, given, fallback=wrong)
+            for wrong in (3, 255, 256, -1, FAR):
+                self.see(BadSplitError, call, given, split=wrong)
         for wrong in (23, 255, 256, -1, FAR):
             self.see(BadClassError, base_direction_of_classes, [L, wrong])
+            self.see(BadClassError, analyse_classes, [L, wrong])
+            self.see(BadClassError, line_order, [L, wrong], [0, 0], Paragraph(0, 2, 0), 0, 2)
             self.see(BadClassError, Tables, [(0, 1, wrong)])
         for wrong in (127, 255, 256, -1, FAR):
             self.see(BadLevelError, reorder_visual, [1, wrong])
             self.see(BadLevelError, BidiText("a").line, 0, 1, paragraph=Paragraph(0, 1, wrong))
+            self.see(BadLevelError, line_order, [L, L], [0, wrong], Paragraph(0, 2, 0), 0, 2)
+            self.see(BadLevelError, line_order, [L], [0], Paragraph(0, 1, wrong), 0, 1)
+        for wrong in ("\x1f", "\U00080000", "\ud800"):
+            self.see(BadBracketError, analyse_classes, [R], [Bracket(wrong, True)])
+        for count in (1, 3):
+            self.see(UnequalLengthsError, analyse_classes, [R, R], [None] * count)
+            self.see(UnequalLengthsError, line_order, [R, R], [1] * count, Paragraph(0, 2, 1), 0, 1)
+        for moves in (2, 3, 4, 8, -1, FAR):
+            self.see(BadFlagsError, line_order, [R], [1], Paragraph(0, 1, 1), 0, 1, moves=moves)
+        for wrong in ({"moves": 3}, {"moves": -1}, {"moves": 4}, {"dropped": 4}, {"dropped": 24}, {"dropped": FAR}):
+            self.see(BadFlagsError, displayed_text, "a", **wrong)
+            self.see(BadFlagsError, BidiText("a").line(0, 1).displayed, **wrong)
         for wrong in (0xD800, 0x110000, FAR, -1):
             self.see(NotScalarError, Tables, [(0x61, wrong, R)])
             self.see(NotScalarError, Tables, [], [(0x28, wrong, 0x28)])
@@ -83,6 +105,8 @@ class Faults(unittest.TestCase):
         self.see(BadLineError, text.line, 0, 1, paragraph=Paragraph(1, 2, 0))
         self.see(BadLineError, text.line, 0, 6, paragraph=Paragraph(0, 6, 0))
         self.see(BadLineError, text.line, FAR, FAR, paragraph=Paragraph(FAR, FAR, 0))
+        for start, end in ((1, 0), (0, 3), (-1, 1), (0, -1), (FAR, FAR), (0, FAR + 1)):
+            self.see(BadLineError, line_order, [R, R], [1, 1], Paragraph(0, 2, 1), start, end)
         self.assertEqual(before, (text.text, text.levels, text.classes, text.paragraphs))
 
     def test_types(self):

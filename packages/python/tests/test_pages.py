@@ -25,10 +25,12 @@ class Pages(unittest.TestCase):
     def test_programs(self):
         for page in ("docs/PYTHON.md", "packages/python/README.md"):
             with self.subTest(page=page), tempfile.TemporaryDirectory() as folder:
-                program, printed = PROGRAM.search((REPOSITORY / page).read_text(encoding="utf-8")).groups()
-                pathlib.Path(folder, "program.py").write_text(program, encoding="utf-8")
-                wanted = re.sub("^    ", "", printed, flags=re.MULTILINE)
-                self.assertEqual(wanted, run("program.py", folder=folder))
+                programs = PROGRAM.findall((REPOSITORY / page).read_text(encoding="utf-8"))
+                self.assertEqual(2 if page == "docs/PYTHON.md" else 1, len(programs))
+                for program, printed in programs:
+                    pathlib.Path(folder, "program.py").write_text(program, encoding="utf-8")
+                    wanted = re.sub("^    ", "", printed, flags=re.MULTILINE)
+                    self.assertEqual(wanted, run("program.py", folder=folder))
 
     def test_differences(self):
         """The table of differences from python-bidi. Its column of python-bidi is tested where that is installed."""

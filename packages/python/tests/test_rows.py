@@ -6,22 +6,30 @@ import collections
 import re
 import unittest
 
-from rows import character, rows
+from rows import DISPLAYED, FOLDER, character, rows
 from unicode_bidi import (
     BadRangesError,
     BidiClass,
     BidiText,
+    Bracket,
     Direction,
+    Dropped,
+    Moves,
     Split,
     Tables,
+    analyse_classes,
     base_direction,
     base_direction_of_classes,
     bidi_class,
     bidi_classes,
     bracket,
     brackets,
+    displayed_text,
+    find_paragraphs,
     get_display,
+    line_order,
     mirrored,
+    places,
     reorder_visual,
 )
 
@@ -33,16 +41,18 @@ OF_CLASS = "a\u05d0\u06271+$\u0660,\u0301\u00ad\u2029\t !\u202a\u202d\u202b\u202
 DISPLAY_BASES = {"auto": None, "0": "L", "1": "R"}
 REMOVED = {BidiClass.BN, BidiClass.LRE, BidiClass.LRO, BidiClass.RLE, BidiClass.RLO, BidiClass.PDF}
 SURROGATE = re.compile("[\ud800-\udfff]")
+MOVES = {"characters": Moves.CHARACTERS, "marks": Moves.MARKS, "clusters": Moves.CLUSTERS}
+DROPPED = {"nothing": Dropped.NOTHING, "controls": Dropped.CONTROLS, "neutrals": Dropped.BOUNDARY_NEUTRALS}
 
 ran = collections.Counter()
 ran_kinds = set()
 
 
 def tearDownModule():
-    for file, count in sorted(ran.items()):
-        every = rows(file)
+    for (folder, file), count in sorted(ran.items()):
+        every = rows(file, folder)
         left_out = ", ".join(sorted({row.kind for row in every if row.kind not in ran_kinds}))
-        print(f"{file}: {count} of {len(every)} rows" + (f", without: {left_out}" if left_out else ""))
+        print(f"{folder.parent.name}/{file}: {count} of {len(every)} rows" + (f", without: {left_out}" if left_out else ""))
     print(f"ok python: {sum(ran.values())} rows")
 
 
@@ -51,24 +61,49 @@ def number_of(word):
     return ord(character(word))
 
 
-def tables_of(row):
-    """Returns the tables that a row of kind source describes."""
-    ranges, pairs = [], []
-    for key, value in row.fields:
-        words = value.split()
-        if key == "range":
-            first, last = (int(end[2:], 16) for end in words[0].split(".."))
-            ranges.append((first, last, BidiClass[words[1]]))
-        elif key == "bracket":
-            opening, closing = map(number_of, words[:2])
-            pairs.append((opening, closing, number_of(words[2]) if len(words) > 2 else opening))
-    return Tables(ranges, pairs)
+class Source:
+    """The classes and brackets that a row of kind source describes."""
+
+    def __init__(self, row):
+        self.ranges, self.pairs = [], []
+        for key, value in row.fields:
+            words = value.split()
+            if key == "range":
+                first, last = (int(end[2:], 16) for end in words[0].split(".."))
+                self.ranges.append((first, last, BidiClass[words[1]]))
+            elif key == "bracket":
+                opening, closing = map(number_of, words[:2])
+                self.pairs.append((opening, closing, number_of(words[2]) if len(words) > 2 else opening))
+
+    def tables(self):
+        return Tables(self.ranges, self.pairs)
+
+    def class_of(self, found):
+        """Returns the class of a character. A lone surrogate is U+FFFD."""
+        number = 0xFFFD if SURROGATE.match(found) else ord(found)
+        return next((kind for first, last, kind in self.ranges if first <= number <= last), BidiClass.L)
+
+    def bracket_of(self, found):
+        """Returns the bracket that a character is, or None."""
+        return next((Bracket(chr(normal_form), ord(found) == opening) for opening, closing, normal_form in self.pairs
+                     if ord(found) in (opening, closing)), None)
 
 
 def read_sources():
-    """Returns the tables of each source without a fault, by its name."""
-    return {row.name: tables_of(row) for row in rows("sources.rows")
+    """Returns each source without a fault, by its name."""
+    return {row.name: Source(row) for row in rows("sources.rows")
             if row.kind == "source" and row.get("fault", "none") == "none"}
+
+
+def base_of(row):
+    """Returns the base level of a row, or None."""
+    base = row.get("base", "auto")
+    return None if base == "auto" else int(base)
+
+
+def options_of(row):
+    """Returns the options of a displayed line as named arguments."""
+    return {"moves": MOVES[row.get("moves", "clusters")], "dropped": DROPPED[row.get("dropped", "controls")]}
 
 
 def text_of(row):
@@ -102,22 +137,24 @@ class Rows(unittest.TestCase):
     def setUpClass(cls):
         cls.sources = read_sources()
 
-    def each(self, file, see, *kinds):
+    def each(self, file, see, *kinds, folder=FOLDER):
         """Calls ``see`` with each row of these kinds, and counts it."""
-        found = [row for row in rows(file) if row.kind in kinds]
+        found = [row for row in rows(file, folder) if row.kind in kinds]
         self.assertTrue(found, f"no row of {kinds} in {file}")
         ran_kinds.update(kinds)
         for row in found:
             with self.subTest(row=row.place):
-                ran[file] += 1
+                ran[folder, file] += 1
                 see(row)
 
     def source(self, row):
         return self.sources[row.get("source", "sample")]
 
+    def tables(self, row):
+        return self.source(row).tables()
+
     def analysed(self, row, split):
-        base = row.get("base", "auto")
-        return BidiText(text_of(row), None if base == "auto" else int(base), split=split, tables=self.source(row))
+        return BidiText(text_of(row), base_of(row), split=split, tables=self.tables(row))
 
     def compare(self, row, key, found):
         """Compares a field, if the row has it, with what was found. A dash fits anything."""
@@ -132,21 +169,34 @@ class Rows(unittest.TestCase):
 
     def see_source(self, row):
         if row.get("fault", "none") == "none":
-            tables_of(row)
+            Source(row).tables()
         else:
             with self.assertRaises(BadRangesError):
-                tables_of(row)
+                Source(row).tables()
 
     def test_texts(self):
         for file in ("texts.rows", "limits.rows"):
             self.each(file, self.see_text, "text")
 
     def see_text(self, row):
-        text = self.analysed(row, SPLITS[row.get("split", "each-separator")])
-        self.compare(row, "classes", text.classes)
-        self.compare(row, "levels", text.levels)
-        self.compare(row, "paragraphs", [f"{p.start}..{p.end}:{p.level}" for p in text.paragraphs])
+        split = SPLITS[row.get("split", "each-separator")]
+        text = self.analysed(row, split)
+        self.see_analysis(row, text)
+        if split != Split.CR_LF_TOGETHER:  # a list of classes has no CR and no LF
+            source = self.source(row)
+            self.see_analysis(row, analyse_classes(map(source.class_of, text.text), map(source.bracket_of, text.text),
+                                                   base_of(row), split=split))
         self.see_direction_of_classes(row)
+        found, analysed = (call(text.text, base_of(row), split=split) for call in (find_paragraphs, BidiText))
+        self.assertEqual((analysed.paragraphs, analysed.classes), found)
+
+    def see_analysis(self, row, found):
+        self.compare(row, "classes", found.classes)
+        self.compare(row, "levels", found.levels)
+        self.see_paragraphs(row, found.paragraphs)
+
+    def see_paragraphs(self, row, paragraphs):
+        self.compare(row, "paragraphs", [f"{p.start}..{p.end}:{p.level}" for p in paragraphs])
 
     def see_direction_of_classes(self, row):
         """A text's stored classes have the base direction that the level of its first paragraph shows."""
@@ -186,7 +236,7 @@ class Rows(unittest.TestCase):
             whole = row.range("line") in (None, (0, len(text or "")))
             if not text or not shown or not whole or row.get("paragraph") or base not in DISPLAY_BASES:
                 continue
-            if BidiText(text, tables=self.source(row)).classes != BidiText(text).classes:
+            if BidiText(text, tables=self.tables(row)).classes != BidiText(text).classes:
                 continue
             if REMOVED.intersection(bidi_classes(text)) or any(map(bracket, text)) or SURROGATE.search(text):
                 continue
@@ -200,8 +250,55 @@ class Rows(unittest.TestCase):
 
     def see_line_map(self, row):
         start, end = row.range("line")
-        line = self.analysed(row, Split.EACH_SEPARATOR).line(start, end)
-        self.compare(row, "order", [index - start for index in line.order])
+        text = self.analysed(row, Split.EACH_SEPARATOR)
+        order = [index - start for index in text.line(start, end).order]
+        self.compare(row, "order", order)
+        self.compare(row, "places", places(order, len(order)))
+        maps = line_order(text.classes, text.levels, text.paragraphs[0], start, end)
+        self.compare(row, "order", [index - start for index in maps.order])
+        self.compare(row, "places", maps.places)
+
+    def test_displayed(self):
+        """Displayed lines and texts by Unicode's own data."""
+        if not DISPLAYED.is_dir():
+            print(f"\nleft out: displayed lines, since {DISPLAYED} is not there")
+            return
+        for file in ("shown.rows", "clusters.rows", "carets.rows", "breaks.rows"):
+            self.each(file, self.see_displayed_line, "displayed line", folder=DISPLAYED)
+        self.each("texts.rows", self.see_displayed_text, "displayed text", folder=DISPLAYED)
+
+    def see_displayed_line(self, row):
+        text = BidiText(row.text(), base_of(row), split=Split.ONE_PARAGRAPH)
+        start, end = row.range("line") or (0, len(text.text))
+        line = text.line(start, end)
+        self.compare(row, "levels", line.levels)
+        shown = row.text("shown")
+        if shown is None:
+            return
+        found = line.displayed(**options_of(row))
+        self.see_displayed(text.text, start, end, shown, found)
+        if (start, end) == (0, len(text.text)) and BidiClass.B not in text.classes and row.get("base") in DISPLAY_BASES:
+            given = get_display(text.text, base_dir=DISPLAY_BASES[row.get("base")], **options_of(row))
+            self.assertEqual(shown, SURROGATE.sub("\ufffd", given))
+
+    def see_displayed_text(self, row):
+        text = row.text()
+        named = {"split": SPLITS[row.get("split", "each-separator")], "fallback": int(row.get("fallback", "0"))}
+        found = displayed_text(text, base_of(row), **named, **options_of(row))
+        self.see_displayed(text, 0, len(text), row.text("shown"), found)
+        analysed = BidiText(text, base_of(row), **named)
+        self.assertEqual(found.levels, sum((analysed.line(p.start, p.end).levels for p in analysed.paragraphs), ()))
+        self.see_paragraphs(row, analysed.paragraphs)
+        self.see_paragraphs(row, find_paragraphs(text, base_of(row), **named).paragraphs)
+
+    def see_displayed(self, text, start, end, shown, found):
+        """Compares a displayed text. Both maps must fit it and each other. A lone surrogate is displayed as itself."""
+        self.assertEqual(shown, SURROGATE.sub("\ufffd", found.text))
+        self.assertEqual(len(shown), len(found.order))
+        for index, own in zip(found.order, found.text):
+            self.assertIn(own, (text[index], mirrored(text[index])))
+        self.assertEqual(places([index - start for index in found.order], end - start), found.places)
+        self.assertEqual(end - start - len(shown), found.places.count(None))
 
     def test_orders(self):
         self.each("orders.rows", self.see_order, "order")
@@ -220,7 +317,7 @@ class Rows(unittest.TestCase):
             wanted = DIRECTIONS[row.get(key)]
             self.assertEqual(wanted, base_direction_of_classes(classes, full=full))
             self.assertEqual(wanted, base_direction(text, full=full))
-            self.assertEqual(wanted, base_direction(text, full=full, tables=self.source(row)))
+            self.assertEqual(wanted, base_direction(text, full=full, tables=self.tables(row)))
 
     def test_character_of_unicode(self):
         self.each("characters.rows", self.see_character, "character of Unicode", "format character")
@@ -252,7 +349,7 @@ class Rows(unittest.TestCase):
     def see_character_of_sample(self, row):
         """The class of a character in the tables. Its bracket there has no call."""
         if row.get("class"):
-            found = BidiText(row.text("character"), tables=self.source(row)).classes
+            found = BidiText(row.text("character"), tables=self.tables(row)).classes
             self.assertEqual([row.get("class")], [item.name for item in found])
 
 

@@ -5,7 +5,7 @@ import threading
 import time
 import unittest
 
-from unicode_bidi import BidiText, get_display
+from unicode_bidi import BidiText, displayed_text, find_paragraphs, get_display
 
 #: Texts of one length and several lengths, so that a buffer of two threads would be seen.
 TEXTS = ("אב" * 1000, "ab" * 1000, "א1" * 1000, "(א)" * 500, "a\nא" * 30, "גד" * 5)
@@ -13,7 +13,8 @@ TEXTS = ("אב" * 1000, "ab" * 1000, "א1" * 1000, "(א)" * 500, "a\nא" * 30, "
 
 def work_of(text):
     """Returns what a thread finds for a text."""
-    return get_display(text), BidiText(text).levels, BidiText(text).display(), BidiText(text).lines()[0].runs
+    return (get_display(text), BidiText(text).levels, BidiText(text).display(), BidiText(text).lines()[0].runs,
+            displayed_text(text), find_paragraphs(text))
 
 
 class Threads(unittest.TestCase):

@@ -20,10 +20,19 @@ pub fn folder() -> PathBuf {
     Path::new(env!("CARGO_MANIFEST_DIR")).join("../../crates/bidi_vectors/data")
 }
 
+/// Returns the folder of the files of displayed lines.
+pub fn folder_of_displayed() -> PathBuf {
+    Path::new(env!("CARGO_MANIFEST_DIR")).join("../../crates/bidi_vectors_display/data")
+}
+
 /// Returns the names of all files, with those first that later ones refer to.
 pub fn files() -> Vec<String> {
-    let folder = folder();
-    let entries = fs::read_dir(&folder).unwrap_or_else(|e| panic!("{}: {}", folder.display(), e));
+    files_in(&folder())
+}
+
+/// Returns the names of all files in a folder, in the same order.
+pub fn files_in(folder: &Path) -> Vec<String> {
+    let entries = fs::read_dir(folder).unwrap_or_else(|e| panic!("{}: {}", folder.display(), e));
     let mut names: Vec<String> = entries
         .map(|entry| entry.unwrap().file_name().into_string().unwrap())
         .filter(|name| name.ends_with(".rows"))
@@ -34,7 +43,12 @@ pub fn files() -> Vec<String> {
 
 /// Returns the test vectors of a file.
 pub fn read(file: &str) -> Vec<Row> {
-    let path = folder().join(file);
+    read_in(&folder(), file)
+}
+
+/// Returns the test vectors of a file in a folder.
+pub fn read_in(folder: &Path, file: &str) -> Vec<Row> {
+    let path = folder.join(file);
     let text = fs::read_to_string(&path).unwrap_or_else(|e| panic!("{}: {}", path.display(), e));
     let mut rows: Vec<Row> = Vec::new();
     for (index, line) in text.lines().enumerate() {

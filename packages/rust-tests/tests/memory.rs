@@ -11,6 +11,7 @@ use std::process::{Command, Output};
 use std::ptr;
 use std::sync::atomic::{AtomicUsize, Ordering};
 
+use unicode_bidi::displayed::{self, DisplayOptions, Moves};
 use unicode_bidi::{BidiClass, BidiDataSource, BidiInfo, Level, ParagraphBidiInfo};
 
 const NEVER: usize = usize::MAX;
@@ -101,6 +102,12 @@ fn call_all() {
     assert!(!info.visual_runs(paragraph, 0..text.len()).1.is_empty());
     let info = ParagraphBidiInfo::new_with_data_source(&Letters, &text, Some(Level::rtl()));
     assert_eq!(info.reordered_levels(0..text.len()).len(), text.len());
+    let level = info.paragraph_level;
+    let line = displayed::line(&info, level, 0..text.len(), DisplayOptions::default());
+    assert_eq!(line.places.len(), text.chars().count());
+    let (classes, levels) = (&info.original_classes, &info.levels);
+    let maps = displayed::line_order(classes, levels, level, 0..text.len(), Moves::Marks);
+    assert_eq!(maps.order.len(), text.len());
 }
 
 const VARIABLE: &str = "UNICODE_BIDI_FAILING_REQUEST";

@@ -2,6 +2,7 @@
 
 use std::panic::{self, AssertUnwindSafe};
 
+use unicode_bidi::displayed::{self, BaseLevel, DisplayOptions, Moves, Split};
 use unicode_bidi::{BidiClass, BidiDataSource, Level, ParagraphInfo};
 
 /// Hebrew letters are R, other characters L.
@@ -46,6 +47,10 @@ macro_rules! expect_line_fault {
         });
         expect_fault($fault, || $info.visual_runs($paragraph, $line));
         expect_fault($fault, || $info.reorder_line($paragraph, $line));
+        expect_fault($fault, || {
+            let level = $paragraph.level;
+            displayed::line(&$info, level, $line, DisplayOptions::default())
+        });
     };
 }
 
@@ -73,6 +78,10 @@ macro_rules! tests_of_lines {
                 expect_fault("BAD_LINE", || one.reordered_levels_per_char(0..len + 1));
                 expect_fault("BAD_LINE", || one.visual_runs(0..len + 1));
                 expect_fault("BAD_LINE", || one.reorder_line(0..len + 1));
+                expect_fault("BAD_LINE", || {
+                    let level = one.paragraph_level;
+                    displayed::line(&one, level, 0..len + 1, DisplayOptions::default())
+                });
             }
 
             #[test]
@@ -187,6 +196,51 @@ fn levels() {
 }
 
 #[test]
+fn lists_of_classes() {
+    use BidiClass::{L, R};
+
+    let ltr = Level::ltr();
+    let unchecked = Level::from_slice_unchecked(&[127, 0]);
+    let order = |classes: &[BidiClass], levels: &[Level], level, line, moves| {
+        displayed::line_order(classes, levels, level, line, moves)
+    };
+    let marks = Moves::Marks;
+    expect_fault("UNEQUAL_LENGTHS", || order(&[R], &[], ltr, 0..1, marks));
+    expect_fault("BAD_LINE", || order(&[R], &[ltr], ltr, 0..2, marks));
+    #[allow(clippy::reversed_empty_ranges)]
+    {
+        expect_fault("BAD_LINE", || order(&[R], &[ltr], ltr, 1..0, marks));
+    }
+    expect_fault("BAD_LEVEL", || order(&[R, L], unchecked, ltr, 0..2, marks));
+    expect_fault("BAD_LEVEL", || {
+        order(&[R], &[ltr], unchecked[0], 0..1, marks)
+    });
+    expect_fault("BAD_FLAGS", || {
+        order(&[R], &[ltr], ltr, 0..1, Moves::Clusters)
+    });
+    let analyse = |brackets: &[_], base| {
+        displayed::analyse_classes(&[R, L], brackets, base, Split::EachSeparator)
+    };
+    expect_fault("UNEQUAL_LENGTHS", || analyse(&[None], BaseLevel::AutoLtr));
+    for &number in &[126, 127, 253, 254, 255] {
+        let level = Level::from_slice_unchecked(&[number])[0];
+        expect_fault("BAD_BASE_LEVEL", || analyse(&[], BaseLevel::Of(level)));
+    }
+}
+
+#[cfg(feature = "hardcoded-data")]
+#[test]
+fn displayed_texts() {
+    let base = BaseLevel::Of(Level::from(126));
+    expect_fault("BAD_BASE_LEVEL", || {
+        displayed::text("a", base, Split::OneParagraph, DisplayOptions::default())
+    });
+    expect_fault("BAD_BASE_LEVEL", || {
+        displayed::paragraphs(&[0x61][..], base, Split::EachSeparator)
+    });
+}
+
+#[test]
 #[allow(
     deprecated,
     clippy::reversed_empty_ranges,
@@ -225,6 +279,8 @@ fn the_panic_is_in_the_code_of_the_caller() {
     let between = line!();
     let info = unicode_bidi::ParagraphBidiInfo::new_with_data_source(&Letters, "a", None);
     message(|| info.reorder_line(0..2));
+    let then = line!();
+    message(|| displayed::line(&info, Level::ltr(), 0..2, DisplayOptions::default()));
     let last = line!();
     panic::set_hook(before);
     let places = places.lock().unwrap();
@@ -234,5 +290,6 @@ fn the_panic_is_in_the_code_of_the_caller() {
             .any(|(file, line)| file.ends_with("panics.rs") && first < *line && *line < last)
     };
     assert!(is_between(first, between));
-    assert!(is_between(between, last));
+    assert!(is_between(between, then));
+    assert!(is_between(then, last));
 }

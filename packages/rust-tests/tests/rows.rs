@@ -1,14 +1,19 @@
 //! Runs the shared test vectors through the crate's public names, and prints how many of each file it ran.
 //!
-//! A vector is left out if the crate has no name for it: the separate stages, lines of a width, `cr-lf-together`, mirrored
-//! partners, and a table with a fault. The classes of Unicode's data need the feature `hardcoded-data`. The crate has no
-//! base direction of classes: `types` are a text of the source `sample`.
+//! A vector is left out if the crate has no name for it: the separate stages, lines of a width, `cr-lf-together` with a
+//! source, mirrored partners, and a table with a fault. The classes of Unicode's data need the feature `hardcoded-data`, and
+//! so do displayed lines. The crate has no base direction of classes: `types` are a text of the source `sample`.
 
+use std::char;
 use std::collections::BTreeSet;
 use std::panic;
+use std::path::Path;
 use std::process::exit;
 use std::sync::atomic::{AtomicUsize, Ordering};
 
+#[cfg(feature = "hardcoded-data")]
+use unicode_bidi::displayed::BaseLevel;
+use unicode_bidi::displayed::{self, Moves, Split};
 use unicode_bidi::level::MAX_IMPLICIT_DEPTH;
 use unicode_bidi::{
     format_chars, BidiClass, BidiDataSource, Direction, Level, LevelRun, ParagraphInfo,
@@ -26,13 +31,36 @@ fn main() {
         "sources.rows: {} data sources, which other test vectors name",
         sources.len()
     );
+    let mut total = run_folder(&rows::folder(), &sources);
+    assert!(total > 0, "no test vector was found");
+    let displayed = rows::folder_of_displayed();
+    if displayed.is_dir() {
+        println!("test vectors of displayed lines:");
+        total += run_folder(&displayed, &sources);
+    } else {
+        println!(
+            "left out: the test vectors of displayed lines, since {} is not there",
+            displayed.display()
+        );
+    }
+    match DIFFERENT.load(Ordering::Relaxed) {
+        0 => println!("ok rows: {} test vectors", total),
+        different => {
+            println!("failed: {} results differ", different);
+            exit(1);
+        }
+    }
+}
+
+/// Runs the test vectors of a folder, and prints how many of each file. Returns how many of all.
+fn run_folder(folder: &Path, sources: &Sources) -> usize {
     let mut total = 0;
-    for file in rows::files() {
-        let rows = rows::read(&file);
+    for file in rows::files_in(folder) {
+        let rows = rows::read_in(folder, &file);
         let mut left_out = BTreeSet::new();
         let mut ran = 0;
         for row in &rows {
-            if run(row, &sources) {
+            if run(row, sources) {
                 ran += 1;
             } else {
                 left_out.insert(kind_left_out(row));
@@ -52,14 +80,7 @@ fn main() {
         );
         total += ran;
     }
-    assert!(total > 0, "no test vector was found");
-    match DIFFERENT.load(Ordering::Relaxed) {
-        0 => println!("ok rows: {} test vectors", total),
-        different => {
-            println!("failed: {} results differ", different);
-            exit(1);
-        }
-    }
+    total
 }
 
 /// Returns the kind of a test vector that is left out, and which vectors of this kind are.
@@ -91,7 +112,24 @@ fn run(row: &Row, sources: &Sources) -> bool {
         ),
         "direction" => in_each_encoding(row, sources, in_utf8::direction, in_utf16::direction),
         "line" => in_each_encoding(row, sources, in_utf8::line, in_utf16::line),
-        "line map" => in_each_encoding(row, sources, in_utf8::line_map, in_utf16::line_map),
+        "line map" => {
+            run_line_order(row, sources);
+            in_each_encoding(row, sources, in_utf8::line_map, in_utf16::line_map)
+        }
+        #[cfg(feature = "hardcoded-data")]
+        "displayed line" => in_each_encoding(
+            row,
+            sources,
+            in_utf8::displayed_line,
+            in_utf16::displayed_line,
+        ),
+        #[cfg(feature = "hardcoded-data")]
+        "displayed text" => in_each_encoding(
+            row,
+            sources,
+            in_utf8::displayed_text,
+            in_utf16::displayed_text,
+        ),
         "units" => run_units(row),
         "order" => run_order(row),
         "visual runs" => run_visual_runs(row),
@@ -217,11 +255,110 @@ fn in_each_encoding(
 fn run_text(row: &Row, sources: &Sources) -> bool {
     match row.get("split") {
         None | Some("each-separator") => {
+            run_classes(row, sources, Split::EachSeparator);
             in_each_encoding(row, sources, in_utf8::text, in_utf16::text)
         }
-        Some("whole") => in_each_encoding(row, sources, in_utf8::paragraph, in_utf16::paragraph),
+        Some("whole") => {
+            run_classes(row, sources, Split::OneParagraph);
+            in_each_encoding(row, sources, in_utf8::paragraph, in_utf16::paragraph)
+        }
         Some(_) => false,
     }
+}
+
+/// Returns the analysis of a row by the classes and brackets of its characters. An unpaired surrogate is U+FFFD.
+fn analysed_classes(row: &Row, sources: &Sources, split: Split) -> displayed::AnalysedClasses {
+    let text = Text::of(row, "text").unwrap_or_else(|| row.reject("no text"));
+    let source = sources.of(row);
+    let characters: Vec<char> = char::decode_utf16(text.utf16.text.iter().copied())
+        .map(|character| character.unwrap_or(char::REPLACEMENT_CHARACTER))
+        .collect();
+    let classes: Vec<BidiClass> = characters.iter().map(|&c| source.bidi_class(c)).collect();
+    let brackets: Vec<_> = characters
+        .iter()
+        .map(|&c| source.bidi_matched_opening_bracket(c))
+        .collect();
+    displayed::analyse_classes(&classes, &brackets, row.base().into(), split)
+}
+
+/// Compares the analysis of classes without a text. Its indexes count characters.
+fn run_classes(row: &Row, sources: &Sources, split: Split) {
+    let found = analysed_classes(row, sources, split);
+    let each: Vec<usize> = (0..=found.classes.len()).collect();
+    expect_entries(row, "classes", &each, &names(&found.classes));
+    expect_entries(row, "levels", &each, &numbers(&found.levels));
+    expect_paragraphs(row, &each, &found.paragraphs);
+}
+
+/// Compares the maps of a line by classes and levels without a text.
+fn run_line_order(row: &Row, sources: &Sources) {
+    let found = analysed_classes(row, sources, Split::EachSeparator);
+    let line = row.parse_range(row.need("line"));
+    let level = found.paragraphs[0].level;
+    let maps = displayed::line_order(
+        &found.classes,
+        &found.levels,
+        level,
+        line,
+        Moves::Characters,
+    );
+    let indexes = |key| -> Vec<usize> {
+        let words = row.words(key).unwrap_or_default();
+        words.iter().map(|word| row.parse_number(word)).collect()
+    };
+    let places: Vec<Option<usize>> = indexes("places").into_iter().map(Some).collect();
+    expect(
+        row,
+        "inverse",
+        displayed::places(&maps.order, places.len()),
+        places.clone(),
+    );
+    expect(row, "order", maps.order, indexes("order"));
+    expect(row, "places", maps.places, places);
+}
+
+/// Returns the base level of a row, with its fallback.
+#[cfg(feature = "hardcoded-data")]
+fn base_level(row: &Row) -> BaseLevel {
+    match (row.base(), row.get("fallback")) {
+        (None, Some("1")) => BaseLevel::AutoRtl,
+        (base, _) => base.into(),
+    }
+}
+
+/// Returns the options of a displayed line. Those that a row does not have are the defaults.
+#[cfg(feature = "hardcoded-data")]
+fn display_options(row: &Row) -> displayed::DisplayOptions {
+    use displayed::{DisplayOptions, Dropped};
+    let DisplayOptions { moves, dropped, .. } = DisplayOptions::default();
+    DisplayOptions {
+        moves: match row.get("moves") {
+            None => moves,
+            Some("characters") => Moves::Characters,
+            Some("marks") => Moves::Marks,
+            Some("clusters") => Moves::Clusters,
+            Some(_) => row.reject("moves"),
+        },
+        mirror: true,
+        dropped: match row.get("dropped") {
+            None => dropped,
+            Some("nothing") => Dropped::Nothing,
+            Some("controls") => Dropped::Controls,
+            Some("neutrals") => Dropped::BoundaryNeutrals,
+            Some(_) => row.reject("dropped"),
+        },
+    }
+}
+
+/// Checks that the places invert the order, and that the displayed characters are in it.
+#[cfg(feature = "hardcoded-data")]
+fn expect_maps(row: &Row, characters: usize, order: &[usize], places: &[Option<usize>]) {
+    let shown = row.words("shown").unwrap_or_default().len();
+    let inverse = displayed::places(order, characters);
+    expect(row, "order", order.len(), shown);
+    expect(row, "places", places, &inverse[..]);
+    let hidden = places.iter().filter(|place| place.is_none()).count();
+    expect(row, "hidden", hidden, characters - shown);
 }
 
 /// The checks of an encoding: those whose types the crate has twice.
@@ -343,6 +480,56 @@ macro_rules! checks {
                     let expected: Vec<usize> = words.iter().map(|w| row.parse_number(w)).collect();
                     expect(row, "order", order, expected);
                 }
+            }
+
+            #[cfg(feature = "hardcoded-data")]
+            pub fn displayed_line(row: &Row, _: &Sources, case: &Encoded<$Owned>) {
+                let text = $borrow(&case.text);
+                let info = ParagraphBidiInfo::new(text, row.base());
+                let line = match row.get("line") {
+                    Some(word) => row.parse_range(word),
+                    None => 0..case.at.len() - 1,
+                };
+                let units = case.at[line.start]..case.at[line.end];
+                let each: Vec<usize> = (0..=line.len()).collect();
+                let levels = info.reordered_levels_per_char(units.clone());
+                expect_entries(row, "levels", &each, &numbers(&levels[line.clone()]));
+                let expected = match Text::of(row, "shown") {
+                    Some(expected) => expected,
+                    None => return,
+                };
+                let level = info.paragraph_level;
+                let shown = displayed::line(&info, level, units, display_options(row));
+                expect(
+                    row,
+                    "shown",
+                    &shown.text[..],
+                    of_encoding::$encoding(&expected),
+                );
+                expect_maps(row, line.len(), &shown.order, &shown.places);
+            }
+
+            #[cfg(feature = "hardcoded-data")]
+            pub fn displayed_text(row: &Row, _: &Sources, case: &Encoded<$Owned>) {
+                let text = $borrow(&case.text);
+                let split = match row.get("split") {
+                    None | Some("each-separator") => Split::EachSeparator,
+                    Some("cr-lf-together") => Split::CrLfTogether,
+                    Some(_) => row.reject("a split rule"),
+                };
+                let base = base_level(row);
+                let found = displayed::paragraphs(text, base, split);
+                expect_paragraphs(row, &case.at, &found.paragraphs);
+                let shown = displayed::text(text, base, split, display_options(row));
+                let expected = Text::of(row, "shown").unwrap_or_else(|| row.reject("no shown"));
+                expect(
+                    row,
+                    "shown",
+                    &shown.text[..],
+                    of_encoding::$encoding(&expected),
+                );
+                expect_maps(row, case.at.len() - 1, &shown.order, &shown.places);
+                expect(row, "levels", shown.levels.len(), text.len());
             }
         }
     };

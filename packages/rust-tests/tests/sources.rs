@@ -120,28 +120,100 @@ fn openings_without_a_closing_count() {
     assert!(!pairs(&source, &text(63)));
 }
 
-/// Counts how often it is asked about each character.
-struct Counting(RefCell<Vec<char>>);
+/// A normal form can be any character, also one that the library would not take as a number.
+#[test]
+fn any_normal_form() {
+    for &form in &['\0', '\u{1F}', 'a', '\u{80000}', '\u{10FFFF}'] {
+        assert!(pairs(
+            &Brackets(&[('<', form, true), ('>', form, false)]),
+            "a<b>"
+        ));
+        let other = if form == 'a' { 'b' } else { 'a' };
+        assert!(!pairs(
+            &Brackets(&[('<', form, true), ('>', other, false)]),
+            "a<b>"
+        ));
+    }
+}
+
+/// Keeps the characters about which it is asked, and those about whose brackets it is asked.
+#[derive(Default)]
+struct Counting(RefCell<Vec<char>>, RefCell<Vec<char>>);
 
 impl BidiDataSource for Counting {
     fn bidi_class(&self, c: char) -> BidiClass {
         self.0.borrow_mut().push(c);
         Capitals.bidi_class(c)
     }
+
+    fn bidi_matched_opening_bracket(&self, c: char) -> Option<BidiMatchedOpeningBracket> {
+        self.1.borrow_mut().push(c);
+        Capitals.bidi_matched_opening_bracket(c)
+    }
 }
 
 #[test]
-fn an_analysis_asks_once_about_each_character() {
-    let source = Counting(RefCell::default());
-    BidiInfo::new_with_data_source(&source, "abba ABBA", None);
-    let mut asked = source.0.into_inner();
-    asked.sort_unstable();
-    assert_eq!(asked, [' ', 'A', 'B', 'a', 'b']);
+fn an_analysis_asks_about_each_character_in_order() {
+    let text = "ab (BA) \u{10000}!";
+    let units: Vec<u16> = text.encode_utf16().collect();
+    let analyses: [&dyn Fn(&Counting); 4] = [
+        &|source| drop(BidiInfo::new_with_data_source(source, text, None)),
+        &|source| drop(ParagraphBidiInfo::new_with_data_source(source, text, None)),
+        &|source| drop(utf16::BidiInfo::new_with_data_source(source, &units, None)),
+        &|source| {
+            drop(utf16::ParagraphBidiInfo::new_with_data_source(
+                source, &units, None,
+            ))
+        },
+    ];
+    for analyse in &analyses {
+        let source = Counting::default();
+        analyse(&source);
+        assert_eq!(source.0.into_inner(), text.chars().collect::<Vec<_>>());
+        assert_eq!(source.1.into_inner(), ['(', ')', '!']);
+    }
+    let source = Counting::default();
+    unicode_bidi::InitialInfo::new_with_data_source(&source, text, None);
+    assert_eq!(source.0.into_inner(), text.chars().collect::<Vec<_>>());
+    assert!(source.1.into_inner().is_empty());
+}
+
+/// A source can say of each character of a text what it wants, also of equal ones.
+#[test]
+fn each_character_has_what_the_source_says_of_it() {
+    struct Second(RefCell<usize>);
+
+    impl BidiDataSource for Second {
+        fn bidi_class(&self, _: char) -> BidiClass {
+            *self.0.borrow_mut() += 1;
+            if *self.0.borrow() == 2 {
+                BidiClass::R
+            } else {
+                BidiClass::L
+            }
+        }
+    }
+
+    let info = BidiInfo::new_with_data_source(&Second(RefCell::new(0)), "aaa", None);
+    assert_eq!(numbers(&info.levels), [0, 1, 0]);
+}
+
+/// The entries of a character are those of all its code units, and paragraphs count code units.
+#[test]
+fn code_units_of_characters() {
+    let text = "\u{10000}A\n\u{5D0}B";
+    let info = BidiInfo::new_with_data_source(&Capitals, text, Some(Level::rtl()));
+    assert_eq!(numbers(&info.levels), [2, 2, 2, 2, 1, 1, 2, 2, 1]);
+    assert_eq!(info.paragraphs[1].range, 6..9);
+    let units: Vec<u16> = text.encode_utf16().collect();
+    let info = utf16::BidiInfo::new_with_data_source(&Capitals, &units, Some(Level::rtl()));
+    assert_eq!(numbers(&info.levels), [2, 2, 1, 1, 2, 1]);
+    assert_eq!(info.paragraphs[1].range, 4..6);
 }
 
 #[test]
 fn the_base_direction_asks_about_the_first_characters() {
-    let source = Counting(RefCell::default());
+    let source = Counting::default();
     let text = format!("A{}", "b".repeat(1000));
     let found = unicode_bidi::get_base_direction_with_data_source(&source, text.as_str());
     assert_eq!(found, Direction::Rtl);

@@ -2,6 +2,7 @@
 
 use std::thread;
 
+use unicode_bidi::displayed::{self, DisplayOptions};
 use unicode_bidi::BidiInfo;
 use unicode_bidi_tests::sources::Sources;
 
@@ -28,13 +29,16 @@ fn threads() {
             let info = BidiInfo::new_with_data_source(sources.named("sample"), text, None);
             for paragraph in &info.paragraphs {
                 let line = paragraph.range.clone();
-                seen.push(info.reorder_line(paragraph, line).into_owned());
+                seen.push(info.reorder_line(paragraph, line.clone()).into_owned());
+                let options = DisplayOptions::default();
+                seen.push(displayed::line(&info, paragraph.level, line, options).text);
             }
         }
     };
     let mut alone = Vec::new();
     found(&mut alone);
     assert_eq!(alone[0], "ab (\u{5D1}\u{5D0}) 12\n");
+    assert_eq!(alone[1], alone[0]);
     thread::scope(|scope| {
         let threads: Vec<_> = (0..4)
             .map(|_| {

@@ -14,8 +14,8 @@ pub struct BidiMatchedOpeningBracket {
 
 /// A source of the classes and brackets of characters.
 ///
-/// Implement it to replace Unicode's own data. Both functions must always return the same result for the same
-/// character. An analysis calls each of them once for each distinct character of the text, in no particular order.
+/// Implement it to replace Unicode's own data. An analysis calls `bidi_class` for each character of the text, in its order.
+/// Then it calls `bidi_matched_opening_bracket` in the same way for those of class ON, since no other one can be a bracket.
 pub trait BidiDataSource {
     /// Returns the class of a character.
     fn bidi_class(&self, c: char) -> BidiClass;

@@ -18,7 +18,7 @@ use core::slice;
 #[cfg(feature = "hardcoded-data")]
 use crate::bidi_class::CLASSES;
 use crate::data_source::BidiMatchedOpeningBracket;
-use crate::tables::Tables;
+use crate::settings::{BaseLevel, Split};
 use crate::{BidiClass, Direction, Level, LevelRun, ParagraphInfo, LTR_LEVEL};
 
 const NO_MEMORY: i64 = -1;
@@ -32,34 +32,21 @@ const FAULTS: [(i64, &str); 14] = [
     (-5, "UNICODE_BIDI_BAD_SPLIT: the number for the end of paragraphs is above 2"),
     (-6, "UNICODE_BIDI_BAD_CLASS: a class is above 22"),
     (-7, "UNICODE_BIDI_BAD_LEVEL: a level is above 126"),
-    (-8, "UNICODE_BIDI_UNEQUAL_LENGTHS: text, classes and levels do not have the same length"),
+    (-8, "UNICODE_BIDI_UNEQUAL_LENGTHS: lists with an entry for each unit do not have the same length"),
     (-9, "UNICODE_BIDI_BAD_LINE: the line is reversed or out of range"),
     (-10, "UNICODE_BIDI_CUT_CHARACTER: the line begins or ends inside a character"),
     (-11, "UNICODE_BIDI_UNEVEN_CHARACTER: the code units of one character differ in class or in level"),
     (NO_ROOM, "UNICODE_BIDI_NO_ROOM: a buffer is too short"),
     (-13, "UNICODE_BIDI_BAD_RANGES: the ranges of a table do not ascend"),
-    (-14, "UNICODE_BIDI_BAD_BRACKET: a bracket number is invalid"),
-    (-15, "UNICODE_BIDI_BAD_FLAGS: the flags of a displayed line are invalid"),
+    (-14, "UNICODE_BIDI_BAD_BRACKET: there are too many different brackets"),
+    (-15, "UNICODE_BIDI_BAD_FLAGS: there are no such options of a displayed line"),
 ];
 
-/// The base level with which each paragraph finds its own level.
-const AUTO: u8 = 255;
+/// The bit of a bracket's number if the bracket opens.
+pub const OPENING: u32 = 0x8000_0000;
 
-/// A number that is no base level.
-const NO_BASE_LEVEL: u8 = 126;
-
-/// The bit that `unicode_bidi_bracket_of` sets if the bracket opens.
-const OPENING: u32 = 0x8000_0000;
-
-/// Where paragraphs end (P1).
-#[derive(Clone, Copy, PartialEq)]
-#[repr(u8)]
-pub enum Split {
-    /// The text is one paragraph, even if it is empty.
-    OneParagraph = 0,
-    /// After each character of class B.
-    EachSeparator = 1,
-}
+/// In place of the visual index of a character that is not displayed.
+pub const NOWHERE: usize = usize::MAX;
 
 /// A paragraph with its level.
 #[repr(C)]
@@ -77,27 +64,18 @@ pub struct Run {
     _level: Level,
 }
 
-/// The characters from `first` to `last` and their class.
-#[repr(C)]
-pub struct ClassRange {
-    pub first: u32,
-    pub last: u32,
-    pub class: BidiClass,
-}
-
-/// An opening and a closing bracket, and the normal form by which they pair.
-#[repr(C)]
-pub struct BracketPair {
-    pub opening: u32,
-    pub closing: u32,
-    pub normal_form: u32,
-}
-
 /// The classes and levels of a text, one a code unit, and its paragraphs.
 pub struct Analysis {
     pub classes: Vec<BidiClass>,
     pub levels: Vec<Level>,
     pub paragraphs: Vec<ParagraphInfo>,
+}
+
+/// What is displayed: its code units, and both of its maps.
+pub struct Displayed<U> {
+    pub text: Vec<U>,
+    pub order: Vec<usize>,
+    pub places: Vec<usize>,
 }
 
 /// A line of a text with its classes and levels.
@@ -112,14 +90,36 @@ pub struct Line<'a, U> {
 /// A code unit, with the calls over texts of such units. Each function returns what the call returns.
 pub trait Unit: Copy + Default {
     /// Writes classes and levels, and as many paragraphs as there is capacity for.
+    #[cfg(feature = "hardcoded-data")]
     fn analyse(
         text: &[Self],
-        tables: Option<&Tables>,
         base: u8,
         split: Split,
         classes: &mut [BidiClass],
         levels: &mut [Level],
         paragraphs: &mut Vec<Paragraph>,
+    ) -> i64;
+
+    /// Writes classes, and as many paragraphs as there is capacity for.
+    #[cfg(feature = "hardcoded-data")]
+    fn paragraphs(
+        text: &[Self],
+        base: u8,
+        split: Split,
+        classes: &mut [BidiClass],
+        paragraphs: &mut Vec<Paragraph>,
+    ) -> i64;
+
+    /// Writes what is displayed of a text, and how many characters are displayed, and how many there are.
+    #[cfg(feature = "hardcoded-data")]
+    fn display_text(
+        text: &[Self],
+        base: u8,
+        split: Split,
+        flags: u32,
+        levels: &mut [Level],
+        out: &mut Displayed<Self>,
+        counts: &mut [usize; 2],
     ) -> i64;
 
     /// Returns the number of a direction.
@@ -133,12 +133,29 @@ pub trait Unit: Copy + Default {
         runs: &mut Vec<Run>,
         shown: &mut [Self],
     ) -> i64;
+
+    /// Writes what is displayed of a line, and how many characters are displayed, and how many there are.
+    fn display_line(
+        line: &Line<'_, Self>,
+        flags: u32,
+        out: &mut Displayed<Self>,
+        counts: &mut [usize; 2],
+    ) -> i64;
 }
 
 /// Declares the calls of an encoding, and implements `Unit` with them.
 macro_rules! declare_encoding {
-    ($unit:ty, $analyse:ident, $analyse_by_tables:ident, $first_direction:ident, $show_line:ident) => {
+    (
+        $unit:ty,
+        $analyse:ident,
+        $paragraphs:ident,
+        $display_text:ident,
+        $first_direction:ident,
+        $show_line:ident,
+        $display_line:ident
+    ) => {
         extern "C" {
+            #[cfg(feature = "hardcoded-data")]
             fn $analyse(
                 text: *const $unit,
                 text_len: usize,
@@ -151,21 +168,34 @@ macro_rules! declare_encoding {
                 paragraphs: *mut Paragraph,
                 paragraphs_len: usize,
             ) -> i64;
-            fn $analyse_by_tables(
-                ranges: *const ClassRange,
-                ranges_len: usize,
-                brackets: *const BracketPair,
-                brackets_len: usize,
+            #[cfg(feature = "hardcoded-data")]
+            fn $paragraphs(
                 text: *const $unit,
                 text_len: usize,
                 base: u8,
                 split: Split,
                 classes: *mut BidiClass,
                 classes_len: usize,
-                levels: *mut Level,
-                levels_len: usize,
                 paragraphs: *mut Paragraph,
                 paragraphs_len: usize,
+            ) -> i64;
+            #[cfg(feature = "hardcoded-data")]
+            fn $display_text(
+                text: *const $unit,
+                text_len: usize,
+                base: u8,
+                split: Split,
+                flags: u32,
+                levels: *mut Level,
+                levels_len: usize,
+                out: *mut $unit,
+                out_len: usize,
+                order: *mut usize,
+                order_len: usize,
+                places: *mut usize,
+                places_len: usize,
+                shown: *mut usize,
+                characters: *mut usize,
             ) -> i64;
             #[cfg(feature = "hardcoded-data")]
             fn $first_direction(text: *const $unit, text_len: usize, full: u8) -> i64;
@@ -189,12 +219,32 @@ macro_rules! declare_encoding {
                 out_len: usize,
                 characters: *mut usize,
             ) -> i64;
+            fn $display_line(
+                text: *const $unit,
+                text_len: usize,
+                classes: *const BidiClass,
+                classes_len: usize,
+                levels: *const Level,
+                levels_len: usize,
+                paragraph: *const Paragraph,
+                start: usize,
+                end: usize,
+                flags: u32,
+                out: *mut $unit,
+                out_len: usize,
+                order: *mut usize,
+                order_len: usize,
+                places: *mut usize,
+                places_len: usize,
+                shown: *mut usize,
+                characters: *mut usize,
+            ) -> i64;
         }
 
         impl Unit for $unit {
+            #[cfg(feature = "hardcoded-data")]
             fn analyse(
                 text: &[$unit],
-                tables: Option<&Tables>,
                 base: u8,
                 split: Split,
                 classes: &mut [BidiClass],
@@ -204,38 +254,79 @@ macro_rules! declare_encoding {
                 let room = paragraphs.capacity();
                 // SAFETY: see the module. The call writes as many paragraphs as it returns, and no more than `room`.
                 unsafe {
-                    let result = match tables {
-                        None => $analyse(
-                            text.as_ptr(),
-                            text.len(),
-                            base,
-                            split,
-                            classes.as_mut_ptr(),
-                            classes.len(),
-                            levels.as_mut_ptr(),
-                            levels.len(),
-                            paragraphs.as_mut_ptr(),
-                            room,
-                        ),
-                        Some(tables) => $analyse_by_tables(
-                            tables.ranges.as_ptr(),
-                            tables.ranges.len(),
-                            tables.brackets.as_ptr(),
-                            tables.brackets.len(),
-                            text.as_ptr(),
-                            text.len(),
-                            base,
-                            split,
-                            classes.as_mut_ptr(),
-                            classes.len(),
-                            levels.as_mut_ptr(),
-                            levels.len(),
-                            paragraphs.as_mut_ptr(),
-                            room,
-                        ),
-                    };
+                    let result = $analyse(
+                        text.as_ptr(),
+                        text.len(),
+                        base,
+                        split,
+                        classes.as_mut_ptr(),
+                        classes.len(),
+                        levels.as_mut_ptr(),
+                        levels.len(),
+                        paragraphs.as_mut_ptr(),
+                        room,
+                    );
                     paragraphs.set_len(written(result, room));
                     result
+                }
+            }
+
+            #[cfg(feature = "hardcoded-data")]
+            fn paragraphs(
+                text: &[$unit],
+                base: u8,
+                split: Split,
+                classes: &mut [BidiClass],
+                paragraphs: &mut Vec<Paragraph>,
+            ) -> i64 {
+                let room = paragraphs.capacity();
+                // SAFETY: see the module. The call writes as many paragraphs as it returns, and no more than `room`.
+                unsafe {
+                    let result = $paragraphs(
+                        text.as_ptr(),
+                        text.len(),
+                        base,
+                        split,
+                        classes.as_mut_ptr(),
+                        classes.len(),
+                        paragraphs.as_mut_ptr(),
+                        room,
+                    );
+                    paragraphs.set_len(written(result, room));
+                    result
+                }
+            }
+
+            #[cfg(feature = "hardcoded-data")]
+            fn display_text(
+                text: &[$unit],
+                base: u8,
+                split: Split,
+                flags: u32,
+                levels: &mut [Level],
+                out: &mut Displayed<$unit>,
+                counts: &mut [usize; 2],
+            ) -> i64 {
+                let [shown, characters] = counts;
+                // SAFETY: see the module.
+                unsafe {
+                    $display_text(
+                        text.as_ptr(),
+                        text.len(),
+                        base,
+                        split,
+                        flags,
+                        levels.as_mut_ptr(),
+                        levels.len(),
+                        out.text.as_mut_ptr(),
+                        out.text.len(),
+                        out.order.as_mut_ptr(),
+                        out.order.len(),
+                        out.places.as_mut_ptr(),
+                        out.places.len(),
+                        shown,
+                        characters,
+                    )
                 }
             }
 
@@ -280,6 +371,39 @@ macro_rules! declare_encoding {
                     result
                 }
             }
+
+            fn display_line(
+                line: &Line<'_, $unit>,
+                flags: u32,
+                out: &mut Displayed<$unit>,
+                counts: &mut [usize; 2],
+            ) -> i64 {
+                let paragraph = line.paragraph();
+                let [shown, characters] = counts;
+                // SAFETY: see the module.
+                unsafe {
+                    $display_line(
+                        line.text.as_ptr(),
+                        line.text.len(),
+                        line.classes.as_ptr(),
+                        line.classes.len(),
+                        line.levels.as_ptr(),
+                        line.levels.len(),
+                        &paragraph,
+                        line.range.start,
+                        line.range.end,
+                        flags,
+                        out.text.as_mut_ptr(),
+                        out.text.len(),
+                        out.order.as_mut_ptr(),
+                        out.order.len(),
+                        out.places.as_mut_ptr(),
+                        out.places.len(),
+                        shown,
+                        characters,
+                    )
+                }
+            }
         }
     };
 }
@@ -287,20 +411,58 @@ macro_rules! declare_encoding {
 declare_encoding!(
     u8,
     unicode_bidi_analyse_utf8,
-    unicode_bidi_analyse_by_tables_utf8,
+    unicode_bidi_paragraphs_utf8,
+    unicode_bidi_display_text_utf8,
     unicode_bidi_first_direction_utf8,
-    unicode_bidi_show_line_utf8
+    unicode_bidi_show_line_utf8,
+    unicode_bidi_display_line_utf8
 );
 
 declare_encoding!(
     u16,
     unicode_bidi_analyse_utf16,
-    unicode_bidi_analyse_by_tables_utf16,
+    unicode_bidi_paragraphs_utf16,
+    unicode_bidi_display_text_utf16,
     unicode_bidi_first_direction_utf16,
-    unicode_bidi_show_line_utf16
+    unicode_bidi_show_line_utf16,
+    unicode_bidi_display_line_utf16
 );
 
 extern "C" {
+    fn unicode_bidi_analyse_classes(
+        classes: *const BidiClass,
+        classes_len: usize,
+        brackets: *const u32,
+        brackets_len: usize,
+        base: u8,
+        split: Split,
+        stored: *mut BidiClass,
+        stored_len: usize,
+        levels: *mut Level,
+        levels_len: usize,
+        paragraphs: *mut Paragraph,
+        paragraphs_len: usize,
+    ) -> i64;
+    fn unicode_bidi_line_order(
+        classes: *const BidiClass,
+        classes_len: usize,
+        levels: *const Level,
+        levels_len: usize,
+        paragraph: *const Paragraph,
+        start: usize,
+        end: usize,
+        flags: u32,
+        order: *mut usize,
+        order_len: usize,
+        places: *mut usize,
+        places_len: usize,
+    ) -> i64;
+    fn unicode_bidi_places(
+        order: *const usize,
+        order_len: usize,
+        places: *mut usize,
+        places_len: usize,
+    ) -> i64;
     fn unicode_bidi_line_runs(
         classes: *const BidiClass,
         classes_len: usize,
@@ -328,35 +490,93 @@ extern "C" {
     ) -> i64;
 }
 
-/// Analyses a text by tables, or by Unicode's own data if there are none. Without a base level each paragraph finds its
-/// own (P2, P3).
+/// Analyses a text by Unicode's own data.
+#[cfg(feature = "hardcoded-data")]
 #[track_caller]
-pub fn analyse<U: Unit>(
-    text: &[U],
-    tables: Option<&Tables>,
-    base: Option<Level>,
-    split: Split,
-) -> Analysis {
-    // An unchecked level can be 255. It must not become AUTO.
-    let base = base.map_or(AUTO, |level| level.number().min(NO_BASE_LEVEL));
+pub fn analyse<U: Unit>(text: &[U], base: BaseLevel, split: Split) -> Analysis {
     let mut classes = vec![BidiClass::L; text.len()];
     let mut levels = vec![LTR_LEVEL; text.len()];
-    let mut paragraphs = Vec::with_capacity(usual_paragraphs(text.len(), split));
-    let mut call = |paragraphs: &mut Vec<Paragraph>| {
+    let paragraphs = with_paragraphs(text.len(), split, |paragraphs| {
         let (classes, levels) = (&mut classes, &mut levels);
-        U::analyse(text, tables, base, split, classes, levels, paragraphs)
-    };
-    let mut result = call(&mut paragraphs);
-    if result == NO_ROOM {
-        paragraphs.reserve(text.len());
-        result = call(&mut paragraphs);
-    }
-    checked(result, text.len());
+        U::analyse(text, base.number(), split, classes, levels, paragraphs)
+    });
     Analysis {
         classes,
         levels,
-        paragraphs: paragraphs.iter().map(Paragraph::info).collect(),
+        paragraphs,
     }
+}
+
+/// Returns the classes and paragraphs of a text by Unicode's own data.
+#[cfg(feature = "hardcoded-data")]
+#[track_caller]
+pub fn paragraphs<U: Unit>(
+    text: &[U],
+    base: BaseLevel,
+    split: Split,
+) -> (Vec<BidiClass>, Vec<ParagraphInfo>) {
+    let mut classes = vec![BidiClass::L; text.len()];
+    let paragraphs = with_paragraphs(text.len(), split, |paragraphs| {
+        U::paragraphs(text, base.number(), split, &mut classes, paragraphs)
+    });
+    (classes, paragraphs)
+}
+
+/// Analyses characters by their classes and brackets. `brackets` is empty or has a number for each character.
+#[track_caller]
+pub fn analyse_classes(
+    classes: &[BidiClass],
+    brackets: &[u32],
+    base: BaseLevel,
+    split: Split,
+) -> Analysis {
+    let mut stored = vec![BidiClass::L; classes.len()];
+    let mut levels = vec![LTR_LEVEL; classes.len()];
+    let paragraphs = with_paragraphs(classes.len(), split, |paragraphs| {
+        let room = paragraphs.capacity();
+        // SAFETY: see the module. The call writes as many paragraphs as it returns, and no more than `room`.
+        unsafe {
+            let result = unicode_bidi_analyse_classes(
+                classes.as_ptr(),
+                classes.len(),
+                brackets.as_ptr(),
+                brackets.len(),
+                base.number(),
+                split,
+                stored.as_mut_ptr(),
+                stored.len(),
+                levels.as_mut_ptr(),
+                levels.len(),
+                paragraphs.as_mut_ptr(),
+                room,
+            );
+            paragraphs.set_len(written(result, room));
+            result
+        }
+    });
+    Analysis {
+        classes: stored,
+        levels,
+        paragraphs,
+    }
+}
+
+/// Returns the paragraphs that a call over so many code units writes, as many as there is capacity for. If there are more,
+/// it is called again.
+#[track_caller]
+fn with_paragraphs(
+    units: usize,
+    split: Split,
+    mut call: impl FnMut(&mut Vec<Paragraph>) -> i64,
+) -> Vec<ParagraphInfo> {
+    let mut paragraphs = Vec::with_capacity(usual_paragraphs(units, split));
+    let mut result = call(&mut paragraphs);
+    if result == NO_ROOM {
+        paragraphs.reserve(units);
+        result = call(&mut paragraphs);
+    }
+    checked(result, units);
+    paragraphs.iter().map(Paragraph::info).collect()
 }
 
 /// How many paragraphs a text of so many code units usually has at most. It can have one a code unit, but a buffer for
@@ -364,8 +584,97 @@ pub fn analyse<U: Unit>(
 fn usual_paragraphs(units: usize, split: Split) -> usize {
     match split {
         Split::OneParagraph => 1,
-        Split::EachSeparator => 8 + units / 8,
+        Split::EachSeparator | Split::CrLfTogether => 8 + units / 8,
     }
+}
+
+/// Analyses a text by Unicode's own data and displays it. Returns its levels after L1, and what is displayed.
+#[cfg(feature = "hardcoded-data")]
+#[track_caller]
+pub fn display_text<U: Unit>(
+    text: &[U],
+    base: BaseLevel,
+    split: Split,
+    flags: u32,
+) -> (Vec<Level>, Displayed<U>) {
+    let mut levels = vec![LTR_LEVEL; text.len()];
+    let displayed = with_displayed(text.len(), |out, counts| {
+        U::display_text(text, base.number(), split, flags, &mut levels, out, counts)
+    });
+    (levels, displayed)
+}
+
+/// Returns what a call over so many code units writes. It also writes the numbers of entries of both maps.
+#[track_caller]
+fn with_displayed<U: Unit>(
+    units: usize,
+    call: impl FnOnce(&mut Displayed<U>, &mut [usize; 2]) -> i64,
+) -> Displayed<U> {
+    let mut displayed = Displayed {
+        text: vec![U::default(); 2 * units],
+        order: vec![0; units],
+        places: vec![0; units],
+    };
+    let mut counts = [0; 2];
+    let length = checked(call(&mut displayed, &mut counts), units);
+    let [shown, characters] = counts;
+    displayed.text.truncate(length);
+    displayed.order.truncate(shown);
+    displayed.places.truncate(characters);
+    displayed
+}
+
+/// Returns both maps of a line by classes and levels alone.
+#[track_caller]
+pub fn line_order(
+    classes: &[BidiClass],
+    levels: &[Level],
+    paragraph_level: Level,
+    line: Range<usize>,
+    flags: u32,
+) -> (Vec<usize>, Vec<usize>) {
+    let paragraph = Paragraph {
+        start: 0,
+        end: classes.len(),
+        level: paragraph_level,
+    };
+    let room = line.len().min(classes.len());
+    let (mut order, mut places) = (vec![0; room], vec![0; room]);
+    // SAFETY: see the module.
+    let result = unsafe {
+        unicode_bidi_line_order(
+            classes.as_ptr(),
+            classes.len(),
+            levels.as_ptr(),
+            levels.len(),
+            &paragraph,
+            line.start,
+            line.end,
+            flags,
+            order.as_mut_ptr(),
+            order.len(),
+            places.as_mut_ptr(),
+            places.len(),
+        )
+    };
+    order.truncate(checked(result, classes.len()));
+    (order, places)
+}
+
+/// Returns the inverse of a map, for so many characters.
+pub fn places(order: &[usize], characters: usize) -> Vec<usize> {
+    let mut places = vec![NOWHERE; characters];
+    // SAFETY: see the module.
+    let result = unsafe {
+        unicode_bidi_places(
+            order.as_ptr(),
+            order.len(),
+            places.as_mut_ptr(),
+            places.len(),
+        )
+    };
+    checked(result, characters);
+    places
 }
 
 /// Returns the base direction of a text by Unicode's own data (P2, P3).
@@ -416,6 +725,14 @@ impl<U: Unit> Line<'_, U> {
             self.text.len(),
         );
         (levels, shown)
+    }
+
+    /// Returns what is displayed of the line.
+    #[track_caller]
+    pub fn display(&self, flags: u32) -> Displayed<U> {
+        with_displayed(self.room(), |out, counts| {
+            U::display_line(self, flags, out, counts)
+        })
     }
 
     /// The code units of the line. A line that the library rejects has at most as many as the text.

@@ -5,30 +5,17 @@ use alloc::vec;
 use alloc::vec::Vec;
 use core::ops::Range;
 
-use crate::ffi::{self, Analysis, Split, Unit};
+use crate::ffi;
 use crate::level::has_rtl;
-use crate::tables::Tables;
-use crate::{BidiClass, Direction, Level, LevelRun, ParagraphInfo, TextSource, LTR_LEVEL};
+use crate::{BidiClass, Direction, Level, LevelRun, ParagraphInfo, TextSource};
 
-/// Returns the classes and paragraphs of a text. If a level is given, each paragraph has it, even if it is 126.
-#[track_caller]
-pub(crate) fn initial<U: Unit>(
-    text: &[U],
-    tables: Option<&Tables>,
-    level: Option<Level>,
-) -> (Vec<BidiClass>, Vec<ParagraphInfo>) {
-    let base = level.map(|_| LTR_LEVEL);
-    let Analysis {
-        classes,
-        mut paragraphs,
-        ..
-    } = ffi::analyse(text, tables, base, Split::EachSeparator);
+/// Gives each paragraph a level, if there is one, even if it is 126.
+pub(crate) fn set_levels(paragraphs: &mut [ParagraphInfo], level: Option<Level>) {
     if let Some(level) = level {
-        for paragraph in &mut paragraphs {
+        for paragraph in paragraphs {
             paragraph.level = level;
         }
     }
-    (classes, paragraphs)
 }
 
 /// Returns whether no character has a class that can make a paragraph of level 0 other than left-to-right.
@@ -71,7 +58,7 @@ pub(crate) struct Analysed<'a, 'text, T: ?Sized> {
 }
 
 impl<'a, 'text: 'a, T: TextSource<'text> + ?Sized> Analysed<'a, 'text, T> {
-    fn line(&self, range: Range<usize>) -> ffi::Line<'a, T::Unit> {
+    pub fn line(&self, range: Range<usize>) -> ffi::Line<'a, T::Unit> {
         ffi::Line {
             text: self.text.units(),
             classes: self.classes,
@@ -118,6 +105,34 @@ impl<'a, 'text: 'a, T: TextSource<'text> + ?Sized> Analysed<'a, 'text, T> {
     }
 }
 
+/// Defines what the two types of an analysed text have in common: lines of it that belong to a paragraph of some level.
+macro_rules! define_analysed {
+    ($Info:ident, $Text:ty) => {
+        impl<'text> $Info<'text> {
+            fn analysed_at(&self, paragraph_level: Level) -> Analysed<'_, 'text, $Text> {
+                Analysed {
+                    text: self.text,
+                    classes: &self.original_classes,
+                    levels: &self.levels,
+                    paragraph_level,
+                }
+            }
+        }
+
+        impl<'text> AnalysedText<'text> for $Info<'text> {
+            type Text = $Text;
+
+            fn line(
+                &self,
+                paragraph_level: Level,
+                range: Range<usize>,
+            ) -> ffi::Line<'_, <$Text as Sealed>::Unit> {
+                self.analysed_at(paragraph_level).line(range)
+            }
+        }
+    };
+}
+
 /// Defines the types of an analysis for texts of the type `$Text`.
 macro_rules! define_infos {
     ($Text:ty) => {
@@ -138,11 +153,13 @@ macro_rules! define_infos {
         impl<'text> InitialInfo<'text> {
             /// Returns the classes and paragraphs of a text, by Unicode's own data.
             ///
-            /// With `None` each paragraph finds its own level (P2, P3). The call costs as much as `BidiInfo::new`.
+            /// With `None` each paragraph finds its own level (P2, P3). The call takes less time than `BidiInfo::new`.
             #[cfg(feature = "hardcoded-data")]
             #[track_caller]
             pub fn new(text: &$Text, default_para_level: Option<Level>) -> InitialInfo<'_> {
-                InitialInfo::of(text, None, default_para_level)
+                let base = BaseLevel::from(default_para_level.map(|_| LTR_LEVEL));
+                let found = ffi::paragraphs(text.units(), base, Split::EachSeparator);
+                InitialInfo::of(text, found, default_para_level)
             }
 
             /// Returns the classes and paragraphs of a text, by a custom data source.
@@ -152,13 +169,18 @@ macro_rules! define_infos {
                 text: &'a $Text,
                 default_para_level: Option<Level>,
             ) -> InitialInfo<'a> {
-                let tables = Tables::of(data_source, <$Text as TextSource>::chars(text));
-                InitialInfo::of(text, Some(&tables), default_para_level)
+                let base = BaseLevel::from(default_para_level.map(|_| LTR_LEVEL));
+                let found = sources::paragraphs(data_source, text, base, Split::EachSeparator);
+                InitialInfo::of(text, found, default_para_level)
             }
 
-            #[track_caller]
-            fn of(text: &'text $Text, tables: Option<&Tables>, level: Option<Level>) -> Self {
-                let (original_classes, paragraphs) = info::initial(text.units(), tables, level);
+            fn of(
+                text: &'text $Text,
+                found: (Vec<BidiClass>, Vec<ParagraphInfo>),
+                level: Option<Level>,
+            ) -> Self {
+                let (original_classes, mut paragraphs) = found;
+                info::set_levels(&mut paragraphs, level);
                 InitialInfo {
                     text,
                     original_classes,
@@ -202,12 +224,13 @@ macro_rules! define_infos {
             #[cfg(feature = "hardcoded-data")]
             #[track_caller]
             pub fn new(text: &$Text, default_para_level: Option<Level>) -> BidiInfo<'_> {
-                BidiInfo::of(text, None, default_para_level)
+                let base = BaseLevel::from(default_para_level);
+                BidiInfo::of(text, ffi::analyse(text.units(), base, Split::EachSeparator))
             }
 
             /// Returns the analysis of a text, by a custom data source.
             ///
-            /// The source is asked once about each distinct character of the text.
+            /// The source is asked about each character of the text, in its order.
             ///
             /// # Panics
             ///
@@ -218,17 +241,17 @@ macro_rules! define_infos {
                 text: &'a $Text,
                 default_para_level: Option<Level>,
             ) -> BidiInfo<'a> {
-                let tables = Tables::of(data_source, <$Text as TextSource>::chars(text));
-                BidiInfo::of(text, Some(&tables), default_para_level)
+                let base = BaseLevel::from(default_para_level);
+                let analysis = sources::analyse(data_source, text, base, Split::EachSeparator);
+                BidiInfo::of(text, analysis)
             }
 
-            #[track_caller]
-            fn of(text: &'text $Text, tables: Option<&Tables>, base: Option<Level>) -> Self {
+            fn of(text: &'text $Text, analysis: Analysis) -> Self {
                 let Analysis {
                     classes,
                     levels,
                     paragraphs,
-                } = ffi::analyse(text.units(), tables, base, Split::EachSeparator);
+                } = analysis;
                 BidiInfo {
                     text,
                     original_classes: classes,
@@ -307,14 +330,11 @@ macro_rules! define_infos {
             }
 
             fn analysed(&self, para: &ParagraphInfo) -> Analysed<'_, 'text, $Text> {
-                Analysed {
-                    text: self.text,
-                    classes: &self.original_classes,
-                    levels: &self.levels,
-                    paragraph_level: para.level,
-                }
+                self.analysed_at(para.level)
             }
         }
+
+        define_analysed!(BidiInfo, $Text);
 
         /// A text that is one paragraph, with its classes and levels. Separators in it end nothing.
         ///
@@ -349,12 +369,13 @@ macro_rules! define_infos {
             #[cfg(feature = "hardcoded-data")]
             #[track_caller]
             pub fn new(text: &$Text, default_para_level: Option<Level>) -> ParagraphBidiInfo<'_> {
-                ParagraphBidiInfo::of(text, None, default_para_level)
+                let base = BaseLevel::from(default_para_level);
+                ParagraphBidiInfo::of(text, ffi::analyse(text.units(), base, Split::OneParagraph))
             }
 
             /// Returns the analysis of a paragraph, by a custom data source.
             ///
-            /// The source is asked once about each distinct character of the text.
+            /// The source is asked about each character of the text, in its order.
             ///
             /// # Panics
             ///
@@ -365,17 +386,17 @@ macro_rules! define_infos {
                 text: &'a $Text,
                 default_para_level: Option<Level>,
             ) -> ParagraphBidiInfo<'a> {
-                let tables = Tables::of(data_source, <$Text as TextSource>::chars(text));
-                ParagraphBidiInfo::of(text, Some(&tables), default_para_level)
+                let base = BaseLevel::from(default_para_level);
+                let analysis = sources::analyse(data_source, text, base, Split::OneParagraph);
+                ParagraphBidiInfo::of(text, analysis)
             }
 
-            #[track_caller]
-            fn of(text: &'text $Text, tables: Option<&Tables>, base: Option<Level>) -> Self {
+            fn of(text: &'text $Text, analysis: Analysis) -> Self {
                 let Analysis {
                     classes,
                     levels,
                     paragraphs,
-                } = ffi::analyse(text.units(), tables, base, Split::OneParagraph);
+                } = analysis;
                 ParagraphBidiInfo {
                     text,
                     is_pure_ltr: info::is_pure_ltr(&classes),
@@ -427,14 +448,11 @@ macro_rules! define_infos {
             }
 
             fn analysed(&self) -> Analysed<'_, 'text, $Text> {
-                Analysed {
-                    text: self.text,
-                    classes: &self.original_classes,
-                    levels: &self.levels,
-                    paragraph_level: self.paragraph_level,
-                }
+                self.analysed_at(self.paragraph_level)
             }
         }
+
+        define_analysed!(ParagraphBidiInfo, $Text);
 
         /// One paragraph of a [`BidiInfo`].
         #[derive(Debug)]

@@ -17,6 +17,9 @@
 //! # }
 //! ```
 //!
+//! The module [`displayed`] has what that crate does not have: lines and texts as a device displays them, with mirrored
+//! characters and both maps, paragraphs alone, and levels by classes without a text.
+//!
 //! Names such as L1, P2 and X9 are rules of UAX #9, revision 46. The library is for x86-64 Linux, and for processors of
 //! level x86-64-v2.
 //!
@@ -54,6 +57,7 @@ mod info;
 
 pub mod data_source;
 pub mod deprecated;
+pub mod displayed;
 pub mod format_chars;
 pub mod level;
 pub mod utf16;
@@ -61,7 +65,8 @@ pub mod utf16;
 mod bidi_class;
 #[allow(unsafe_code)]
 mod ffi;
-mod tables;
+mod settings;
+mod sources;
 mod text;
 mod utf8;
 

@@ -8,12 +8,16 @@ use alloc::vec::Vec;
 use core::char::{self, REPLACEMENT_CHARACTER};
 use core::ops::Range;
 
-use crate::ffi::{self, Analysis, Split};
+use crate::displayed::AnalysedText;
+use crate::ffi::{self, Analysis};
 use crate::info::{self, Analysed};
 use crate::level::has_rtl;
-use crate::tables::Tables;
+use crate::settings::{BaseLevel, Split};
+use crate::sources;
 use crate::text::private::Sealed;
-use crate::{BidiClass, BidiDataSource, Direction, Level, LevelRun, ParagraphInfo, TextSource};
+use crate::{
+    BidiClass, BidiDataSource, Direction, Level, LevelRun, ParagraphInfo, TextSource, LTR_LEVEL,
+};
 
 define_infos!([u16]);
 
@@ -30,6 +34,7 @@ impl Sealed for [u16] {
 }
 
 /// Returns the first character and its length, of a text that is not empty.
+#[inline]
 fn first_char(text: &[u16]) -> Option<(char, usize)> {
     let decoded = char::decode_utf16(text.iter().copied()).next()?;
     let character = decoded.unwrap_or(REPLACEMENT_CHARACTER);
@@ -95,6 +100,7 @@ impl<'text> Utf16CharIter<'text> {
 impl Iterator for Utf16CharIter<'_> {
     type Item = char;
 
+    #[inline]
     fn next(&mut self) -> Option<char> {
         let (character, len) = first_char(self.rest)?;
         self.rest = &self.rest[len..];
@@ -133,6 +139,7 @@ impl<'text> Utf16CharIndexIter<'text> {
 impl Iterator for Utf16CharIndexIter<'_> {
     type Item = (usize, char);
 
+    #[inline]
     fn next(&mut self) -> Option<(usize, char)> {
         let index = self.index;
         let (character, len) = first_char(&self.text[index..])?;
@@ -159,6 +166,7 @@ impl<'text> Utf16IndexLenIter<'text> {
 impl Iterator for Utf16IndexLenIter<'_> {
     type Item = (usize, usize);
 
+    #[inline]
     fn next(&mut self) -> Option<(usize, usize)> {
         let (index, character) = self.characters.next()?;
         Some((index, character.len_utf16()))

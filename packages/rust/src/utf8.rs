@@ -6,12 +6,16 @@ use alloc::vec::Vec;
 use core::ops::Range;
 use core::str::{CharIndices, Chars};
 
-use crate::ffi::{self, Analysis, Split};
+use crate::displayed::AnalysedText;
+use crate::ffi::{self, Analysis};
 use crate::info::{self, Analysed};
 use crate::level::has_rtl;
-use crate::tables::Tables;
+use crate::settings::{BaseLevel, Split};
+use crate::sources;
 use crate::text::private::Sealed;
-use crate::{BidiClass, BidiDataSource, Direction, Level, LevelRun, ParagraphInfo, TextSource};
+use crate::{
+    BidiClass, BidiDataSource, Direction, Level, LevelRun, ParagraphInfo, TextSource, LTR_LEVEL,
+};
 
 define_infos!(str);
 
@@ -80,6 +84,7 @@ impl<'text> Utf8IndexLenIter<'text> {
 impl Iterator for Utf8IndexLenIter<'_> {
     type Item = (usize, usize);
 
+    #[inline]
     fn next(&mut self) -> Option<(usize, usize)> {
         let (index, character) = self.characters.next()?;
         Some((index, character.len_utf8()))

@@ -4,17 +4,21 @@
 >>> get_display("car (מכונית) 12")
 'car (תינוכמ) 12'
 
-:func:`get_display` returns a text in visual order. :class:`BidiText` has its levels, classes, paragraphs, lines and
-visual runs. The algorithm is that of the C library in this package. Every fault is a :class:`BidiError`.
+:func:`get_display` returns a text in visual order. :func:`displayed_text` also returns its levels and maps.
+:class:`BidiText` has its levels, classes, paragraphs, lines and visual runs. The algorithm is that of the C library in
+this package. Every fault is a :class:`BidiError`.
 """
 from __future__ import annotations
 
 from . import _library
 from ._characters import BidiClass, Bracket, bidi_class, bidi_classes, bracket, brackets, mirrored
+from ._classes import AnalysedClasses, Maps, analyse_classes, line_order, places
 from ._compatibility import install_as_bidi
+from ._display import DisplayedLine, DisplayedText, Dropped, Moves
 from ._text import (
     BidiText,
     Direction,
+    FoundParagraphs,
     Line,
     Paragraph,
     Run,
@@ -22,6 +26,8 @@ from ._text import (
     Tables,
     base_direction,
     base_direction_of_classes,
+    displayed_text,
+    find_paragraphs,
     reorder_visual,
 )
 from .algorithm import get_base_level, get_display
@@ -46,6 +52,7 @@ from .faults import (
 
 __all__ = [
     "UNICODE_VERSION",
+    "AnalysedClasses",
     "BadBaseLevelError",
     "BadBracketError",
     "BadClassError",
@@ -60,7 +67,13 @@ __all__ = [
     "Bracket",
     "CutCharacterError",
     "Direction",
+    "DisplayedLine",
+    "DisplayedText",
+    "Dropped",
+    "FoundParagraphs",
     "Line",
+    "Maps",
+    "Moves",
     "NoMemoryError",
     "NoRoomError",
     "NotScalarError",
@@ -72,16 +85,21 @@ __all__ = [
     "UnequalLengthsError",
     "UnevenCharacterError",
     "__version__",
+    "analyse_classes",
     "base_direction",
     "base_direction_of_classes",
     "bidi_class",
     "bidi_classes",
     "bracket",
     "brackets",
+    "displayed_text",
+    "find_paragraphs",
     "get_base_level",
     "get_display",
     "install_as_bidi",
+    "line_order",
     "mirrored",
+    "places",
     "reorder_visual",
 ]
 

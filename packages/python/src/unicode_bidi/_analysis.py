@@ -2,26 +2,26 @@
 from __future__ import annotations
 
 import re
-from ctypes import byref, c_size_t, c_uint8
+from ctypes import c_size_t, c_uint8
 from functools import partial
-from typing import Any, Iterable, Sequence, Tuple
+from typing import Any, Callable, Iterable, Sequence, Tuple
 
 from . import _library as library
-from ._buffers import Buffers, Ranges, RangeTuple
+from ._buffers import NOTHING, Buffers, Ranges, RangeTuple
 from ._characters import MIRRORED, REMOVED_BY_X9, BidiClass
 from ._library import size
 from .faults import NoRoomError, checked
 
-_nothing = (c_uint8 * 1)()
-_NOTHING, _ZERO = byref(_nothing), size(0)
 _NO_ROOM = NoRoomError.code
 _B = int(BidiClass.B)
 _REMOVED = re.compile(b"[" + REMOVED_BY_X9 + b"]")
 
 
-def has_removed(classes: bytes, start: int, end: int) -> bool:
-    """Returns whether X9 removes a character of a range."""
-    return _REMOVED.search(classes, start, end) is not None
+def without_removed(text: str, classes: bytes) -> str:
+    """Returns a text without the characters that X9 removes. ``classes`` has the class of each character."""
+    if _REMOVED.search(classes) is None:
+        return text
+    return "".join(character for character, number in zip(text, classes) if number not in REMOVED_BY_X9)
 
 
 def end_of_line(classes: bytes, start: int, end: int) -> int:
@@ -38,40 +38,27 @@ def analyse(buffers: Buffers, characters: bytes, length: Any, base: int, split: 
     the caller's own tables.
     """
     call = partial(library.analyse_by_tables, *tables) if tables else library.analyse
+    return write_paragraphs(buffers, partial(call, characters, length, base, split, buffers.classes_pointer, length,
+                                             buffers.levels_pointer, length))
+
+
+def write_paragraphs(buffers: Buffers, call: Callable[[Any, Any], int]) -> int:
+    """Makes a call that takes a pointer to paragraphs and their room last. Returns the number of paragraphs."""
     paragraphs = buffers.paragraphs
-    count: int = call(characters, length, base, split, buffers.classes_pointer, length, buffers.levels_pointer, length,
-                      paragraphs.pointer, paragraphs.room)
-    if count == _NO_ROOM:  # for the paragraphs: the first call counts them
+    count = call(paragraphs.pointer, paragraphs.room)
+    if count == _NO_ROOM:  # the first call counts them
         buffers.paragraphs = Ranges(0)
-        buffers.paragraphs = Ranges(analyse(buffers, characters, length, base, split, tables))
-        return analyse(buffers, characters, length, base, split, tables)
+        buffers.paragraphs = Ranges(write_paragraphs(buffers, call))
+        return write_paragraphs(buffers, call)
     return count if count >= 0 else checked(count)
 
 
-def restored(shown: str, order: Iterable[int], start: int, text: str, read_as: str, classes: bytes, keep: bool) -> str:
-    """Returns a displayed line with the characters of ``text``, where C read ``read_as`` instead.
+def restored(shown: str, order: Iterable[int], text: str, read_as: str) -> str:
+    """Returns what is displayed with the characters of ``text``, where C read ``read_as`` instead.
 
-    The line begins at ``start``, and ``order`` has the index in the line of each displayed character. Without ``keep``,
-    the characters that X9 removes are left out.
+    ``order`` has the index in ``text`` of each displayed character.
     """
-    pieces = []
-    for character, place in zip(shown, order):
-        index = start + place
-        if keep or classes[index] not in REMOVED_BY_X9:
-            own = text[index]
-            pieces.append(character if own == read_as[index] else own)
-    return "".join(pieces)
-
-
-def order_of(characters: bytes, classes: Any, levels: Any, paragraph: Any, start: int, end: int) -> Iterable[int]:
-    """Returns the index in a line of the character at each visual position.
-
-    ``classes``, ``levels`` and ``paragraph`` are pointers, as arguments of C.
-    """
-    length, room = len(characters) // 4, end - start
-    order = (c_size_t * room)()
-    checked(library.line_map(characters, length, classes, length, levels, length, paragraph, start, end, order, room))
-    return order
+    return "".join(character if text[index] == read_as[index] else text[index] for character, index in zip(shown, order))
 
 
 class Analysis:
@@ -100,13 +87,13 @@ class Analysis:
         runs = buffers.runs
         count: int = library.show_line(
             self.characters, length, self.classes, length, self.levels, length, paragraph, size(start), size(end),
-            _NOTHING, _ZERO, runs.pointer, runs.room, _NOTHING, _ZERO,
+            *NOTHING, runs.pointer, runs.room, *NOTHING,
             buffers.shown_pointer, buffers.shown_room, buffers.characters_pointer)
         if count == _NO_ROOM:  # for the runs: the first call counts them
             buffers.runs = Ranges(0)
             buffers.runs = Ranges(self.line(buffers, paragraph, start, end)[0])
             return self.line(buffers, paragraph, start, end)
-        return checked(count), buffers.shown_text(end - start)
+        return checked(count), buffers.shown[: end - start]
 
     def levels_of_line(self, paragraph: Any, start: int, end: int) -> Iterable[int]:
         """Returns the level of each character of a line after L1."""
@@ -116,8 +103,12 @@ class Analysis:
         return levels
 
     def order(self, paragraph: Any, start: int, end: int) -> Iterable[int]:
-        """Returns the index in a line of the character at each visual position."""
-        return order_of(self.characters, self.classes, self.levels, paragraph, start, end)
+        """Returns the index in the text of the character at each visual position of a line."""
+        length, room = len(self.text), end - start
+        order = (c_size_t * room)()
+        checked(library.line_map(self.characters, length, self.classes, length, self.levels, length, paragraph, start, end,
+                                 order, room))
+        return [start + index for index in order]
 
     def display_line(self, paragraph: Any, runs: Sequence[RangeTuple], shown: str, start: int, mirror: bool,
                      keep: bool) -> str:
@@ -128,11 +119,12 @@ class Analysis:
         end = start + len(shown)
         if mirror:
             shown = _mirrored(shown, runs)
-        keep = keep or not has_removed(self.classes, start, end)
+        keep = keep or _REMOVED.search(self.classes, start, end) is None
         if keep and self.read_as is self.text:
             return shown
         order = self.order(paragraph, start, end)
-        return restored(shown, order, start, self.text, self.read_as, self.classes, keep)
+        shown = restored(shown, order, self.text, self.read_as)
+        return shown if keep else without_removed(shown, bytes(self.classes[index] for index in order))
 
 
 def _mirrored(shown: str, runs: Sequence[RangeTuple]) -> str:

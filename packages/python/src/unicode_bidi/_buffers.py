@@ -1,15 +1,13 @@
-"""The buffers that the calls of C write, kept for each thread.
+"""The buffers that the calls of C write, kept for later calls.
 
 ctypes lets other threads run during a call of C. So no two threads may share a buffer. A thread takes buffers with
-``borrow`` and puts them back with ``give_back``. While they are taken, a signal handler that runs in the same thread gets
-others.
+``borrow`` and puts them back with ``give_back``. While they are taken, other threads get others, and so does a signal
+handler that runs in the same thread.
 """
 from __future__ import annotations
 
 import struct
-import threading
-from codecs import utf_32_le_decode
-from ctypes import byref, c_size_t, c_uint8, c_uint32, sizeof
+from ctypes import byref, c_size_t, c_uint8, c_wchar, sizeof
 from typing import Any, List, Sequence, Tuple
 
 from ._library import Range, size
@@ -24,6 +22,7 @@ MOST_KEPT = 1 << 16
 
 _RANGE = struct.Struct("@NNB7x")
 assert _RANGE.size == sizeof(Range)
+assert sizeof(c_wchar) == 4, "a wide character of C is a character of UTF-32"
 
 
 class Ranges:
@@ -47,14 +46,26 @@ class Ranges:
         return tuple(ranges)
 
 
+def new_sizes(count: int) -> Tuple[Any, memoryview]:
+    """Returns a buffer for so many sizes: a pointer as an argument of C, and a view of the sizes."""
+    sizes = (c_size_t * max(count, 1))()
+    return byref(sizes), memoryview(sizes).cast("B").cast("N")[:count]
+
+
+_nothing = c_size_t()
+#: A pointer and the length 0, as arguments of C: for a list that is empty, or that C is not to write.
+NOTHING = (byref(_nothing), size(0))
+
+
 class Buffers:
     """What an analysis and a displayed line need: room for the classes, levels and characters of a text.
 
-    ``shown`` has the bytes of the displayed characters. The pointers, and ``shown_room``, are arguments of C.
+    A part of ``shown`` is a ``str`` of displayed characters. The pointers, and ``shown_room``, are arguments of C.
+    ``text_arguments`` are the last arguments of a displayed text that is wanted without levels and maps.
     """
 
     __slots__ = ("room", "shown_room", "classes", "classes_pointer", "levels", "levels_pointer", "shown", "shown_pointer",
-                 "characters_pointer", "paragraphs", "runs")
+                 "characters_pointer", "text_arguments", "paragraphs", "runs")
 
     def __init__(self, room: int) -> None:
         self.paragraphs = Ranges(4)
@@ -64,33 +75,27 @@ class Buffers:
 
     def make_room(self, room: int) -> None:
         """Makes new buffers for the characters of a text."""
-        classes, levels, shown = (c_uint8 * room)(), (c_uint8 * room)(), (c_uint32 * room)()
+        classes, levels, self.shown = (c_uint8 * room)(), (c_uint8 * room)(), (c_wchar * (2 * room))()
         self.room = room
         self.classes, self.classes_pointer = memoryview(classes).cast("B"), byref(classes)
         self.levels, self.levels_pointer = memoryview(levels).cast("B"), byref(levels)
-        self.shown, self.shown_pointer, self.shown_room = memoryview(shown).cast("B"), byref(shown), size(room)
-
-    def shown_text(self, length: int) -> str:
-        """Returns the characters of a displayed line of this length."""
-        return utf_32_le_decode(self.shown[: 4 * length])[0]
+        self.shown_pointer, self.shown_room = byref(self.shown), size(2 * room)
+        self.text_arguments = (*NOTHING, self.shown_pointer, self.shown_room, *NOTHING, *NOTHING, byref(c_size_t()),
+                               self.characters_pointer)
 
 
-class _Spare(threading.local):
-    """The buffers of one thread that are not in use."""
-
-    def __init__(self) -> None:
-        self.buffers: List[Buffers] = []
-
-
-_spare = _Spare()
+#: The buffers that are not in use. A thread takes or adds one in a single step, in which no other thread runs.
+_spare: List[Buffers] = []
 
 
 def borrow(length: int) -> Buffers:
     """Returns buffers with room for a text of so many characters. The caller gives them back."""
     if length > MOST_KEPT:
         return Buffers(length)
-    spare = _spare.buffers
-    buffers = spare.pop() if spare else Buffers(LEAST_ROOM)
+    try:
+        buffers = _spare.pop()
+    except IndexError:
+        buffers = Buffers(LEAST_ROOM)
     if buffers.room < length:
         room = buffers.room
         while room < length:
@@ -100,6 +105,6 @@ def borrow(length: int) -> Buffers:
 
 
 def give_back(buffers: Buffers) -> None:
-    """Keeps buffers for the next call of this thread."""
+    """Keeps buffers for a later call."""
     if buffers.room <= MOST_KEPT:
-        _spare.buffers.append(buffers)
+        _spare.append(buffers)

@@ -3,6 +3,7 @@ from __future__ import annotations
 
 import enum
 import re
+from codecs import utf_32_le_encode
 from ctypes import c_uint8, c_uint32
 from typing import Dict, NamedTuple, Optional, Tuple
 
@@ -53,10 +54,10 @@ def readable(text: str) -> Tuple[str, bytes]:
     It is the text itself, or else the text with U+FFFD in place of each lone surrogate.
     """
     try:
-        return text, str.encode(text, "utf-32-le")
+        return text, utf_32_le_encode(text)[0]
     except UnicodeEncodeError:
         text = _LONE_SURROGATE.sub("\ufffd", text)
-        return text, text.encode("utf-32-le")
+        return text, utf_32_le_encode(text)[0]
 
 
 class Bracket(NamedTuple):
@@ -93,12 +94,22 @@ def mirrored(character: str) -> str:
     return chr(MIRRORED[ord(character)])
 
 
-def bidi_classes(text: str) -> Tuple[BidiClass, ...]:
-    """Returns the class of each character of a text, before any rule changes it."""
+def class_numbers(text: str) -> bytes:
+    """Returns the number of the class of each character of a text, before any rule changes it."""
     length = len(text)
     classes = (c_uint8 * length)()
     checked(library.classes(readable(text)[1], length, classes, length))
+    return bytes(classes)
+
+
+def named(classes: bytes) -> Tuple[BidiClass, ...]:
+    """Returns the classes with these numbers."""
     return tuple(map(CLASSES.__getitem__, classes))
+
+
+def bidi_classes(text: str) -> Tuple[BidiClass, ...]:
+    """Returns the class of each character of a text, before any rule changes it."""
+    return named(class_numbers(text))
 
 
 def brackets(text: str) -> Tuple[Optional[Bracket], ...]:

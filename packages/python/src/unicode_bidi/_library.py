@@ -1,8 +1,8 @@
 """The shared library, loaded once, with the calls that the package makes.
 
-``unicode_bidi.h`` describes each call. ``analyse``, ``analyse_by_tables``, ``reorder_line`` and ``show_line`` have no
-``argtypes``, because it takes longer to convert their arguments than to run them. Pass these as ``size`` and ``byref``
-return them, as bytes, or, where C takes one byte, as a number up to 255.
+``unicode_bidi.h`` describes each call. The calls without types here have no ``argtypes``, because it takes longer to
+convert their arguments than to run them. Pass these as ``size`` and ``byref`` return them, as bytes, or, where C takes a
+number that is no size, as a number up to 255.
 """
 from __future__ import annotations
 
@@ -16,12 +16,16 @@ from ._machine import problem_here, problem_of_loader
 #: The library, next to this module.
 PATH = os.path.join(os.path.dirname(os.path.abspath(__file__)), "libunicode_bidi.so")
 
-#: The base level with which each paragraph finds its own (P2, P3).
-AUTO = 255
+#: The base levels with which each paragraph finds its own (P2, P3). If no character decides, it is 0 or 1.
+AUTO, AUTO_RTL = 255, 253
 #: The greatest base level.
 MAX_BASE_LEVEL = 125
 #: The bit of a bracket that opens.
 OPENING = 0x80000000
+#: The flag with which characters at odd levels are mirrored (L4).
+MIRROR = 4
+#: In place of the visual index of a character that is not displayed.
+NOWHERE = c_size_t(-1).value
 
 
 #: Converts a number to an argument of type size_t, once for many calls.
@@ -83,11 +87,16 @@ base_direction_by_tables = _call("base_direction_by_tables_utf32", *_tables, *_t
 base_direction_of_classes = _call("base_direction_of_classes", *_text, c_uint8)
 analyse = _call("analyse_utf32")
 analyse_by_tables = _call("analyse_by_tables_utf32")
+analyse_classes = _call("analyse_classes")
+paragraphs = _call("paragraphs_utf32")
 line_levels = _call("line_levels", *_line, c_void_p, c_size_t)
 line_runs = _call("line_runs", *_line, c_void_p, c_size_t)
 line_map = _call("line_map_utf32", *_text, *_line, c_void_p, c_size_t)
-reorder_line = _call("reorder_line_utf32")
 show_line = _call("show_line_utf32")
+display_line = _call("display_line_utf32")
+display_text = _call("display_text_utf32")
+line_order = _call("line_order", *_line, c_uint32, c_void_p, c_size_t, c_void_p, c_size_t)
+places = _call("places", c_void_p, c_size_t, c_void_p, c_size_t)
 reorder_visual = _call("reorder_visual", *_text, c_void_p, c_size_t)
 
 

@@ -3,17 +3,18 @@ from __future__ import annotations
 
 import bisect
 import enum
-import operator
-from ctypes import byref, c_size_t
+from ctypes import byref, c_size_t, c_uint8
+from functools import partial
 from typing import Any, Iterable, List, NamedTuple, Optional, Tuple
 
 from . import _library as library
-from ._analysis import Analysis, analyse, end_of_line
+from ._analysis import Analysis, analyse, end_of_line, write_paragraphs
+from ._arguments import MOST_SIZE, base_number, bytes_of, limited, split_number
 from ._buffers import borrow, give_back
-from ._characters import CLASSES, BidiClass, readable
-from .faults import BadBaseLevelError, BadLineError, BadSplitError, checked
-
-_MOST_SIZE = 2 ** 64 - 1
+from ._characters import BidiClass, named, readable
+from ._display import Displayed, DisplayedLine, DisplayedText, Dropped, Moves, flags_of
+from ._library import size
+from .faults import BadLineError, checked
 
 
 class Split(enum.IntEnum):
@@ -52,6 +53,15 @@ class Run(NamedTuple):
     level: int
 
 
+class FoundParagraphs(NamedTuple):
+    """The paragraphs of a text, from :func:`find_paragraphs`."""
+
+    #: The paragraphs.
+    paragraphs: Tuple[Paragraph, ...]
+    #: The class of each character. An FSI has class RLI or LRI if a character decides its direction (X5c).
+    classes: Tuple[BidiClass, ...]
+
+
 class Tables:
     """Classes and brackets of the caller's own, instead of Unicode's.
 
@@ -65,7 +75,7 @@ class Tables:
     __slots__ = ("_ranges", "_brackets")
 
     def __init__(self, ranges: Iterable[Tuple[int, int, int]], brackets: Iterable[Tuple[int, int, int]] = ()) -> None:
-        rows = [library.ClassRange(_character(first), _character(last), _limited(number, 255))
+        rows = [library.ClassRange(_character(first), _character(last), limited(number, 255))
                 for first, last, number in ranges]
         pairs = [library.BracketPair(_character(opening), _character(closing), _character(normal_form))
                  for opening, closing, normal_form in brackets]
@@ -87,9 +97,10 @@ class Tables:
 class BidiText:
     """A text, analysed by UAX #9. Indexes are those of ``text``, and the end of a range is exclusive.
 
-    ``base_level`` is the level of every paragraph, from 0 to 125. With None each paragraph finds its own (P2, P3).
-    ``split`` says where paragraphs end. ``tables`` are classes and brackets to use instead of Unicode's. A lone surrogate
-    is analysed as U+FFFD, and displayed as itself. An object never changes, and threads may share it.
+    ``base_level`` is the level of every paragraph, from 0 to 125. With None each paragraph finds its own (P2, P3). If no
+    character decides, it has the level ``fallback``, which is 0 or 1. ``split`` says where paragraphs end. ``tables`` are
+    classes and brackets to use instead of Unicode's. A lone surrogate is analysed as U+FFFD, and displayed as itself. An
+    object never changes, and threads may share it.
 
     Raises :class:`BadBaseLevelError`, :class:`BadSplitError` and :class:`NoMemoryError`.
 
@@ -97,13 +108,8 @@ class BidiText:
     """
 
     def __init__(self, text: str, base_level: Optional[int] = None, *, split: int = Split.CR_LF_TOGETHER,
-                 tables: Optional[Tables] = None) -> None:
-        base = library.AUTO if base_level is None else operator.index(base_level)
-        if base_level is not None and not 0 <= base <= library.MAX_BASE_LEVEL:
-            raise BadBaseLevelError
-        rule = operator.index(split)
-        if not 0 <= rule <= 255:
-            raise BadSplitError
+                 tables: Optional[Tables] = None, fallback: int = 0) -> None:
+        base, rule = base_number(base_level, fallback), split_number(split)
         read_as, characters = readable(text)
         length = library.size(len(text))
         buffers = borrow(len(text))
@@ -128,7 +134,7 @@ class BidiText:
     @property
     def classes(self) -> Tuple[BidiClass, ...]:
         """The class of each character. An FSI has class RLI or LRI if a character decides its direction (X5c)."""
-        return tuple(map(CLASSES.__getitem__, self._analysis.classes))
+        return named(self._analysis.classes)
 
     @property
     def levels(self) -> Tuple[int, ...]:
@@ -182,9 +188,8 @@ class Line:
     def __init__(self, text: BidiText, paragraph: Paragraph, start: int, end: int) -> None:
         self._analysis = text._analysis
         self._paragraph = paragraph
-        self._start, self._end = _limited(start, _MOST_SIZE), _limited(end, _MOST_SIZE)
-        self._pointer = byref(library.Range(_limited(paragraph[0], _MOST_SIZE), _limited(paragraph[1], _MOST_SIZE),
-                                            _limited(paragraph[2], 255)))
+        self._start, self._end = limited(start, MOST_SIZE), limited(end, MOST_SIZE)
+        self._pointer = byref(range_of(paragraph))
         buffers = borrow(len(self.text))
         try:
             count, self._shown = self._analysis.line(buffers, self._pointer, self._start, self._end)
@@ -228,13 +233,68 @@ class Line:
     @property
     def order(self) -> Tuple[int, ...]:
         """The index in the whole text of the character at each visual position, from left to right (L2)."""
-        start = self._start
-        return tuple(start + index for index in self._analysis.order(self._pointer, start, self._end))
+        return tuple(self._analysis.order(self._pointer, self._start, self._end))
 
     def display(self, *, mirror: bool = True, keep_removed: bool = True) -> str:
         """Returns the line from left to right. The options are those of :meth:`BidiText.display`."""
         return self._analysis.display_line(self._pointer, self._runs, self._shown, self._start, mirror,
                                            keep_removed)
+
+    def displayed(self, *, moves: int = Moves.CLUSTERS, mirror: bool = True,
+                  dropped: int = Dropped.CONTROLS) -> DisplayedLine:
+        """Returns the line as a device displays it (L2 to L4), with both maps.
+
+        ``moves`` is what L2 moves as a whole. With ``mirror``, characters at odd levels are mirrored (L4). ``dropped`` says
+        which characters are not displayed. Raises :class:`BadFlagsError` and :class:`NoMemoryError`.
+        """
+        analysis, length = self._analysis, self._analysis.length
+        displayed = Displayed(self._end - self._start)
+        checked(library.display_line(
+            analysis.characters, length, analysis.classes, length, analysis.levels, length, self._pointer,
+            size(self._start), size(self._end), flags_of(moves, mirror, dropped), *displayed.arguments))
+        order = displayed.order(self._start)
+        return DisplayedLine(displayed.text(order, analysis.text, analysis.read_as), order, displayed.places())
+
+
+def displayed_text(text: str, base_level: Optional[int] = None, *, fallback: int = 0, split: int = Split.CR_LF_TOGETHER,
+                   moves: int = Moves.CLUSTERS, mirror: bool = True, dropped: int = Dropped.CONTROLS) -> DisplayedText:
+    """Returns a text as a device displays it, each paragraph as one line (P1 to L4), with both maps.
+
+    The paragraphs follow one another. The separators at the end of a paragraph stay behind its displayed content.
+    ``base_level``, ``fallback`` and ``split`` are those of :class:`BidiText`, and the other options those of
+    :meth:`Line.displayed`. A lone surrogate is analysed as U+FFFD, and displayed as itself.
+
+    Raises :class:`BadBaseLevelError`, :class:`BadSplitError`, :class:`BadFlagsError` and :class:`NoMemoryError`.
+    """
+    base, rule, flags = base_number(base_level, fallback), split_number(split), flags_of(moves, mirror, dropped)
+    read_as, characters = readable(text)
+    length = size(len(text))
+    levels = (c_uint8 * len(text))()
+    displayed = Displayed(len(text))
+    checked(library.display_text(characters, length, base, rule, flags, byref(levels), length, *displayed.arguments))
+    order = displayed.order()
+    return DisplayedText(displayed.text(order, text, read_as), tuple(bytes(levels)), order, displayed.places())
+
+
+def find_paragraphs(text: str, base_level: Optional[int] = None, *, fallback: int = 0,
+                    split: int = Split.CR_LF_TOGETHER) -> FoundParagraphs:
+    """Returns the paragraphs of a text (P1) with their levels (P2, P3), and the class of each character, without levels.
+
+    The options are those of :class:`BidiText`. The call takes less time than an analysis.
+
+    Raises :class:`BadBaseLevelError`, :class:`BadSplitError` and :class:`NoMemoryError`.
+    """
+    base, rule = base_number(base_level, fallback), split_number(split)
+    characters = readable(text)[1]
+    length = size(len(text))
+    buffers = borrow(len(text))
+    try:
+        count = write_paragraphs(buffers, partial(library.paragraphs, characters, length, base, rule,
+                                                  buffers.classes_pointer, length))
+        return FoundParagraphs(tuple(map(Paragraph._make, buffers.paragraphs.read(count))),
+                               named(bytes(buffers.classes[: len(text)])))
+    finally:
+        give_back(buffers)
 
 
 def base_direction(text: str, *, full: bool = False, tables: Optional[Tables] = None) -> Direction:
@@ -252,7 +312,7 @@ def base_direction_of_classes(classes: Iterable[int], *, full: bool = False) -> 
 
     Raises :class:`BadClassError`.
     """
-    numbers = _bytes_of(classes)
+    numbers = bytes_of(classes)
     return Direction(checked(library.base_direction_of_classes(numbers, len(numbers), full)))
 
 
@@ -261,21 +321,16 @@ def reorder_visual(levels: Iterable[int]) -> Tuple[int, ...]:
 
     Raises :class:`BadLevelError`.
     """
-    numbers = _bytes_of(levels)
+    numbers = bytes_of(levels)
     order = (c_size_t * len(numbers))()
     checked(library.reorder_visual(numbers, len(numbers), order, len(numbers)))
     return tuple(order)
 
 
-def _limited(number: int, most: int) -> int:
-    """Returns a number as C can have it. One that has no place in C becomes the greatest, which C rejects."""
-    number = operator.index(number)
-    return number if 0 <= number <= most else most
+def range_of(paragraph: Paragraph) -> library.Range:
+    """Returns a paragraph as C has it."""
+    return library.Range(limited(paragraph[0], MOST_SIZE), limited(paragraph[1], MOST_SIZE), limited(paragraph[2], 255))
 
 
 def _character(number: int) -> int:
-    return _limited(number, 2 ** 32 - 1)
-
-
-def _bytes_of(numbers: Iterable[int]) -> bytes:
-    return bytes(_limited(number, 255) for number in numbers)
+    return limited(number, 2 ** 32 - 1)

@@ -5,61 +5,74 @@ Programs that call ``bidi.algorithm.get_display`` can import it from here.
 from __future__ import annotations
 
 import sys
-from typing import Optional, Union, overload
+from typing import Dict, Optional, Union, overload
 
 from . import _library as library
-from ._analysis import analyse, end_of_line, has_removed, order_of, restored
-from ._buffers import borrow, give_back
-from ._characters import MIRRORED, BidiClass, readable
+from ._analysis import without_removed
+from ._buffers import NOTHING, borrow, give_back
+from ._characters import class_numbers, readable
+from ._display import Displayed, Dropped, Moves, flags_of
 from ._library import size
 from ._text import BidiText, Direction, Split
 from .faults import checked
 
 __all__ = ["get_base_level", "get_display"]
 
-_BASE_LEVELS = {"L": 0, "R": 1, "AL": 1}
+_BASE_LEVELS: Dict[Optional[str], int] = {None: library.AUTO, "L": 0, "R": 1, "AL": 1}
 _SPLIT = int(Split.CR_LF_TOGETHER)
-_ON = int(BidiClass.ON)
+_CHARACTERS, _NEUTRALS = int(Moves.CHARACTERS), int(Dropped.BOUNDARY_NEUTRALS)
+#: The flags of a call without options.
+_DEFAULT_FLAGS = flags_of(_CHARACTERS, True, _NEUTRALS)
 _HEBREW_LETTER = "\u05d0"
 
 
 @overload
 def get_display(text: str, /, encoding: str = ..., upper_is_rtl: bool = ..., base_dir: Optional[str] = ...,
-                debug: bool = ...) -> str: ...
+                debug: bool = ..., *, mirror: bool = ..., moves: int = ..., dropped: Optional[int] = ...) -> str: ...
 
 
 @overload
 def get_display(text: Union[bytes, bytearray], /, encoding: str = ..., upper_is_rtl: bool = ...,
-                base_dir: Optional[str] = ..., debug: bool = ...) -> bytes: ...
+                base_dir: Optional[str] = ..., debug: bool = ..., *, mirror: bool = ..., moves: int = ...,
+                dropped: Optional[int] = ...) -> bytes: ...
 
 
 def get_display(text: Union[str, bytes, bytearray], /, encoding: str = "utf-8", upper_is_rtl: bool = False,
-                base_dir: Optional[str] = None, debug: bool = False) -> Union[str, bytes]:
+                base_dir: Optional[str] = None, debug: bool = False, *, mirror: bool = True,
+                moves: int = _CHARACTERS, dropped: Optional[int] = None) -> Union[str, bytes]:
     """Returns a text in visual order, from left to right, for a renderer that does not know the algorithm.
 
     ``bytes`` are decoded by ``encoding``, and the result is encoded by it. The whole text has one base level: 0 for
     ``base_dir`` ``"L"``, 1 for ``"R"`` and ``"AL"``, and otherwise that of the first paragraph that has a direction (P2,
-    P3). Each paragraph is a line. Its separator stays at its end. Characters at odd levels are mirrored (L4).
-    Characters that X9 removes are left out. Marks are not moved (L3).
+    P3). Each paragraph is a line. Its separator stays at its end. Characters at odd levels are mirrored (L4), unless
+    ``mirror`` is false. Each character moves by itself, unless ``moves`` is another one of :class:`Moves`, such as
+    :attr:`Moves.MARKS` (L3). ``dropped`` is one of :class:`Dropped`. With None, the characters that X9 removes are left
+    out of the displayed text.
 
     With ``upper_is_rtl``, upper-case letters have class R. With ``debug``, the steps are written to ``sys.stderr``.
 
-    Raises ``ValueError`` for another ``base_dir``, ``UnicodeError`` if the bytes are not in the encoding, and
-    :class:`NoMemoryError`.
+    Raises ``ValueError`` for another ``base_dir``, ``UnicodeError`` if the bytes are not in the encoding,
+    :class:`BadFlagsError` for other ``moves`` or ``dropped``, and :class:`NoMemoryError`.
     """
     if not isinstance(text, str):
         if not isinstance(text, (bytes, bytearray)):
             raise TypeError(f"get_display takes str or bytes, and not {type(text).__name__}")
-        return get_display(text.decode(encoding), encoding, upper_is_rtl, base_dir, debug).encode(encoding)
-    if base_dir is None:
-        base = library.AUTO
-    elif base_dir in _BASE_LEVELS:
-        base = _BASE_LEVELS[base_dir]
-    else:
+        return get_display(text.decode(encoding), encoding, upper_is_rtl, base_dir, debug, mirror=mirror, moves=moves,
+                           dropped=dropped).encode(encoding)
+    base = _BASE_LEVELS.get(base_dir)
+    if base is None:
         raise ValueError(f"base_dir must be 'L', 'R', 'AL' or None, and not {base_dir!r}")
-    read_as = _upper_as_hebrew(text) if upper_is_rtl else text
-    read_as, characters = readable(read_as)
-    shown = _displayed(text, read_as, characters, base)
+    is_default = mirror is True and moves == _CHARACTERS and dropped is None
+    flags = _DEFAULT_FLAGS if is_default else flags_of(moves, mirror, _NEUTRALS if dropped is None else dropped)
+    read_as, characters = readable(_upper_as_hebrew(text) if upper_is_rtl else text)
+    # With AUTO each paragraph would have its own level. What is one line for Python is one paragraph.
+    if base == library.AUTO and len(str.splitlines(text)) > 1:
+        base = _base_level(characters)
+    shown = _displayed(text, read_as, characters, base, flags)
+    # If C drops nothing, X9 removes nothing.
+    if dropped is None and len(shown) < len(text):
+        shown = _displayed(text, read_as, characters, base, flags - _NEUTRALS)
+        shown = without_removed(shown, class_numbers(shown))
     if debug:
         _explain(read_as, base, shown)
     return shown
@@ -83,62 +96,18 @@ def _upper_as_hebrew(text: str) -> str:
     return "".join(_HEBREW_LETTER if str.isupper(character) else character for character in text)
 
 
-def _displayed(text: str, read_as: str, characters: bytes, base: int) -> str:
+def _displayed(text: str, read_as: str, characters: bytes, base: int, flags: int) -> str:
     """Returns the text with each paragraph as a line from left to right. C reads ``read_as``, as ``characters``."""
-    if not text:
-        return ""
     count = len(text)
-    length = size(count)
+    if read_as is not text:
+        displayed = Displayed(count)
+        checked(library.display_text(characters, size(count), base, _SPLIT, flags, *NOTHING, *displayed.arguments))
+        return displayed.text(displayed.order(), text, read_as)
     buffers = borrow(count)
-    try:
-        paragraphs = analyse(buffers, characters, length, base, _SPLIT)
-        if paragraphs > 1 and base == library.AUTO:
-            paragraphs = analyse(buffers, characters, length, _base_level(characters), _SPLIT)
-        classes = bytes(buffers.classes[:count])
-        characters = _mirrored(read_as, characters, classes, buffers.levels)
-        keep = not has_removed(classes, 0, count)
-        ranges = buffers.paragraphs.read(paragraphs) if paragraphs > 1 else ((0, count, base),)
-        pieces = []
-        for index, (start, end, _) in enumerate(ranges):
-            last = end_of_line(classes, start, end)
-            paragraph = buffers.paragraphs.pointer_to(index)
-            checked(library.reorder_line(
-                characters, length, buffers.classes_pointer, length, buffers.levels_pointer, length, paragraph,
-                size(start), size(last), buffers.shown_pointer, buffers.shown_room))
-            line = buffers.shown_text(last - start)
-            if not keep or read_as is not text:
-                order = order_of(characters, buffers.classes_pointer, buffers.levels_pointer, paragraph, start, last)
-                line = restored(line, order, start, text, read_as, classes, keep)
-            pieces.append(line)
-            if last < end:
-                pieces.append(text[last:end])
-        return "".join(pieces)
-    finally:
-        give_back(buffers)
-
-
-def _mirrored(text: str, characters: bytes, classes: bytes, levels: memoryview) -> bytes:
-    """Returns the characters of an analysed text, with those at odd levels mirrored (L4).
-
-    In Unicode's data only characters of class ON have a mirrored partner. L1 does not change their levels, so they can be
-    mirrored before a line is reordered.
-    """
-    pieces = []
-    at = 0
-    index = classes.find(_ON)
-    while index >= 0:
-        if levels[index] % 2:
-            character = ord(text[index])
-            partner = MIRRORED[character]
-            if partner != character:
-                pieces.append(characters[at : 4 * index])
-                pieces.append(partner.to_bytes(4, "little"))
-                at = 4 * index + 4
-        index = classes.find(_ON, index + 1)
-    if not pieces:
-        return characters
-    pieces.append(characters[at:])
-    return b"".join(pieces)
+    length: int = library.display_text(characters, size(count), base, _SPLIT, flags, *buffers.text_arguments)
+    shown: str = buffers.shown[: length if length >= 0 else checked(length)]
+    give_back(buffers)
+    return shown
 
 
 def _explain(text: str, base: int, shown: str) -> None:

@@ -85,9 +85,9 @@ class BadLevelError(BidiError, ValueError):
 
 
 class UnequalLengthsError(BidiError, ValueError):
-    """A text, its classes and its levels do not have the same length."""
+    """Lists with an entry for each character do not have the same length."""
 
-    code, name, meaning = -8, "UNEQUAL_LENGTHS", "the text, its classes and its levels do not have the same length"
+    code, name, meaning = -8, "UNEQUAL_LENGTHS", "lists with an entry for each character do not have the same length"
 
 
 class BadLineError(BidiError, ValueError):
@@ -121,15 +121,15 @@ class BadRangesError(BidiError, ValueError):
 
 
 class BadBracketError(BidiError, ValueError):
-    """A bracket number is invalid. No call of the package raises it yet."""
+    """The normal form of a bracket is not a character from U+0020 to U+7FFFF."""
 
-    code, name, meaning = -14, "BAD_BRACKET", "a bracket number is invalid"
+    code, name, meaning = -14, "BAD_BRACKET", "the normal form of a bracket must be a character from U+0020 to U+7FFFF"
 
 
 class BadFlagsError(BidiError, ValueError):
-    """The flags of a displayed line are invalid. No call of the package raises it yet."""
+    """The options of a displayed line are none of :class:`unicode_bidi.Moves` and :class:`unicode_bidi.Dropped`."""
 
-    code, name, meaning = -15, "BAD_FLAGS", "the flags of a displayed line are invalid"
+    code, name, meaning = -15, "BAD_FLAGS", "there is no such option of a displayed line"
 
 
 _FAULTS: Dict[int, Type[BidiError]] = {
