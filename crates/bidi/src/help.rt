@@ -28,8 +28,8 @@ const PROGRAM: &str = "bidi: the Unicode Bidirectional Algorithm for text in UTF
 const CHECK: &str = "usage: bidi check [OPTION..] [--] [FILE..]\n\
     \n\
     Finds the direction controls that have no match on their line, and the lines that controls\n\
-    make display differently from how they read. Both can make source code display differently\n\
-    from how it is compiled. Writes a line for each, such as\n\
+    or marks make display differently from how they read. Both can make source code display\n\
+    differently from how it is compiled. Writes a line for each, such as\n\
     \n\
     main.c:7:18: U+202E RIGHT-TO-LEFT OVERRIDE is not closed on its line\n\
     main.c:9:3: U+2067 RIGHT-TO-LEFT ISOLATE is on a line displayed differently from how it reads\n\
@@ -68,8 +68,8 @@ const CHECK: &str = "usage: bidi check [OPTION..] [--] [FILE..]\n\
     \n\
     git ls-files -z | bidi check --any --files-from -\n\
     \n\
-    Without --any, controls pass that are closed on their line, if its ASCII displays in the\n\
-    order in which it reads, or as it would without them.\n\
+    Without --any, marks pass, and controls that are closed on their line, if its ASCII displays\n\
+    as it reads, or as it would without them.\n\
     \n\
     Status: 0 nothing was found; 1 something was found; 'bidi --help' lists the others.\n\
     A gate accepts 0 and no other.\n";

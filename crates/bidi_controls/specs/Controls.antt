@@ -1,7 +1,8 @@
 -- The direction controls and marks, and what they are called.
-use Rattle.std.specs.Prelude.{ℕ, ◌==◌, if◌then◌else◌, List, Option, Some, None, codes}
+use Rattle.std.specs.Prelude.{ℕ, Bool, ◌==◌, if◌then◌else◌, List, Option, Some, None, is_some, codes}
 use Rattle.bidi_base.specs.declared.char_data.BidiClass.{BidiClass}
 use Rattle.bidi_base.specs.declared.char_data.BidiClass.TheVariants.{LRE, LRO, RLE, RLO, PDF, LRI, RLI, FSI, PDI}
+use Rattle.bidi_base.specs.Source.{Source}
 use Rattle.bidi_controls.specs.declared.control.Control.{Control}
 use Rattle.bidi_controls.specs.declared.control.Control.TheVariants.{LeftToRightEmbedding, RightToLeftEmbedding, PopDirectionalFormatting, LeftToRightOverride, RightToLeftOverride, LeftToRightIsolate, RightToLeftIsolate, FirstStrongIsolate, PopDirectionalIsolate, LeftToRightMark, RightToLeftMark, ArabicLetterMark}
 
@@ -25,6 +26,10 @@ control_of RLI c = Some RightToLeftIsolate
 control_of FSI c = Some FirstStrongIsolate
 control_of PDI c = Some PopDirectionalIsolate
 control_of _ c = mark_of c
+
+-- a character is a direction control or a mark
+abbrev pub is_control_or_mark : Source → ℕ → Bool
+is_control_or_mark source c = is_some (control_of (source.class_of c) c)
 
 -- its code point and its name
 abbrev pub control_name : Control → List ℕ

@@ -5,11 +5,11 @@ use Rattle.bidi_base.specs.declared.char_data.BidiClass.{BidiClass}
 use Rattle.bidi_base.specs.Classes.{is_opener}
 use Rattle.bidi_base.specs.Indexes.{indexes, class_at, holds_number}
 use Rattle.bidi_base.specs.Source.{Source}
-use Rattle.bidi_controls.specs.Controls.{control_of, control_name}
+use Rattle.bidi_controls.specs.Controls.{control_of, control_name, is_control_or_mark}
 use Rattle.bidi_controls.specs.Displayed.{is_displayed_differently}
 use Rattle.bidi_bytes.specs.FileLines.{file_lines_of}
 use Rattle.bidi_base.specs.Paragraphs.{paragraphs_in, own_chars}
-use Rattle.bidi_controls.specs.Matches.{is_control, is_unmatched}
+use Rattle.bidi_controls.specs.Matches.{is_unmatched}
 use Rattle.bidi_controls.specs.declared.finding.Finding.{Finding}
 use Rattle.bidi_controls.specs.declared.finding.Trouble.{Trouble}
 use Rattle.bidi_controls.specs.declared.finding.Trouble.TheVariants.{NotClosed, ClosesNothing, Present, DisplayedDifferently}
@@ -69,12 +69,12 @@ abbrev pub findings_at : Bool → Option ℕ → ℕ → ℕ → List BidiClass 
 findings_at any differing line from classes chars k =
     option_to_list (line_finding_at differing line from classes chars k) ++ option_to_list (finding_at any line from classes chars k)
 
--- the index of the first control of a paragraph that is displayed differently from how it reads, if such lines are
--- wanted
+-- the index of the first control or mark of a paragraph that is displayed differently from how it reads, if such lines
+-- are wanted
 abbrev pub differing_place : Source → Wanted → List ℕ → Option ℕ
 differing_place source wanted chars =
     if wants_lines wanted && is_displayed_differently source (own_chars source chars)
-    then position (λ c. is_control (source.class_of c)) chars else None
+    then position (λ c. is_control_or_mark source c) chars else None
 
 -- the findings in a paragraph that begins at the index `from` of the line of this number, in the order of their columns
 abbrev pub findings_in_paragraph : Source → Wanted → ℕ → ℕ → List ℕ → List Finding

@@ -2,14 +2,16 @@
 ghost use Rattle.std.specs.Prelude.{◌≡◌, ◌+◌, ◌<◌, ◌^◌, ◌++◌, length, map, flat_map, position, IfOk, OnOk};
 ghost use Rattle.std.specs.Option.{option_to_list};
 ghost use Rattle.bidi_base.specs.Indexes.{holds_number, indexes};
+ghost use Rattle.bidi_controls.specs.Controls.{is_control_or_mark as is_control_or_mark_of};
 ghost use Rattle.bidi_controls.specs.Findings.{finding_of, line_finding_of, findings_at, findings_of, controls_wanted, differing_place as differing_place_of};
-ghost use Rattle.bidi_controls.specs.Matches.{is_control, is_unmatched};
+ghost use Rattle.bidi_controls.specs.Matches.{is_unmatched};
 
+use crate::control::is_control_or_mark;
 use crate::displayed::DisplayComparison;
 use crate::finding::{Finding, LineChar, Trouble, Wanted};
 use crate::lines::{first_file_line, first_paragraph_len, has_no_control_in_ascii, own_chars};
 use crate::openers::Openers;
-use crate::unmatched::{find_unmatched, is_control};
+use crate::unmatched::find_unmatched;
 use bidi_base::data_source::BidiDataSource;
 use std::alloc::{AllocError, Global};
 
@@ -23,17 +25,17 @@ fn push_found(findings: &mut Vec<Finding>, found: Option<Finding>) -> Result<(),
     Ok(())
 }
 
-/// Returns the index of the first direction control among some characters.
-fn first_control<D: BidiDataSource>(data_source: &D, chars: &[char]) -> Option<usize>
-    ensures { result ≡ position (λ c. is_control ((D.source data_source.now).class_of c)) chars.now }
+/// Returns the index of the first direction control or mark among some characters.
+fn first_control_or_mark<D: BidiDataSource>(data_source: &D, chars: &[char]) -> Option<usize>
+    ensures { result ≡ position (λ c. is_control_or_mark_of (D.source data_source.now) c) chars.now }
 {
     chars
         .iter()
-        .position(|c| is_control(data_source.bidi_class(*c)))
+        .position(|c| is_control_or_mark(data_source, *c))
 }
 
-/// Returns the index of the first control of a paragraph that is displayed differently from how it reads, if such lines
-/// are wanted.
+/// Returns the index of the first control or mark of a paragraph that is displayed differently from how it reads, if
+/// such lines are wanted.
 fn differing_place<D: BidiDataSource>(
     comparison: &mut DisplayComparison,
     alloc: Global,
@@ -50,7 +52,7 @@ fn differing_place<D: BidiDataSource>(
     if !comparison.is_displayed_differently(alloc, data_source, own)? {
         return Ok(None);
     }
-    Ok(first_control(data_source, line))
+    Ok(first_control_or_mark(data_source, line))
 }
 
 /// Returns whether `place` is this index.
@@ -214,7 +216,7 @@ const LONG: usize = 1024;
 /// These are direction controls that have no match in their paragraph on their line, or with `EveryControl` and
 /// `Everything` every control and mark. The match of an embedding or an override is its PDF (BD11), that of an isolate
 /// initiator its PDI (BD9), and that of a PDF or a PDI what it closes. With `Misleading` and `Everything`, a paragraph
-/// that is displayed differently from how it reads is found too, at its first control (see `DisplayComparison`).
+/// that is displayed differently from how it reads is found too, at its first control or mark (see `DisplayComparison`).
 ///
 /// Lines and columns are counted from 1, columns in characters. Lines end where editors end them: after a line feed, a
 /// CR LF or a carriage return. Another paragraph separator ends a paragraph, but not the line. Returns an error if an

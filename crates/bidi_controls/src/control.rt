@@ -1,7 +1,9 @@
 //! The direction controls and marks.
 ghost use Rattle.std.specs.Prelude.{◌≡◌};
+ghost use Rattle.bidi_controls.specs.Controls.{is_control_or_mark as is_control_or_mark_of};
 
 use bidi_base::char_data::BidiClass;
+use bidi_base::data_source::BidiDataSource;
 use bidi_base::format_chars::{ALM, LRM, RLM};
 
 /// An invisible character that sets directions: one of the nine direction controls, or one of the three marks.
@@ -107,4 +109,11 @@ impl Control {
             Control::ArabicLetterMark => "ALM",
         }
     }
+}
+
+/// Returns whether a character is a direction control or a mark.
+pub(crate) fn is_control_or_mark<D: BidiDataSource>(data_source: &D, c: char) -> bool
+    ensures { result ≡ is_control_or_mark_of (D.source data_source.now) c }
+{
+    Control::of(data_source.bidi_class(c), c).is_some()
 }

@@ -1,12 +1,14 @@
 //! Lines that are displayed differently from how they read.
-ghost use Rattle.std.specs.Prelude.{◌≡◌, ◌<◌, All, length, OnOk, IfOk};
+ghost use Rattle.std.specs.Prelude.{◌≡◌, ◌<◌, All, length, map, OnOk, IfOk};
 ghost use Rattle.bidi_base.specs.Order.{visual_order, IsVisualOrder};
 ghost use Rattle.bidi_base.specs.Indexes.{at_indexes};
 ghost use Rattle.bidi_controls.specs.Displayed.{displayed_levels, displayed_order, displayed, displayed_text, visible_ascii, are_same};
-ghost use Rattle.bidi_controls.specs.Displayed.{without_controls as without_controls_of, has_control as has_control_of};
-ghost use Rattle.bidi_controls.specs.Displayed.{is_reordered as is_reordered_by, is_displayed_differently as is_displayed_differently_by};
+ghost use Rattle.bidi_controls.specs.Displayed.{mirrored_ascii as mirrored_ascii_of, shown_at as shown_at_of, shown_char, as_shown};
+ghost use Rattle.bidi_controls.specs.Displayed.{without_controls as without_controls_of, without_controls_and_marks as without_controls_and_marks_of, has_control_or_mark as has_control_or_mark_of};
+ghost use Rattle.bidi_controls.specs.Displayed.{differs_with_base as differs_with_base_by, is_displayed_differently as is_displayed_differently_by};
 ghost use Rattle.bidi_terminal.specs.Bases.{level_of_base};
 
+use crate::control::is_control_or_mark;
 use crate::unmatched::is_control;
 use bidi_base::data_source::BidiDataSource;
 use bidi_base::level::Level;
@@ -62,7 +64,7 @@ impl DisplayedOrder {
         }
     }
 
-    // Finds the order in which a line's characters are displayed: their indexes from left to right.
+    // Finds the levels of a line's characters after L1, and their indexes from left to right (L2).
     fn find<D: BidiDataSource>(
         &mut self,
         alloc: Global,
@@ -70,6 +72,9 @@ impl DisplayedOrder {
         base: Base,
         line: &[char],
     ) -> Result<(), AllocError>
+        ensures levels { OnOk result (self.new.analysis.levels.items
+            ≡ displayed_levels (D.source data_source.now) (level_of_base base) line.now) }
+        ensures same_len { OnOk result (length self.new.analysis.levels.items ≡ length line.now) }
         ensures order { OnOk result (self.new.order.items
             ≡ displayed_order (D.source data_source.now) (level_of_base base) line.now) }
         ensures indexes { OnOk result (All (λ index. index < length line.now) self.new.order.items) }
@@ -105,6 +110,50 @@ fn write_in_order(line: &[char], order: &[usize], out: &mut Vec<char>) -> Result
     Ok(())
 }
 
+// Returns the mirrored partner of an ASCII character, or the character itself if it has none.
+//
+// The partner of an ASCII character is ASCII, and no other character has a partner in ASCII. So these eight are all.
+fn mirrored_ascii(c: char) -> char
+    ensures { result ≡ mirrored_ascii_of c }
+{
+    match c {
+        '(' => ')',
+        ')' => '(',
+        '<' => '>',
+        '>' => '<',
+        '[' => ']',
+        ']' => '[',
+        '{' => '}',
+        '}' => '{',
+        _ => c,
+    }
+}
+
+// Returns a character as a device shows it at a level: mirrored if the level is odd (L4), among ASCII alone.
+fn shown_at(level: Level, c: char) -> char
+    ensures { result ≡ shown_at_of level c }
+{
+    if level.is_rtl() { mirrored_ascii(c) } else { c }
+}
+
+// Replaces a list by the characters of a line at some indexes, each as a device shows it at its level.
+fn write_shown(
+    line: &[char],
+    levels: &[Level],
+    order: &[usize],
+    out: &mut Vec<char>,
+) -> Result<(), AllocError>
+    requires same_len { length levels.now ≡ length line.now }
+    requires indexes { All (λ index. index < length line.now) order.now }
+    ensures { OnOk result (out.new.items ≡ map (shown_char levels.now line.now) order.now) }
+{
+    out.clear();
+    for index in order {
+        out.push(shown_at(levels[*index], line[*index]))?;
+    }
+    Ok(())
+}
+
 // Replaces a list by some characters without the direction controls among them.
 fn write_without_controls<D: BidiDataSource>(
     data_source: &D,
@@ -122,17 +171,34 @@ fn write_without_controls<D: BidiDataSource>(
     Ok(())
 }
 
-// Returns whether some character is a direction control.
-fn has_control<D: BidiDataSource>(data_source: &D, chars: &[char]) -> bool
-    ensures { result ≡ has_control_of (D.source data_source.now) chars.now }
+// Replaces a list by some characters without the direction controls and marks among them.
+fn write_without_controls_and_marks<D: BidiDataSource>(
+    data_source: &D,
+    chars: &[char],
+    out: &mut Vec<char>,
+) -> Result<(), AllocError>
+    ensures { OnOk result (out.new.items ≡ without_controls_and_marks_of (D.source data_source.now) chars.now) }
 {
-    chars.iter().any(|c| is_control(data_source.bidi_class(*c)))
+    out.clear();
+    for c in chars {
+        if !is_control_or_mark(data_source, *c) {
+            out.push(*c)?;
+        }
+    }
+    Ok(())
+}
+
+// Returns whether some character is a direction control or a mark.
+fn has_control_or_mark<D: BidiDataSource>(data_source: &D, chars: &[char]) -> bool
+    ensures { result ≡ has_control_or_mark_of (D.source data_source.now) chars.now }
+{
+    chars.iter().any(|c| is_control_or_mark(data_source, *c))
 }
 
 /// A line as it is displayed.
 ///
-/// Displays one line after another, and reuses its memory. A line is a paragraph by itself. Nothing is mirrored (L4),
-/// and marks are not moved (L3).
+/// Displays one line after another, and reuses its memory. A line is a paragraph by itself. What it writes is not
+/// mirrored (L4), and marks are not moved (L3).
 #[derive(Drop)]
 pub struct DisplayedLine {
     order: DisplayedOrder,
@@ -182,8 +248,25 @@ impl DisplayedLine {
         write_without_controls(data_source, self.chars.as_slice(), out)
     }
 
-    // Writes the visible ASCII of a line from left to right, in place of the contents of `out`.
-    fn write_visible<D: BidiDataSource>(
+    // Finds the characters of a line as a device shows them, from left to right.
+    #[tactic(auto, unfolding(crate::specs::Displayed::as_shown))]
+    fn find_shown<D: BidiDataSource>(
+        &mut self,
+        alloc: Global,
+        data_source: &D,
+        base: Base,
+        line: &[char],
+    ) -> Result<(), AllocError>
+        ensures { OnOk result (self.new.chars.items
+            ≡ as_shown (D.source data_source.now) (level_of_base base) line.now) }
+    {
+        self.order.find(alloc, data_source, base, line)?;
+        let levels = self.order.analysis.levels.as_slice();
+        write_shown(line, levels, self.order.order.as_slice(), &mut self.chars)
+    }
+
+    // Writes the visible ASCII that a device shows of a line, in place of the contents of `out`.
+    fn write_shown_ascii<D: BidiDataSource>(
         &mut self,
         alloc: Global,
         data_source: &D,
@@ -192,9 +275,9 @@ impl DisplayedLine {
         out: &mut Vec<char>,
     ) -> Result<(), AllocError>
         ensures { OnOk result (out.new.items
-            ≡ visible_ascii (displayed (D.source data_source.now) (level_of_base base) line.now)) }
+            ≡ visible_ascii (as_shown (D.source data_source.now) (level_of_base base) line.now)) }
     {
-        self.find(alloc, data_source, base, line)?;
+        self.find_shown(alloc, data_source, base, line)?;
         write_visible_ascii(self.chars.as_slice(), out)
     }
 }
@@ -205,12 +288,12 @@ impl DisplayedLine {
 #[derive(Drop)]
 pub struct DisplayComparison {
     displayed: DisplayedLine,
-    // The visible ASCII of the line as it is read and as it is displayed.
+    // The visible ASCII of the line as it is read, and as a device shows it.
     read: Vec<char>,
     shown: Vec<char>,
-    // The line without its controls, and its visible ASCII as it is displayed then.
-    without_controls: Vec<char>,
-    shown_without_controls: Vec<char>,
+    // The line without its controls and marks, and the visible ASCII that a device shows of it then.
+    plain: Vec<char>,
+    shown_plain: Vec<char>,
 }
 
 impl DisplayComparison {
@@ -220,12 +303,12 @@ impl DisplayComparison {
             displayed: DisplayedLine::new(alloc),
             read: Vec::new(alloc),
             shown: Vec::new(alloc),
-            without_controls: Vec::new(alloc),
-            shown_without_controls: Vec::new(alloc),
+            plain: Vec::new(alloc),
+            shown_plain: Vec::new(alloc),
         }
     }
 
-    // Finds the visible ASCII of a line as it is displayed, and returns whether that is how it reads.
+    // Finds the visible ASCII that a device shows of a line, and returns whether that is what is read.
     fn is_as_read<D: BidiDataSource>(
         &mut self,
         alloc: Global,
@@ -234,41 +317,41 @@ impl DisplayComparison {
         line: &[char],
     ) -> Result<bool, AllocError>
         ensures shown { OnOk result (self.new.shown.items
-            ≡ visible_ascii (displayed (D.source data_source.now) (level_of_base base) line.now)) }
-        ensures same { let shown = displayed (D.source data_source.now) (level_of_base base) line.now in
-            IfOk result (λ same. same ≡ are_same (visible_ascii shown) (visible_ascii line.now)) }
+            ≡ visible_ascii (as_shown (D.source data_source.now) (level_of_base base) line.now)) }
+        ensures same { let found = as_shown (D.source data_source.now) (level_of_base base) line.now in
+            IfOk result (λ same. same ≡ are_same (visible_ascii found) (visible_ascii line.now)) }
     {
         write_visible_ascii(line, &mut self.read)?;
         self.displayed
-            .write_visible(alloc, data_source, base, line, &mut self.shown)?;
+            .write_shown_ascii(alloc, data_source, base, line, &mut self.shown)?;
         Ok(self.shown.as_slice() == self.read.as_slice())
     }
 
-    // Returns whether the visible ASCII that was found last is also displayed if the controls are deleted from the
-    // line.
-    fn is_as_without_controls<D: BidiDataSource>(
+    // Returns whether a device also shows the visible ASCII that was found last if the controls and marks are deleted
+    // from the line.
+    fn is_as_plain<D: BidiDataSource>(
         &mut self,
         alloc: Global,
         data_source: &D,
         base: Base,
         line: &[char],
     ) -> Result<bool, AllocError>
-        ensures { let kept = without_controls_of (D.source data_source.now) line.now in
+        ensures { let kept = without_controls_and_marks_of (D.source data_source.now) line.now in
             IfOk result (λ same. same ≡ are_same self.old.shown.items
-            (visible_ascii (displayed (D.source data_source.now) (level_of_base base) kept))) }
+            (visible_ascii (as_shown (D.source data_source.now) (level_of_base base) kept))) }
     {
-        write_without_controls(data_source, line, &mut self.without_controls)?;
-        let kept = self.without_controls.as_slice();
-        let out = &mut self.shown_without_controls;
+        write_without_controls_and_marks(data_source, line, &mut self.plain)?;
+        let plain = self.plain.as_slice();
+        let out = &mut self.shown_plain;
         self.displayed
-            .write_visible(alloc, data_source, base, kept, out)?;
-        Ok(self.shown.as_slice() == self.shown_without_controls.as_slice())
+            .write_shown_ascii(alloc, data_source, base, plain, out)?;
+        Ok(self.shown.as_slice() == self.shown_plain.as_slice())
     }
 
-    /// Returns whether, with a base level, the visible ASCII of a line is displayed neither as it is read nor as it is
-    /// displayed without the controls.
-    #[tactic(auto, unfolding(crate::specs::Displayed::is_reordered))]
-    pub fn is_reordered<D: BidiDataSource>(
+    /// Returns whether, with a base level, the visible ASCII that a device shows of a line is neither what is read nor
+    /// what it shows without the controls and marks.
+    #[tactic(auto, unfolding(crate::specs::Displayed::differs_with_base))]
+    pub fn differs_with_base<D: BidiDataSource>(
         &mut self,
         alloc: Global,
         data_source: &D,
@@ -276,21 +359,22 @@ impl DisplayComparison {
         line: &[char],
     ) -> Result<bool, AllocError>
         ensures { IfOk result (λ found. found
-            ≡ is_reordered_by (D.source data_source.now) (level_of_base base) line.now) }
+            ≡ differs_with_base_by (D.source data_source.now) (level_of_base base) line.now) }
     {
         if self.is_as_read(alloc, data_source, base, line)? {
             return Ok(false);
         }
-        let is_same = self.is_as_without_controls(alloc, data_source, base, line)?;
+        let is_same = self.is_as_plain(alloc, data_source, base, line)?;
         Ok(!is_same)
     }
 
     /// Returns whether a line is displayed differently from how it reads.
     ///
-    /// `line` is a line without the separator that ends it. It is displayed differently if it has a direction control
-    /// and, from left to right or with the base level of P2 and P3, its printable ASCII characters other than the
-    /// space are displayed neither in the order in which they are read, nor in the order in which they are displayed
-    /// if the controls are deleted from the line.
+    /// `line` is a line without the separator that ends it. Only a line that has a direction control or a mark can be
+    /// displayed differently. Of its characters, the printable ASCII other than the space is compared. It is taken as a
+    /// device shows it, from left to right (L2) and mirrored at odd levels (L4). The line is displayed differently if
+    /// this is neither what is read, nor what the device shows if the controls and marks are deleted from the line. The
+    /// line is tried from left to right, and with the base level of P2 and P3.
     #[tactic(auto, unfolding(crate::specs::Displayed::is_displayed_differently))]
     pub fn is_displayed_differently<D: BidiDataSource>(
         &mut self,
@@ -300,12 +384,12 @@ impl DisplayComparison {
     ) -> Result<bool, AllocError>
         ensures { IfOk result (λ found. found ≡ is_displayed_differently_by (D.source data_source.now) line.now) }
     {
-        if !has_control(data_source, line) {
+        if !has_control_or_mark(data_source, line) {
             return Ok(false);
         }
-        if self.is_reordered(alloc, data_source, Base::Ltr, line)? {
+        if self.differs_with_base(alloc, data_source, Base::Ltr, line)? {
             return Ok(true);
         }
-        self.is_reordered(alloc, data_source, Base::Auto, line)
+        self.differs_with_base(alloc, data_source, Base::Auto, line)
     }
 }

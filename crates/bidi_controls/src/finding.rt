@@ -44,7 +44,7 @@ pub enum Trouble {
     ClosesNothing,
     /// It is there. Only `EveryControl` and `Everything` find such controls and marks.
     Present,
-    /// It is the first control of a line that is displayed differently from how it reads.
+    /// It is the first control or mark of a line that is displayed differently from how it reads.
     DisplayedDifferently,
 }
 

@@ -1,12 +1,11 @@
 //! Where the lines of a file and the paragraphs of a text end.
-ghost use Rattle.std.specs.Prelude.{◌≡◌, ◌<◌, ◌≤◌, ◌∷◌, All, is_some, true, length, take, drop};
-ghost use Rattle.bidi_controls.specs.Controls.{control_of};
+ghost use Rattle.std.specs.Prelude.{◌≡◌, ◌<◌, ◌≤◌, ◌∷◌, All, true, length, take, drop};
 ghost use Rattle.bidi_base.specs.Paragraphs.{begins_with_line_feed, cr_lf_together, paragraphs_in, own_chars as own_chars_of};
 ghost use Rattle.bidi_bytes.specs.FileLines.{ends_file_line, file_lines_of};
 ghost use Rattle.bidi_controls.specs.Lines.{is_printable_ascii};
 ghost use Rattle.bidi_controls.specs.NoControls.{HaveNoControls, HasNoControlInAscii};
 
-use crate::control::Control;
+use crate::control::is_control_or_mark;
 use bidi_base::classes::is_paragraph_separator;
 use bidi_base::data_source::BidiDataSource;
 
@@ -67,13 +66,6 @@ fn ends_file_line(c: char, after: &[char]) -> bool
     c == '\n' || (c == '\r' && !matches!(after, ['\n', ..]))
 }
 
-/// Returns whether a character is a control or a mark.
-fn is_sign<D: BidiDataSource>(data_source: &D, c: char) -> bool
-    ensures { result ≡ is_some (control_of ((D.source data_source.now).class_of c) c) }
-{
-    Control::of(data_source.bidi_class(c), c).is_some()
-}
-
 /// Returns whether a character is printable ASCII, U+0020 to U+007E.
 fn is_printable_ascii(c: char) -> bool
     ensures { result ≡ is_printable_ascii c }
@@ -88,7 +80,7 @@ pub(crate) fn has_no_control_in_ascii<D: BidiDataSource>(data_source: &D) -> boo
     ensures { result ≡ true → HasNoControlInAscii (D.source data_source.now) }
 {
     for code in b' '..0x7F {
-        if is_sign(data_source, char::from(code)) {
+        if is_control_or_mark(data_source, char::from(code)) {
             return false;
         }
     }
@@ -148,7 +140,7 @@ pub(crate) fn first_file_line<D: BidiDataSource>(
         }
         let c = chars[at];
         at += 1;
-        if is_sign(data_source, c) {
+        if is_control_or_mark(data_source, c) {
             has_no_controls = false;
         }
         if ends_file_line(c, &chars[at..]) {

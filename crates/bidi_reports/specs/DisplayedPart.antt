@@ -1,7 +1,7 @@
 -- How the part of a line is displayed that a finding is about.
 use Rattle.std.specs.Prelude.{ℕ, ◌-◌, nat_lt, if◌then◌else◌, List, [], ◌∷◌, length, Option, Some, None}
 use Rattle.bidi_base.specs.Source.{Source}
-use Rattle.bidi_controls.specs.Displayed.{displayed_text, is_reordered}
+use Rattle.bidi_controls.specs.Displayed.{differs_with_base, displayed_text}
 use Rattle.bidi_base.specs.Paragraphs.{paragraphs_in, own_chars}
 use Rattle.bidi_controls.specs.declared.finding.Finding.{Finding}
 use Rattle.bidi_reports.specs.Words.{is_about_line}
@@ -15,9 +15,9 @@ paragraph_with place (chars ∷ paragraphs) =
 -- the base level with which a paragraph is displayed differently from how it reads: 0, or otherwise that of
 -- P2 and P3
 abbrev pub telling_base : Source → List ℕ → Option ℕ
-telling_base source chars = if is_reordered source (Some 0) chars then Some 0 else None
+telling_base source chars = if differs_with_base source (Some 0) chars then Some 0 else None
 
--- a paragraph as it is displayed with that base level, without its controls
+-- a paragraph as it is displayed with that base level, without its direction controls and not mirrored
 abbrev pub displayed_paragraph : Source → List ℕ → List ℕ
 displayed_paragraph source chars = displayed_text source (telling_base source chars) chars
 

@@ -63,10 +63,10 @@ impl Displayed {
     ) -> Result<Base, AllocError>
         ensures { IfOk result (λ base. level_of_base base ≡ telling_base (D.source data_source.now) chars.now) }
     {
-        let is_reordered = self
+        let differs = self
             .comparison
-            .is_reordered(alloc, data_source, Base::Ltr, chars)?;
-        Ok(if is_reordered { Base::Ltr } else { Base::Auto })
+            .differs_with_base(alloc, data_source, Base::Ltr, chars)?;
+        Ok(if differs { Base::Ltr } else { Base::Auto })
     }
 
     // Displays a paragraph.

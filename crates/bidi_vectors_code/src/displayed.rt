@@ -37,21 +37,39 @@ fn a_line_without_its_controls(rt: HostRuntime) -> Result<(), Fail> {
     check_displayed(&rt, &mut displayed, &mut out)
 }
 
-// Compares two lines with how they read: one is displayed in another order, and the other is not.
+// Lines that are displayed differently from how they read: in another order (L2), mirrored (L4), and in another order
+// because of a mark.
+const DIFFERING: [[char; 5]; 3] = [
+    ['a', '\u{202E}', 'b', 'c', '\u{202C}'],
+    ['a', '\u{2067}', '<', '\u{2069}', 'b'],
+    ['\u{200F}', '1', '!', '2', ';'],
+];
+
+// Lines that are displayed as they read: one has an isolate with its own direction, one has brackets that change places
+// and are mirrored, and one has a mark that moves nothing.
+const AS_READ: [[char; 5]; 3] = [
+    ['\u{5D0}', '\u{2066}', '/', 'b', '\u{2069}'],
+    ['\u{2067}', '(', 'a', ')', '\u{2069}'],
+    ['a', '\u{200F}', '!', ' ', 'b'],
+];
+
+// Compares the lines with how they read.
 fn check_comparison(
     rt: &(impl Abort + AllocGlobal),
     comparison: &mut DisplayComparison,
 ) -> Result<(), Fail> {
     let source = sample()?;
-    let swapped = ['a', '\u{202E}', 'b', 'c', '\u{202C}'];
-    assert!(rt; comparison.is_displayed_differently(rt.alloc(), &source, &swapped)?);
-    let kept = ['\u{5D0}', '\u{2066}', '/', 'b', '\u{2069}'];
-    assert!(rt; !comparison.is_displayed_differently(rt.alloc(), &source, &kept)?);
+    for line in DIFFERING {
+        assert!(rt; comparison.is_displayed_differently(rt.alloc(), &source, &line)?);
+    }
+    for line in AS_READ {
+        assert!(rt; !comparison.is_displayed_differently(rt.alloc(), &source, &line)?);
+    }
     Ok(())
 }
 
 #[test]
-fn a_line_and_how_it_reads(rt: HostRuntime) -> Result<(), Fail> {
+fn lines_and_how_they_read(rt: HostRuntime) -> Result<(), Fail> {
     let mut comparison = DisplayComparison::new(rt.alloc());
     check_comparison(&rt, &mut comparison)
 }

@@ -5,7 +5,7 @@ use Rattle.bidi_controls.specs.Lines.{is_printable_ascii}
 use Rattle.bidi_controls.proofs.LinesLemmas.{IsUnbroken-more, IsUnbroken-plain, IsUnbroken-ended, IsUnbroken-whole}
 use Rattle.bidi_controls.proofs.LinesWithoutControls.{HaveNoControls-more, HaveNoControls-plain}
 use Rattle.bidi_controls.proofs.lines.first_file_line.Goals as goal
-use Rattle.bidi_controls.proofs.lines.first_file_line.Goals.{then-is_sign, else-is_sign}
+use Rattle.bidi_controls.proofs.lines.first_file_line.Goals.{then-is_control_or_mark, else-is_control_or_mark}
 
 -- what is after an index
 behind : (n : ℕ) (chars : List ℕ) → drop n chars ≡ take (length chars - n) (drop n chars)
@@ -45,9 +45,9 @@ returns-then-ends_file_line-clause-first g c = grind (arith, behind, IsUnbroken-
 pub returns-then-ends_file_line-clause-without_controls : goal.returns-then-ends_file_line-clause-without_controls
 returns-then-ends_file_line-clause-without_controls g c =
     HaveNoControls-more (g.D.BidiDataSource.source c.args.data_source.now) c.args.chars.now c.loop-at.at _ _ _ c.loop-at-test.true c.index-chars-at.is
-    (elim c.if-is_sign.branch [
-      | then-is_sign w ↦ grind arith
-      | else-is_sign w ↦ grind arith
+    (elim c.if-is_control_or_mark.branch [
+      | then-is_control_or_mark w ↦ grind arith
+      | else-is_control_or_mark w ↦ grind arith
     ])
     c.loop-at.invariant.without_controls
 
@@ -56,9 +56,9 @@ loop-at-preserved g c = record {
   ends = omega (arith, c.loop-at-test.true);
   unbroken = grind (arith, behind, IsUnbroken-more ends_file_line c.args.chars.now);
   without_controls = HaveNoControls-more (g.D.BidiDataSource.source c.args.data_source.now) c.args.chars.now c.loop-at.at _ _ _ c.loop-at-test.true c.index-chars-at.is
-      (elim c.if-is_sign.branch [
-        | then-is_sign w ↦ grind arith
-        | else-is_sign w ↦ grind arith
+      (elim c.if-is_control_or_mark.branch [
+        | then-is_control_or_mark w ↦ grind arith
+        | else-is_control_or_mark w ↦ grind arith
       ])
       c.loop-at.invariant.without_controls;
 }

@@ -9,3 +9,6 @@ returns-clause-order g c = grind arith
 
 pub returns-clause-indexes : goal.returns-clause-indexes
 returns-clause-indexes g c = grind (arith, length-displayed_levels, order-within)
+
+pub returns-clause-same_len : goal.returns-clause-same_len
+returns-clause-same_len g c = grind (arith, length-displayed_levels)
