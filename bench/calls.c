@@ -158,7 +158,7 @@ static int64_t make(call call) {
   if (call == BASE_DIRECTION) return unicode_bidi_base_direction_utf8(text, length, 1);
   if (call == REORDER_VISUAL) return unicode_bidi_reorder_visual(levels, length, places, length);
   if (call == SHORT_TEXTS) return show_pieces();
-  if (call > SHORT_TEXTS) return call_pieces(call);
+  if (call >= SHORT_ANALYSES) return call_pieces(call); /* the last calls, each over all pieces */
   for (size_t at = 0; at < lines_len; at++) {
     int64_t answer = call_line(call, &lines[at]);
     if (answer < 0) return answer;

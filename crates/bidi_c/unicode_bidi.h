@@ -67,7 +67,7 @@ extern "C" {
 #define UNICODE_BIDI_NO_ROOM          (-12) /* a buffer that the call writes is too short */
 #define UNICODE_BIDI_BAD_RANGES       (-13) /* a range has first > last, or first <= last of the previous range */
 #define UNICODE_BIDI_BAD_BRACKET      (-14) /* not: 0, or a character from U+0020 to U+7FFFF, alone or plus OPENING */
-#define UNICODE_BIDI_BAD_FLAGS        (-15) /* flags are not a sum as the section on displayed lines says */
+#define UNICODE_BIDI_BAD_FLAGS        (-15) /* flags are not what the call takes: the section on displayed lines */
 
 /* Base levels: a number up to 125 is the level of every paragraph (HL1). With one of these, each paragraph finds its own
  * level (P2, P3). If no character of the paragraph decides, the level is 0 with AUTO and AUTO_LTR, which are the same, and
@@ -268,11 +268,12 @@ int64_t unicode_bidi_analyse_utf32(const uint32_t *text, size_t text_len, uint8_
                                    uint8_t *classes, size_t classes_len, uint8_t *levels, size_t levels_len,
                                    unicode_bidi_paragraph *paragraphs, size_t paragraphs_len);
 
-/* Finds the paragraphs of a text (P1) with their levels (P2, P3), and the class of each unit, without levels. Returns the
- * number of paragraphs. The classes are those that unicode_bidi_analyse_* writes (X5c). Each buffer is optional: pass a
+/* Finds the paragraphs of a text (P1) with their levels (P2, P3), and the class of each unit. Finds no level of a unit.
+ * Returns the number of paragraphs. The classes are those that unicode_bidi_analyse_* writes (X5c). Each buffer is optional: pass a
  * length of 0 for a part that is not needed. So a caller can count the paragraphs first.
  * Faults   NOT_UTF8, NOT_SCALAR (by the encoding), BAD_BASE_LEVEL, BAD_SPLIT, NO_ROOM of any buffer with a length that is
  *          not 0
+ * Room     text_len entries are enough for the classes; for the paragraphs text_len if the text is split, otherwise 1
  * Cost     the text, in less time than an analysis. The call does not allocate if the text has up to 256 units and is one
  *          paragraph without FSI.
  * Proved   the paragraphs and the classes are those of unicode_bidi_analyse_* (analysis_by). */
@@ -549,11 +550,15 @@ int64_t unicode_bidi_display_line_utf32(const uint32_t *text, size_t text_len,
 
 /* Analyses a text and displays it, each paragraph as one line (P1 to L4). The arguments are those of the analysis and of a
  * displayed line. Writes the level of each unit after L1, the displayed text, and the two maps as above: here they count
- * the characters of the whole text. The paragraphs follow one another. The separators (B) at the end of a paragraph stay
- * behind its displayed content, in the order of the text. Returns the length of the displayed text in units.
+ * the characters of the whole text. The paragraphs follow one another. The separators (B) at the end of a paragraph follow
+ * its displayed content, in the order of the text. Returns the length of the displayed text in units. Writes the number of
+ * displayed characters to *shown, and that of all characters to *characters. Each buffer is optional: pass a length of 0 for
+ * a part that is not needed. After a fault nothing is written, *shown and *characters included. In UTF-16 an unpaired
+ * surrogate becomes 0xFFFD.
  * Faults   NOT_UTF8, NOT_SCALAR (by the encoding), BAD_BASE_LEVEL, BAD_SPLIT, BAD_FLAGS, NO_ROOM of any buffer with a
  *          length that is not 0
- * Room     text_len entries are enough for the levels and the maps, and 2 * text_len units for the displayed text
+ * Room     text_len entries are enough for the levels and the maps, and 2 * text_len units for the displayed text (in utf32
+ *          text_len). For the order and the text this is tested, not proved.
  * Cost     the analysis, and that of unicode_bidi_display_line_* for each paragraph. Memory: a few hundred bytes for each
  *          character of the longest paragraph, and some tens for each unit of the text.
  * Proved   the levels (paragraph_levels), the displayed text (paragraph_text), the order (paragraph_order) and the places
@@ -571,9 +576,9 @@ int64_t unicode_bidi_display_text_utf32(const uint32_t *text, size_t text_len, u
                                         size_t *order, size_t order_len, size_t *places, size_t places_len,
                                         size_t *shown, size_t *characters);
 
-/* Writes the two maps of a line (L1 to L3) from the classes and the levels of its characters alone, without a text: a unit
- * is a character here. flags is UNICODE_BIDI_MOVE_CHARACTERS or UNICODE_BIDI_MOVE_MARKS. Returns the number of entries of
- * order. Each buffer is optional: pass a length of 0 for a part that is not needed.
+/* Writes the two maps of a line (L1 to L3) from classes and levels alone, without a text: a unit is a character here. The
+ * lists are those of the whole text, and both maps count from the line's first character. flags is
+ * UNICODE_BIDI_MOVE_CHARACTERS or UNICODE_BIDI_MOVE_MARKS, and no character is dropped. Returns the number of entries of order. Each buffer is optional: pass a length of 0 for a part that is not needed.
  * Faults   those of a line call; further: BAD_FLAGS, NO_ROOM of any buffer with a length that is not 0
  * Room     end - start entries are enough for each map (for order this is tested, not proved)
  * Cost     that of unicode_bidi_display_line_utf32
@@ -584,9 +589,10 @@ int64_t unicode_bidi_line_order(const uint8_t *classes, size_t classes_len,
                                 uint32_t flags, size_t *order, size_t order_len,
                                 size_t *places, size_t places_len);
 
-/* Writes the inverse of a map: places[order[i]] is i, for any order that a call of this header wrote. A place that order
- * does not name is UNICODE_BIDI_NOWHERE, and one that it names twice gets the first index. Entries of order from places_len
- * on are passed over. Returns places_len. Does not allocate.
+/* Writes the inverse of a map that a call of this header wrote: places[j] is the first i with order[i] = j, or
+ * UNICODE_BIDI_NOWHERE if there is none. An entry of order that is not below places_len is passed over. Pass the number of
+ * characters as places_len. Returns places_len. Does not allocate.
+ * Cost     both lists
  * Proved   the places (places_of). */
 int64_t unicode_bidi_places(const size_t *order, size_t order_len, size_t *places, size_t places_len);
 

@@ -310,8 +310,10 @@ public:
         : number_(static_cast<std::uint8_t>(level < 0 || level > no_level ? no_level : level)) {}
 
     /// Every paragraph has this level, or without one finds its own, as above.
-    constexpr BaseLevel(std::optional<int> level) noexcept
-        : number_(level ? BaseLevel(*level).number_ : std::uint8_t{UNICODE_BIDI_AUTO}) {}
+    template <typename Number, typename = std::enable_if_t<std::is_integral_v<Number>>>
+    constexpr BaseLevel(std::optional<Number> level) noexcept
+        : number_(level ? BaseLevel(*level > no_level ? no_level : static_cast<int>(*level)).number_
+                        : std::uint8_t{UNICODE_BIDI_AUTO}) {}
 
     /// Each paragraph finds its own level (P2, P3). If none of its characters decides, the level is 0.
     static constexpr BaseLevel auto_ltr() noexcept { return from_number(UNICODE_BIDI_AUTO_LTR); }
@@ -900,7 +902,7 @@ public:
 
     /// Returns the line as a device displays it: its text from left to right (L2 to L4), and both maps. In UTF-16 an
     /// unpaired surrogate becomes U+FFFD. The call allocates a few hundred bytes for each character.
-    /// Faults: also those of `try_displayed`, BAD_FLAGS for options that are none.
+    /// Faults: also those of `try_displayed`, BAD_FLAGS for options that do not exist.
     Result<DisplayedLine<Char>> try_display(DisplayOptions options = {}) const {
         DisplayedLine<Char> displayed;
         const auto fault = detail::fault_of_display(displayed, size(), [&](auto... buffers) {
@@ -1223,7 +1225,7 @@ void try_analyse(const Tables &, String &&, Rest...) = delete;
 
 /// Analyses a text and displays it by one call, each paragraph as one line (P1 to L4). The paragraphs follow one another.
 /// The separators (B) at the end of a paragraph stay behind its displayed content.
-/// Faults: NOT_UTF8, NOT_SCALAR (by the encoding), BAD_BASE_LEVEL, BAD_SPLIT, BAD_FLAGS for options that are none.
+/// Faults: NOT_UTF8, NOT_SCALAR (by the encoding), BAD_BASE_LEVEL, BAD_SPLIT, BAD_FLAGS for options that do not exist.
 template <class String>
 Result<DisplayedText<detail::CharOf<String>>> try_display(const String &text, DisplayOptions options = {},
                                                           BaseLevel base = std::nullopt,

@@ -49,6 +49,10 @@ def measured(calls: Dict[str, Callable[[], Any]]) -> List[Tuple[str, float]]:
     return [(name, 1e6 * seconds) for name, seconds in best.items()]
 
 
+#: Mirrored, without the direction controls and the characters of class BN.
+_FLAGS_OF_GET_DISPLAY = _library.MIRROR + 16
+
+
 def calls_of(text: str) -> Dict[str, Callable[[], Any]]:
     """Returns the calls that are measured for a text."""
     analysed = BidiText(text)
@@ -56,7 +60,7 @@ def calls_of(text: str) -> Dict[str, Callable[[], Any]]:
     last = _buffers.Buffers(len(text)).text_arguments
     calls: Dict[str, Callable[[], Any]] = {
         "the call of C in get_display": lambda: _library.display_text(characters, length, _library.AUTO, 2,
-                                                                      _library.MIRROR, *last),
+                                                                      _FLAGS_OF_GET_DISPLAY, *last),
         "get_display": lambda: get_display(text),
         "displayed_text": lambda: displayed_text(text),
         "get_base_level": lambda: get_base_level(text),

@@ -39,7 +39,7 @@ const CHECK: &str = "usage: bidi check [OPTION..] [--] [FILE..]\n\
     \n\
     --any         finds every direction control and mark too, also those that have a match\n\
     --gate        for builds: finds what --any finds, searches what --text and --hidden search,\n\
-    \u{20}             follows no link, and ends with 0 only if nothing was passed over\n\
+    \u{20}             follows no link, and names what it does not open\n\
     --unmatched   finds only controls that have no match\n\
     --hidden      also searches hidden files below a directory, whose names begin with a dot\n\
     --text        also searches binary files, which have a NUL in their first 8,000 bytes\n\

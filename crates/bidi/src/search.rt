@@ -205,13 +205,17 @@ fn check_as_utf8(
     name: &str,
     bytes: &[u8],
 ) -> Result<(), Status> {
-    let mut search = FileSearch::new(rt.alloc(), run.options.wanted);
-    let mut found = Vec::new(rt.alloc());
-    if run.options.search.gate && search.has_room(bytes.len()) {
-        or_end(rt, search.push_last(rt.alloc(), bytes, &mut found))?;
-        report_found(rt, run, name, &mut found)?;
+    if !run.options.search.gate {
+        return Ok(());
     }
-    Ok(())
+    let mut search = FileSearch::new(rt.alloc(), run.options.wanted);
+    if !search.has_room(bytes.len()) {
+        run.note(refuse(rt, name, &ErrorKind::FileTooLarge.into())?);
+        return Ok(());
+    }
+    let mut found = Vec::new(rt.alloc());
+    or_end(rt, search.push_last(rt.alloc(), bytes, &mut found))?;
+    report_found(rt, run, name, &mut found)
 }
 
 /// Searches an input, and writes what it finds. If `text` is false, reads only the first bytes of a binary input, and

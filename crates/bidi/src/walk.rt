@@ -192,7 +192,7 @@ fn walk(
 }
 
 // Searches what a list names: a file, the files below a directory, or the name of a link's target. So no name of a list
-// leads to another file.
+// is a link to another file.
 fn check_listed(
     rt: &(impl Files + Print + Eprint + AllocGlobal),
     run: &mut Run<'_, '_, '_>,

@@ -8,7 +8,8 @@ pub struct Search<'w> {
     pub hidden: bool,
     /// Whether binary files are searched.
     pub text: bool,
-    /// Whether nothing that an argument, a list or a directory names is passed over in silence, and no link is followed.
+    /// Whether no link that an argument, a list or a directory names is followed, and every other name that is no file or
+    /// directory is reported.
     pub gate: bool,
     /// The file that lists further names, or `-` for standard input.
     pub list: Option<Word<'w>>,

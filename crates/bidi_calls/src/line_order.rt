@@ -17,7 +17,7 @@ use bidi_numbers::fault::{Fault, check, check_room_or_none};
 use std::alloc::{AllocError, Global};
 use unicode_bidi::text::ClassText;
 
-// Returns the order of a line's characters from left to right (L2, L3), as their indexes in the line.
+// Returns the order of a line's characters from left to right (L1 to L3), as their indexes in the line.
 fn order_of(
     alloc: Global,
     line: &CallerLine<'_>,
@@ -38,7 +38,7 @@ fn order_of(
 ///
 /// There is one class and one level for each character. `order` gets the index in the line of the character at each visual
 /// index, and `places` the visual index of each character. Writes each to its buffer, unless that buffer is empty, and
-/// returns the number of characters. With `flags` 0 each character moves by itself, and with 1 the nonspacing marks (NSM)
+/// returns the number of entries of the order. With `flags` 0 each character moves by itself, and with 1 the nonspacing marks (NSM)
 /// that follow a character at its level stay behind it. The faults are those of
 /// [`line_levels`](crate::line::line_levels), with `BadFlags` before `NoRoom`, and `NoRoom` if a buffer is too short and
 /// not empty. Writes nothing after a fault. Takes the time of [`display_line`](crate::display_line::display_line).
@@ -60,6 +60,7 @@ pub fn line_order(
     ensures count { IfOk result (λ count. count ≡ length (order_by_classes line.now (options_of_flags flags))) }
 {
     line.check()?;
+    // Clusters need a text, and nothing is mirrored or dropped. So the next call finds no fault.
     check(flags < 2, Fault::BadFlags)?;
     let options = options_by(flags)?;
     let found = order_of(alloc, line, options)?;

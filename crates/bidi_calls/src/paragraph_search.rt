@@ -1,4 +1,4 @@
-//! The paragraphs and the classes of a text, without levels (P1 to P3, X5c).
+//! The paragraphs of a text with their levels, and its classes (P1 to P3, X5c). No level of a character is found.
 ghost use Rattle.std.specs.Prelude.{◌≡◌, ◌&&◌, length, map};
 ghost use Rattle.std.specs.Option.{option_or};
 ghost use Rattle.bidi_base.specs.Classes.{class_number};

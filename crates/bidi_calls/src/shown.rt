@@ -116,8 +116,9 @@ pub(crate) fn shown_of<'t, T: DisplayText<'t>, M: MirroredCharacters>(
 /// The place of a character that is not displayed.
 const NOWHERE: usize = usize::MAX;
 
-/// Writes the place of each character of a line in the order of its displayed characters, and `usize::MAX` for the
-/// others.
+/// Writes the place of each character in an order: the index of its first entry there, or `usize::MAX` if there is none.
+///
+/// An entry that is no index of `out` is passed over. Takes time linear in both lists, and does not allocate.
 pub fn write_places(order: &[usize], out: &mut [usize])
     ensures { out.new ≡ places_of order.now (length out.old) }
 {

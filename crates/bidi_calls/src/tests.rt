@@ -204,14 +204,14 @@ fn emoji(rt: HostRuntime) {
 }
 
 // The first paragraph is from right to left, and the second from left to right. Each gets its level from its characters.
-const TWO_PARAGRAPHS: [u32; 6] = [0x5D0, 0x5D1, 0x28, 0x0A, 0x61, 0x62];
+const TWO_PARAGRAPHS: [u32; 6] = [0x5D0, 0x5B8, 0x5D1, 0x28, 0x0A, 0x61];
 
 const BY_CHARACTERS: Settings = Settings {
     base: 255,
     split: 1,
 };
 
-// The bracket is mirrored, and the separator stays behind its paragraph.
+// The bracket is mirrored, the mark follows its letter, and the separator follows its paragraph.
 #[test]
 fn text_of_two_paragraphs(rt: HostRuntime) {
     let mut levels = [0u8; 6];
@@ -232,17 +232,17 @@ fn text_of_two_paragraphs(rt: HostRuntime) {
         &UnicodeData,
         &TWO_PARAGRAPHS,
         BY_CHARACTERS,
-        4,
+        5,
         &mut levels,
         &mut out,
     );
     assert_eq!(&rt; result, Ok(6));
     assert_eq!(&rt; shown, 6);
     assert_eq!(&rt; characters, 6);
-    assert!(&rt; levels == [1, 1, 1, 1, 0, 0]);
-    assert!(&rt; text == [0x29, 0x5D1, 0x5D0, 0x0A, 0x61, 0x62]);
-    assert!(&rt; order == [2, 1, 0, 3, 4, 5]);
-    assert!(&rt; places == [2, 1, 0, 3, 4, 5]);
+    assert!(&rt; levels == [1, 1, 1, 1, 1, 0]);
+    assert!(&rt; text == [0x29, 0x5D1, 0x5D0, 0x5B8, 0x0A, 0x61]);
+    assert!(&rt; order == [3, 2, 0, 1, 4, 5]);
+    assert!(&rt; places == [2, 3, 1, 0, 4, 5]);
 }
 
 #[test]
@@ -266,14 +266,14 @@ fn paragraphs_without_levels(rt: HostRuntime) {
         &mut out,
     );
     assert_eq!(&rt; result, Ok(2));
-    assert!(&rt; classes == [1, 1, 13, 10, 0, 0]);
+    assert!(&rt; classes == [1, 8, 1, 13, 10, 0]);
     let first = Paragraph {
         start: 0,
-        end: 4,
+        end: 5,
         level: 1,
     };
     let second = Paragraph {
-        start: 4,
+        start: 5,
         end: 6,
         level: 0,
     };

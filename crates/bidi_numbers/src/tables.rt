@@ -138,8 +138,8 @@ fn put_bracket(
     }
 }
 
-// Returns the bracket data of the characters of all pairs. The first pair that has a character decides, and its opening
-// bracket if it has it twice.
+// Returns the bracket data of the characters of all pairs. The first pair that has a character decides. If it has the
+// character twice, that is an opening bracket.
 fn brackets_by_char(
     alloc: Global,
     rows: &[(char, char, Option<char>)],

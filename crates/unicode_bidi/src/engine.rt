@@ -213,12 +213,11 @@ impl Analyser {
         )
     }
 
-    /// Finds the paragraphs of a text with their levels (P1 to P3), and writes the class of each character to the
-    /// caller's list.
+    /// Finds the paragraphs of a text with their levels (P1 to P3), and writes its stored classes (X5c) to the caller's list.
     ///
     /// `base` says how the paragraphs get their levels, and `rule` where they end. Without a rule the whole text is one
     /// paragraph. Writes the stored class of each code unit to `classes`, which has one entry for each code unit.
-    /// [`Analyser::paragraphs`] then returns the paragraphs, and [`Analyser::flags`] their classes. No level of a
+    /// [`Analyser::paragraphs`] then returns the paragraphs, and [`Analyser::flags`] one value for each. No level of a
     /// character is found, so this takes less time than an analysis. With [`Base::AutoOr`], each paragraph of level 0 is
     /// read once more, up to the character that decides. A text of one paragraph without FSI needs no allocation. If an
     /// allocation fails, the list holds anything, and there are no paragraphs.

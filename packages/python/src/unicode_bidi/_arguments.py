@@ -24,9 +24,9 @@ def bytes_of(numbers: Iterable[int]) -> bytes:
 
 def base_number(base_level: Optional[int], fallback: int) -> int:
     """Returns the number of a base level. With None each paragraph finds its own, or has the fallback."""
+    if operator.index(fallback) not in (0, 1):
+        raise BadBaseLevelError("a fallback must be 0 or 1")
     if base_level is None:
-        if fallback not in (0, 1):
-            raise BadBaseLevelError("a fallback must be 0 or 1")
         return library.AUTO_RTL if fallback else library.AUTO
     base = operator.index(base_level)
     if not 0 <= base <= library.MAX_BASE_LEVEL:

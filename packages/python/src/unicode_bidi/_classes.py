@@ -1,6 +1,7 @@
 """Levels and maps by classes and levels alone, without a text."""
 from __future__ import annotations
 
+import operator
 from ctypes import byref, c_size_t, c_uint32
 from functools import partial
 from typing import Iterable, NamedTuple, Optional, Sequence, Tuple
@@ -75,7 +76,7 @@ def line_order(classes: Sequence[int], levels: Sequence[int], paragraph: Paragra
     """
     class_bytes, level_bytes = bytes_of(classes), bytes_of(levels)
     start, end = limited(start, MOST_SIZE), limited(end, MOST_SIZE)
-    room = len(range(len(class_bytes))[start:end])
+    room = max(0, min(end, len(class_bytes)) - min(start, len(class_bytes)))
     order_pointer, order = new_sizes(room)
     places_pointer, places = new_sizes(room)
     count = checked(library.line_order(
@@ -88,7 +89,12 @@ def places(order: Iterable[int], count: int) -> Places:
     """Returns the inverse of a map, for ``count`` characters: the first visual index at which ``order`` has each of them.
 
     A character that is not in ``order`` has None. Numbers in ``order`` that are not below ``count`` are passed over.
+
+    Raises ``ValueError`` if ``count`` is negative.
     """
+    count = operator.index(count)
+    if count < 0:
+        raise ValueError("count must not be negative")
     indexes = [limited(index, MOST_SIZE) for index in order]
     pointer, found = new_sizes(count)
     checked(library.places((c_size_t * len(indexes))(*indexes), len(indexes), pointer, count))

@@ -2,6 +2,7 @@
 from __future__ import annotations
 
 import enum
+import operator
 from ctypes import byref, c_size_t, c_wchar
 from typing import Any, List, NamedTuple, Optional, Tuple
 
@@ -71,7 +72,7 @@ _FLAGS = {(moves, mirror, dropped): moves + MIRROR * mirror + dropped
 
 def flags_of(moves: int, mirror: bool, dropped: int) -> int:
     """Returns the flags of a displayed line, or raises :class:`BadFlagsError`."""
-    flags = _FLAGS.get((moves, bool(mirror), dropped))
+    flags = _FLAGS.get((operator.index(moves), bool(mirror), operator.index(dropped)))
     if flags is None:
         raise BadFlagsError
     return flags
