@@ -129,6 +129,18 @@ class Faults(unittest.TestCase):
         with self.assertRaises(TypeError):
             unicode_bidi.bidi_class("ab")
 
+    def test_numbers_of_calls_without_a_text(self):
+        with self.assertRaises(ValueError):
+            unicode_bidi.places([0], -1)
+        with self.assertRaises(ValueError):
+            unicode_bidi.places([0], -(2 ** 70))
+        with self.assertRaises(TypeError):
+            unicode_bidi.get_display("a", moves="marks")
+        with self.assertRaises(TypeError):
+            unicode_bidi.find_paragraphs("a", fallback="1")
+        with self.assertRaises(BadBaseLevelError):
+            unicode_bidi.find_paragraphs("a", 0, fallback=7)
+
 
 class Calls(unittest.TestCase):
     """The faults that only calls of C with other arguments than the package passes can return. No buffer is written."""
