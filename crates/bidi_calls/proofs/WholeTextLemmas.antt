@@ -1,21 +1,18 @@
 -- A text that is displayed paragraph by paragraph.
-use Rattle.bidi_base.proofs.Common.{◌≡◌, ◌∙◌, ℕ, suc, ◌+◌, ◌-◌, ◌<◌, ◌≤◌, List, [], ◌∷◌, ◌++◌, length, map, flat_map, flat_map-append, map-append, length-map, between, get_or, get_or-map, take, take_more, drop, drop_more, drop_all, take_all, drop-append_seam, flat_map-map, slice_range, append-nil, append_assoc, refl, sym, ap, ap₂, subst, arith, Range, AnalysedText}
-use Rattle.bidi_base.proofs.Common.{All, All-get_or, Bool, None, Option, Source, pieces_by, per_unit, char_index, is_boundary, subrange, per_char, IsLine, text_len}
+use Rattle.bidi_base.proofs.Common.{◌≡◌, ◌∙◌, ℕ, suc, ◌+◌, ◌-◌, ◌<◌, ◌≤◌, List, [], ◌∷◌, ◌++◌, length, map, flat_map, flat_map-append, map-append, length-map, between, get_or, get_or-map, take, take_more, drop, drop_more, drop_all, take_all, flat_map-map, slice_range, append-nil, append_assoc, refl, sym, ap, ap₂, subst, arith, Range, AnalysedText}
+use Rattle.bidi_base.proofs.Common.{All, All-get_or, Bool, None, Option, Source, pieces_by, per_unit, char_index, subrange, per_char, IsLine}
 use Rattle.bidi_base.proofs.PlacesLemmas.{range_with_len-more}
 use Rattle.bidi_base.proofs.TextLemmas.{HasUnits}
-use Rattle.bidi_base.proofs.UnitIndexLemmas.{line_unit_indexes}
 use Rattle.bidi_base.specs.declared.char_data.BidiClass.{BidiClass}
 use Rattle.std.proofs.lemmas.List.FromFn.{length-range_with_len}
 use Rattle.std.specs.List.{range_with_len}
-use Rattle.bidi_lines.proofs.LineInText.{length-part}
-use Rattle.bidi_lines.proofs.LineLevels.{length-line_levels}
 use Rattle.bidi_base.specs.declared.split_rule.SplitRule.{SplitRule}
 use Rattle.bidi_paragraphs.specs.ParagraphInfo.{ranges_of, levels_of}
 use Rattle.bidi_paragraphs.specs.declared.paragraph_info.ParagraphInfo.{ParagraphInfo}
 use Rattle.bidi_base.specs.PerChar.{HaveClass}
 use Rattle.unicode_bidi.proofs.ContentLemmas.{content-IsLine, end-within, separators-IsLine}
 use Rattle.unicode_bidi.specs.Content.{content_len}
-use Rattle.unicode_bidi.proofs.ParagraphUnits.{written, AreParagraphsWritten, AreParagraphsWritten-more}
+use Rattle.unicode_bidi.proofs.ParagraphUnits.{written, AreParagraphsWritten}
 use Rattle.unicode_bidi.specs.Base.{stored_levels_with, AreParagraphsWith}
 use Rattle.unicode_bidi.specs.Engine.{Follow}
 use Rattle.unicode_bidi.specs.declared.base.Base.{Base}
@@ -181,10 +178,6 @@ next-in-order ps k p fits read from end h =
 
 -- ---- L1, paragraph by paragraph
 
--- a part of the levels that is not written yet
-unwritten : (written start : List ℕ) (end : ℕ) → slice_range (written ++ drop (length written) start) (length written) end ≡ slice_range start (length written) end
-unwritten written start end = ap (take (end - length written)) (drop-append_seam written (drop (length written) start))
-
 -- the next paragraph after k
 module _ (classes : List BidiClass) (start : List ℕ) (ps : List ParagraphInfo) (long : length start ≡ length classes) (k : ℕ) (levels : List ℕ) (p : ParagraphInfo)
     (fits : k < length ps) (read : p ≡ get_or ps k p) (so_far : AreParagraphsWritten (λ q. paragraph_levels classes start (of_info q)) start ps k levels) where
@@ -194,28 +187,8 @@ module _ (classes : List BidiClass) (start : List ℕ) (ps : List ParagraphInfo)
   next-follows : Follow (length (written own_levels start ps k)) (length start) (p ∷ drop (k + 1) ps)
   next-follows = subst (λ qs. Follow (length (written own_levels start ps k)) (length start) qs) (drop_more ps k p fits ∙ ap (λ (q : ParagraphInfo). q ∷ drop (k + 1) ps) (sym read)) so_far.follow
 
-  pub next-begins : p.range.start ≡ length (written own_levels start ps k)
-  next-begins = next-follows.0
-
   pub next-within : p.range.end ≤ length start
   next-within = follow-le p.range.end (length start) (drop (k + 1) ps) next-follows.1
-
-  pub next-ordered : p.range.start ≤ p.range.end
-  next-ordered = p.ordered
-
-  -- its levels are still the stored ones
-  pub next-stored : slice_range levels p.range.start p.range.end ≡ slice_range start p.range.start p.range.end
-  next-stored =
-      rw (so_far.all, next-begins) (unwritten (written own_levels start ps k) start p.range.end)
-
-  pub next-long : length (own_levels p) ≡ p.range.end - p.range.start
-  next-long =
-      let levels-long = length-part start p.range.start p.range.end next-within in
-      let classes-long = length-part classes p.range.start p.range.end (omega (arith, next-within, long)) in
-      length-line_levels p.level (slice_range classes p.range.start p.range.end) (slice_range start p.range.start p.range.end) (omega (arith, levels-long, classes-long)) ∙ classes-long
-
-  pub next-written : (new : List ℕ) → new ≡ take p.range.start levels ++ (own_levels p ++ drop p.range.end levels) → AreParagraphsWritten own_levels start ps (k + 1) new
-  next-written new e = AreParagraphsWritten-more own_levels start ps k levels new p fits read next-ordered next-long e so_far
 
 -- after the last paragraph
 pub all-reset : (classes : List BidiClass) (start : List ℕ) (ps : List ParagraphInfo) (k : ℕ) (levels : List ℕ) → length ps ≤ k

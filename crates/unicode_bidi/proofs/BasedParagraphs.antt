@@ -1,5 +1,5 @@
 -- The paragraphs of a text, once they have the levels that a base gives them.
-use Rattle.bidi_base.proofs.Common.{◌≡◌, ◌∙◌, ℕ, List, [], IsLine, map, flat_map, ap, sym, All, Option, AnalysedText, AreParagraphs, HasOwnUnits, pieces_by, ranges_from, per_unit, stored_levels, text_len, Source, map-map}
+use Rattle.bidi_base.proofs.Common.{◌≡◌, ◌∙◌, ℕ, List, [], IsLine, map, flat_map, ap, sym, All, Option, AnalysedText, AreParagraphs, HasOwnUnits, pieces_by, per_unit, stored_levels, text_len, Source, map-map}
 use Rattle.bidi_base.specs.declared.char_data.BidiClass.{BidiClass}
 use Rattle.bidi_base.specs.declared.split_rule.SplitRule.{SplitRule}
 use Rattle.bidi_base.proofs.TextLemmas.{HasUnits}

@@ -1,4 +1,4 @@
-use Rattle.bidi_base.proofs.Common.{◌≡◌, ◌∙◌, ℕ, List, [], length, length-map, map, ap, sym, arith}
+use Rattle.bidi_base.proofs.Common.{◌≡◌, ◌∙◌, ℕ, List, length, length-map, map, ap, sym}
 use Rattle.bidi_base.proofs.UnitIndexLemmas.{text_len-one_unit}
 use Rattle.bidi_numbers.specs.Numbers.{class_numbered}
 use Rattle.bidi_text.specs.ClassText.{class_chars, class_source}

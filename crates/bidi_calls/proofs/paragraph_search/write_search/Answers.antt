@@ -1,4 +1,4 @@
-use Rattle.bidi_base.proofs.Common.{◌∙◌, ℕ, List, length, length-map, ap, sym, rules, arith}
+use Rattle.bidi_base.proofs.Common.{◌∙◌, ℕ, List, length, length-map, ap, sym, rules}
 use Rattle.bidi_base.specs.Classes.{class_number}
 use Rattle.unicode_bidi.specs.Engine.{found_paragraphs}
 use Rattle.bidi_calls.proofs.FoundText.{structs-found, count-found}

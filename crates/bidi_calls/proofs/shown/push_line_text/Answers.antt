@@ -3,7 +3,6 @@ use Rattle.bidi_display.specs.DisplayedLine.{cluster_order}
 use Rattle.bidi_display.specs.Shown.{chars, clusters, cluster_text, displayed_text, options}
 use Rattle.bidi_display.proofs.ColumnLemmas.{length-cluster_order, cluster_order-below}
 use Rattle.bidi_display.proofs.TextLemmas.{chars-ordered, chars-within}
-use Rattle.bidi_calls.specs.ShownOrder.{shown_in, shown_order}
 use Rattle.bidi_calls.proofs.ShownLemmas.{cluster-more}
 use Rattle.bidi_calls.proofs.shown.push_line_text.Goals as goal
 

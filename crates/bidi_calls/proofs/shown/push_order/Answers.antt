@@ -1,6 +1,6 @@
-use Rattle.bidi_base.proofs.Common.{◌∙◌, ◌++◌, [], ◌+◌, rules, ◌<◌, ◌≤◌, List, ℕ, length, get_or, map, refl, sym, ap, arith, flat_map, flat_map-append, take_all, at_indexes, append_assoc, append-nil}
+use Rattle.bidi_base.proofs.Common.{◌∙◌, ◌++◌, [], ◌+◌, rules, ◌<◌, ◌≤◌, List, ℕ, length, get_or, map, refl, sym, ap, arith, flat_map, take_all, at_indexes, append_assoc, append-nil}
 use Rattle.bidi_display.specs.DisplayedLine.{cluster_order}
-use Rattle.bidi_display.specs.Shown.{chars, clusters, cluster_text, displayed_text, options}
+use Rattle.bidi_display.specs.Shown.{chars, clusters, options}
 use Rattle.bidi_display.proofs.ColumnLemmas.{length-cluster_order, cluster_order-below}
 use Rattle.bidi_display.proofs.TextLemmas.{chars-ordered, chars-within}
 use Rattle.bidi_calls.specs.ShownOrder.{shown_in, shown_order}

@@ -1,4 +1,4 @@
-use Rattle.bidi_base.proofs.Common.{◌≡◌, ◌∙◌, ◌&&◌, ℕ, List, Option, length, ap, refl, sym, subst}
+use Rattle.bidi_base.proofs.Common.{◌∙◌, ◌&&◌, ℕ, List, Option, length, ap, refl, sym, subst}
 use Rattle.bidi_calls.specs.DisplayParts.{found_parts, has_room_for, WritesDisplay}
 use Rattle.bidi_calls.specs.WholeText.{found_by, AreParts, WritesLevels}
 use Rattle.bidi_calls.proofs.WholeTextLemmas.{all-parts, found-is, last-fault}

@@ -1,4 +1,4 @@
-use Rattle.bidi_base.proofs.Common.{◌≡◌, ◌∙◌, ℕ, ◌+◌, ◌-◌, ◌++◌, ◌∷◌, [], List, between, append-nil, append_assoc, sym, ap, arith}
+use Rattle.bidi_base.proofs.Common.{◌≡◌, ◌∙◌, ℕ, ◌++◌, ◌∷◌, [], List, between, append-nil, append_assoc, sym, ap, arith}
 use Rattle.bidi_calls.proofs.WholeTextLemmas.{between-none, between-next}
 use Rattle.bidi_calls.proofs.whole_text.push_between.Goals as goal
 

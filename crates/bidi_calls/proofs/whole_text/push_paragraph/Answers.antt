@@ -1,11 +1,8 @@
 use Rattle.bidi_base.proofs.Common.{◌≡◌, ◌∙◌, ◌+◌, ◌++◌, ◌≤◌, ℕ, flat_map, List, length, ap, sym, subst, arith, rules, refl, char_index, IsLine, Range}
 use Rattle.bidi_lines.specs.Analysed.{with_lists}
-use Rattle.bidi_base.proofs.UnitsLemmas.{length-from_IsPerChar}
-use Rattle.bidi_display.specs.Shown.{options, chars, Displays}
+use Rattle.bidi_display.specs.Shown.{options, chars}
 use Rattle.unicode_bidi.proofs.ContentLemmas.{content-within, end-within}
-use Rattle.bidi_calls.proofs.OrderOfRuns.{index-after, char_index-le-unit}
-use Rattle.bidi_calls.proofs.PartsLemmas.{no_width}
-use Rattle.bidi_calls.proofs.WholeTextLemmas.{before-end, before-end-fits, before-separators, before-separators-fits, content-line, read_paragraph, read-is, separators-line, written-order, written-text}
+use Rattle.bidi_calls.proofs.WholeTextLemmas.{before-end, before-end-fits, before-separators, before-separators-fits, content-line, read-is, separators-line, written-order, written-text}
 use Rattle.bidi_calls.specs.WholeText.{paragraph_order, paragraph_text}
 use Rattle.bidi_calls.proofs.whole_text.push_paragraph.Given.{Over}
 use Rattle.bidi_calls.proofs.whole_text.push_paragraph.Goals as goal

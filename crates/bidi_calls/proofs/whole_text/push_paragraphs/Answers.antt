@@ -1,4 +1,4 @@
-use Rattle.bidi_base.proofs.Common.{◌≡◌, ◌∙◌, ◌++◌, ℕ, List, [], ap, sym, subst, refl, flat_map, map, take, take_all, drop, drop_more, append-nil, char_index, text_len, IsLine}
+use Rattle.bidi_base.proofs.Common.{◌≡◌, ◌∙◌, ◌++◌, ℕ, List, ap, sym, subst, refl, flat_map, map, take_all, append-nil, char_index, IsLine}
 use Rattle.bidi_lines.specs.Analysed.{with_lists}
 use Rattle.bidi_paragraphs.specs.declared.paragraph_info.ParagraphInfo.{ParagraphInfo}
 use Rattle.bidi_display.specs.Shown.{options}

@@ -1,4 +1,4 @@
-use Rattle.bidi_base.proofs.Common.{◌≤◌, length, sym, arith}
+use Rattle.bidi_base.proofs.Common.{arith}
 use Rattle.bidi_calls.proofs.WholeTextLemmas.{all-reset, next-within}
 use Rattle.bidi_calls.proofs.whole_text.reset_paragraphs.Goals as goal
 

@@ -1,4 +1,4 @@
-use Rattle.bidi_base.proofs.Common.{◌≡◌, ◌∙◌, ℕ, List, length, refl, arith, subst, text_len}
+use Rattle.bidi_base.proofs.Common.{◌≡◌, ℕ, List, length, refl, arith, subst, text_len}
 use Rattle.unicode_bidi.specs.Engine.{found_paragraphs, Follow}
 use Rattle.unicode_bidi.proofs.BasedParagraphs.{based-Follow, based-lines}
 use Rattle.bidi_calls.proofs.WholeTextLemmas.{found-parts}
