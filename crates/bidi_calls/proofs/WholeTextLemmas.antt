@@ -1,6 +1,6 @@
 -- A text that is displayed paragraph by paragraph.
 use Rattle.bidi_base.proofs.Common.{◌≡◌, ◌∙◌, ℕ, suc, ◌+◌, ◌-◌, ◌<◌, ◌≤◌, List, [], ◌∷◌, ◌++◌, length, map, flat_map, flat_map-append, map-append, length-map, between, get_or, get_or-map, take, take_more, drop, drop_more, drop_all, take_all, flat_map-map, slice_range, append-nil, append_assoc, refl, sym, ap, ap₂, subst, arith, Range, AnalysedText}
-use Rattle.bidi_base.proofs.Common.{All, All-get_or, Bool, None, Option, Source, pieces_by, per_unit, char_index, subrange, per_char, IsLine}
+use Rattle.bidi_base.proofs.Common.{All, All-get_or, Bool, None, Option, Source, pieces_by, per_unit, char_index, subrange, IsLine}
 use Rattle.bidi_base.proofs.PlacesLemmas.{range_with_len-more}
 use Rattle.bidi_base.proofs.TextLemmas.{HasUnits}
 use Rattle.bidi_base.specs.declared.char_data.BidiClass.{BidiClass}
