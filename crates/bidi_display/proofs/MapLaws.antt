@@ -1,9 +1,9 @@
 -- Laws of the maps of a displayed line: each is the inverse of its partner.
-use Rattle.bidi_base.proofs.Common.{◌≡◌, ℕ, ◌+◌, ◌-◌, ◌<◌, ◌≤◌, nat_le, nat_lt, true, Some, length, get_or, indexes, slice_index, sym, ap, ◌∙◌, le_refl, arith, and_parts, leb-true, ltb-true, get_or_default, length-range_with_len, ◌↔◌}
+use Rattle.bidi_base.proofs.Common.{◌≡◌, ℕ, ◌+◌, ◌-◌, ◌<◌, ◌≤◌, nat_le, nat_lt, Some, length, get_or, indexes, slice_index, sym, ap, ◌∙◌, le_refl, arith, and_parts, leb-true, ltb-true, get_or_default, length-range_with_len, ◌↔◌}
 use Rattle.bidi_base.specs.Order.{visual_index}
 use Rattle.bidi_base.proofs.Lists.{find-index, find-passes}
 use Rattle.bidi_display.specs.Carets.{LaidOutLine, cluster_at, cluster_at_column, covers, has_unit}
-use Rattle.bidi_display.specs.DisplayedLine.{AreClustersFrom, cluster_order, edges, ends, left_edge, levels_of, right_edge, starts}
+use Rattle.bidi_display.specs.DisplayedLine.{AreClustersFrom, cluster_order, ends, left_edge, levels_of, right_edge, starts}
 use Rattle.bidi_display.proofs.BoundaryLemmas.{cluster_at-is, ends-rise, index-at, start-within}
 use Rattle.bidi_display.proofs.ColumnLemmas.{cluster_at_column-is, cluster_order-below, edges-ascend, length-cluster_order, order-contains, visual_index-cluster}
 

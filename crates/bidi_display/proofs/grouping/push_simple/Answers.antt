@@ -1,5 +1,5 @@
 use Rattle.bidi_base.proofs.Common.{◌≡◌, ◌+◌, true, drop, sym, ap, ◌∙◌, arith, nat_tests}
-use Rattle.bidi_display.specs.Joining.{begins_simple, is_simple}
+use Rattle.bidi_display.specs.Joining.{begins_simple}
 use Rattle.bidi_display.proofs.ClusterPass.{IsFoundPast-more, IsFoundPast-none, simple-item}
 use Rattle.bidi_display.proofs.GroupingLemmas.{drop-item}
 use Rattle.bidi_display.proofs.grouping.push_simple.Goals as goal

@@ -1,4 +1,4 @@
-use Rattle.bidi_base.proofs.Common.{ap, ◌∙◌, chars, encode_utf8, IsUtf8, subst}
+use Rattle.bidi_base.proofs.Common.{ap, ◌∙◌, chars, IsUtf8, subst}
 use Rattle.unicode_segmentation.proofs.TextLemmas.{chars-encode_utf8}
 use Rattle.bidi_display.proofs.width.ClusterWidth.width_of_char.Goals as goal
 
