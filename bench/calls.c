@@ -1,8 +1,8 @@
 /* Times the calls of the static library with a file of UTF-8, in nanoseconds a character, a line or a short text;
  * main.rt.in times such calls of unicode_bidi. Lines have 60 characters, and fewer where a paragraph ends. A short text
  * is a piece of three words, and of fewer where a paragraph ends. It is analysed, and then shown as one line. Short texts
- * are also analysed alone, by the classes and the brackets of their characters, ordered by classes and levels, and
- * displayed in one call. */
+ * are also analysed alone, analysed with one analyser for all of them, analysed by the classes and the brackets of their
+ * characters, ordered by classes and levels, and displayed in one call. */
 #include "unicode_bidi.h"
 #include <stdio.h>
 #include <stdlib.h>
@@ -26,6 +26,7 @@ typedef enum {
   ANALYSE_CLASSES, /* from here on, what the analysis wrote is overwritten */
   SHORT_TEXTS,
   SHORT_ANALYSES,
+  SHORT_KEPT, /* with one analyser, which keeps its memory */
   SHORT_CLASSES,
   SHORT_ORDERS, /* analysed by classes, and ordered by classes and levels */
   SHORT_DISPLAYS,
@@ -45,6 +46,7 @@ static uint8_t *text, *classes, *levels, *line_levels, *bytes, *char_classes;
 static uint32_t *char_brackets;
 static size_t *places, *inverse;
 static unicode_bidi_run *runs;
+static unicode_bidi_analyser analyser;
 static unicode_bidi_paragraph *paragraphs;
 static text_line *lines;
 static text_piece *pieces;
@@ -60,6 +62,12 @@ static int64_t analyse(size_t start, size_t end) {
   const size_t count = end - start;
   return unicode_bidi_analyse_utf8(text + start, count, UNICODE_BIDI_AUTO, UNICODE_BIDI_EACH_SEPARATOR, classes, count,
                                    levels, count, paragraphs, count);
+}
+
+static int64_t analyse_kept(size_t start, size_t end) {
+  const size_t count = end - start;
+  return unicode_bidi_analyse_with_utf8(&analyser, text + start, count, UNICODE_BIDI_AUTO, UNICODE_BIDI_EACH_SEPARATOR,
+                                        classes, count, levels, count, paragraphs, count);
 }
 
 static int64_t analyse_classes(size_t first, size_t last) {
@@ -106,6 +114,7 @@ static int64_t show_pieces(void) {
 
 static int64_t call_piece(call call, const text_piece *piece) {
   switch (call) {
+    case SHORT_KEPT: return analyse_kept(piece->start, piece->end);
     case SHORT_CLASSES: return analyse_classes(piece->first, piece->last);
     case SHORT_ORDERS: return order_characters(piece->first, piece->last);
     case SHORT_DISPLAYS: return display(piece->start, piece->end);
@@ -243,7 +252,7 @@ int main(int count, char **words) {
   static const char *const names[CALLS] = {
       "analyse", "paragraphs", "base_direction, full", "line_levels", "line_runs", "line_map", "reorder_line",
       "show_line", "display_line, plainly", "display_line", "reorder_visual", "display_text", "analyse_classes",
-      "short texts", "short texts analysed", "by classes", "by classes, ordered", "displayed"};
+      "short texts", "short texts analysed", "with one analyser", "by classes", "by classes, ordered", "displayed"};
   FILE *file = count == 2 ? fopen(words[1], "rb") : NULL;
   if (!file || fseek(file, 0, SEEK_END)) return 2;
   length = (size_t)ftell(file);

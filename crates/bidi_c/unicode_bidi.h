@@ -8,11 +8,13 @@
  *   - A pointer that is followed by a length points to that many elements, with the alignment of their type.
  *     If the length is 0, the pointer may be null. This is tested for each such argument, and not proved.
  *   - `paragraph` points to one paragraph, and `shown` and `characters` to one number each, aligned and not null.
+ *   - `analyser` points to one analyser, aligned and not null. The section on analysers says what else it must be.
  *   - A buffer that a call writes overlaps no other argument. It may begin where another one ends.
  *   - The text and the tables do not change during the call.
  *
  * The caller owns every buffer. A call keeps nothing: it frees what it allocated with malloc before it returns.
- * Any number of threads may make calls at the same time, each with its own buffers.
+ * Any number of threads may make calls at the same time, each with its own buffers. Only an analyser
+ * (unicode_bidi_analyser) keeps memory between calls, until unicode_bidi_free.
  *
  * Units. In the calls that end in utf8 a unit is a byte, in utf16 a code unit of UTF-16, in utf32 a character (a
  * scalar value). Indexes, lengths and ranges count units from 0. The end of a range is exclusive. In UTF-16 an
@@ -309,7 +311,46 @@ int64_t unicode_bidi_first_direction_utf8(const uint8_t *text, size_t text_len, 
 int64_t unicode_bidi_first_direction_utf16(const uint16_t *text, size_t text_len, uint8_t full);
 int64_t unicode_bidi_first_direction_utf32(const uint32_t *text, size_t text_len, uint8_t full);
 
-/* -------- The same by the caller's tables --------
+/* -------- One text after another, in memory that is kept --------
+ *
+ * An analysis needs several lists. unicode_bidi_analyse_* allocates them for each text, unless the text is short and simple.
+ * An analyser keeps their memory for the next text. The caller begins with a zeroed analyser:
+ *
+ *   unicode_bidi_analyser analyser = {0};
+ *
+ * The first analysis allocates it, and unicode_bidi_free frees it. Both may be called again at any time.
+ *
+ * An analyser keeps no text and no result: what a call writes does not depend on the texts before it. It keeps as much
+ * memory as the longest of these texts needed. After any fault, NO_MEMORY included, it can analyse the next text.
+ *
+ * The caller must not change `memory`, and must not copy an analyser and use both copies. A zeroed analyser owns nothing.
+ * An analyser may be passed from thread to thread, but only one call at a time may use it. */
+typedef struct {
+  void *memory;
+} unicode_bidi_analyser;
+
+/* Writes what unicode_bidi_analyse_* writes, and returns the same. All that is said of that call holds for these too, except
+ * for the cost.
+ * Cost     the text. Memory: some bytes for each unit of the longest text so far. The call does not allocate if the analyser
+ *          has analysed a text with at least as many units, paragraphs, level runs, open isolates and brackets.
+ * Proved   as for unicode_bidi_analyse_*, for any analyser. That the call does not allocate is tested, not proved. */
+int64_t unicode_bidi_analyse_with_utf8(unicode_bidi_analyser *analyser,
+                                       const uint8_t *text, size_t text_len, uint8_t base, uint8_t split,
+                                       uint8_t *classes, size_t classes_len, uint8_t *levels, size_t levels_len,
+                                       unicode_bidi_paragraph *paragraphs, size_t paragraphs_len);
+int64_t unicode_bidi_analyse_with_utf16(unicode_bidi_analyser *analyser,
+                                        const uint16_t *text, size_t text_len, uint8_t base, uint8_t split,
+                                        uint8_t *classes, size_t classes_len, uint8_t *levels, size_t levels_len,
+                                        unicode_bidi_paragraph *paragraphs, size_t paragraphs_len);
+int64_t unicode_bidi_analyse_with_utf32(unicode_bidi_analyser *analyser,
+                                        const uint32_t *text, size_t text_len, uint8_t base, uint8_t split,
+                                        uint8_t *classes, size_t classes_len, uint8_t *levels, size_t levels_len,
+                                        unicode_bidi_paragraph *paragraphs, size_t paragraphs_len);
+
+/* Frees the memory of an analyser, and zeroes it. Does nothing to a zeroed one. */
+void unicode_bidi_free(unicode_bidi_analyser *analyser);
+
+/* -------- A whole text by the caller's tables --------
  *
  * If two pairs name a character, the first one counts. Each call reads the tables again.
  * Faults   NOT_SCALAR in a range, NOT_SCALAR in a pair, BAD_CLASS, BAD_RANGES; then those above

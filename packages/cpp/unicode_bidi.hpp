@@ -465,6 +465,7 @@ template <>
 struct Encoding<char> {
     using Unit = std::uint8_t;
     static constexpr auto analyse = unicode_bidi_analyse_utf8;
+    static constexpr auto analyse_with = unicode_bidi_analyse_with_utf8;
     static constexpr auto analyse_by_tables = unicode_bidi_analyse_by_tables_utf8;
     static constexpr auto base_direction = unicode_bidi_base_direction_utf8;
     static constexpr auto base_direction_by_tables = unicode_bidi_base_direction_by_tables_utf8;
@@ -483,6 +484,7 @@ template <>
 struct Encoding<char16_t> {
     using Unit = std::uint16_t;
     static constexpr auto analyse = unicode_bidi_analyse_utf16;
+    static constexpr auto analyse_with = unicode_bidi_analyse_with_utf16;
     static constexpr auto analyse_by_tables = unicode_bidi_analyse_by_tables_utf16;
     static constexpr auto base_direction = unicode_bidi_base_direction_utf16;
     static constexpr auto base_direction_by_tables = unicode_bidi_base_direction_by_tables_utf16;
@@ -501,6 +503,7 @@ template <>
 struct Encoding<char32_t> {
     using Unit = std::uint32_t;
     static constexpr auto analyse = unicode_bidi_analyse_utf32;
+    static constexpr auto analyse_with = unicode_bidi_analyse_with_utf32;
     static constexpr auto analyse_by_tables = unicode_bidi_analyse_by_tables_utf32;
     static constexpr auto base_direction = unicode_bidi_base_direction_utf32;
     static constexpr auto base_direction_by_tables = unicode_bidi_base_direction_by_tables_utf32;
@@ -1083,6 +1086,38 @@ private:
 
 // ---- The whole text ----
 
+/// Keeps the memory of an analysis for the next one. Without it, each analysis allocates the lists that it needs, and frees
+/// them. It keeps no text and no result: what an analysis finds does not depend on the texts before it. It frees its memory
+/// when it ends. It can be moved but not copied. Threads must not use one at the same time.
+class Analyser {
+public:
+    /// Keeps nothing yet. Does not allocate.
+    Analyser() noexcept = default;
+
+    /// Takes the memory of another analyser, which then keeps nothing and can be used again.
+    Analyser(Analyser &&other) noexcept : analyser_(std::exchange(other.analyser_, {})) {}
+
+    /// Frees its memory, and takes that of another analyser, as above.
+    Analyser &operator=(Analyser &&other) noexcept {
+        if (this != &other) {
+            clear();
+            analyser_ = std::exchange(other.analyser_, {});
+        }
+        return *this;
+    }
+
+    ~Analyser() { clear(); }
+
+    /// Frees its memory. It can be used again.
+    void clear() noexcept { unicode_bidi_free(&analyser_); }
+
+    /// Returns the analyser that the calls in C take.
+    unicode_bidi_analyser *get() noexcept { return &analyser_; }
+
+private:
+    unicode_bidi_analyser analyser_ = {};
+};
+
 /// The analysis of a text: its classes, levels and paragraphs. It owns these, and views the text (see "Lifetime"). It can
 /// be moved but not copied.
 ///
@@ -1100,6 +1135,11 @@ public:
                   Split split = Split::each_separator)
         : Text(try_new(text, base, split).value()) {}
 
+    /// Does the same in the memory of an analyser. Throws `Error`.
+    Text(Analyser &analyser, std::basic_string_view<Char> text, BaseLevel base = std::nullopt,
+         Split split = Split::each_separator)
+        : Text(try_new(analyser, text, base, split).value()) {}
+
     /// Analyses a text by the caller's tables. Throws `Error`.
     Text(const Tables &tables, std::basic_string_view<Char> text, BaseLevel base = std::nullopt,
          Split split = Split::each_separator)
@@ -1108,6 +1148,8 @@ public:
     /// A string that ends with the call can't be viewed.
     template <class String, class... Rest, class = detail::IfTemporary<String>>
     explicit Text(String &&, Rest...) = delete;
+    template <class String, class... Rest, class = detail::IfTemporary<String>>
+    Text(Analyser &, String &&, Rest...) = delete;
     template <class String, class... Rest, class = detail::IfTemporary<String>>
     Text(const Tables &, String &&, Rest...) = delete;
 #endif
@@ -1133,6 +1175,15 @@ public:
         return try_write(text, split, [&](auto... buffers) {
             return Encoding::analyse(detail::units(text), text.size(), base.number(),
                                      static_cast<std::uint8_t>(split), buffers...);
+        });
+    }
+
+    /// Does the same in the memory of an analyser.
+    static Result<Text> try_new(Analyser &analyser, std::basic_string_view<Char> text, BaseLevel base = std::nullopt,
+                                Split split = Split::each_separator) noexcept {
+        return try_write(text, split, [&](auto... buffers) {
+            return Encoding::analyse_with(analyser.get(), detail::units(text), text.size(), base.number(),
+                                          static_cast<std::uint8_t>(split), buffers...);
         });
     }
 
@@ -1198,6 +1249,8 @@ private:
 template <class String, class... Rest>
 explicit Text(const String &, Rest...) -> Text<detail::CharOf<String>>;
 template <class String, class... Rest>
+Text(Analyser &, const String &, Rest...) -> Text<detail::CharOf<String>>;
+template <class String, class... Rest>
 Text(const Tables &, const String &, Rest...) -> Text<detail::CharOf<String>>;
 #endif
 
@@ -1207,6 +1260,13 @@ template <class String>
 Result<Text<detail::CharOf<String>>> try_analyse(const String &text, BaseLevel base = std::nullopt,
                                                  Split split = Split::each_separator) noexcept {
     return Text<detail::CharOf<String>>::try_new(detail::view(text), base, split);
+}
+
+/// Does the same in the memory of an analyser.
+template <class String>
+Result<Text<detail::CharOf<String>>> try_analyse(Analyser &analyser, const String &text, BaseLevel base = std::nullopt,
+                                                 Split split = Split::each_separator) noexcept {
+    return Text<detail::CharOf<String>>::try_new(analyser, detail::view(text), base, split);
 }
 
 /// Returns the analysis of a text by the caller's tables, as `Text::try_new` does.
@@ -1220,6 +1280,8 @@ Result<Text<detail::CharOf<String>>> try_analyse(const Tables &tables, const Str
 /// A string that ends with the call can't be viewed.
 template <class String, class... Rest, class = detail::IfTemporary<String>>
 void try_analyse(String &&, Rest...) = delete;
+template <class String, class... Rest, class = detail::IfTemporary<String>>
+void try_analyse(Analyser &, String &&, Rest...) = delete;
 template <class String, class... Rest, class = detail::IfTemporary<String>>
 void try_analyse(const Tables &, String &&, Rest...) = delete;
 

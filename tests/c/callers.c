@@ -385,6 +385,8 @@ static void see_by_classes(const char *what, const text *t, bool tables, uint8_t
     classes_seen++;
 }
 
+static void see_kept(const char *what, int e, const text *t, uint8_t base, uint8_t split);
+
 static void try_text(const row *r) {
     if (strcmp(r->kind, "text")) return;
     static text t;
@@ -420,6 +422,7 @@ static void try_text(const row *r) {
             memcpy(classes, c, n), memcpy(levels, l, n), memcpy(paragraphs, p, count * sizeof *p);
             see_by_classes(r->name, &t, true, base_of(r), split, classes, levels, paragraphs, count);
         }
+        see_kept(r->name, e, &t, base_of(r), split);
     }
 }
 
@@ -1466,6 +1469,7 @@ static void compare_at_random(void) {
 
 #include "nulls.h"
 #include "whole.h"
+#include "kept.h"
 
 int main(int argc, char **argv) {
     if (argc < 2) FAIL("usage: callers FOLDER [CALLS [SEED]]");
@@ -1496,19 +1500,24 @@ int main(int argc, char **argv) {
     try_characters();
     try_short_texts();
     try_nulls();
-    for (int e = UTF8; e <= UTF32; e++) try_nulls_of_whole_texts(e);
+    for (int e = UTF8; e <= UTF32; e++) try_nulls_of_whole_texts(e), try_nulls_of_analysers(e);
     try_whole();
+    try_kept();
     try_refusals();
     try_whole_refused();
+    try_kept_refused();
     try_long_lines();
     for (long i = 0; i < calls; i++) {
-        if (i % 8 == 5) classes_at_random();
+        if (i % 16 == 1) kept_at_random();
+        else if (i % 16 == 9) kept_calls_at_random();
+        else if (i % 8 == 5) classes_at_random();
         else if (i % 8 == 6) whole_at_random();
         else if (i % 8 == 7) whole_calls_at_random();
         else if (i % 4) call_at_random();
         else compare_at_random();
     }
-    printf("ok callers: %ld rows of texts, %ld of lines, %ld of orders, %ld of characters, %ld of displayed lines, %ld of displayed texts, %ld texts by their classes alone, %ld left out as too long, each fault, %ld null pointers, %ld refusals of memory, and %ld random calls\n",
-           texts_seen, lines_seen, orders_seen, characters_seen, displayed_seen, whole_seen, classes_seen, left_out, nulls_seen, refusals, calls);
+    free_twice(&kept, "at the end");
+    printf("ok callers: %ld rows of texts, %ld of lines, %ld of orders, %ld of characters, %ld of displayed lines, %ld of displayed texts, %ld texts by their classes alone, %ld with an analyser that is kept, %ld left out as too long, each fault, %ld null pointers, %ld refusals of memory, and %ld random calls\n",
+           texts_seen, lines_seen, orders_seen, characters_seen, displayed_seen, whole_seen, classes_seen, kept_seen, left_out, nulls_seen, refusals + kept_refusals, calls);
     return 0;
 }

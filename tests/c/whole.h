@@ -190,6 +190,14 @@ static void try_whole(void) {
         expect("a level", unicode_bidi_line_order(marks, 5, high, 5, &p, 0, 5, bad_flags[i], found, 1, places, 1), UNICODE_BIDI_BAD_LEVEL);
         expect("a paragraph", unicode_bidi_line_order(marks, 5, ones, 5, &deep, 0, 5, bad_flags[i], found, 1, places, 1), UNICODE_BIDI_BAD_LEVEL);
     }
+    /* each fault with every later one */
+    expect("lengths first", unicode_bidi_line_order(bad_class, 5, high, 4, &deep, 0, 6, 2, found, 1, places, 1), UNICODE_BIDI_UNEQUAL_LENGTHS);
+    expect("then the line", unicode_bidi_line_order(bad_class, 5, high, 5, &deep, 0, 6, 2, found, 1, places, 1), UNICODE_BIDI_BAD_LINE);
+    expect("then a class", unicode_bidi_line_order(bad_class, 5, high, 5, &deep, 0, 5, 2, found, 1, places, 1), UNICODE_BIDI_BAD_CLASS);
+    expect("then a level", unicode_bidi_line_order(marks, 5, high, 5, &deep, 0, 5, 2, found, 1, places, 1), UNICODE_BIDI_BAD_LEVEL);
+    expect("then the paragraph", unicode_bidi_line_order(marks, 5, ones, 5, &deep, 0, 5, 2, found, 1, places, 1), UNICODE_BIDI_BAD_LEVEL);
+    expect("then the flags", unicode_bidi_line_order(marks, 5, ones, 5, &p, 0, 5, 2, found, 1, places, 1), UNICODE_BIDI_BAD_FLAGS);
+    expect("then room", unicode_bidi_line_order(marks, 5, ones, 5, &p, 0, 5, 0, found, 1, places, 1), UNICODE_BIDI_NO_ROOM);
     uint8_t l[2] = {0x77, 0x77}, c[2] = {0x77, 0x77}, out[2] = {0x77, 0x77};
     uint32_t out32[2] = {0x77, 0x77};
     unicode_bidi_paragraph ps[1];

@@ -106,6 +106,15 @@ def status_told(lines):
     return 4 if b"(os error " in lines else 2 if lines else 0
 
 
+def status_without_reader(run, told):
+    """The status of a run of bidi whose reader is gone: `check` counts the finding that it could not write, except in SARIF,
+    whose head is written before the search, and a gate has failed."""
+    if b"--gate" in run.words:
+        return 4
+    is_found = run.status != 0 and not run.output.startswith(b'{"$schema"') and b"--write-allow" not in run.words
+    return max(status_told(told), 1 if run.words[:1] == [b"check"] and is_found else 0)
+
+
 def broken_runs(program, run, folder):
     """How runs with a broken output differ from what is wanted, a line for each difference."""
     size = len(run.output)
@@ -113,7 +122,7 @@ def broken_runs(program, run, folder):
         ("no output", with_limit(program, run, folder, 0), b"", FAILED[program], lambda told: 4),
         ("one byte less", with_limit(program, run, folder, size - 1), run.output[:-1], FAILED[program], lambda told: 4),
         ("no reader", without_reader(program, run, folder), b"", GONE[program],
-         status_told if program == "bidi" else lambda told: 4),
+         lambda told: status_without_reader(run, told) if program == "bidi" else 4),
     ]:
         told = found[2].removesuffix(last)
         if found[2] != told + last or run.error is not None and not run.error.startswith(told):

@@ -22,7 +22,7 @@ FORMS = {
     "errors are written": "--quiet",
     "the number of a line is 0": "--text",
     "no such format": "--text",
-    "SARIF": "--text",
+    "SARIF, with one result for a line that is displayed differently": "--text",
     "show plainly": "--plain",
     "a file that is not UTF-8 is not shown": "--base auto",
     "a letter of each direction in a line from left to right": "--base auto",

@@ -2,13 +2,15 @@
 use crate::files::{
     STANDARD_INPUT, end_without_memory, read_standard_input, refuse, refuse_rest, write_out,
 };
+use bidi_arguments::input::{explain_input, explain_line, explain_text};
+use bidi_arguments::line_name::LineName;
 use bidi_arguments::operands::{Operands, STANDARD_INPUT_NAME};
+use bidi_arguments::status::Status;
 use bidi_explain::frame;
 use bidi_explain::view::{Form, StageView};
-use bidi_inputs::input::{explain_input, explain_text};
-use bidi_inputs::status::Status;
-use std::fs;
+use bidi_terminal::names::shown_name;
 use std::rt::Files;
+use std::{fs, io};
 
 // Writes the results of the rules for a text.
 fn explain_argument(
@@ -65,6 +67,57 @@ fn explain_file(
     }
 }
 
+// Returns the bytes of a file, or of standard input.
+fn read_input(rt: &(impl Files + Input + AllocGlobal), name: &str) -> io::Result<Vec<u8>> {
+    if name == STANDARD_INPUT_NAME {
+        read_standard_input(rt)
+    } else {
+        fs::read(rt, name)
+    }
+}
+
+// Reports an argument that names no line.
+fn refuse_line(rt: &(impl Eprint + AllocGlobal), name: &str, why: &str) -> Result<Status, Status> {
+    let Ok(shown) = shown_name(rt.alloc(), name) else {
+        return Err(end_without_memory(rt));
+    };
+    let _ = eprintln!(rt; "bidi: {shown}: {why}");
+    Ok(Status::Refused)
+}
+
+// Writes the results of the rules for a line of an input, which `word` names.
+fn explain_numbered(
+    rt: &(impl Print + Eprint + AllocGlobal),
+    view: StageView,
+    word: &str,
+    number: usize,
+    bytes: &[u8],
+) -> Result<Status, Status> {
+    match explain_line(rt.alloc(), view, number, bytes) {
+        Ok(Some(reported)) => {
+            write_out(rt, reported.as_str())?;
+            Ok(Status::Clean)
+        }
+        Ok(None) => refuse_line(rt, word, "there is no such line"),
+        Err(_) => Err(end_without_memory(rt)),
+    }
+}
+
+// Writes the results of the rules for a line of a file.
+fn explain_named_line(
+    rt: &(impl Files + Input + Print + Eprint + AllocGlobal),
+    view: StageView,
+    word: &str,
+) -> Result<Status, Status> {
+    let Some(name) = LineName::parse(word) else {
+        return refuse_line(rt, word, "not FILE:LINE or FILE:LINE:COLUMN");
+    };
+    match read_input(rt, name.file) {
+        Ok(bytes) => explain_numbered(rt, view, word, name.line, bytes.as_slice()),
+        Err(error) => refuse(rt, name.file, &error),
+    }
+}
+
 fn explain_word(
     rt: &(impl Files + Input + Print + Eprint + AllocGlobal),
     view: StageView,
@@ -74,6 +127,7 @@ fn explain_word(
     match operands {
         Operands::Texts => explain_argument(rt, view, word),
         Operands::Files => explain_file(rt, view, word),
+        Operands::Lines => explain_named_line(rt, view, word),
     }
 }
 
@@ -112,8 +166,8 @@ fn explain_as_page(
     }
 }
 
-/// Writes the results of the rules for texts, or for the files of these names: `-` is standard input. Without any,
-/// reads standard input. A file that cannot be read or is not UTF-8 is reported on standard error, and the next one is
+/// Writes the results of the rules for texts, for the files of these names, or for lines of them: `-` is standard input.
+/// Without any, reads standard input. A file that cannot be read or is not UTF-8 is reported on standard error, and the next one is
 /// read.
 pub fn explain_operands(
     rt: &(impl Files + Input + Print + Eprint + AllocGlobal),

@@ -2,7 +2,7 @@
 use crate::help::help;
 use bidi_arguments::operands::STANDARD_INPUT_NAME;
 use bidi_arguments::refusal::Subcommand;
-use bidi_inputs::status::Status;
+use bidi_arguments::status::Status;
 use bidi_shown::stream::{Stream, StreamFault};
 use bidi_shown::view::View;
 use bidi_terminal::names::shown_name;

@@ -5,7 +5,7 @@ const PROGRAM: &str = "bidi: the Unicode Bidirectional Algorithm for text in UTF
     \n\
     usage: bidi check [OPTION..] [--] [FILE..]\n\
     \u{20}      bidi show [OPTION..] [--] [FILE..]\n\
-    \u{20}      bidi explain [--base auto|ltr|rtl] [--html] [--width N] [--files] [--] [TEXT..]\n\
+    \u{20}      bidi explain [--base auto|ltr|rtl] [--html] [--width N] [--files | --line] [--] [TEXT..]\n\
     \u{20}      bidi --help | --version\n\
     \n\
     check    finds direction controls that make a line display differently from how it reads\n\
@@ -40,13 +40,26 @@ const CHECK: &str = "usage: bidi check [OPTION..] [--] [FILE..]\n\
     --any         finds every direction control and mark too, also those that have a match\n\
     --gate        for builds: finds what --any finds, searches what --text and --hidden search,\n\
     \u{20}             follows no link, and names what it does not open\n\
+    --letters     also finds lines that letters alone make display differently from how they read\n\
     --unmatched   finds only controls that have no match\n\
+    --only KIND,..\n\
+    \u{20}             finds only these kinds: displayed-differently, letters-alone, not-closed,\n\
+    \u{20}             closes-nothing, present; --except KIND,.. leaves out these kinds\n\
     --hidden      also searches hidden files below a directory, whose names begin with a dot\n\
+    --follow      follows each link: one that a directory or LIST names, and those of --gate\n\
     --text        also searches binary files, which have a NUL in their first 8,000 bytes\n\
     --files-from LIST\n\
     \u{20}             also searches the files that LIST names; - is standard input\n\
     --allow LIST  leaves out what LIST allows: each of its lines is PATH, PATH:LINE, a directory\n\
-    \u{20}             with / at its end for all files below it, or a comment that begins with #\n\
+    \u{20}             with / at its end for all files below it, a pattern with *, ** or ?, or a\n\
+    \u{20}             comment that begins with #. After a tab it may name kinds, as in\n\
+    \u{20}             not-closed,present, and after one more the digest of the line, as in\n\
+    \u{20}             #9f86d081884c7d65. An entry that allows nothing is reported\n\
+    --strict-allow\n\
+    \u{20}             such an entry counts as a finding\n\
+    --write-allow FILE\n\
+    \u{20}             writes a list of all that is found to FILE, in place of the report; - is\n\
+    \u{20}             standard output\n\
     --format text|json|sarif\n\
     \u{20}             writes lines of text (the default), lines of JSON, or SARIF 2.1.0\n\
     --color auto|always|never\n\
@@ -58,8 +71,8 @@ const CHECK: &str = "usage: bidi check [OPTION..] [--] [FILE..]\n\
     FILE          a file, or a directory for all files below it; - is standard input\n\
     \n\
     Without FILE and LIST, reads standard input. NUL bytes separate the names in LIST, or line\n\
-    feeds if it has no NUL. Below a directory and in LIST, links are not followed. In LIST, the\n\
-    name of a link's target is searched.\n\
+    feeds if it has no NUL. Without --follow, links below a directory and in LIST are not\n\
+    followed. In LIST, the name of a link's target is searched.\n\
     \n\
     A file is in UTF-8, or in UTF-16 with a byte order mark. Any other file is searched too, but\n\
     it is reported, and the status is 2.\n\
@@ -113,7 +126,7 @@ const SHOW: &str = "usage: bidi show [OPTION..] [--] [FILE..]\n\
     Status: 0 all was written; 'bidi --help' lists the others.\n";
 
 const EXPLAIN: &str =
-    "usage: bidi explain [--base auto|ltr|rtl] [--html] [--width N] [--files] [--] [TEXT..]\n\
+    "usage: bidi explain [--base auto|ltr|rtl] [--html] [--width N] [--files | --line] [--] [TEXT..]\n\
     \n\
     Writes a table for each line of each text, with a row for each step of the rules and a\n\
     column for each character. Cells are separated by tabs.\n\
@@ -123,8 +136,10 @@ const EXPLAIN: &str =
     --html   writes one page of HTML instead of tables\n\
     --width  splits a table into blocks that fit N columns; N has one to three digits\n\
     --files  reads the files that the arguments name; - is standard input\n\
+    --line   reads the lines of files that the arguments name, each as FILE:LINE or\n\
+    \u{20}        FILE:LINE:COLUMN, as bidi check writes them; - as FILE is standard input\n\
     --help   writes this text, if it is the only argument after explain\n\
-    --       ends the options: what follows are texts, or files\n\
+    --       ends the options: what follows are texts, files or lines\n\
     TEXT     a text; without any, reads standard input\n\
     \n\
     In a terminal, --width is by default COLUMNS of the environment, or 80.\n\

@@ -12,8 +12,8 @@ mod walk;
 
 use bidi_arguments::command::Command;
 use bidi_arguments::refusal::Refusal;
+use bidi_arguments::status::Status;
 use bidi_explain::view::StageView;
-use bidi_inputs::status::Status;
 use bidi_terminal::names::{shown_bytes, shown_name};
 use explain::explain_operands;
 use files::{end_without_memory, show_files, write_help, write_versions};

@@ -1,17 +1,19 @@
 //! How `check` searches one input and reports what it finds.
-use crate::files::{end_without_memory, refuse, write_out};
-use bidi_allowed::allowed::AllowList;
+use crate::files::{end_without_memory, write_out};
 use bidi_arguments::check_options::CheckOptions;
-use bidi_bytes::decode::{BINARY_PREFIX, is_binary, is_utf16};
-use bidi_bytes::pieces::read_piece;
-use bidi_inputs::input::check_input;
-use bidi_inputs::line_reports::push_lines_reported;
-use bidi_inputs::status::Status;
+use bidi_arguments::input::check_input;
+use bidi_arguments::line_reports::{push_lines_reported, sought_for};
+use bidi_arguments::status::Status;
+use bidi_controls::check::Sought;
+use bidi_controls::decode::{BINARY_PREFIX, is_binary, is_utf16};
+use bidi_controls::file_search::{FileSearch, FoundLine};
+use bidi_controls::pieces::read_piece;
+use bidi_reports::allowance::Allowance;
+use bidi_reports::kind::Kind;
 use bidi_reports::report::Report;
-use bidi_scan::file_search::{FileSearch, FoundLine};
 use bidi_terminal::names::shown_name;
 use std::alloc::AllocError;
-use std::io::{ErrorKind, Read};
+use std::io::{self, ErrorKind, Read};
 
 /// What `check` looks for and where, and how the run has gone so far. It borrows what needs memory, because a value
 /// that a function owns is dropped at each exit, and each drop takes time to prove.
@@ -19,8 +21,8 @@ use std::io::{ErrorKind, Read};
 pub struct Run<'s, 'w, 'l> {
     /// What `check` looks for, where, and how it reports.
     pub options: &'s CheckOptions<'w>,
-    /// The findings that are allowed.
-    pub allowed: &'s AllowList<'l>,
+    /// What is allowed, and the entries for the rest, if they are wanted.
+    pub allowance: &'s mut Allowance<'l>,
     /// The form of the report, and whether it has findings.
     pub report: &'s mut Report,
     /// The worst status so far.
@@ -29,7 +31,15 @@ pub struct Run<'s, 'w, 'l> {
 
 impl Run<'_, '_, '_> {
     ghost use Rattle.std.specs.Prelude.{◌≡◌, max, IfErr, OnOk};
-    ghost use Rattle.bidi_inputs.specs.Statuses.{status_number};
+    ghost use Rattle.bidi_arguments.specs.LineReports.{sought_for};
+    ghost use Rattle.bidi_arguments.specs.Statuses.{status_number};
+
+    /// Returns what is searched for and what is kept of it.
+    fn sought(&self) -> Sought
+        ensures { result ≡ sought_for self.now.options.now.wanted self.now.report.now.form }
+    {
+        sought_for(self.options.wanted, self.report.form)
+    }
 
     /// Keeps the status of an input, if it is worse than those before.
     pub fn note(&mut self, next: Status)
@@ -59,7 +69,72 @@ pub fn or_end<T: Drop>(rt: &impl Eprint, made: Result<T, AllocError>) -> Result<
     }
 }
 
-// Reports where an input stops being UTF-8, if it does.
+/// Keeps for the report, and writes to standard error, why an input could not be searched as it is. `shown` is its name as
+/// a report writes it. Returns an error, which ends the run, if an allocation failed.
+pub fn report_fault(
+    rt: &(impl Eprint + AllocGlobal),
+    report: &mut Report,
+    name: &[u8],
+    shown: &str,
+    why: &str,
+) -> Result<(), Status> {
+    let message = or_end(rt, format!(in rt.alloc(); "{shown}: {why}"))?;
+    or_end(rt, report.push_fault(rt.alloc(), name, message.as_str()))?;
+    let _ = eprintln!(rt; "bidi: {message}");
+    Ok(())
+}
+
+/// Like [`report_fault`], for a name in UTF-8.
+pub fn report_named(
+    rt: &(impl Eprint + AllocGlobal),
+    report: &mut Report,
+    name: &str,
+    why: &str,
+) -> Result<(), Status> {
+    let shown = or_end(rt, shown_name(rt.alloc(), name))?;
+    report_fault(rt, report, name.as_bytes(), shown.as_str(), why)
+}
+
+/// Reports that an input was not read, and returns its status. Returns an error, which ends the run, if an allocation
+/// failed.
+pub fn report_unread(
+    rt: &(impl Eprint + AllocGlobal),
+    report: &mut Report,
+    name: &str,
+    error: &io::Error,
+) -> Result<Status, Status> {
+    if error.kind() == ErrorKind::OutOfMemory {
+        return Err(end_without_memory(rt));
+    }
+    let why = or_end(rt, format!(in rt.alloc(); "{error}"))?;
+    report_named(rt, report, name, why.as_str())?;
+    Ok(Status::Device)
+}
+
+/// Reports that an input was not read, and notes it.
+pub fn note_unread(
+    rt: &(impl Eprint + AllocGlobal),
+    run: &mut Run<'_, '_, '_>,
+    name: &str,
+    error: &io::Error,
+) -> Result<(), Status> {
+    let status = report_unread(rt, &mut *run.report, name, error)?;
+    run.note(status);
+    Ok(())
+}
+
+/// Returns whether what is wrong with an input as a whole is reported: unless it is allowed, or the entry that would allow
+/// it is wanted.
+pub fn is_reported(
+    rt: &(impl Eprint + AllocGlobal),
+    run: &mut Run<'_, '_, '_>,
+    name: &str,
+    kind: Kind,
+) -> Result<bool, Status> {
+    or_end(rt, run.allowance.reports_file(rt.alloc(), name, kind))
+}
+
+// Reports where an input stops being UTF-8, if it does and that is not allowed.
 fn report_invalid(
     rt: &(impl Eprint + AllocGlobal),
     run: &mut Run<'_, '_, '_>,
@@ -69,10 +144,14 @@ fn report_invalid(
     let Some(at) = invalid else {
         return Ok(());
     };
-    let shown = or_end(rt, shown_name(rt.alloc(), name))?;
-    let _ = eprintln!(rt;
-        "bidi: {shown}: not UTF-8 from byte {at} on; invalid bytes are read as U+FFFD"
-    );
+    if !is_reported(rt, run, name, Kind::NotUtf8)? {
+        return Ok(());
+    }
+    let why = or_end(
+        rt,
+        format!(in rt.alloc(); "not UTF-8 from byte {at} on; invalid bytes are read as U+FFFD"),
+    )?;
+    report_named(rt, &mut *run.report, name, why.as_str())?;
     run.note(Status::Refused);
     Ok(())
 }
@@ -88,16 +167,18 @@ fn check_bytes(
     let checked = check_input(
         rt.alloc(),
         &mut *run.report,
-        run.allowed,
+        &mut *run.allowance,
         wanted,
         name,
         bytes,
     );
     let checked = or_end(rt, checked)?;
     report_invalid(rt, run, name, checked.invalid)?;
-    write_out(rt, checked.report.as_str())?;
-    run.note(checked.status());
-    Ok(())
+    // The finding counts even if the reader of the output is gone.
+    if checked.found {
+        run.note(Status::Found);
+    }
+    write_out(rt, checked.report.as_str())
 }
 
 // Writes what is found in some lines, and drops them.
@@ -115,18 +196,18 @@ fn report_found(
     let reported = push_lines_reported(
         rt.alloc(),
         &mut *run.report,
-        run.allowed,
+        &mut *run.allowance,
         &mut out,
         name,
         lines,
     );
     let is_reported = or_end(rt, reported)?;
     found.truncate(0);
-    write_out(rt, out.as_str())?;
+    // The finding counts even if the reader of the output is gone.
     if is_reported {
         run.note(Status::Found);
     }
-    Ok(())
+    write_out(rt, out.as_str())
 }
 
 // The search of an input that is read piece by piece, and the lines with findings that are not reported yet.
@@ -158,7 +239,7 @@ fn check_next(
     match read {
         Ok(at_end) => Ok(!at_end),
         Err(error) => {
-            run.note(refuse(rt, name, &error)?);
+            note_unread(rt, run, name, &error)?;
             Ok(false)
         }
     }
@@ -191,7 +272,7 @@ fn check_pieces(
     bytes: &mut Vec<u8>,
 ) -> Result<(), Status> {
     let mut pieces = Pieces {
-        search: FileSearch::new(rt.alloc(), run.options.wanted),
+        search: FileSearch::new(rt.alloc(), run.sought()),
         found: Vec::new(rt.alloc()),
     };
     check_each(rt, run, name, reader, bytes, &mut pieces)
@@ -208,10 +289,9 @@ fn check_as_utf8(
     if !run.options.search.gate {
         return Ok(());
     }
-    let mut search = FileSearch::new(rt.alloc(), run.options.wanted);
+    let mut search = FileSearch::new(rt.alloc(), run.sought());
     if !search.has_room(bytes.len()) {
-        run.note(refuse(rt, name, &ErrorKind::FileTooLarge.into())?);
-        return Ok(());
+        return note_unread(rt, run, name, &ErrorKind::FileTooLarge.into());
     }
     let mut found = Vec::new(rt.alloc());
     or_end(rt, search.push_last(rt.alloc(), bytes, &mut found))?;
@@ -230,8 +310,7 @@ pub fn check_reader(
 ) -> Result<(), Status> {
     let mut bytes = Vec::new(rt.alloc());
     if let Err(error) = reader.take(BINARY_PREFIX as u64).read_to_end(&mut bytes) {
-        run.note(refuse(rt, name, &error)?);
-        return Ok(());
+        return note_unread(rt, run, name, &error);
     }
     if !text && is_binary(bytes.as_slice()) {
         return Ok(());
@@ -244,9 +323,6 @@ pub fn check_reader(
             check_bytes(rt, run, name, bytes.as_slice())?;
             check_as_utf8(rt, run, name, bytes.as_slice())
         }
-        Err(error) => {
-            run.note(refuse(rt, name, &error)?);
-            Ok(())
-        }
+        Err(error) => note_unread(rt, run, name, &error),
     }
 }

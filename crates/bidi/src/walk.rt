@@ -1,19 +1,31 @@
 //! The files that `check` searches: its arguments and its list name them, or they are below a directory. They are
 //! searched one after another. If one cannot be read, the next is searched all the same.
-use crate::files::{STANDARD_INPUT, end_without_memory, read_standard_input, refuse, write_out};
-use crate::search::{Run, check_reader, or_end};
-use bidi_allowed::allowed::{AllowList, ListFault};
+use crate::files::{STANDARD_INPUT, end_without_memory, read_standard_input, write_out};
+use crate::search::{
+    Run, check_reader, is_reported, note_unread, or_end, report_fault, report_named, report_unread,
+};
 use bidi_arguments::check_options::CheckOptions;
+use bidi_arguments::entries::{listed_names, names_in_order, path_below};
 use bidi_arguments::operands::STANDARD_INPUT_NAME;
-use bidi_inputs::entries::{listed_names, names_in_order, path_below};
-use bidi_inputs::status::Status;
+use bidi_arguments::status::Status;
+use bidi_reports::allowance::Allowance;
+use bidi_reports::allowed::{AllowList, ListFault};
 use bidi_reports::form::Form;
+use bidi_reports::kind::Kind;
 use bidi_reports::report::Report;
 use bidi_terminal::names::{shown_bytes, shown_name};
 use std::alloc::AllocError;
 use std::fs::{self, Metadata};
 use std::io::{self, ErrorKind, Read};
 use std::rt::Files;
+
+// Why a name that is not UTF-8 is not searched.
+const NOT_UTF8_NAME: &str =
+    "this name is not UTF-8, so it was not searched; rename it, or pass the file on standard input";
+
+// Why a pipe, a socket or a device is not searched.
+const SPECIAL: &str =
+    "neither a file, a directory nor a link, so it was not opened; pass it on standard input";
 
 // Reports a name that is not UTF-8.
 fn refuse_name(
@@ -22,10 +34,7 @@ fn refuse_name(
     name: &[u8],
 ) -> Result<(), Status> {
     let shown = or_end(rt, shown_bytes(rt.alloc(), name))?;
-    let _ = eprintln!(rt;
-        "bidi: {shown}: this name is not UTF-8, so it was not searched; rename it, or pass the file on \
-         standard input"
-    );
+    report_fault(rt, &mut *run.report, name, shown.as_str(), NOT_UTF8_NAME)?;
     run.note(Status::Refused);
     Ok(())
 }
@@ -44,10 +53,7 @@ fn check_file(
 ) -> Result<(), Status> {
     match fs::open(rt, name) {
         Ok(mut file) => check_reader(rt, run, run.options.search.text, name, &mut file),
-        Err(error) => {
-            run.note(refuse(rt, name, &error)?);
-            Ok(())
-        }
+        Err(error) => note_unread(rt, run, name, &error),
     }
 }
 
@@ -75,15 +81,13 @@ fn refuse_special(
     run: &mut Run<'_, '_, '_>,
     name: &str,
 ) -> Result<(), Status> {
-    let shown = or_end(rt, shown_name(rt.alloc(), name))?;
-    let _ = eprintln!(rt;
-        "bidi: {shown}: neither a file, a directory nor a link, so it was not opened; pass it on standard input"
-    );
+    report_named(rt, &mut *run.report, name, SPECIAL)?;
     run.note(Status::Refused);
     Ok(())
 }
 
-// Searches what a link says: the name of its target. The target is not opened.
+// Searches what a link says: the name of its target. The target is not opened. A name that is not UTF-8 is reported,
+// unless that is allowed.
 fn check_link(
     rt: &(impl Files + Print + Eprint + AllocGlobal),
     run: &mut Run<'_, '_, '_>,
@@ -95,8 +99,12 @@ fn check_link(
             check_reader(rt, run, true, name, &mut bytes)
         }
         Err(error) => {
-            run.note(refuse(rt, name, &error)?);
-            Ok(())
+            if error.kind() == ErrorKind::InvalidFilename
+                && !is_reported(rt, run, name, Kind::Link)?
+            {
+                return Ok(());
+            }
+            note_unread(rt, run, name, &error)
         }
     }
 }
@@ -115,8 +123,29 @@ fn check_other(
     }
 }
 
-// Searches a file of a directory, and keeps a directory for later. Skips links, pipes, sockets and devices, but not as a
-// gate.
+// Searches the file that a link of a directory leads to, or keeps the directory for later. As a gate, also searches what
+// the link says.
+fn visit_link(
+    rt: &(impl Files + Print + Eprint + AllocGlobal),
+    run: &mut Run<'_, '_, '_>,
+    path: &str,
+    below: &mut Vec<String>,
+) -> Result<(), Status> {
+    let is_gate = run.options.search.gate;
+    if is_gate {
+        check_link(rt, run, path)?;
+    }
+    match fs::metadata(rt, path) {
+        Ok(metadata) if metadata.is_file() => check_file(rt, run, path),
+        Ok(metadata) if metadata.is_dir() => or_end(rt, push_path(rt, below, path)),
+        Ok(_) if is_gate => refuse_special(rt, run, path),
+        Ok(_) => Ok(()),
+        Err(error) => note_unread(rt, run, path, &error),
+    }
+}
+
+// Searches a file of a directory, and keeps a directory for later. Follows a link if links are followed. Skips links,
+// pipes, sockets and devices, but not as a gate.
 fn visit_path(
     rt: &(impl Files + Print + Eprint + AllocGlobal),
     run: &mut Run<'_, '_, '_>,
@@ -126,12 +155,12 @@ fn visit_path(
     match fs::symlink_metadata(rt, path) {
         Ok(metadata) if metadata.is_file() => check_file(rt, run, path),
         Ok(metadata) if metadata.is_dir() => or_end(rt, push_path(rt, below, path)),
+        Ok(metadata) if metadata.is_symlink() && run.options.search.follow => {
+            visit_link(rt, run, path, below)
+        }
         Ok(metadata) if run.options.search.gate => check_other(rt, run, &metadata, path),
         Ok(_) => Ok(()),
-        Err(error) => {
-            run.note(refuse(rt, path, &error)?);
-            Ok(())
-        }
+        Err(error) => note_unread(rt, run, path, &error),
     }
 }
 
@@ -141,20 +170,32 @@ fn push_path(rt: &impl AllocGlobal, paths: &mut Vec<String>, path: &str) -> Resu
     Ok(())
 }
 
+// A directory that waits for its search.
+#[derive(Drop)]
+struct Waiting {
+    path: String,
+    // How many directories are above it, up to the first one of the search.
+    depth: usize,
+}
+
+// Puts a directory on the list of those that wait.
+fn push_waiting(waiting: &mut Vec<Waiting>, path: String, depth: usize) -> Result<(), AllocError> {
+    waiting.push(Waiting { path, depth })?;
+    Ok(())
+}
+
 // Searches the files of a directory in the order of their names, and puts the directories below it on the
 // list of those that wait, the first name last.
 fn visit_directory(
     rt: &(impl Files + Print + Eprint + AllocGlobal),
     run: &mut Run<'_, '_, '_>,
-    dir: &str,
-    waiting: &mut Vec<String>,
+    visited: &Waiting,
+    waiting: &mut Vec<Waiting>,
 ) -> Result<(), Status> {
+    let dir = visited.path.as_str();
     let listing = match read_directory(rt, dir) {
         Ok(listing) => listing,
-        Err(error) => {
-            run.note(refuse(rt, dir, &error)?);
-            return Ok(());
-        }
+        Err(error) => return note_unread(rt, run, dir, &error),
     };
     let names = or_end(
         rt,
@@ -168,10 +209,62 @@ fn visit_directory(
             Err(_) => refuse_name(rt, run, path.as_slice())?,
         }
     }
+    let depth = visited.depth.saturating_add(1);
     while let Some(path) = below.pop() {
-        or_end(rt, waiting.push(path).map_err(AllocError::from))?;
+        or_end(rt, push_waiting(waiting, path, depth))?;
     }
     Ok(())
+}
+
+// The directories from the first one of a search to the one that is searched, by the paths that the system has for them
+// after all links are followed.
+#[derive(Drop)]
+struct Trail {
+    directories: Vec<String>,
+}
+
+impl Trail {
+    // Returns whether a directory is new on the way to it, and adds it if it is.
+    fn enters(
+        &mut self,
+        rt: &impl AllocGlobal,
+        depth: usize,
+        directory: &str,
+    ) -> Result<bool, AllocError> {
+        self.directories.truncate(depth);
+        if self
+            .directories
+            .iter()
+            .any(|above| above.as_str() == directory)
+        {
+            return Ok(false);
+        }
+        push_path(rt, &mut self.directories, directory)?;
+        Ok(true)
+    }
+}
+
+// Returns whether the search goes on below a directory. If links are followed, it does not where the directory is on its
+// own path already, which only a link can bring about.
+fn enters(
+    rt: &(impl Files + Eprint + AllocGlobal),
+    run: &mut Run<'_, '_, '_>,
+    trail: &mut Trail,
+    next: &Waiting,
+) -> Result<bool, Status> {
+    if !run.options.search.follow {
+        return Ok(true);
+    }
+    match fs::canonicalize(rt, next.path.as_str()) {
+        Ok(directory) => {
+            let directory = directory.as_path().as_str();
+            or_end(rt, trail.enters(rt, next.depth, directory))
+        }
+        Err(error) => {
+            note_unread(rt, run, next.path.as_str(), &error)?;
+            Ok(false)
+        }
+    }
 }
 
 // Searches the files below a directory: its own, and then those of each directory below it.
@@ -181,18 +274,39 @@ fn walk(
     top: &str,
 ) -> Result<(), Status> {
     let mut waiting = Vec::new(rt.alloc());
-    or_end(rt, push_path(rt, &mut waiting, top))?;
+    let mut trail = Trail {
+        directories: Vec::new(rt.alloc()),
+    };
+    let top = or_end(rt, String::from_str(rt.alloc(), top))?;
+    or_end(rt, push_waiting(&mut waiting, top, 0))?;
     for _ in 0..u64::MAX {
-        let Some(dir) = waiting.pop() else {
+        let Some(next) = waiting.pop() else {
             break;
         };
-        visit_directory(rt, run, dir.as_str(), &mut waiting)?;
+        if enters(rt, run, &mut trail, &next)? {
+            visit_directory(rt, run, &next, &mut waiting)?;
+        }
     }
     Ok(())
 }
 
-// Searches what a list names: a file, the files below a directory, or the name of a link's target. So no name of a list
-// is a link to another file.
+// Searches what a link says, and the file or the directory that it leads to.
+fn check_followed(
+    rt: &(impl Files + Print + Eprint + AllocGlobal),
+    run: &mut Run<'_, '_, '_>,
+    name: &str,
+) -> Result<(), Status> {
+    check_link(rt, run, name)?;
+    match fs::metadata(rt, name) {
+        Ok(metadata) if metadata.is_dir() => walk(rt, run, name),
+        Ok(metadata) if metadata.is_file() => check_file(rt, run, name),
+        Ok(_) => refuse_special(rt, run, name),
+        Err(error) => note_unread(rt, run, name, &error),
+    }
+}
+
+// Searches what a list names: a file, the files below a directory, or the name of a link's target. Unless links are
+// followed, no name of a list leads to another file.
 fn check_listed(
     rt: &(impl Files + Print + Eprint + AllocGlobal),
     run: &mut Run<'_, '_, '_>,
@@ -201,15 +315,16 @@ fn check_listed(
     match fs::symlink_metadata(rt, name) {
         Ok(metadata) if metadata.is_dir() => walk(rt, run, name),
         Ok(metadata) if metadata.is_file() => check_file(rt, run, name),
-        Ok(metadata) => check_other(rt, run, &metadata, name),
-        Err(error) => {
-            run.note(refuse(rt, name, &error)?);
-            Ok(())
+        Ok(metadata) if metadata.is_symlink() && run.options.search.follow => {
+            check_followed(rt, run, name)
         }
+        Ok(metadata) => check_other(rt, run, &metadata, name),
+        Err(error) => note_unread(rt, run, name, &error),
     }
 }
 
-// Searches a file, or the files below a directory, that an argument names. Follows a link, but not as a gate.
+// Searches a file, or the files below a directory, that an argument names. Follows a link, but as a gate only if links are
+// followed.
 fn check_path(
     rt: &(impl Files + Print + Eprint + AllocGlobal),
     run: &mut Run<'_, '_, '_>,
@@ -257,10 +372,7 @@ fn check_list(
 ) -> Result<(), Status> {
     let bytes = match read_list(rt, list) {
         Ok(bytes) => bytes,
-        Err(error) => {
-            run.note(refuse(rt, list, &error)?);
-            return Ok(());
-        }
+        Err(error) => return note_unread(rt, run, list, &error),
     };
     let names = or_end(rt, listed_names(rt.alloc(), bytes.as_slice()))?;
     for name in names.as_slice() {
@@ -288,34 +400,56 @@ fn check_all(
     }
 }
 
-// Searches all of that, and writes what is before and after the findings.
-fn report_all(
-    rt: &(impl Files + Input + Print + Eprint + AllocGlobal),
-    run: &mut Run<'_, '_, '_>,
-    names: &[String],
-) -> Result<(), Status> {
+// Writes what is before the findings.
+fn write_head(rt: &(impl Print + Eprint + AllocGlobal), report: &Report) -> Result<(), Status> {
     let mut out = String::new(rt.alloc());
-    or_end(rt, run.report.push_head(&mut out))?;
-    write_out(rt, out.as_str())?;
-    check_all(rt, run, names)?;
-    out.clear();
-    or_end(rt, run.report.push_foot(&mut out))?;
+    or_end(rt, report.push_head(&mut out))?;
     write_out(rt, out.as_str())
+}
+
+// Writes what is after the findings.
+fn write_foot(rt: &(impl Print + Eprint + AllocGlobal), report: &Report) -> Result<(), Status> {
+    let mut out = String::new(rt.alloc());
+    or_end(rt, report.push_foot(&mut out))?;
+    write_out(rt, out.as_str())
+}
+
+// Writes a report without findings, since the run ends before the search. Returns the status of the run.
+fn report_nothing(
+    rt: &(impl Print + Eprint + AllocGlobal),
+    report: &Report,
+    status: Status,
+) -> Status {
+    let written = write_head(rt, report).and_then(|()| write_foot(rt, report));
+    match written {
+        Ok(()) => status,
+        Err(ended) => status.worse(ended),
+    }
 }
 
 // Returns what the bytes of an allow-list allow. If a line is not an entry, the run ends.
 fn allow_list<'l>(
     rt: &(impl Eprint + AllocGlobal),
+    report: &mut Report,
     list: &str,
     bytes: &'l [u8],
 ) -> Result<AllowList<'l>, Status> {
     match AllowList::parse(rt.alloc(), bytes) {
         Ok(allowed) => Ok(allowed),
+        Err(ListFault::NotUtf8(at)) => {
+            let why = or_end(
+                rt,
+                format!(in rt.alloc(); "not UTF-8 from byte {at} on, so nothing was searched"),
+            )?;
+            report_named(rt, report, list, why.as_str())?;
+            Err(Status::Refused)
+        }
         Err(ListFault::NotAnEntry(number)) => {
             let shown = or_end(rt, shown_name(rt.alloc(), list))?;
-            let _ = eprintln!(rt;
-                "bidi: {shown}:{number}: not PATH or PATH:LINE, so nothing was searched"
-            );
+            let place = or_end(rt, format!(in rt.alloc(); "{shown}:{number}"))?;
+            let why =
+                "not PATH or PATH:LINE, with kinds and a digest after tabs, so nothing was searched";
+            report_fault(rt, report, list.as_bytes(), place.as_str(), why)?;
             Err(Status::Refused)
         }
         Err(ListFault::Memory) => Err(end_without_memory(rt)),
@@ -324,32 +458,137 @@ fn allow_list<'l>(
 
 // Returns the bytes of the allow-list, if there is one. If it cannot be read, the run ends.
 fn read_allowed(
-    rt: &(impl Files + Input + Print + Eprint + AllocGlobal),
+    rt: &(impl Files + Input + Eprint + AllocGlobal),
+    report: &mut Report,
     list: &str,
 ) -> Result<Vec<u8>, Status> {
     match read_list(rt, list) {
         Ok(bytes) => Ok(bytes),
-        Err(error) => Err(refuse(rt, list, &error)?),
+        Err(error) => Err(report_unread(rt, report, list, &error)?),
+    }
+}
+
+// What is said of an entry that has allowed nothing.
+const UNUSED: &str = "this entry allows nothing that is there";
+
+// What the written list begins with.
+const LIST_HEAD: &str =
+    "# bidi check --write-allow: a path, what is found there, and # with the digest of the line\n";
+
+// Writes a list of all that was found, if one is wanted: to a file, or for `-` to standard output.
+fn write_list(
+    rt: &(impl Files + Print + Eprint + AllocGlobal),
+    run: &mut Run<'_, '_, '_>,
+) -> Result<(), Status> {
+    let Some(file) = &run.options.report.write_allow else {
+        return Ok(());
+    };
+    let Some(entries) = run.allowance.written() else {
+        return Ok(());
+    };
+    let text = or_end(rt, format!(in rt.alloc(); "{LIST_HEAD}{entries}"))?;
+    if file.text() == STANDARD_INPUT_NAME {
+        return write_out(rt, text.as_str());
+    }
+    match fs::write(rt, file.text(), text.as_str()) {
+        Ok(()) => Ok(()),
+        Err(error) => note_unread(rt, run, file.text(), &error),
+    }
+}
+
+// Reports each entry of the allow-list that has allowed nothing: with --strict-allow as a failure, and otherwise as a
+// warning.
+fn report_unused(
+    rt: &(impl Eprint + AllocGlobal),
+    run: &mut Run<'_, '_, '_>,
+) -> Result<(), Status> {
+    let Some(list) = &run.options.report.allow else {
+        return Ok(());
+    };
+    let unused = or_end(rt, run.allowance.unused(rt.alloc()))?;
+    if unused.is_empty() {
+        return Ok(());
+    }
+    let shown = or_end(rt, shown_name(rt.alloc(), list.text()))?;
+    for number in unused.as_slice() {
+        let place = or_end(rt, format!(in rt.alloc(); "{shown}:{number}"))?;
+        if run.options.report.strict {
+            report_fault(
+                rt,
+                &mut *run.report,
+                list.text().as_bytes(),
+                place.as_str(),
+                UNUSED,
+            )?;
+            run.note(Status::Found);
+        } else {
+            let _ = eprintln!(rt; "bidi: {place}: {UNUSED}");
+        }
+    }
+    Ok(())
+}
+
+// Searches all of that, and writes what is before and after the findings. Before the foot, which says what failed, it
+// reports the entries that have allowed nothing, and writes the list of what was found.
+fn check_to_end(
+    rt: &(impl Files + Input + Print + Eprint + AllocGlobal),
+    run: &mut Run<'_, '_, '_>,
+    names: &[String],
+) -> Result<(), Status> {
+    write_head(rt, run.report)?;
+    check_all(rt, run, names)?;
+    report_unused(rt, run)?;
+    write_list(rt, run)?;
+    write_foot(rt, run.report)
+}
+
+// Returns the status with which a run ends early. If it ends only because the reader of the output is gone, a gate has
+// failed: it has not searched everything.
+fn unfinished(is_gate: bool, status: Status) -> Status {
+    match status {
+        Status::Clean if is_gate => Status::Device,
+        _ => status,
     }
 }
 
 // Searches all of that, without what a list allows.
 fn check_with_list(
     rt: &(impl Files + Input + Print + Eprint + AllocGlobal),
-    form: Form,
+    report: &mut Report,
     options: &CheckOptions<'_>,
-    allowed: &AllowList<'_>,
+    list: AllowList<'_>,
     names: &[String],
 ) -> Status {
-    let mut report = Report::new(rt.alloc(), form);
+    let mut allowance = Allowance::new(rt.alloc(), list, options.report.write_allow.is_some());
     let mut run = Run {
         options,
-        allowed,
-        report: &mut report,
+        allowance: &mut allowance,
+        report,
         status: Status::Clean,
     };
-    let ended = report_all(rt, &mut run, names);
+    let ended = match check_to_end(rt, &mut run, names) {
+        Ok(()) => Ok(()),
+        Err(status) => Err(unfinished(options.search.gate, status)),
+    };
     run.ended(ended)
+}
+
+// Searches all of that in a run with an allow-list.
+fn check_allowed(
+    rt: &(impl Files + Input + Print + Eprint + AllocGlobal),
+    report: &mut Report,
+    options: &CheckOptions<'_>,
+    list: &str,
+    names: &[String],
+) -> Status {
+    let bytes = match read_allowed(rt, report, list) {
+        Ok(bytes) => bytes,
+        Err(ended) => return report_nothing(rt, report, ended),
+    };
+    match allow_list(rt, report, list, bytes.as_slice()) {
+        Ok(allowed) => check_with_list(rt, report, options, allowed, names),
+        Err(ended) => report_nothing(rt, report, ended),
+    }
 }
 
 /// Searches the files and directories of these names, and then those of the list. Searches standard input if
@@ -361,15 +600,9 @@ pub fn check_files(
     options: &CheckOptions<'_>,
     names: &[String],
 ) -> Status {
-    let Some(list) = &options.report.allow else {
-        return check_with_list(rt, form, options, &AllowList::new(rt.alloc()), names);
-    };
-    let bytes = match read_allowed(rt, list.text()) {
-        Ok(bytes) => bytes,
-        Err(ended) => return ended,
-    };
-    match allow_list(rt, list.text(), bytes.as_slice()) {
-        Ok(allowed) => check_with_list(rt, form, options, &allowed, names),
-        Err(ended) => ended,
+    let mut report = Report::new(rt.alloc(), form);
+    match &options.report.allow {
+        None => check_with_list(rt, &mut report, options, AllowList::new(rt.alloc()), names),
+        Some(list) => check_allowed(rt, &mut report, options, list.text(), names),
     }
 }

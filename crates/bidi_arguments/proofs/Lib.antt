@@ -1,1 +1,2 @@
+mod LineReportsLemmas
 mod OptionsLemmas

@@ -15,7 +15,7 @@ use Rattle.bidi_arguments.specs.declared.check_options.CheckOptions.{CheckOption
 use Rattle.bidi_arguments.specs.declared.check_options.Flag.{Flag}
 use Rattle.bidi_arguments.specs.declared.check_options.Setting.{Setting}
 use Rattle.bidi_arguments.specs.declared.operands.Operands.{Operands}
-use Rattle.bidi_arguments.specs.declared.operands.Operands.TheVariants.{Files}
+use Rattle.bidi_arguments.specs.declared.operands.Operands.TheVariants.{Files, Lines}
 use Rattle.bidi_arguments.specs.declared.show_options.ShowSetting.{ShowSetting}
 use Rattle.bidi_shown.specs.declared.view.View.{View}
 
@@ -41,23 +41,31 @@ module _ {Z : Type 0} where
   explain_of-files view operands (w ∷ []) first third some is is' other named = simp (simp is at other, simp is' at named)
   explain_of-files view operands (w ∷ v ∷ words) first third some is is' other named = simp (rest-all 1 (w ∷ v ∷ words), simp is at other, simp is' at named)
 
-  pub explain_of-base : (view : StageView) (operands : Operands) (words : List (String Z)) (first third fourth second : String Z) (base : Base)
-      → 2 ≤ length words → first ≡ get_or words 0 first → third ≡ get_or words 0 third
-      → fourth ≡ get_or words 0 fourth → second ≡ get_or words 1 second → is_named first (codes "--html") ≡ false → is_named third (codes "--files") ≡ false
-      → is_named fourth (codes "--base") ≡ true → base_named (string_bytes second) ≡ Some base
-      → explain_of (record view { base = base }) operands (map string_bytes (slice_range words 2 (length words))) ≡ explain_of view operands (map string_bytes words)
-  explain_of-base view operands (w ∷ v ∷ words) first third fourth second base some is is' is'' next other neither named level =
-      simp (rest-all 2 (w ∷ v ∷ words), simp is at other, simp is' at neither, simp is'' at named, simp next at level)
-  explain_of-base view operands words first third fourth second base some is is' is'' next other neither named level = absurd (omega arith)
+  pub explain_of-line : (view : StageView) (operands : Operands) (words : List (String Z)) (first third fourth : String Z) → 1 ≤ length words → first ≡ get_or words 0 first → third ≡ get_or words 0 third
+      → fourth ≡ get_or words 0 fourth → is_named first (codes "--html") ≡ false → is_named third (codes "--files") ≡ false → is_named fourth (codes "--line") ≡ true
+      → explain_of view Lines (map string_bytes (slice_range words 1 (length words))) ≡ explain_of view operands (map string_bytes words)
+  explain_of-line view operands [] first third fourth some is is' is'' other neither named = absurd (omega arith)
+  explain_of-line view operands (w ∷ []) first third fourth some is is' is'' other neither named = simp (simp is at other, simp is' at neither, simp is'' at named)
+  explain_of-line view operands (w ∷ v ∷ words) first third fourth some is is' is'' other neither named =
+      simp (rest-all 1 (w ∷ v ∷ words), simp is at other, simp is' at neither, simp is'' at named)
 
-  pub explain_of-width : (view : StageView) (operands : Operands) (words : List (String Z)) (first third fourth fifth second : String Z) (width : ℕ)
-      → 2 ≤ length words → first ≡ get_or words 0 first → third ≡ get_or words 0 third
-      → fourth ≡ get_or words 0 fourth → fifth ≡ get_or words 0 fifth → second ≡ get_or words 1 second → is_named first (codes "--html") ≡ false → is_named third (codes "--files") ≡ false
-      → is_named fourth (codes "--base") ≡ false → is_named fifth (codes "--width") ≡ true → number_of (string_bytes second) ≡ Some width
+  pub explain_of-base : (view : StageView) (operands : Operands) (words : List (String Z)) (first third fourth fifth second : String Z) (base : Base)
+      → 2 ≤ length words → first ≡ get_or words 0 first → third ≡ get_or words 0 third → fourth ≡ get_or words 0 fourth
+      → fifth ≡ get_or words 0 fifth → second ≡ get_or words 1 second → is_named first (codes "--html") ≡ false → is_named third (codes "--files") ≡ false
+      → is_named fourth (codes "--line") ≡ false → is_named fifth (codes "--base") ≡ true → base_named (string_bytes second) ≡ Some base
+      → explain_of (record view { base = base }) operands (map string_bytes (slice_range words 2 (length words))) ≡ explain_of view operands (map string_bytes words)
+  explain_of-base view operands (w ∷ v ∷ words) first third fourth fifth second base some is is' is'' last next other neither no_line named level =
+      simp (rest-all 2 (w ∷ v ∷ words), simp is at other, simp is' at neither, simp is'' at no_line, simp last at named, simp next at level)
+  explain_of-base view operands words first third fourth fifth second base some is is' is'' last next other neither no_line named level = absurd (omega arith)
+
+  pub explain_of-width : (view : StageView) (operands : Operands) (words : List (String Z)) (first third fourth fifth sixth second : String Z) (width : ℕ)
+      → 2 ≤ length words → first ≡ get_or words 0 first → third ≡ get_or words 0 third → fourth ≡ get_or words 0 fourth
+      → fifth ≡ get_or words 0 fifth → sixth ≡ get_or words 0 sixth → second ≡ get_or words 1 second → is_named first (codes "--html") ≡ false → is_named third (codes "--files") ≡ false
+      → is_named fourth (codes "--line") ≡ false → is_named fifth (codes "--base") ≡ false → is_named sixth (codes "--width") ≡ true → number_of (string_bytes second) ≡ Some width
       → explain_of (record view { width = Some width }) operands (map string_bytes (slice_range words 2 (length words))) ≡ explain_of view operands (map string_bytes words)
-  explain_of-width view operands (w ∷ v ∷ words) first third fourth fifth second width some is is' is'' last next other neither not_base named number =
-      simp (rest-all 2 (w ∷ v ∷ words), simp is at other, simp is' at neither, simp is'' at not_base, simp last at named, simp next at number)
-  explain_of-width view operands words first third fourth fifth second width some is is' is'' last next other neither not_base named number = absurd (omega arith)
+  explain_of-width view operands (w ∷ v ∷ words) first third fourth fifth sixth second width some is is' is'' fifth_is last next other neither no_line not_base named number =
+      simp (rest-all 2 (w ∷ v ∷ words), simp is at other, simp is' at neither, simp is'' at no_line, simp fifth_is at not_base, simp last at named, simp next at number)
+  explain_of-width view operands words first third fourth fifth sixth second width some is is' is'' fifth_is last next other neither no_line not_base named number = absurd (omega arith)
 
   -- words, and the first of them
   pub words-first : (words : List (String Z)) (first : String Z) → 1 ≤ length words → first ≡ get_or words 0 first

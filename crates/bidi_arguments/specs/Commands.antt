@@ -13,7 +13,7 @@ use Rattle.bidi_arguments.specs.declared.check_options.CheckOptions.{CheckOption
 use Rattle.bidi_arguments.specs.declared.command.Command.{Command}
 use Rattle.bidi_arguments.specs.declared.command.Command.TheVariants.{Check, Show, Explain, Help, Version}
 use Rattle.bidi_arguments.specs.declared.operands.Operands.{Operands}
-use Rattle.bidi_arguments.specs.declared.operands.Operands.TheVariants.{Texts, Files}
+use Rattle.bidi_arguments.specs.declared.operands.Operands.TheVariants.{Texts, Files, Lines}
 use Rattle.bidi_arguments.specs.declared.refusal.Refusal.{Refusal}
 use Rattle.bidi_arguments.specs.declared.refusal.Refusal.TheVariants.{NoSubcommand, NotASubcommand, NotAnOption, LateOption, NotAlone, NoValue, NotABase, NotAWidth, InputTwice}
 use Rattle.bidi_arguments.specs.declared.refusal.Subcommand.{Subcommand}
@@ -98,18 +98,20 @@ show_of view (word ∷ value ∷ words) =
     else by_case (show_setting_named word) (λ setting. by_options (with_show_setting setting value view) (λ next. show_of next words))
     (over_files (Show view) (file_words Showing (word ∷ value ∷ words)))
 
--- after `explain` and options that ask for this view and these operands: further options, in any order, and texts or
--- files
+-- after `explain` and options that ask for this view and these operands: further options, in any order, and texts,
+-- files or lines
 abbrev pub explain_of : StageView → Operands → List (List ℕ) → Result Command Refusal
 explain_of view operands [] = Ok (Explain view operands [])
 explain_of view operands (word ∷ []) =
     if bytes_eq word (codes "--html") then explain_of (record view { form = Page }) operands []
     else if bytes_eq word (codes "--files") then explain_of view Files []
+    else if bytes_eq word (codes "--line") then explain_of view Lines []
     else if bytes_eq word (codes "--base") || bytes_eq word (codes "--width") then Err (NoValue Explaining word)
     else over_files (Explain view operands) (file_words Explaining (word ∷ []))
 explain_of view operands (word ∷ value ∷ words) =
     if bytes_eq word (codes "--html") then explain_of (record view { form = Page }) operands (value ∷ words)
     else if bytes_eq word (codes "--files") then explain_of view Files (value ∷ words)
+    else if bytes_eq word (codes "--line") then explain_of view Lines (value ∷ words)
     else if bytes_eq word (codes "--base")
     then by_value (NotABase Explaining value) (λ base. explain_of (record view { base = base }) operands words) (base_named value)
     else if bytes_eq word (codes "--width")

@@ -1,4 +1,9 @@
 pub mod Checks
 pub mod Commands
+pub mod Entries
+pub mod Kinds
+pub mod LineNames
+pub mod LineReports
 pub mod Options
 pub mod Shows
+pub mod Statuses

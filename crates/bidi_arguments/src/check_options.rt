@@ -1,13 +1,14 @@
 //! What the options of `check` ask for.
 ghost use Rattle.std.specs.Prelude.{◌≡◌, map, string_bytes};
 ghost use Rattle.std.specs.List.{list_any};
-ghost use Rattle.bidi_arguments.specs.Checks.{is_input, is_input_list, searches_input, reads_input_twice, first_check, first_report, format_named, color_named, flag_named, setting_named, with_flag, with_setting, with_format, with_color, with_allow, with_list, form_of};
+ghost use Rattle.bidi_arguments.specs.Checks.{is_input, is_input_list, searches_input, reads_input_twice, first_check, first_report, format_named, color_named, flag_named, setting_named, with_flag, with_setting, with_format, with_color, with_allow, with_write_allow, with_everything, with_list, with_wanted, except_kinds, only_kinds, notes_of, form_of};
 
+use crate::kinds::with_kinds;
 use crate::operands::STANDARD_INPUT_NAME;
 use crate::refusal::{Refusal, Word};
 use crate::search::Search;
 use bidi_controls::finding::Wanted;
-use bidi_reports::form::Form;
+use bidi_reports::form::{Form, Notes};
 
 /// How findings are written.
 #[derive(Clone, Copy, Debug, PartialEq)]
@@ -59,6 +60,17 @@ impl Color {
     }
 }
 
+// Returns how a displayed line is written. `is_terminal` says whether standard output is a terminal.
+fn notes_of(is_terminal: bool) -> Notes
+    ensures { result ≡ notes_of is_terminal }
+{
+    if is_terminal {
+        Notes::Overridden
+    } else {
+        Notes::Escaped
+    }
+}
+
 /// How `check` reports, and which findings it does not.
 #[derive(Drop)]
 pub struct ReportOptions<'w> {
@@ -70,6 +82,10 @@ pub struct ReportOptions<'w> {
     pub color: Color,
     /// The file that lists the findings that are allowed.
     pub allow: Option<Word<'w>>,
+    /// Whether an entry of that file that allows nothing counts as a finding.
+    pub strict: bool,
+    /// The file to which a list of all that is found is written, or `-` for standard output. No finding is reported then.
+    pub write_allow: Option<Word<'w>>,
 }
 
 impl<'w> Default for ReportOptions<'w> {
@@ -82,6 +98,8 @@ impl<'w> Default for ReportOptions<'w> {
             format: Format::Text,
             color: Color::Auto,
             allow: None,
+            strict: false,
+            write_allow: None,
         }
     }
 }
@@ -94,7 +112,7 @@ impl ReportOptions<'_> {
     pub fn form(&self, is_terminal: bool, no_color: bool) -> Form
         ensures { result ≡ form_of self.now is_terminal no_color }
     {
-        if self.quiet {
+        if self.quiet || self.write_allow.is_some() {
             return Form::Quiet;
         }
         let always = self.color == Color::Always;
@@ -103,6 +121,7 @@ impl ReportOptions<'_> {
             Format::Text => Form::Text {
                 excerpts: always || is_terminal,
                 colors: always || is_terminal && !no_color && !never,
+                notes: notes_of(is_terminal),
             },
             Format::Json => Form::Json,
             Format::Sarif => Form::Sarif,
@@ -115,12 +134,18 @@ impl ReportOptions<'_> {
 pub enum Flag {
     /// `--any`.
     Any,
+    /// `--follow`.
+    Follow,
     /// `--gate`.
     Gate,
     /// `--hidden`.
     Hidden,
+    /// `--letters`.
+    Letters,
     /// `--quiet`.
     Quiet,
+    /// `--strict-allow`.
+    StrictAllow,
     /// `--text`.
     Binary,
     /// `--unmatched`.
@@ -135,9 +160,12 @@ impl Flag {
     {
         match word {
             "--any" => Some(Flag::Any),
+            "--follow" => Some(Flag::Follow),
             "--gate" => Some(Flag::Gate),
             "--hidden" => Some(Flag::Hidden),
+            "--letters" => Some(Flag::Letters),
             "--quiet" => Some(Flag::Quiet),
+            "--strict-allow" => Some(Flag::StrictAllow),
             "--text" => Some(Flag::Binary),
             "--unmatched" => Some(Flag::OnlyUnmatched),
             _ => None,
@@ -152,10 +180,16 @@ pub enum Setting {
     Allow,
     /// `--color auto|always|never`.
     ColorOf,
+    /// `--except KIND,..`.
+    Except,
     /// `--files-from LIST`.
     FilesFrom,
     /// `--format text|json|sarif`.
     FormatOf,
+    /// `--only KIND,..`.
+    Only,
+    /// `--write-allow FILE`.
+    WriteAllow,
 }
 
 impl Setting {
@@ -167,10 +201,23 @@ impl Setting {
         match word {
             "--allow" => Some(Setting::Allow),
             "--color" => Some(Setting::ColorOf),
+            "--except" => Some(Setting::Except),
             "--files-from" => Some(Setting::FilesFrom),
             "--format" => Some(Setting::FormatOf),
+            "--only" => Some(Setting::Only),
+            "--write-allow" => Some(Setting::WriteAllow),
             _ => None,
         }
+    }
+}
+
+// Returns these kinds of findings with every control and mark, and lines that they make display differently.
+fn with_everything(wanted: Wanted) -> Wanted
+    ensures { result ≡ with_everything wanted }
+{
+    Wanted {
+        letters_alone: wanted.letters_alone,
+        ..Wanted::EVERYTHING
     }
 }
 
@@ -220,7 +267,7 @@ impl<'w> Default for CheckOptions<'w> {
         ensures { result ≡ first_check }
     {
         CheckOptions {
-            wanted: Wanted::Misleading,
+            wanted: Wanted::MISLEADING,
             search: Search::default(),
             report: ReportOptions::default(),
         }
@@ -260,13 +307,21 @@ impl<'w> CheckOptions<'w> {
         } = self;
         match flag {
             Flag::Any => CheckOptions {
-                wanted: Wanted::Everything,
+                wanted: with_everything(wanted),
                 search,
+                report,
+            },
+            Flag::Follow => CheckOptions {
+                wanted,
+                search: Search {
+                    follow: true,
+                    ..search
+                },
                 report,
             },
             // All that `--any`, `--text` and `--hidden` ask for, and more.
             Flag::Gate => CheckOptions {
-                wanted: Wanted::Everything,
+                wanted: with_everything(wanted),
                 search: Search {
                     hidden: true,
                     text: true,
@@ -283,11 +338,27 @@ impl<'w> CheckOptions<'w> {
                 },
                 report,
             },
+            Flag::Letters => CheckOptions {
+                wanted: Wanted {
+                    letters_alone: true,
+                    ..wanted
+                },
+                search,
+                report,
+            },
             Flag::Quiet => CheckOptions {
                 wanted,
                 search,
                 report: ReportOptions {
                     quiet: true,
+                    ..report
+                },
+            },
+            Flag::StrictAllow => CheckOptions {
+                wanted,
+                search,
+                report: ReportOptions {
+                    strict: true,
                     ..report
                 },
             },
@@ -300,7 +371,7 @@ impl<'w> CheckOptions<'w> {
                 report,
             },
             Flag::OnlyUnmatched => CheckOptions {
-                wanted: Wanted::Unmatched,
+                wanted: Wanted::UNMATCHED,
                 search,
                 report,
             },
@@ -362,6 +433,26 @@ impl<'w> CheckOptions<'w> {
         }
     }
 
+    // Returns the options with this file for a list of all that is found.
+    fn with_write_allow(self, value: &'w str) -> CheckOptions<'w>
+        ensures { result ≡ with_write_allow value.now self.entry }
+    {
+        let CheckOptions {
+            wanted,
+            search,
+            report,
+        } = self;
+        let write_allow = Some(Word::new(value));
+        CheckOptions {
+            wanted,
+            search,
+            report: ReportOptions {
+                write_allow,
+                ..report
+            },
+        }
+    }
+
     // Returns the options with this list of files.
     fn with_list(self, value: &'w str) -> CheckOptions<'w>
         ensures { result ≡ with_list value.now self.entry }
@@ -379,6 +470,40 @@ impl<'w> CheckOptions<'w> {
         }
     }
 
+    // Returns the options with these kinds of findings, which an argument names.
+    fn with_wanted(
+        self,
+        value: &'w str,
+        kinds: Option<Wanted>,
+    ) -> Result<CheckOptions<'w>, Refusal<'w>>
+        ensures { result ≡ with_wanted value.now self.entry kinds }
+    {
+        let CheckOptions { search, report, .. } = self;
+        match kinds {
+            Some(wanted) => Ok(CheckOptions {
+                wanted,
+                search,
+                report,
+            }),
+            None => Err(Refusal::NotKinds(Word::new(value))),
+        }
+    }
+
+    // Returns the options with exactly the kinds of findings that an argument names.
+    fn with_only(self, value: &'w str) -> Result<CheckOptions<'w>, Refusal<'w>>
+        ensures { result ≡ with_wanted value.now self.entry (only_kinds value.now) }
+    {
+        self.with_wanted(value, with_kinds(Wanted::NOTHING, value, true))
+    }
+
+    // Returns the options without the kinds of findings that an argument names.
+    fn with_except(self, value: &'w str) -> Result<CheckOptions<'w>, Refusal<'w>>
+        ensures { result ≡ with_wanted value.now self.entry (except_kinds value.now self.entry.wanted) }
+    {
+        let kinds = with_kinds(self.wanted, value, false);
+        self.with_wanted(value, kinds)
+    }
+
     /// Returns the options with one more that has a value, or an error if it does not take this value.
     #[tactic(auto, unfolding(crate::specs::Checks::with_setting))]
     pub fn with_setting(
@@ -391,8 +516,11 @@ impl<'w> CheckOptions<'w> {
         match setting {
             Setting::Allow => Ok(self.with_allow(value)),
             Setting::ColorOf => self.with_color(value),
+            Setting::Except => self.with_except(value),
             Setting::FilesFrom => Ok(self.with_list(value)),
             Setting::FormatOf => self.with_format(value),
+            Setting::Only => self.with_only(value),
+            Setting::WriteAllow => Ok(self.with_write_allow(value)),
         }
     }
 }

@@ -117,7 +117,7 @@ pub enum Command<'w> {
         options: CheckOptions<'w>,
         files: FileWords<'w>,
     },
-    /// `explain [--base auto|ltr|rtl] [--html] [--width N] [--files] [TEXT..]`: writes the result of each stage of the
+    /// `explain [--base auto|ltr|rtl] [--html] [--width N] [--files | --line] [TEXT..]`: writes the result of each stage of the
     /// rules.
     Explain {
         view: StageView,
@@ -233,6 +233,9 @@ impl<'w> Command<'w> {
             }
             [option, rest @ ..] if option.as_str() == "--files" => {
                 Command::parse_explain(view, Operands::Files, rest)
+            }
+            [option, rest @ ..] if option.as_str() == "--line" => {
+                Command::parse_explain(view, Operands::Lines, rest)
             }
             [option, value, rest @ ..] if option.as_str() == "--base" => {
                 match Base::parse(value.as_str()) {

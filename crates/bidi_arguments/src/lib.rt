@@ -3,7 +3,13 @@
 
 pub mod check_options;
 pub mod command;
+pub mod entries;
+pub mod input;
+pub mod kinds;
+pub mod line_name;
+pub mod line_reports;
 pub mod operands;
 pub mod refusal;
 pub mod search;
 pub mod show_options;
+pub mod status;

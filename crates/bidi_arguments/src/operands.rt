@@ -7,6 +7,8 @@ pub enum Operands {
     Texts,
     /// Names of files.
     Files,
+    /// Lines of files, each as `FILE:LINE` or `FILE:LINE:COLUMN`.
+    Lines,
 }
 
 /// The name of a file that means standard input.

@@ -123,6 +123,8 @@ pub enum Refusal<'w> {
     NotAFormat(Word<'w>),
     /// The value of `--color` is none of `auto`, `always` and `never`.
     NotAColor(Word<'w>),
+    /// The value of `--only` or `--except` is not a list of kinds of findings.
+    NotKinds(Word<'w>),
     /// Two of `--allow`, `--files-from` and the search read standard input.
     InputTwice,
 }
@@ -182,6 +184,12 @@ impl<'w> fmt::Display for Refusal<'w> {
             Refusal::NotAColor(word) => write!(
                 f,
                 "check: --color takes auto, always or never, not {}; see bidi check --help",
+                word.text
+            ),
+            Refusal::NotKinds(word) => write!(
+                f,
+                "check: --only and --except take kinds separated by commas: closes-nothing, displayed-differently, \
+                 letters-alone, not-closed, present; not {}; see bidi check --help",
                 word.text
             ),
             Refusal::InputTwice => f.write_str(

@@ -5,15 +5,18 @@
 //! header describes each call.
 #![tactic(auto)]
 
+mod analyser_handle;
 mod exports;
 mod exports_characters;
 mod exports_classes;
 mod exports_direction;
 mod exports_display;
+mod exports_kept;
 mod exports_paragraphs;
 mod exports_utf16;
 mod exports_utf32;
 mod exports_utf8;
 mod exports_version;
 mod mirroring;
+mod raw_box;
 mod version;

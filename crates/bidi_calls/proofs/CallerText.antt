@@ -1,10 +1,10 @@
 -- The text of a line whose classes and levels are kept, and equal within each character.
 use Rattle.bidi_base.proofs.Common.{◌≡◌, ℕ, ◌+◌, ◌-◌, true, nat_le, List, length, refl, sym, ap, subst, ◌∙◌, arith, take_all, le_refl, char_index, subrange, text_len, per_char, per_unit}
-use Rattle.bidi_base.proofs.Common.{line_text, levels_of_line, IsLine, IsPerChar, sub-zero}
+use Rattle.bidi_base.proofs.Common.{line_text, levels_of_line, char_levels_of_line, IsLine, IsPerChar, sub-zero}
 use Rattle.bidi_base.proofs.Common.{◌<◌, [], ◌∷◌, All, map, get_or, drop-cons, inl, inr, cases_Bool, is_odd, visual_order, unit_index, one_unit}
 use Rattle.std.proofs.lemmas.List.Concat.{flat_map_single}
 use Rattle.bidi_base.specs.declared.char_data.BidiClass.TheVariants.{L}
-use Rattle.bidi_base.proofs.PerUnit.{length-per_char}
+use Rattle.bidi_base.proofs.PerUnit.{length-per_char, per_char-per_unit}
 use Rattle.bidi_base.proofs.UnitIndexLemmas.{unit_index-zero, unit_index-end, char_index-unit_index, unit_index-one_unit, text_len-one_unit}
 use Rattle.bidi_base.proofs.TextLemmas.{HasUnits}
 use Rattle.bidi_lines.proofs.LineInText.{length-line}
@@ -43,19 +43,39 @@ module _ (len_of : ℕ → ℕ) (some : HasUnits len_of) (chars : List ℕ) (l :
   caller-runs = subst (AreRunsOfChars len_of chars 0) after_l1-is
       (visual_runs_at_boundaries len_of some chars l.paragraph.now.level (line_classes l) (own_levels l) 0 (text_len len_of chars) of_classes of_levels caller-is_line)
 
-  -- the levels after L1 are equal within each character too
-  pub caller-per_char : IsPerChar len_of chars (caller_line_levels l)
-  caller-per_char =
-      let level : ℕ = l.paragraph.now.level in
+  -- the line is the whole of its text
+  pub whole-subrange : subrange len_of chars 0 (text_len len_of chars) ≡ chars
+  whole-subrange =
       let n : ℕ = text_len len_of chars in
       let first : char_index len_of chars 0 ≡ 0 = grind (arith, unit_index-zero len_of chars, char_index-unit_index len_of chars some 0) in
       let last : char_index len_of chars n ≡ length chars = grind (arith, unit_index-end len_of chars (length chars), char_index-unit_index len_of chars some (length chars)) in
-      let whole : subrange len_of chars 0 n ≡ chars = simp (first, last, sub-zero) (take_all (length chars) chars (le_refl (length chars))) in
-      let classes = per_char L len_of chars (line_classes l) in
-      let levels = per_char 0 len_of chars (own_levels l) in
-      let of_chars : List ℕ = levels_of_line level classes levels (char_index len_of chars 0) (char_index len_of chars n) in
-      let long : length of_chars ≡ length chars = grind (arith, length-line, length-per_char, first, last) in
-      (of_chars, long, sym after_l1-is ∙ levels_of_line-per_unit len_of some chars level (line_classes l) (own_levels l) 0 n of_classes of_levels caller-is_line ∙ ap (λ cs. per_unit len_of cs of_chars) whole)
+      simp (first, last, sub-zero) (take_all (length chars) chars (le_refl (length chars)))
+
+  -- the levels of its characters after L1
+  abbrev pub of_chars : List ℕ
+  of_chars =
+      char_levels_of_line len_of chars l.paragraph.now.level (line_classes l) (own_levels l) 0 (text_len len_of chars)
+
+  pub length-of_chars : length of_chars ≡ length chars
+  length-of_chars =
+      let n : ℕ = text_len len_of chars in
+      let first : char_index len_of chars 0 ≡ 0 = grind (arith, unit_index-zero len_of chars, char_index-unit_index len_of chars some 0) in
+      let last : char_index len_of chars n ≡ length chars = grind (arith, unit_index-end len_of chars (length chars), char_index-unit_index len_of chars some (length chars)) in
+      grind (arith, length-line, length-per_char, first, last)
+
+  repeated : caller_line_levels l ≡ per_unit len_of chars of_chars
+  repeated =
+      let level : ℕ = l.paragraph.now.level in
+      let n : ℕ = text_len len_of chars in
+      sym after_l1-is ∙ levels_of_line-per_unit len_of some chars level (line_classes l) (own_levels l) 0 n of_classes of_levels caller-is_line ∙ ap (λ cs. per_unit len_of cs of_chars) whole-subrange
+
+  -- the levels after L1 are equal within each character too
+  pub caller-per_char : IsPerChar len_of chars (caller_line_levels l)
+  caller-per_char = (of_chars, length-of_chars, repeated)
+
+  -- and one of them for each character
+  pub caller-chars : per_char 0 len_of chars (caller_line_levels l) ≡ of_chars
+  caller-chars = ap (per_char 0 len_of chars) repeated ∙ per_char-per_unit len_of some 0 chars of_chars length-of_chars
 
   -- its runs, written one after another, are its characters in their visual order
   pub caller-text : {X : Type 0} (encode : ℕ → List X) (units : List X) → visual_units len_of encode chars units 0 (caller_line_levels l) ≡ reordered len_of encode chars units l

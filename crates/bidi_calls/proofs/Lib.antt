@@ -11,6 +11,7 @@ mod OrderOfRuns
 mod PartsLemmas
 mod PartsOfLine
 mod PlacesLemmas
+mod PlainParts
 mod RunStructs
 mod ShownLemmas
 mod TextOfRuns

@@ -7,7 +7,7 @@ use Rattle.bidi_base.specs.declared.char_data.BidiClass.{BidiClass}
 use Rattle.std.proofs.lemmas.List.FromFn.{length-range_with_len}
 use Rattle.std.specs.List.{range_with_len}
 use Rattle.bidi_base.specs.declared.split_rule.SplitRule.{SplitRule}
-use Rattle.bidi_paragraphs.specs.ParagraphInfo.{ranges_of, levels_of}
+use Rattle.bidi_paragraphs.specs.ParagraphInfo.{ends_of, ranges_of, levels_of}
 use Rattle.bidi_paragraphs.specs.declared.paragraph_info.ParagraphInfo.{ParagraphInfo}
 use Rattle.bidi_base.specs.PerChar.{HaveClass}
 use Rattle.unicode_bidi.proofs.ContentLemmas.{content-IsLine, end-within, separators-IsLine}
@@ -132,12 +132,9 @@ module _ (a : AnalysedText) (units : HasUnits a.len_of) (per_char : HaveClass a.
 -- ---- one paragraph after another
 
 -- what holds of each range holds of a paragraph's
-abbrev range : ParagraphInfo → ℕ × ℕ
-range p = (p.range.start, p.range.end)
-
 pub own-range : (P : ℕ × ℕ → Type 0) (ps : List ParagraphInfo) (k : ℕ) (p : ParagraphInfo) → k < length ps → p ≡ get_or ps k p → All P (ranges_of ps) → P (p.range.start, p.range.end)
 own-range P ps k p fits read all =
-    subst P (get_or-map range ps k p (0, 0) fits ∙ ap range (sym read)) (All-get_or P (ranges_of ps) k (0, 0) (let e = length-map ps range in omega (arith, e, fits)) all)
+    subst P (get_or-map ends_of ps k p (0, 0) fits ∙ ap ends_of (sym read)) (All-get_or P (ranges_of ps) k (0, 0) (let e = length-map ps ends_of in omega (arith, e, fits)) all)
 
 -- paragraphs that follow one another end at or after their start
 pub follow-le : (from end : ℕ) (ps : List ParagraphInfo) → Follow from end ps → from ≤ end

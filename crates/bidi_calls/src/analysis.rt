@@ -104,26 +104,27 @@ pub(crate) fn put_paragraphs(out: &mut [Paragraph], paragraphs: &[ParagraphInfo]
     }
 }
 
-// Returns `NoRoom` unless the buffers for classes and levels both have `units` entries or more.
-fn check_room(units: usize, class_room: usize, level_room: usize) -> Result<(), Fault>
+/// Returns `NoRoom` unless the buffers for classes and levels both have `units` entries or more.
+pub(crate) fn check_room(units: usize, class_room: usize, level_room: usize) -> Result<(), Fault>
     ensures { result_err result ≡ fault_unless (nat_le units class_room && nat_le units level_room) Fault.NoRoom }
 {
     check(units <= class_room && units <= level_room, Fault::NoRoom)
 }
 
-// A text and the arguments of a call.
+/// A text and the arguments of a call.
 #[derive(Drop)]
-struct AnalysisCall<'a, D: BidiDataSource, T: TextSource> {
-    data_source: &'a D,
-    text: T,
-    base: Base,
-    rule: Option<SplitRule>,
+pub(crate) struct AnalysisCall<'a, D: BidiDataSource, T: TextSource> {
+    pub(crate) data_source: &'a D,
+    pub(crate) text: T,
+    pub(crate) base: Base,
+    pub(crate) rule: Option<SplitRule>,
 }
 
-// Analyses a text into `own_classes` and `own_levels`, and then copies the result to the caller's buffers. So a late
-// fault leaves those unchanged.
-fn write_analysis<D: BidiDataSource, T: TextSource>(
+/// Analyses a text into `own_classes` and `own_levels`, and then copies the result to the caller's buffers. So a late
+/// fault leaves those unchanged. Reuses the memory of `analyser`.
+pub(crate) fn write_analysis<D: BidiDataSource, T: TextSource>(
     alloc: Global,
+    analyser: &mut Analyser,
     call: &AnalysisCall<D, T>,
     own_classes: &mut [BidiClass],
     own_levels: &mut [Level],
@@ -141,7 +142,6 @@ fn write_analysis<D: BidiDataSource, T: TextSource>(
         (T.text call.now.text).chars in
         WritesAnalysis found result out.old out.new }
 {
-    let mut analyser = Analyser::new(alloc);
     analyser.analyse_with_base(
         alloc,
         call.data_source,
@@ -182,11 +182,13 @@ pub(crate) fn analyse_text<D: BidiDataSource, T: TextSource>(
         base,
         rule,
     };
+    let mut analyser = Analyser::new(alloc);
     if len <= FEW_UNITS {
         let mut few_classes = [BidiClass::L; FEW_UNITS];
         let mut few_levels = [LTR_LEVEL; FEW_UNITS];
         write_analysis(
             alloc,
+            &mut analyser,
             &call,
             &mut few_classes[..len],
             &mut few_levels[..len],
@@ -197,6 +199,7 @@ pub(crate) fn analyse_text<D: BidiDataSource, T: TextSource>(
         let mut many_levels = vec![in alloc; LTR_LEVEL; len]?;
         write_analysis(
             alloc,
+            &mut analyser,
             &call,
             many_classes.as_mut_slice(),
             many_levels.as_mut_slice(),

@@ -19,6 +19,7 @@ pub mod display_line;
 pub mod display_text;
 pub mod first_direction;
 mod flags;
+pub mod kept;
 pub mod line;
 pub mod line_order;
 pub mod line_text;

@@ -41,8 +41,13 @@ pub(crate) fn put_levels(out: &mut [u8], levels: &[Level])
     }
 }
 
-// Writes the text of a line, run by run, to the front of a buffer, unless the buffer is empty.
-fn put_text<T: LineText>(text: T, levels: &[Level], runs: &[Range<usize>], out: &mut [T::Unit])
+/// Writes the text of a line, run by run, to the front of a buffer, unless the buffer is empty.
+pub(crate) fn put_text<T: LineText>(
+    text: T,
+    levels: &[Level],
+    runs: &[Range<usize>],
+    out: &mut [T::Unit],
+)
     requires room { HasRoomOrNone levels.now out.old }
     requires visual { AreVisualRuns 0 levels.now (map run_of runs.now) }
     requires are_lines { All (λ r. IsLine T.encoding.len_of (T.text text).chars r.start r.end) runs.now }
@@ -81,9 +86,9 @@ fn keep_characters<T: TextSource>(text: T, len: usize, after_l1: &mut LineLevels
     }
 }
 
-// Writes the visual order of a line's characters. `after_l1` has one level for each code unit. If there are many runs,
-// the order is found from one level for each character, and `after_l1` keeps only those.
-fn write_order<T: CountedText>(
+/// Writes the visual order of a line's characters. `after_l1` has one level for each code unit. If there are many runs,
+/// the order is found from one level for each character, and `after_l1` keeps only those.
+pub(crate) fn write_order<T: CountedText>(
     text: T,
     runs: &[Range<usize>],
     after_l1: &mut LineLevels,

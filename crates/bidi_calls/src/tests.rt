@@ -1,8 +1,9 @@
 //! Worked lines and texts. The expected ones come from the rules P1 to L4 and UAX #29.
 
-use crate::buffers::{ParagraphBuffers, Settings};
+use crate::buffers::{AnalysisBuffers, ParagraphBuffers, Settings};
 use crate::display_buffers::DisplayBuffers;
 use crate::display_line::display_line;
+use crate::kept::{KeptAnalyser, analyse_kept};
 use crate::line::CallerLine;
 use crate::line_order::line_order;
 use crate::paragraph_search::find_paragraphs;
@@ -13,6 +14,7 @@ use bidi_numbers::structs::Paragraph;
 use bidi_numbers::utf32_text::Utf32Text;
 use bidi_unicode::UnicodeData;
 use std::process::Abort;
+use unicode_bidi::text::Utf16Text;
 
 const NONE: usize = usize::MAX;
 
@@ -306,4 +308,57 @@ fn order_by_classes(rt: HostRuntime) {
     assert!(&rt; again == places);
     let result = line_order(rt.alloc(), line, 2, &mut order, &mut places);
     assert_eq!(&rt; result, Err(Fault::BadFlags));
+}
+
+// Analyses a text of up to four characters in memory that is kept, and compares its levels with the expected ones.
+fn check_kept(
+    rt: &(impl Abort + AllocGlobal),
+    kept: &mut KeptAnalyser,
+    units: &[u16],
+    settings: Settings,
+    expected: Result<usize, Fault>,
+    levels: &[u8],
+) {
+    let mut class_room = [0u8; 4];
+    let mut level_room = [9u8; 4];
+    let mut paragraph_room = [Paragraph {
+        start: 0,
+        end: 0,
+        level: 0,
+    }];
+    let mut out = AnalysisBuffers {
+        classes: &mut class_room,
+        levels: &mut level_room,
+        paragraphs: &mut paragraph_room,
+    };
+    let text = Utf16Text::new(units);
+    let found = analyse_kept(rt.alloc(), kept, &UnicodeData, text, settings, &mut out);
+    assert_eq!(rt; found, expected);
+    assert!(rt; level_room.starts_with(levels));
+}
+
+// An isolate, a fault, and another isolate, in the same memory.
+#[test]
+fn analyser_that_is_kept(rt: HostRuntime) {
+    let mut kept = KeptAnalyser::new(rt.alloc());
+    let auto = Settings {
+        base: 255,
+        split: 1,
+    };
+    let no_split = Settings {
+        base: 255,
+        split: 3,
+    };
+    let latin = [0x5D0, 0x2068, 0x61, 0x2069];
+    let hebrew = [0x2067, 0x5D0, 0x2069];
+    check_kept(&rt, &mut kept, &latin, auto, Ok(1), &[1, 1, 2, 1]);
+    check_kept(
+        &rt,
+        &mut kept,
+        &hebrew,
+        no_split,
+        Err(Fault::BadSplit),
+        &[9, 9, 9, 9],
+    );
+    check_kept(&rt, &mut kept, &hebrew, auto, Ok(1), &[0, 1, 0, 9]);
 }

@@ -1,14 +1,17 @@
--- Lines without direction controls and marks: one character more, and what is found in them.
-use Rattle.bidi_base.proofs.Common.{◌≡◌, ℕ, zero, suc, ◌+◌, ◌<◌, ◌≤◌, ⊤, SplitTest, cut_after, cr_lf_together, onto_first, get_or_default, Bool, true, false, if◌then◌else◌, List, [], ◌∷◌, ◌++◌}
-use Rattle.bidi_base.proofs.Common.{Option, None, length, get_or, take, map, refl, ap, sym, subst, arith, ◌∙◌, take_more, flat_map, holds_number, get_or-map, range_with_len, class_at, Source}
-use Rattle.bidi_base.proofs.Common.{All-push, All-head, All-tail, All-cons, All-nil}
-use Rattle.bidi_base.specs.declared.char_data.BidiClass.{BidiClass}
+-- Lines in which nothing can be found: without direction controls and marks, and without letters if these are wanted.
+use Rattle.bidi_base.proofs.Common.{◌≡◌, ℕ, zero, suc, ◌+◌, ◌<◌, ◌≤◌, SplitTest, cut_after, cr_lf_together, onto_first, get_or_default, Bool, true, false, ◌&&◌, if◌then◌else◌, List, [], ◌∷◌, ◌++◌}
+use Rattle.bidi_base.proofs.Common.{Some, None, length, get_or, take, map, refl, ap, sym, subst, arith, ◌∙◌, take_more, flat_map, get_or-map, range_with_len, class_at, Source}
+use Rattle.bidi_base.proofs.Common.{All, All-push, All-head, All-tail, All-cons, All-nil, All-weaker, cases_Bool, inl, inr, option_to_list, take_while-cons}
+use Rattle.std.specs.Prelude.{take_while}
 use Rattle.bidi_controls.specs.Controls.{control_of}
-use Rattle.bidi_controls.specs.Findings.{wants_every_control, finding_of, line_finding_of, findings_at, differing_place, findings_in_line, findings_in_paragraph, findings_in_paragraphs}
+use Rattle.bidi_controls.specs.Displayed.{has_control_or_mark, has_right_to_left, is_displayed_differently, is_moved_by_letters, is_right_to_left, moving_level}
+use Rattle.bidi_controls.specs.Findings.{finding_at, first_place, character_findings, if_wanted, wanted_differing, findings_in_line, findings_in_paragraph, findings_in_paragraphs}
+use Rattle.bidi_controls.specs.declared.differing.Differing.{Differing}
+use Rattle.bidi_controls.specs.declared.finding.Trouble.TheVariants.{LettersAlone}
 use Rattle.bidi_controls.specs.declared.finding.Wanted.{Wanted}
-use Rattle.bidi_base.specs.Paragraphs.{paragraphs_in}
-use Rattle.bidi_controls.specs.Matches.{is_unmatched}
+use Rattle.bidi_base.specs.Paragraphs.{own_chars, paragraphs_in}
 use Rattle.bidi_controls.specs.NoControls.{HaveNoControls}
+use Rattle.bidi_controls.proofs.FindingsLemmas.{findings-parts}
 
 pub HaveNoControls-more : (source : Source) (chars : List ℕ) (n c : ℕ) (before after : Bool) → n < length chars → c ≡ get_or chars n c
     → (after ≡ true → (before ≡ true) × (control_of (source.class_of c) c ≡ None)) → (before ≡ true → HaveNoControls source (take n chars))
@@ -27,58 +30,106 @@ HaveNoControls-plain source chars n (suc k) fits plain h =
     (HaveNoControls-more source chars (n + k) (get_or chars (n + k) 0) true true (omega (arith, fits)) (get_or_default chars (n + k) 0 (get_or chars (n + k) 0) (omega (arith, fits)))
     (λ yes. (refl, plain (n + k) (omega arith) (omega arith))) (λ yes. before) refl)
 
+-- ---- a line in which each character is neither a control or a mark, nor a letter if letters are wanted
+
+-- nothing can be found at a character
+abbrev pub HasNothing : Source → Wanted → ℕ → Type 0
+HasNothing source wanted c = (control_of (source.class_of c) c ≡ None) × ((wanted.letters_alone && is_right_to_left (source.class_of c)) ≡ false)
+
 -- none of some indexes gives a value
 flat_map-none : {Y : Type 0} (f : ℕ → List Y) (n low : ℕ) → ((k : ℕ) → k < low + n → f k ≡ []) → flat_map f (range_with_len low n) ≡ []
 flat_map-none f zero low none = refl
 flat_map-none f (suc n) low none = grind (arith, none low, flat_map-none f n (suc low))
 
--- nothing is found if there is no control
-finding_of-none : (any : Bool) (number k : ℕ) (unmatched : Bool) (class : BidiClass) (c : ℕ) → control_of class c ≡ None → finding_of any number k unmatched class c ≡ None
-finding_of-none any number k unmatched class c none = grind arith
+module _ (source : Source) (wanted : Wanted) where
+  abbrev Nothing : ℕ → Type 0
+  Nothing c = HasNothing source wanted c
 
-line_finding_of-none : (here : Bool) (number k : ℕ) (class : BidiClass) (c : ℕ) → control_of class c ≡ None → line_finding_of here number k class c ≡ None
-line_finding_of-none here number k class c none = grind arith
+  no_controls : (t : ℕ → Bool) (chars : List ℕ) → All Nothing chars → has_control_or_mark source (take_while t chars) ≡ false
+  no_controls t [] all = refl
+  no_controls t (c ∷ cs) all =
+      let here = (All-head Nothing c cs all).0 in
+      let later = no_controls t cs (All-tail Nothing c cs all) in
+      rw (take_while-cons t c cs) (elim (cases_Bool (t c)) [ inl goes_on ↦ simp (goes_on, here, later) refl | inr ends ↦ simp ends refl ])
 
-findings_at-none : (any : Bool) (differing : Option ℕ) (number from : ℕ) (classes : List BidiClass) (line : List ℕ) (k : ℕ) → control_of (class_at classes k) (get_or line k 0) ≡ None
-    → findings_at any differing number from classes line k ≡ []
-findings_at-none any differing number from classes line k none =
-    simp (line_finding_of-none (holds_number differing k) number (from + k) (class_at classes k) (get_or line k 0) none, finding_of-none any number (from + k) (is_unmatched classes k) (class_at classes k) (get_or line k 0) none)
+  no_letters : (t : ℕ → Bool) (chars : List ℕ) → All Nothing chars → wanted.letters_alone ≡ true → has_right_to_left source (take_while t chars) ≡ false
+  no_letters t [] all letters = refl
+  no_letters t (c ∷ cs) all letters =
+      let here : is_right_to_left (source.class_of c) ≡ false = simp letters at ((All-head Nothing c cs all).1) in
+      let later = no_letters t cs (All-tail Nothing c cs all) letters in
+      rw (take_while-cons t c cs) (elim (cases_Bool (t c)) [ inl goes_on ↦ simp (goes_on, here, later) refl | inr ends ↦ simp ends refl ])
 
-findings_in_paragraph-without_controls : (source : Source) (wanted : Wanted) (number from : ℕ) (chars : List ℕ) → HaveNoControls source chars → findings_in_paragraph source wanted number from chars ≡ []
-findings_in_paragraph-without_controls source wanted number from chars without_controls =
-    flat_map-none (findings_at (wants_every_control wanted) (differing_place source wanted chars) number from (map source.class_of chars) chars) (length chars) 0
-    (λ k below. findings_at-none (wants_every_control wanted) (differing_place source wanted chars) number from (map source.class_of chars) chars k (grind (arith, get_or-map, without_controls k 0)))
+  -- a paragraph is displayed as it reads, or letters are not wanted
+  pub unwanted_letters : (moved : Bool) (differing : Differing) → differing.trouble ≡ LettersAlone → wanted.letters_alone ≡ false → if_wanted wanted (if moved then Some differing else None) ≡ None
+  unwanted_letters true differing is unwanted = simp (is, unwanted) refl
+  unwanted_letters false differing is unwanted = refl
 
--- no piece has a control
-abbrev AllHaveNoControls : Source → List (List ℕ) → Type 0
-AllHaveNoControls source [] = ⊤
-AllHaveNoControls source (piece ∷ pieces) = HaveNoControls source piece × AllHaveNoControls source pieces
+  pub still-none : (own : List ℕ) (differing : Differing) → has_right_to_left source own ≡ false → if_wanted wanted (if is_moved_by_letters source own then Some differing else None) ≡ None
+  unfolding is_moved_by_letters
+  still-none own differing no_letter = simp no_letter refl
 
-one_without_controls : (source : Source) (c : ℕ) → control_of (source.class_of c) c ≡ None → HaveNoControls source (c ∷ [])
-one_without_controls source c none = All-cons (λ x. control_of (source.class_of x) x ≡ None) c [] none (All-nil (λ x. control_of (source.class_of x) x ≡ None))
+  differing-none : (chars : List ℕ) → All Nothing chars → wanted_differing source wanted chars ≡ None
+  unfolding is_displayed_differently
+  differing-none chars all =
+      let own = own_chars source chars in
+      let no_control : has_control_or_mark source own ≡ false = no_controls _ chars all in
+      simp no_control (elim (cases_Bool wanted.letters_alone) [
+        | inl letters ↦ still-none own (record {
+          trouble = LettersAlone;
+          place = first_place (λ c. is_right_to_left (source.class_of c)) chars;
+          level = moving_level source own;
+        }) (no_letters _ chars all letters)
+        | inr unwanted ↦ unwanted_letters (is_moved_by_letters source own) (record {
+          trouble = LettersAlone;
+          place = first_place (λ c. is_right_to_left (source.class_of c)) chars;
+          level = moving_level source own;
+        }) refl unwanted
+      ])
 
-AllHaveNoControls-front : (source : Source) (c : ℕ) (pieces : List (List ℕ)) → control_of (source.class_of c) c ≡ None → AllHaveNoControls source pieces → AllHaveNoControls source (onto_first c pieces)
-AllHaveNoControls-front source c [] none without_controls = (one_without_controls source c none, tt)
-AllHaveNoControls-front source c (piece ∷ pieces) none without_controls = (All-cons (λ x. control_of (source.class_of x) x ≡ None) c piece none without_controls.0, without_controls.1)
+  finding-none : (number from : ℕ) (chars : List ℕ) (k : ℕ) → All Nothing chars → k < length chars → option_to_list (finding_at number from (map source.class_of chars) chars k) ≡ []
+  finding-none number from chars k all below =
+      let none : control_of (class_at (map source.class_of chars) k) (get_or chars k 0) ≡ None = grind (arith, get_or-map, all k 0) in
+      simp none refl
 
--- a character before pieces, which is a piece by itself or goes to the first
-AllHaveNoControls-with : (source : Source) (stops : Bool) (c : ℕ) (pieces : List (List ℕ)) → control_of (source.class_of c) c ≡ None
-    → AllHaveNoControls source pieces → AllHaveNoControls source (if stops then (c ∷ []) ∷ pieces else onto_first c pieces)
-AllHaveNoControls-with source true c pieces none without_controls = (one_without_controls source c none, without_controls)
-AllHaveNoControls-with source false c pieces none without_controls = AllHaveNoControls-front source c pieces none without_controls
+  findings_in_paragraph-none : (number from : ℕ) (chars : List ℕ) → All Nothing chars → findings_in_paragraph source wanted number from chars ≡ []
+  findings_in_paragraph-none number from chars all =
+      let none : character_findings number from (map source.class_of chars) chars ≡ [] =
+      flat_map-none (λ k. option_to_list (finding_at number from (map source.class_of chars) chars k)) (length chars) 0 (λ k below. finding-none number from chars k all (omega arith)) in
+      findings-parts source wanted number from chars ∙ simp (differing-none chars all, none) refl
 
-AllHaveNoControls-cut : (source : Source) (ends : SplitTest) (chars : List ℕ) → HaveNoControls source chars → AllHaveNoControls source (cut_after ends chars)
-AllHaveNoControls-cut source ends [] without_controls = tt
-AllHaveNoControls-cut source ends (c ∷ cs) without_controls =
-    AllHaveNoControls-with source (ends c cs) c (cut_after ends cs) (All-head (λ x. control_of (source.class_of x) x ≡ None) c cs without_controls)
-    (AllHaveNoControls-cut source ends cs (All-tail (λ x. control_of (source.class_of x) x ≡ None) c cs without_controls))
+  one_nothing : (c : ℕ) → Nothing c → All Nothing (c ∷ [])
+  one_nothing c here = All-cons Nothing c [] here (All-nil Nothing)
 
-findings_in_paragraphs-without_controls : (source : Source) (wanted : Wanted) (number from : ℕ) (pieces : List (List ℕ)) → AllHaveNoControls source pieces → findings_in_paragraphs source wanted number from pieces ≡ []
-findings_in_paragraphs-without_controls source wanted number from [] without_controls = refl
-findings_in_paragraphs-without_controls source wanted number from (piece ∷ pieces) without_controls =
-    simp (findings_in_paragraph-without_controls source wanted number from piece without_controls.0, findings_in_paragraphs-without_controls source wanted number (from + length piece) pieces without_controls.1)
+  onto_nothing : (c : ℕ) (pieces : List (List ℕ)) → Nothing c → All (All Nothing) pieces → All (All Nothing) (onto_first c pieces)
+  onto_nothing c [] here all = All-cons (All Nothing) (c ∷ []) [] (one_nothing c here) (All-nil (All Nothing))
+  onto_nothing c (piece ∷ pieces) here all =
+      All-cons (All Nothing) (c ∷ piece) pieces (All-cons Nothing c piece here (All-head (All Nothing) piece pieces all)) (All-tail (All Nothing) piece pieces all)
 
-pub findings_in_line-without_controls : (source : Source) (wanted : Wanted) (number : ℕ) (line : List ℕ) → HaveNoControls source line → findings_in_line source wanted number line ≡ []
-unfolding findings_in_line
-findings_in_line-without_controls source wanted number line without_controls =
-    findings_in_paragraphs-without_controls source wanted number 0 (paragraphs_in source line) (AllHaveNoControls-cut source (cr_lf_together source) line without_controls)
+  -- no piece has something
+  pub nothing-cut : (ends : SplitTest) (chars : List ℕ) → All Nothing chars → All (All Nothing) (cut_after ends chars)
+  nothing-cut ends [] all = All-nil (All Nothing)
+  nothing-cut ends (c ∷ cs) all =
+      let here = All-head Nothing c cs all in
+      let later = nothing-cut ends cs (All-tail Nothing c cs all) in
+      elim (cases_Bool (ends c cs)) [
+        | inl stop ↦ rw stop (All-cons (All Nothing) (c ∷ []) (cut_after ends cs) (one_nothing c here) later)
+        | inr on ↦ rw on (onto_nothing c (cut_after ends cs) here later)
+      ]
+
+  findings_in_paragraphs-none : (number from : ℕ) (pieces : List (List ℕ)) → All (All Nothing) pieces → findings_in_paragraphs source wanted number from pieces ≡ []
+  findings_in_paragraphs-none number from [] all = refl
+  findings_in_paragraphs-none number from (piece ∷ pieces) all =
+      simp (
+        findings_in_paragraph-none number from piece (All-head (All Nothing) piece pieces all),
+        findings_in_paragraphs-none number (from + length piece) pieces (All-tail (All Nothing) piece pieces all),
+      ) refl
+
+  pub findings_in_line-none : (number : ℕ) (line : List ℕ) → All Nothing line → findings_in_line source wanted number line ≡ []
+  unfolding findings_in_line
+  findings_in_line-none number line all =
+      findings_in_paragraphs-none number 0 (paragraphs_in source line) (nothing-cut (cr_lf_together source) line all)
+
+  -- a line without controls and marks, if letters are not wanted
+  pub findings_in_line-without_controls : (number : ℕ) (line : List ℕ) → wanted.letters_alone ≡ false → HaveNoControls source line → findings_in_line source wanted number line ≡ []
+  findings_in_line-without_controls number line unwanted none =
+      findings_in_line-none number line (All-weaker (λ c. control_of (source.class_of c) c ≡ None) Nothing (λ c here. (here, simp unwanted refl)) line none)

@@ -1,87 +1,138 @@
 -- What `check` finds in a text, and how it is reported.
-use Rattle.std.specs.Prelude.{ℕ, ◌+◌, Bool, true, false, ◌&&◌, ◌||◌, if◌then◌else◌, List, [], ◌∷◌, ◌++◌, get_or, length, map, flat_map, position, codes, decimal, Option, None, option_map}
+use Rattle.std.specs.Prelude.{ℕ, ◌+◌, Bool, true, false, not, is_some, if◌then◌else◌, List, [], ◌∷◌, ◌++◌, get_or, length, map, filter, flat_map, position, codes, decimal, unwrap_or, Option, Some, None, option_map}
 use Rattle.std.specs.Option.{option_to_list}
 use Rattle.bidi_base.specs.declared.char_data.BidiClass.{BidiClass}
 use Rattle.bidi_base.specs.Classes.{is_opener}
-use Rattle.bidi_base.specs.Indexes.{indexes, class_at, holds_number}
+use Rattle.bidi_base.specs.Indexes.{indexes, class_at}
 use Rattle.bidi_base.specs.Source.{Source}
-use Rattle.bidi_controls.specs.Controls.{control_of, control_name, is_control_or_mark}
-use Rattle.bidi_controls.specs.Displayed.{is_displayed_differently}
-use Rattle.bidi_bytes.specs.FileLines.{file_lines_of}
+use Rattle.bidi_controls.specs.Controls.{control_of, is_control_or_mark}
+use Rattle.bidi_controls.specs.Displayed.{is_displayed_differently, is_moved_by_letters, is_right_to_left, differing_level, moving_level}
+use Rattle.bidi_controls.specs.FileLines.{file_lines_of}
 use Rattle.bidi_base.specs.Paragraphs.{paragraphs_in, own_chars}
 use Rattle.bidi_controls.specs.Matches.{is_unmatched}
+use Rattle.bidi_controls.specs.declared.differing.Differing.{Differing}
 use Rattle.bidi_controls.specs.declared.finding.Finding.{Finding}
 use Rattle.bidi_controls.specs.declared.finding.Trouble.{Trouble}
-use Rattle.bidi_controls.specs.declared.finding.Trouble.TheVariants.{NotClosed, ClosesNothing, Present, DisplayedDifferently}
+use Rattle.bidi_controls.specs.declared.finding.Trouble.TheVariants.{NotClosed, ClosesNothing, Present, DisplayedDifferently, LettersAlone}
 use Rattle.bidi_controls.specs.declared.finding.Wanted.{Wanted}
-use Rattle.bidi_controls.specs.declared.finding.Wanted.TheVariants.{Unmatched, Misleading, EveryControl, Everything}
 
--- every control and mark is wanted
-abbrev pub wants_every_control : Wanted → Bool
-wants_every_control EveryControl = true
-wants_every_control Everything = true
-wants_every_control Unmatched = false
-wants_every_control Misleading = false
+-- ---- which findings are wanted
 
--- lines that are displayed differently from how they read are wanted
-abbrev pub wants_lines : Wanted → Bool
-wants_lines Unmatched = false
-wants_lines Misleading = true
-wants_lines Everything = true
-wants_lines EveryControl = false
+-- findings of this kind are wanted
+abbrev pub wants : Wanted → Trouble → Bool
+wants wanted NotClosed = wanted.not_closed
+wants wanted ClosesNothing = wanted.closes_nothing
+wants wanted Present = wanted.present
+wants wanted DisplayedDifferently = wanted.displayed_differently
+wants wanted LettersAlone = wanted.letters_alone
+
+-- a finding is of a kind that is wanted
+abbrev pub is_wanted : Wanted → Finding → Bool
+is_wanted wanted finding = wants wanted finding.trouble
+
+-- the kinds that are wanted, with this kind among them or not
+abbrev pub with_kind : Wanted → Trouble → Bool → Wanted
+with_kind wanted NotClosed flag = record wanted { not_closed = flag }
+with_kind wanted ClosesNothing flag = record wanted { closes_nothing = flag }
+with_kind wanted Present flag = record wanted { present = flag }
+with_kind wanted DisplayedDifferently flag = record wanted { displayed_differently = flag }
+with_kind wanted LettersAlone flag = record wanted { letters_alone = flag }
+
+-- no findings
+abbrev pub nothing : Wanted
+nothing = record { not_closed = false; closes_nothing = false; present = false; displayed_differently = false; letters_alone = false }
+
+-- controls without a match
+abbrev pub unmatched : Wanted
+unmatched = record nothing { not_closed = true; closes_nothing = true }
+
+-- controls without a match, and lines that are displayed differently from how they read
+abbrev pub misleading : Wanted
+misleading = record unmatched { displayed_differently = true }
+
+-- every control and mark
+abbrev pub every_control : Wanted
+every_control = record unmatched { present = true }
+
+-- every control and mark, and lines that are displayed differently from how they read
+abbrev pub everything : Wanted
+everything = record every_control { displayed_differently = true }
 
 -- controls without a match, or with `any` every control and mark, and no lines
 abbrev pub controls_wanted : Bool → Wanted
-controls_wanted any = if any then EveryControl else Unmatched
+controls_wanted any = if any then every_control else unmatched
 
--- what is wrong with a control of this class, or `Present` for any that is wanted without being wrong
+-- ---- what is found
+
+-- what is wrong with a control of this class, or `Present` if nothing is
 abbrev pub trouble_of : Bool → BidiClass → Trouble
 trouble_of unmatched class = if unmatched then (if is_opener class then NotClosed else ClosesNothing) else Present
 
--- the finding of this trouble at an index of a line, if the character there is a control or a mark
-abbrev pub finding_with : Trouble → ℕ → ℕ → BidiClass → ℕ → Option Finding
-finding_with trouble line place class c =
-    option_map (λ control. record { line = line; column = place + 1; control = control; trouble = trouble }) (control_of class c)
+-- the finding of this kind at an index of a line, with the control or the mark that is there, if one is
+abbrev pub finding_with : Trouble → ℕ → ℕ → BidiClass → ℕ → Finding
+finding_with trouble line place class c = record { line = line; column = place + 1; control = control_of class c; trouble = trouble }
 
--- what is found at an index of a line, if something is: a control without its match on the line, or with `any` every
--- control and mark
-abbrev pub finding_of : Bool → ℕ → ℕ → Bool → BidiClass → ℕ → Option Finding
-finding_of any line place unmatched class c =
-    if any || unmatched then finding_with (trouble_of unmatched class) line place class c else None
+-- what is found at a character of a line: a control or a mark
+abbrev pub finding_of : ℕ → ℕ → Bool → BidiClass → ℕ → Option Finding
+finding_of line place unmatched class c =
+    if is_some (control_of class c) then Some (finding_with (trouble_of unmatched class) line place class c) else None
 
 -- the same for the character at an index of a paragraph that begins at the index `from` of its line
-abbrev pub finding_at : Bool → ℕ → ℕ → List BidiClass → List ℕ → ℕ → Option Finding
-finding_at any line from classes chars k =
-    finding_of any line (from + k) (is_unmatched classes k) (class_at classes k) (get_or chars k 0)
+abbrev pub finding_at : ℕ → ℕ → List BidiClass → List ℕ → ℕ → Option Finding
+finding_at line from classes chars k = finding_of line (from + k) (is_unmatched classes k) (class_at classes k) (get_or chars k 0)
 
--- what is found at an index of a line, if the finding that the line is displayed differently from how it reads is there
-abbrev pub line_finding_of : Bool → ℕ → ℕ → BidiClass → ℕ → Option Finding
-line_finding_of here line place class c = if here then finding_with DisplayedDifferently line place class c else None
+-- what is found in the characters of a paragraph
+abbrev pub character_findings : ℕ → ℕ → List BidiClass → List ℕ → List Finding
+character_findings line from classes chars = flat_map (λ k. option_to_list (finding_at line from classes chars k)) (indexes chars)
 
--- the same for the character at an index of a paragraph that begins at the index `from` of its line
-abbrev pub line_finding_at : Option ℕ → ℕ → ℕ → List BidiClass → List ℕ → ℕ → Option Finding
-line_finding_at differing line from classes chars k =
-    line_finding_of (holds_number differing k) line (from + k) (class_at classes k) (get_or chars k 0)
+-- the first index at which a character passes the test, or 0 if none does
+abbrev pub first_place : (ℕ → Bool) → List ℕ → ℕ
+first_place test chars = unwrap_or (position test chars) 0
 
--- all that is found at an index of a paragraph: first what is found in the paragraph as a whole, then what is found in
--- the character
-abbrev pub findings_at : Bool → Option ℕ → ℕ → ℕ → List BidiClass → List ℕ → ℕ → List Finding
-findings_at any differing line from classes chars k =
-    option_to_list (line_finding_at differing line from classes chars k) ++ option_to_list (finding_at any line from classes chars k)
+-- whether a paragraph is displayed differently from how it reads, and why: by controls and marks, at the first of them, or
+-- by letters alone, at the first character that is displayed from right to left
+abbrev pub differing_of : Source → List ℕ → Option Differing
+differing_of source chars =
+    let own = own_chars source chars in
+    if is_displayed_differently source own
+    then Some (record {
+      trouble = DisplayedDifferently;
+      place = first_place (λ c. is_control_or_mark source c) chars;
+      level = differing_level source own;
+    })
+    else if is_moved_by_letters source own
+    then Some (record {
+      trouble = LettersAlone;
+      place = first_place (λ c. is_right_to_left (source.class_of c)) chars;
+      level = moving_level source own;
+    })
+    else None
 
--- the index of the first control or mark of a paragraph that is displayed differently from how it reads, if such lines
--- are wanted
-abbrev pub differing_place : Source → Wanted → List ℕ → Option ℕ
-differing_place source wanted chars =
-    if wants_lines wanted && is_displayed_differently source (own_chars source chars)
-    then position (λ c. is_control_or_mark source c) chars else None
+-- the same, if findings of its kind are wanted
+abbrev pub if_wanted : Wanted → Option Differing → Option Differing
+if_wanted wanted None = None
+if_wanted wanted (Some differing) = if wants wanted differing.trouble then Some differing else None
 
--- the findings in a paragraph that begins at the index `from` of the line of this number, in the order of their columns
+abbrev pub wanted_differing : Source → Wanted → List ℕ → Option Differing
+wanted_differing source wanted chars = if_wanted wanted (differing_of source chars)
+
+-- the finding of a paragraph that is displayed differently
+abbrev pub line_finding : Source → ℕ → ℕ → List ℕ → Differing → Finding
+line_finding source line from chars differing =
+    let c = get_or chars differing.place 0 in
+    finding_with differing.trouble line (from + differing.place) (source.class_of c) c
+
+-- all that is found in a paragraph that begins at the index `from` of the line of this number: first what is found in
+-- the paragraph as a whole, then what is found in its characters. This is the order of their columns.
+abbrev pub all_findings_in_paragraph : Source → ℕ → ℕ → List ℕ → List Finding
+all_findings_in_paragraph source line from chars =
+    option_to_list (option_map (line_finding source line from chars) (differing_of source chars))
+    ++ character_findings line from (map source.class_of chars) chars
+
+-- those of them that are wanted
 abbrev pub findings_in_paragraph : Source → Wanted → ℕ → ℕ → List ℕ → List Finding
 findings_in_paragraph source wanted line from chars =
-    flat_map
-    (findings_at (wants_every_control wanted) (differing_place source wanted chars) line from (map source.class_of chars) chars)
-    (indexes chars)
+    filter (is_wanted wanted) (all_findings_in_paragraph source line from chars)
 
 -- the same for paragraphs, the first of which begins at the index `from` of the line
 abbrev pub findings_in_paragraphs : Source → Wanted → ℕ → ℕ → List (List ℕ) → List Finding
@@ -111,17 +162,8 @@ trouble_text NotClosed = codes "is not closed on its line"
 trouble_text ClosesNothing = codes "closes nothing on its line"
 trouble_text Present = codes "is present"
 trouble_text DisplayedDifferently = codes "is on a line displayed differently from how it reads"
+trouble_text LettersAlone = codes "letters alone make the line display differently from how it reads"
 
 -- its position: the file, the line and the column
 abbrev pub place_text : List ℕ → Finding → List ℕ
 place_text name finding = name ++ (codes ":" ++ (decimal finding.line ++ (codes ":" ++ (decimal finding.column ++ codes ": "))))
-
--- the line for a finding in the file of this name
-abbrev pub finding_line : List ℕ → Finding → List ℕ
-finding_line name finding =
-    place_text name finding
-    ++ (control_name finding.control ++ (codes " " ++ (trouble_text finding.trouble ++ codes "\n")))
-
--- those of all findings
-abbrev pub report_of : List ℕ → List Finding → List ℕ
-report_of name findings = flat_map (finding_line name) findings

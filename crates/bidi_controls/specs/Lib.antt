@@ -1,7 +1,13 @@
+pub mod Comparison
+pub mod ControlBytes
 pub mod Controls
+pub mod Decoded
 pub mod Displayed
+pub mod FileLines
+pub mod FileSearch
 pub mod Findings
 pub mod Lines
 pub mod Matches
-pub mod OpenOpeners
 pub mod NoControls
+pub mod OpenOpeners
+pub mod Placeholders

@@ -1,87 +1,37 @@
 //! What `check` finds in a text.
-ghost use Rattle.std.specs.Prelude.{◌≡◌, ◌+◌, ◌<◌, ◌^◌, ◌++◌, length, map, flat_map, position, IfOk, OnOk};
+ghost use Rattle.std.specs.Prelude.{◌≡◌, ◌+◌, ◌<◌, ◌^◌, ◌++◌, ◌||◌, not, filter, get_or, length, map, IfOk, OnOk};
 ghost use Rattle.std.specs.Option.{option_to_list};
-ghost use Rattle.bidi_base.specs.Indexes.{holds_number, indexes};
-ghost use Rattle.bidi_controls.specs.Controls.{is_control_or_mark as is_control_or_mark_of};
-ghost use Rattle.bidi_controls.specs.Findings.{finding_of, line_finding_of, findings_at, findings_of, controls_wanted, differing_place as differing_place_of};
-ghost use Rattle.bidi_controls.specs.Matches.{is_unmatched};
+ghost use Rattle.bidi_base.specs.Indexes.{indexes};
+ghost use Rattle.bidi_controls.specs.FileSearch.{displayed_of, displayed_in_line, displayed_in_paragraph};
+ghost use Rattle.bidi_controls.specs.Findings.{is_wanted as is_wanted_of, character_findings, findings_of, controls_wanted};
+ghost use Rattle.bidi_controls.specs.Matches.{is_unmatched as is_unmatched_in};
 
-use crate::control::is_control_or_mark;
+use crate::differing::DisplayedParagraph;
 use crate::displayed::DisplayComparison;
-use crate::finding::{Finding, LineChar, Trouble, Wanted};
-use crate::lines::{first_file_line, first_paragraph_len, has_no_control_in_ascii, own_chars};
+use crate::finding::{Finding, LineChar, Wanted};
+use crate::lines::{
+    FirstLine, first_file_line, first_paragraph_len, has_no_control_in_ascii, own_chars,
+};
 use crate::openers::Openers;
 use crate::unmatched::find_unmatched;
 use bidi_base::data_source::BidiDataSource;
 use std::alloc::{AllocError, Global};
 
-/// Appends what was found, if something was.
-fn push_found(findings: &mut Vec<Finding>, found: Option<Finding>) -> Result<(), AllocError>
-    ensures { OnOk result (findings.new.items ≡ findings.old.items ++ option_to_list found) }
+/// Appends what was found, if something was and if it is wanted.
+fn push_wanted(
+    findings: &mut Vec<Finding>,
+    wanted: Wanted,
+    found: Option<Finding>,
+) -> Result<(), AllocError>
+    ensures { OnOk result (findings.new.items
+        ≡ findings.old.items ++ filter (is_wanted_of wanted) (option_to_list found)) }
 {
-    if let Some(finding) = found {
+    if let Some(finding) = found
+        && wanted.wants(finding.trouble)
+    {
         findings.push(finding)?;
     }
     Ok(())
-}
-
-/// Returns the index of the first direction control or mark among some characters.
-fn first_control_or_mark<D: BidiDataSource>(data_source: &D, chars: &[char]) -> Option<usize>
-    ensures { result ≡ position (λ c. is_control_or_mark_of (D.source data_source.now) c) chars.now }
-{
-    chars
-        .iter()
-        .position(|c| is_control_or_mark(data_source, *c))
-}
-
-/// Returns the index of the first control or mark of a paragraph that is displayed differently from how it reads, if
-/// such lines are wanted.
-fn differing_place<D: BidiDataSource>(
-    comparison: &mut DisplayComparison,
-    alloc: Global,
-    data_source: &D,
-    wanted: Wanted,
-    line: &[char],
-) -> Result<Option<usize>, AllocError>
-    ensures { IfOk result (λ place. place ≡ differing_place_of (D.source data_source.now) wanted line.now) }
-{
-    if !wanted.wants_lines() {
-        return Ok(None);
-    }
-    let own = own_chars(data_source, line);
-    if !comparison.is_displayed_differently(alloc, data_source, own)? {
-        return Ok(None);
-    }
-    Ok(first_control_or_mark(data_source, line))
-}
-
-/// Returns whether `place` is this index.
-fn is_at(place: Option<usize>, index: usize) -> bool
-    ensures { result ≡ holds_number place index }
-{
-    match place {
-        Some(place) => place == index,
-        None => false,
-    }
-}
-
-/// Appends what is found at a character of a line.
-fn push_findings_at(
-    findings: &mut Vec<Finding>,
-    any: bool,
-    is_differing: bool,
-    is_unmatched: bool,
-    at: LineChar,
-) -> Result<(), AllocError>
-    requires { at.place + 1 < 2 ^ 64 }
-    ensures { OnOk result (findings.new.items ≡ findings.old.items
-        ++ (option_to_list (line_finding_of is_differing at.line at.place at.class at.c)
-        ++ option_to_list (finding_of any at.line at.place is_unmatched at.class at.c))) }
-{
-    if is_differing {
-        push_found(findings, Finding::with(Trouble::DisplayedDifferently, at))?;
-    }
-    push_found(findings, Finding::of(any, is_unmatched, at))
 }
 
 /// A paragraph in a line of a file.
@@ -96,31 +46,41 @@ struct LineParagraph<'l> {
     ghost in_line: { place + length chars.now < 2 ^ 64 },
 }
 
-/// Appends the findings in a paragraph. At the index `differing`, if there is one, is the finding that it is displayed
-/// differently from how it reads. The others are controls without a match, or with `any` all controls and marks.
+impl LineParagraph<'_> {
+    /// Returns the character at an index of the paragraph.
+    fn char_at<D: BidiDataSource>(&self, data_source: &D, index: usize) -> LineChar
+        requires { index < length self.now.chars.now }
+        ensures { let c = get_or self.now.chars.now index 0 in
+            result ≡ record { line = self.now.line; place = self.now.place + index; class = (D.source data_source.now).class_of c; c = c } }
+    {
+        let c = self.chars[index];
+        LineChar {
+            line: self.line,
+            place: self.place + index,
+            class: data_source.bidi_class(c),
+            c,
+        }
+    }
+}
+
+/// Appends what is found in the characters of a paragraph, if it is wanted.
 fn push_findings<D: BidiDataSource>(
     findings: &mut Vec<Finding>,
     data_source: &D,
-    any: bool,
+    wanted: Wanted,
     paragraph: &LineParagraph<'_>,
-    differing: Option<usize>,
     unmatched: &[bool],
 ) -> Result<(), AllocError>
     requires { let chars = paragraph.now.chars.now in
-        unmatched.now ≡ map (is_unmatched (map (D.source data_source.now).class_of chars)) (indexes chars) }
+        unmatched.now ≡ map (is_unmatched_in (map (D.source data_source.now).class_of chars)) (indexes chars) }
     ensures { let chars = paragraph.now.chars.now in
         let classes = map (D.source data_source.now).class_of chars in
         OnOk result (findings.new.items ≡ findings.old.items
-        ++ flat_map (findings_at any differing paragraph.now.line paragraph.now.place classes chars) (indexes chars)) }
+        ++ filter (is_wanted_of wanted) (character_findings paragraph.now.line paragraph.now.place classes chars)) }
 {
-    for (index, c) in paragraph.chars.iter().enumerate() {
-        let at = LineChar {
-            line: paragraph.line,
-            place: paragraph.place + index,
-            class: data_source.bidi_class(*c),
-            c: *c,
-        };
-        push_findings_at(findings, any, is_at(differing, index), unmatched[index], at)?;
+    for (index, is_unmatched) in unmatched.iter().enumerate() {
+        let at = paragraph.char_at(data_source, index);
+        push_wanted(findings, wanted, Finding::of(*is_unmatched, at))?;
     }
     Ok(())
 }
@@ -134,6 +94,39 @@ pub struct FileLine<'l> {
     pub chars: &'l [char],
 }
 
+/// What a search looks for, and what it keeps.
+#[derive(Clone, Copy, Debug)]
+pub struct Sought {
+    /// Which findings are wanted.
+    pub wanted: Wanted,
+    /// Whether paragraphs that are displayed differently from how they read are kept as they are displayed.
+    pub displays: bool,
+}
+
+/// What is found in a line.
+#[derive(Drop)]
+pub struct LineFound {
+    /// The findings, in the order of their columns.
+    pub findings: Vec<Finding>,
+    /// Each of its paragraphs that has a finding as a whole, as it is displayed, in order.
+    pub displayed: Vec<DisplayedParagraph>,
+}
+
+impl LineFound {
+    ghost use Rattle.std.specs.Prelude.{[]};
+
+    /// Returns that nothing is found. Allocates nothing.
+    pub fn new(alloc: Global) -> LineFound
+        ensures findings { result.findings.items ≡ [] }
+        ensures displayed { result.displayed.items ≡ [] }
+    {
+        LineFound {
+            findings: Vec::new(alloc),
+            displayed: Vec::new(alloc),
+        }
+    }
+}
+
 /// A search for findings, one line of a file after another. Reuses its memory.
 #[derive(Drop)]
 pub struct LineSearch {
@@ -143,7 +136,8 @@ pub struct LineSearch {
 }
 
 impl LineSearch {
-    ghost use Rattle.bidi_controls.specs.Findings.{findings_in_line, findings_in_paragraph};
+    ghost use Rattle.bidi_controls.specs.Findings.{findings_in_line, findings_in_paragraph, line_finding, wanted_differing};
+    ghost use Rattle.std.specs.Prelude.{option_map};
 
     /// Returns a search that has seen no line. Allocates nothing.
     pub fn new(alloc: Global) -> LineSearch {
@@ -154,44 +148,98 @@ impl LineSearch {
         }
     }
 
-    /// Appends the findings in a paragraph.
+    /// Appends the finding of a paragraph as a whole, if there is one and if it is wanted. Also appends the paragraph as it
+    /// is displayed, if `sought` keeps that.
+    fn push_line_finding<D: BidiDataSource>(
+        &mut self,
+        alloc: Global,
+        data_source: &D,
+        sought: Sought,
+        paragraph: &LineParagraph<'_>,
+        found: &mut LineFound,
+    ) -> Result<(), AllocError>
+        requires { 0 < length paragraph.now.chars.now }
+        ensures findings { let source = D.source data_source.now in
+            let chars = paragraph.now.chars.now in
+            OnOk result (found.new.findings.items ≡ found.old.findings.items
+            ++ option_to_list (option_map (line_finding source paragraph.now.line paragraph.now.place chars) (wanted_differing source sought.wanted chars))) }
+        ensures displayed { let source = D.source data_source.now in
+            OnOk result (map displayed_of found.new.displayed.items ≡ map displayed_of found.old.displayed.items
+            ++ displayed_in_paragraph source sought paragraph.now.place paragraph.now.chars.now) }
+    {
+        let chars = paragraph.chars;
+        let Some(differing) = self
+            .comparison
+            .differing(alloc, data_source, sought.wanted, chars)?
+        else {
+            return Ok(());
+        };
+        let at = paragraph.char_at(data_source, differing.place);
+        let finding = Finding::with(differing.trouble, at);
+        found.findings.push(finding)?;
+        if sought.displays {
+            let line = own_chars(data_source, chars);
+            let mut displayed = Vec::new(alloc);
+            self.comparison
+                .write_displayed(data_source, line, &mut displayed)?;
+            found.displayed.push(DisplayedParagraph {
+                column: finding.column,
+                level: differing.level,
+                chars: displayed,
+            })?;
+        }
+        Ok(())
+    }
+
+    /// Appends what is found in a paragraph.
     fn push_found_in_paragraph<D: BidiDataSource>(
         &mut self,
         alloc: Global,
         data_source: &D,
-        wanted: Wanted,
+        sought: Sought,
         paragraph: &LineParagraph<'_>,
-        findings: &mut Vec<Finding>,
+        found: &mut LineFound,
     ) -> Result<(), AllocError>
-        ensures { let source = D.source data_source.now in
-            OnOk result (findings.new.items ≡ findings.old.items
-            ++ findings_in_paragraph source wanted paragraph.now.line paragraph.now.place paragraph.now.chars.now) }
+        requires { 0 < length paragraph.now.chars.now }
+        ensures findings { let source = D.source data_source.now in
+            OnOk result (found.new.findings.items ≡ found.old.findings.items
+            ++ findings_in_paragraph source sought.wanted paragraph.now.line paragraph.now.place paragraph.now.chars.now) }
+        ensures displayed { let source = D.source data_source.now in
+            OnOk result (map displayed_of found.new.displayed.items ≡ map displayed_of found.old.displayed.items
+            ++ displayed_in_paragraph source sought paragraph.now.place paragraph.now.chars.now) }
     {
+        self.push_line_finding(alloc, data_source, sought, paragraph, found)?;
         let chars = paragraph.chars;
         find_unmatched(data_source, chars, &mut self.openers, &mut self.unmatched)?;
-        let comparison = &mut self.comparison;
-        let differing = differing_place(comparison, alloc, data_source, wanted, chars)?;
-        let any = wanted.wants_every_control();
         let unmatched = self.unmatched.as_slice();
-        push_findings(findings, data_source, any, paragraph, differing, unmatched)
+        push_findings(
+            &mut found.findings,
+            data_source,
+            sought.wanted,
+            paragraph,
+            unmatched,
+        )
     }
 
-    /// Appends the findings in a line of a file.
+    /// Appends what is found in a line of a file.
     ///
-    /// If an allocation fails, some of them may be appended.
+    /// If an allocation fails, some of it may be appended.
     // Few lines have controls. Inlined, this takes the registers of the loop that passes over the others.
     #[inline(never)]
     pub fn push_found_in<D: BidiDataSource>(
         &mut self,
         alloc: Global,
         data_source: &D,
-        wanted: Wanted,
+        sought: Sought,
         line: &FileLine<'_>,
-        findings: &mut Vec<Finding>,
+        found: &mut LineFound,
     ) -> Result<(), AllocError>
-        ensures { let source = D.source data_source.now in
-            OnOk result (findings.new.items
-            ≡ findings.old.items ++ findings_in_line source wanted line.now.number line.now.chars.now) }
+        ensures findings { let source = D.source data_source.now in
+            OnOk result (found.new.findings.items
+            ≡ found.old.findings.items ++ findings_in_line source sought.wanted line.now.number line.now.chars.now) }
+        ensures displayed { let source = D.source data_source.now in
+            OnOk result (map displayed_of found.new.displayed.items
+            ≡ map displayed_of found.old.displayed.items ++ displayed_in_line source sought line.now.chars.now) }
     {
         let mut rest = line.chars;
         while !rest.is_empty() {
@@ -201,7 +249,7 @@ impl LineSearch {
                 place: line.chars.len() - rest.len(),
                 chars,
             };
-            self.push_found_in_paragraph(alloc, data_source, wanted, &paragraph, findings)?;
+            self.push_found_in_paragraph(alloc, data_source, sought, &paragraph, found)?;
             rest = after;
         }
         Ok(())
@@ -211,12 +259,19 @@ impl LineSearch {
 /// The minimum length, in characters, of a text for which the classes of ASCII are looked up first.
 const LONG: usize = 1024;
 
+/// Returns whether something may be found in a line.
+fn may_have_findings(wanted: Wanted, line: FirstLine) -> bool
+    ensures { result ≡ (not line.has_no_controls || wanted.letters_alone) }
+{
+    !line.has_no_controls || wanted.letters_alone
+}
+
 /// Returns what is found in a text, in order.
 ///
-/// These are direction controls that have no match in their paragraph on their line, or with `EveryControl` and
-/// `Everything` every control and mark. The match of an embedding or an override is its PDF (BD11), that of an isolate
-/// initiator its PDI (BD9), and that of a PDF or a PDI what it closes. With `Misleading` and `Everything`, a paragraph
-/// that is displayed differently from how it reads is found too, at its first control or mark (see `DisplayComparison`).
+/// These are the findings of the kinds that `wanted` has: direction controls that have no match in their paragraph on
+/// their line, other controls and marks, and paragraphs that are displayed differently from how they read (see
+/// `DisplayComparison::differing`). The match of an embedding or an override is its PDF (BD11), that of an isolate
+/// initiator its PDI (BD9), and that of a PDF or a PDI what it closes.
 ///
 /// Lines and columns are counted from 1, columns in characters. Lines end where editors end them: after a line feed, a
 /// CR LF or a carriage return. Another paragraph separator ends a paragraph, but not the line. Returns an error if an
@@ -229,7 +284,11 @@ pub fn findings_wanted<D: BidiDataSource>(
 ) -> Result<Vec<Finding>, AllocError>
     ensures { IfOk result (λ found. found.items ≡ findings_of (D.source data_source.now) wanted chars.now) }
 {
-    let mut findings = Vec::new(alloc);
+    let sought = Sought {
+        wanted,
+        displays: false,
+    };
+    let mut found = LineFound::new(alloc);
     let mut search = LineSearch::new(alloc);
     let ascii_has_no_control = chars.len() >= LONG && has_no_control_in_ascii(data_source);
     let mut lines_before = 0;
@@ -237,19 +296,19 @@ pub fn findings_wanted<D: BidiDataSource>(
     while !rest.is_empty() {
         let first = first_file_line(data_source, ascii_has_no_control, rest);
         let (line, after) = rest.split_at(first.len);
-        // In a line without controls and marks nothing is found.
-        if !first.has_no_controls {
+        // In a line without controls and marks, only letters can be found.
+        if may_have_findings(wanted, first) {
             let number = lines_before + 1;
             let line = FileLine {
                 number,
                 chars: line,
             };
-            search.push_found_in(alloc, data_source, wanted, &line, &mut findings)?;
+            search.push_found_in(alloc, data_source, sought, &line, &mut found)?;
         }
         lines_before += 1;
         rest = after;
     }
-    Ok(findings)
+    Ok(found.findings)
 }
 
 /// Returns the direction controls of a text that have no match on their line, or with `any` every control and mark.
@@ -264,9 +323,9 @@ pub fn findings_in<D: BidiDataSource>(
     ensures { IfOk result (λ found. found.items ≡ findings_of (D.source data_source.now) (controls_wanted any) chars.now) }
 {
     let wanted = if any {
-        Wanted::EveryControl
+        Wanted::EVERY_CONTROL
     } else {
-        Wanted::Unmatched
+        Wanted::UNMATCHED
     };
     findings_wanted(alloc, data_source, wanted, chars)
 }

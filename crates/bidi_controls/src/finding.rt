@@ -3,49 +3,20 @@ use crate::control::Control;
 use bidi_base::char_data::BidiClass;
 use bidi_base::classes::{is_embedding_initiator, is_isolate_initiator};
 
-/// Which findings are wanted.
-#[derive(Clone, Copy, Debug)]
-pub enum Wanted {
-    /// Controls without a match.
-    Unmatched,
-    /// Controls without a match, and lines that are displayed differently from how they read.
-    Misleading,
-    /// Every control and mark.
-    EveryControl,
-    /// Every control and mark, and lines that are displayed differently from how they read.
-    Everything,
-}
-
-impl Wanted {
-    ghost use Rattle.std.specs.Prelude.{◌≡◌};
-    ghost use Rattle.bidi_controls.specs.Findings.{wants_every_control, wants_lines};
-
-    /// Returns whether every control and mark is wanted.
-    pub fn wants_every_control(self) -> bool
-        ensures { result ≡ wants_every_control self }
-    {
-        matches!(self, Wanted::EveryControl | Wanted::Everything)
-    }
-
-    /// Returns whether lines that are displayed differently from how they read are wanted.
-    pub fn wants_lines(self) -> bool
-        ensures { result ≡ wants_lines self }
-    {
-        matches!(self, Wanted::Misleading | Wanted::Everything)
-    }
-}
-
-/// What is wrong with a control.
+/// The kind of a finding: what is wrong with a control or with a line.
 #[derive(Clone, Copy, Debug)]
 pub enum Trouble {
-    /// Nothing on its line closes what it opens.
+    /// Nothing on its line closes what the control opens.
     NotClosed,
-    /// There is nothing on its line that it closes.
+    /// There is nothing on its line that the control closes.
     ClosesNothing,
-    /// It is there. Only `EveryControl` and `Everything` find such controls and marks.
+    /// The control or mark is there. Nothing else is wrong with it.
     Present,
-    /// It is the first control or mark of a line that is displayed differently from how it reads.
+    /// Controls or marks make the line display differently from how it reads. The first of them is reported.
     DisplayedDifferently,
+    /// The line displays differently from how it reads, with or without its controls and marks. The first character of
+    /// class R, AL or AN is reported.
+    LettersAlone,
 }
 
 impl Trouble {
@@ -65,7 +36,7 @@ impl Trouble {
         }
     }
 
-    /// Returns what is wrong with a control, as the words that follow its name in a report.
+    /// Returns what is found, as the words of a report. The name of the control comes before them, if there is one.
     pub fn text(self) -> &'static str
         ensures { result.now ≡ trouble_text self }
     {
@@ -74,6 +45,115 @@ impl Trouble {
             Trouble::ClosesNothing => "closes nothing on its line",
             Trouble::Present => "is present",
             Trouble::DisplayedDifferently => "is on a line displayed differently from how it reads",
+            Trouble::LettersAlone => {
+                "letters alone make the line display differently from how it reads"
+            }
+        }
+    }
+}
+
+/// Which kinds of findings are wanted: a flag for each kind.
+#[derive(Clone, Copy, Debug, PartialEq)]
+pub struct Wanted {
+    /// Controls that nothing on their line closes.
+    pub not_closed: bool,
+    /// Controls that close nothing on their line.
+    pub closes_nothing: bool,
+    /// All other controls, and marks.
+    pub present: bool,
+    /// Lines that controls or marks make display differently from how they read.
+    pub displayed_differently: bool,
+    /// Lines that letters alone make display differently from how they read.
+    pub letters_alone: bool,
+}
+
+impl Wanted {
+    ghost use Rattle.std.specs.Prelude.{◌≡◌};
+    ghost use Rattle.bidi_controls.specs.Findings.{wants, with_kind};
+
+    /// No kind.
+    pub const NOTHING: Wanted = Wanted {
+        not_closed: false,
+        closes_nothing: false,
+        present: false,
+        displayed_differently: false,
+        letters_alone: false,
+    };
+
+    /// Controls without a match.
+    pub const UNMATCHED: Wanted = Wanted {
+        not_closed: true,
+        closes_nothing: true,
+        present: false,
+        displayed_differently: false,
+        letters_alone: false,
+    };
+
+    /// Controls without a match, and lines that controls or marks make display differently from how they read.
+    pub const MISLEADING: Wanted = Wanted {
+        not_closed: true,
+        closes_nothing: true,
+        present: false,
+        displayed_differently: true,
+        letters_alone: false,
+    };
+
+    /// Every control and mark.
+    pub const EVERY_CONTROL: Wanted = Wanted {
+        not_closed: true,
+        closes_nothing: true,
+        present: true,
+        displayed_differently: false,
+        letters_alone: false,
+    };
+
+    /// Every control and mark, and lines that they make display differently from how they read.
+    pub const EVERYTHING: Wanted = Wanted {
+        not_closed: true,
+        closes_nothing: true,
+        present: true,
+        displayed_differently: true,
+        letters_alone: false,
+    };
+
+    /// Returns whether findings of a kind are wanted.
+    pub fn wants(self, kind: Trouble) -> bool
+        ensures { result ≡ wants self kind }
+    {
+        match kind {
+            Trouble::NotClosed => self.not_closed,
+            Trouble::ClosesNothing => self.closes_nothing,
+            Trouble::Present => self.present,
+            Trouble::DisplayedDifferently => self.displayed_differently,
+            Trouble::LettersAlone => self.letters_alone,
+        }
+    }
+
+    /// Returns the same kinds, with one of them wanted or not.
+    pub fn with(self, kind: Trouble, is_wanted: bool) -> Wanted
+        ensures { result ≡ with_kind self kind is_wanted }
+    {
+        match kind {
+            Trouble::NotClosed => Wanted {
+                not_closed: is_wanted,
+                ..self
+            },
+            Trouble::ClosesNothing => Wanted {
+                closes_nothing: is_wanted,
+                ..self
+            },
+            Trouble::Present => Wanted {
+                present: is_wanted,
+                ..self
+            },
+            Trouble::DisplayedDifferently => Wanted {
+                displayed_differently: is_wanted,
+                ..self
+            },
+            Trouble::LettersAlone => Wanted {
+                letters_alone: is_wanted,
+                ..self
+            },
         }
     }
 }
@@ -91,16 +171,16 @@ pub struct LineChar {
     pub c: char,
 }
 
-/// A control, its position, and what is wrong with it.
+/// A finding: its position and its kind.
 #[derive(Clone, Copy, Debug)]
 pub struct Finding {
     /// The number of its line, counted from 1.
     pub line: usize,
-    /// Its column: its index in the line, in characters, plus 1.
+    /// Its column: the index of its character in the line, in characters, plus 1.
     pub column: usize,
-    /// The control or the mark.
-    pub control: Control,
-    /// What is wrong with it.
+    /// The control or the mark that is reported. `None` if letters alone make the line display differently.
+    pub control: Option<Control>,
+    /// What is wrong.
     pub trouble: Trouble,
 }
 
@@ -108,29 +188,26 @@ impl Finding {
     ghost use Rattle.std.specs.Prelude.{◌≡◌, ◌+◌, ◌<◌, ◌^◌};
     ghost use Rattle.bidi_controls.specs.Findings.{finding_with, finding_of};
 
-    /// Returns a finding of this trouble, or `None` if the character is neither a control nor a mark. The column must
-    /// be below 2^64.
-    pub fn with(trouble: Trouble, at: LineChar) -> Option<Finding>
+    /// Returns the finding of this kind at a character. The column must be below 2^64.
+    pub fn with(trouble: Trouble, at: LineChar) -> Finding
         requires { at.place + 1 < 2 ^ 64 }
         ensures { result ≡ finding_with trouble at.line at.place at.class at.c }
     {
-        Some(Finding {
+        Finding {
             line: at.line,
             column: at.place + 1,
-            control: Control::of(at.class, at.c)?,
+            control: Control::of(at.class, at.c),
             trouble,
-        })
+        }
     }
 
-    /// Returns the finding at a character, if there is one: a control without its match on its line, or with `any`
-    /// every control and mark. The column must be below 2^64.
-    pub fn of(any: bool, unmatched: bool, at: LineChar) -> Option<Finding>
+    /// Returns what is found at a character: a control, without a match on its line or not, or a mark. Returns `None` for
+    /// any other character. The column must be below 2^64.
+    pub fn of(unmatched: bool, at: LineChar) -> Option<Finding>
         requires { at.place + 1 < 2 ^ 64 }
-        ensures { result ≡ finding_of any at.line at.place unmatched at.class at.c }
+        ensures { result ≡ finding_of at.line at.place unmatched at.class at.c }
     {
-        if !any && !unmatched {
-            return None;
-        }
-        Finding::with(Trouble::of(unmatched, at.class), at)
+        let finding = Finding::with(Trouble::of(unmatched, at.class), at);
+        finding.control.is_some().then_some(finding)
     }
 }

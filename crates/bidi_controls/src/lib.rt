@@ -4,9 +4,17 @@
 
 pub mod check;
 pub mod control;
+pub mod control_bytes;
+pub mod decode;
+pub mod differing;
 pub mod displayed;
+pub mod file_lines;
+pub mod file_search;
 pub mod finding;
 pub mod lines;
 mod openers;
+mod own_level;
+pub mod pieces;
+pub mod placeholders;
 pub mod report;
 mod unmatched;

@@ -1,7 +1,7 @@
 //! Where the lines of a file and the paragraphs of a text end.
 ghost use Rattle.std.specs.Prelude.{◌≡◌, ◌<◌, ◌≤◌, ◌∷◌, All, true, length, take, drop};
 ghost use Rattle.bidi_base.specs.Paragraphs.{begins_with_line_feed, cr_lf_together, paragraphs_in, own_chars as own_chars_of};
-ghost use Rattle.bidi_bytes.specs.FileLines.{ends_file_line, file_lines_of};
+ghost use Rattle.bidi_controls.specs.FileLines.{ends_file_line, file_lines_of};
 ghost use Rattle.bidi_controls.specs.Lines.{is_printable_ascii};
 ghost use Rattle.bidi_controls.specs.NoControls.{HaveNoControls, HasNoControlInAscii};
 

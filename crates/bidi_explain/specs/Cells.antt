@@ -1,11 +1,10 @@
 -- The cells of a character in the rows of the stages.
-use Rattle.std.specs.Prelude.{ℕ, Bool, true, false, ◌/◌, ◌%◌, nat_le, if◌then◌else◌, List, [], ◌∷◌, ◌++◌, codes, encode_utf8, Option, Some, None}
+use Rattle.std.specs.Prelude.{ℕ, Bool, true, false, if◌then◌else◌, List, [], ◌∷◌, ◌++◌, codes, encode_utf8, Option, Some, None}
 use Rattle.bidi_base.specs.declared.char_data.BidiClass.{BidiClass}
 use Rattle.bidi_base.specs.declared.char_data.BidiClass.TheVariants.{L, R, AL, EN, ES, ET, AN, CS, NSM, BN, B, S, WS, ON, LRE, LRO, RLE, RLO, PDF, LRI, RLI, FSI, PDI}
 use Rattle.bidi_base.specs.Classes.{is_nsm}
 use Rattle.bidi_controls.specs.Controls.{control_of, control_short}
 use Rattle.bidi_controls.specs.declared.control.Control.{Control}
-use Rattle.bidi_terminal.specs.Numbers.{hex_digit}
 
 -- the name of a class
 abbrev pub class_name : BidiClass → List ℕ
@@ -58,15 +57,3 @@ glyph_of None class c = plain_glyph class c
 -- a character so that it can be read by itself: a control or a mark by its short name
 abbrev pub glyph : BidiClass → ℕ → List ℕ
 glyph class c = glyph_of (control_of class c) class c
-
--- the hexadecimal digit of a number at a power of 16, unless the number is below that power
-abbrev pub leading_digit : ℕ → ℕ → List ℕ
-leading_digit worth code = if nat_le worth code then hex_digit (code / worth % 16) else []
-
--- a code point in hexadecimal, with at least four digits
-abbrev pub hex : ℕ → List ℕ
-hex c =
-    leading_digit 0x100000 c
-    ++ (leading_digit 0x10000 c
-    ++ (hex_digit (c / 0x1000 % 16)
-    ++ (hex_digit (c / 0x100 % 16) ++ (hex_digit (c / 0x10 % 16) ++ hex_digit (c % 16)))))

@@ -1,13 +1,14 @@
 //! The cells of the tables that show what each stage does with a text.
-ghost use Rattle.std.specs.Prelude.{◌≡◌, ◌<◌, ◌++◌, length, map, zip, decimal, IfOk, OnOk, string_bytes};
+ghost use Rattle.std.specs.Prelude.{◌≡◌, ◌++◌, length, map, zip, decimal, IfOk, OnOk, string_bytes};
 ghost use Rattle.std.specs.List.{range_with_len};
-ghost use Rattle.bidi_explain.specs.Cells.{class_name, option_name, is_unseen, plain_glyph, glyph, leading_digit, hex};
+ghost use Rattle.bidi_explain.specs.Cells.{class_name, option_name, is_unseen, plain_glyph, glyph};
+ghost use Rattle.bidi_terminal.specs.CodePoints.{code_point};
 
 use bidi_base::char_data::BidiClass;
 use bidi_base::classes::is_nsm;
 use bidi_base::level::Level;
 use bidi_controls::control::Control;
-use bidi_terminal::{push_hex_digit, push_number};
+use bidi_terminal::{push_code_point, push_number};
 use std::alloc::{AllocError, Global};
 
 /// Returns the name of a class.
@@ -89,31 +90,6 @@ pub fn push_glyph(out: &mut String, class: BidiClass, c: char) -> Result<(), All
     Ok(())
 }
 
-/// Appends the hexadecimal digit of a number at the power `worth` of 16, unless the number is below `worth`.
-fn push_leading_digit(out: &mut String, code: u32, worth: u32) -> Result<(), AllocError>
-    requires { 0 < worth }
-    ensures { OnOk result (string_bytes out.new ≡ string_bytes out.old ++ leading_digit worth code) }
-{
-    if worth <= code {
-        push_hex_digit(out, code / worth % 16)?;
-    }
-    Ok(())
-}
-
-/// Appends a code point in hexadecimal, with at least four digits.
-fn push_hex(out: &mut String, c: char) -> Result<(), AllocError>
-    ensures { OnOk result (string_bytes out.new ≡ string_bytes out.old ++ hex c) }
-{
-    let code = u32::from(c);
-    push_leading_digit(out, code, 0x10_0000)?;
-    push_leading_digit(out, code, 0x1_0000)?;
-    push_hex_digit(out, code / 0x1000 % 16)?;
-    push_hex_digit(out, code / 0x100 % 16)?;
-    push_hex_digit(out, code / 0x10 % 16)?;
-    push_hex_digit(out, code % 16)?;
-    Ok(())
-}
-
 /// Returns one cell for each index of a list of length `len`.
 pub fn index_cells(alloc: Global, len: usize) -> Result<Vec<String>, AllocError>
     ensures { IfOk result (λ v. map string_bytes v.items ≡ map decimal (range_with_len 0 len)) }
@@ -155,12 +131,12 @@ pub fn level_cells(alloc: Global, levels: &[Level]) -> Result<Vec<String>, Alloc
 
 /// Returns one cell for each character: its code point in hexadecimal.
 pub fn code_cells(alloc: Global, chars: &[char]) -> Result<Vec<String>, AllocError>
-    ensures { IfOk result (λ v. map string_bytes v.items ≡ map hex chars.now) }
+    ensures { IfOk result (λ v. map string_bytes v.items ≡ map code_point chars.now) }
 {
     let mut cells = Vec::with_capacity(alloc, chars.len())?;
     for c in chars {
         let mut cell = String::new(alloc);
-        push_hex(&mut cell, *c)?;
+        push_code_point(&mut cell, *c)?;
         cells.push(cell)?;
     }
     Ok(cells)

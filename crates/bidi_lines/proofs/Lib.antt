@@ -23,6 +23,6 @@ pub mod StoredLine
 mod Stretches
 pub mod TextOfLine
 mod ReversedUtf8
-mod Utf16Backwards
+pub mod Utf16Backwards
 pub mod VisualRuns
 pub mod WrittenRuns

@@ -18,6 +18,14 @@ utf16_text-characters (u ∷ v ∷ us) fits h =
 one_unit : (u : ℕ) → u < 2 ^ 16 → encode_utf16 u ≡ u ∷ []
 one_unit u fits = grind arith
 
+-- they are encoded as their units
+pub encoded-characters : (us : List ℕ) → ((k : ℕ) → get_or us k 0 < 2 ^ 16) → list_all is_character us ≡ true → us ≡ flat_map encode_utf16 (utf16_text us)
+encoded-characters us fits h = sym (ap (flat_map encode_utf16) (utf16_text-characters us fits h) ∙ each us fits)
+  where
+    each : (us : List ℕ) → ((k : ℕ) → get_or us k 0 < 2 ^ 16) → flat_map encode_utf16 us ≡ us
+    each [] fits = refl
+    each (u ∷ us) fits = ap₂ (λ xs ys. xs ++ ys) (one_unit u (fits 0)) (each us (λ k. fits (suc k)))
+
 -- last first they are their units last first
 pub backwards-characters : (us : List ℕ) → ((k : ℕ) → get_or us k 0 < 2 ^ 16) → flat_map encode_utf16 (reverse us) ≡ reverse us
 backwards-characters [] fits = refl

@@ -34,18 +34,20 @@ mod unit_classes;
 
 use ascii_characters::skim;
 use other_characters::{read_next, read_on};
-use paragraph_state::{ParagraphState, level_of_class};
+use paragraph_state::{ParagraphState, Undecided, level_of_class};
 use progress::Progress;
 use stop::Stop;
 use unit_classes::AT_ONCE;
 
 /// The paragraphs that the first pass over a text finds. A single paragraph needs no allocation.
-#[derive(PartialEq, Debug, Drop)]
+#[derive(Drop)]
 pub struct FoundParagraphs {
     /// The paragraphs, in order.
     pub paragraphs: SmallVec<ParagraphInfo, 1>,
     /// One entry for each paragraph.
     pub flags: SmallVec<ParagraphFlags, 1>,
+    // The memory of the list of open FSI, which the next pass reuses.
+    undecided: Vec<Undecided>,
 }
 
 impl FoundParagraphs {
@@ -57,6 +59,7 @@ impl FoundParagraphs {
         FoundParagraphs {
             paragraphs: SmallVec::new(alloc),
             flags: SmallVec::new(alloc),
+            undecided: Vec::new(alloc),
         }
     }
 }
@@ -78,14 +81,13 @@ impl TextState {
         ensures paragraphs { result.paragraphs.items ≡ [] }
         ensures flags { result.flags.items ≡ [] }
     {
-        let alloc = *memory.paragraphs.allocator();
         let mut paragraphs = memory.paragraphs;
         paragraphs.clear();
         let mut flags = memory.flags;
         flags.clear();
         TextState {
             base_level,
-            state: ParagraphState::new(alloc),
+            state: ParagraphState::new(memory.undecided),
             paragraphs,
             flags,
         }
@@ -291,10 +293,10 @@ fn ends_paragraph<D: BidiDataSource, T: TextSource>(
 /// text.
 ///
 /// If `rule` is `None`, the whole text is one paragraph, even if it is empty. Any base level is accepted. The result
-/// reuses the lists of `memory`, which are emptied first. The lists of open FSI are allocated with the allocator of
-/// `memory.paragraphs`.
+/// reuses the lists of `memory`, which are emptied first.
 ///
-/// A text of one paragraph without FSI needs no allocation. If an allocation fails, `classes` may hold anything.
+/// A text of one paragraph without FSI needs no allocation. With FSI, it needs one if the list of `memory` is too short
+/// for those that are open at once. If an allocation fails, `classes` may hold anything.
 pub fn walk<D: BidiDataSource, T: TextSource>(
     data_source: &D,
     text: T,
@@ -332,5 +334,6 @@ pub fn walk<D: BidiDataSource, T: TextSource>(
     Ok(FoundParagraphs {
         paragraphs: walk.paragraphs,
         flags: walk.flags,
+        undecided: walk.state.undecided,
     })
 }

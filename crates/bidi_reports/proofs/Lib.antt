@@ -1,1 +1,7 @@
+pub mod DigitLemmas
+mod EntryLemmas
+mod GlobLemmas
+mod IndexLemmas
+mod PartsLemmas
+mod PatternLemmas
 mod ReportsLemmas

@@ -1,6 +1,15 @@
+pub mod AllowIndex
+pub mod Allowances
+pub mod Allowed
+pub mod Digests
+pub mod Entries
+pub mod Globs
 pub mod Json
+pub mod Kinds
+pub mod Notifications
 pub mod Parts
+pub mod Patterns
 pub mod Reports
-pub mod DisplayedPart
 pub mod Text
 pub mod Words
+pub mod Written

@@ -2,10 +2,13 @@
 ghost use Rattle.std.specs.Prelude.{◌≡◌, ◌++◌, flat_map, encode_utf8, IfOk, OnOk, string_bytes};
 ghost use Rattle.bidi_reports.specs.Words.{message_of};
 ghost use Rattle.unicode_bidi.specs.declared.version.TheConstants.{VERSION};
-ghost use Rattle.bidi_reports.specs.Json.{json_place, json_member, message_start, region_start, locations_start, description_start, rule_level, rule_start, rule_end, columns_start, result_columns, rules_start, results_start, sarif_start, json_control, json_kind, json_displayed, json_report, result_message, result_rule, result_end, result_region, result_place, result_start, sarif_report, rule_text, rules_text, version_text, sarif_rules, sarif_head};
+ghost use Rattle.bidi_reports.specs.Json.{json_place, json_member, message_start, region_start, locations_start, description_start, help_start, help_uri_start, rule_help, rule_level, rule_subject, rule_start, rule_end, columns_start, result_columns, rules_start, results_start, sarif_start, json_control, json_kind, json_displayed, json_report, result_message, result_rule, result_end, result_region, result_place, fingerprint_start, result_fingerprint, result_start, sarif_report, rule_text, next_rule, rules_text, version_text, sarif_rules, sarif_head};
 
-use crate::parts::push_part;
-use crate::words::{character_of, code_of, is_about_line, kind_of, level_of, push_message};
+use crate::parts::{Escapes, push_part};
+use crate::words::{
+    character_of, code_of, help_of, help_uri_of, is_about_line, kind_of, level_of, push_message,
+};
+use bidi_controls::control::Control;
 use bidi_controls::finding::{Finding, Trouble};
 use bidi_terminal::json_text::push_json_string;
 use bidi_terminal::push_number;
@@ -42,13 +45,16 @@ fn push_member(out: &mut String, key: &str, value: &str) -> Result<(), AllocErro
     out.push_str("\"")
 }
 
-// Appends which control is found.
-fn push_json_control(out: &mut String, finding: &Finding) -> Result<(), AllocError>
-    ensures { OnOk result (string_bytes out.new ≡ string_bytes out.old ++ json_control finding.now) }
+// Appends which control is found, if one is.
+fn push_json_control(out: &mut String, control: Option<Control>) -> Result<(), AllocError>
+    ensures { OnOk result (string_bytes out.new ≡ string_bytes out.old ++ json_control control) }
 {
-    push_member(out, "control", finding.control.short_name())?;
-    push_member(out, "codePoint", code_of(finding.control))?;
-    push_member(out, "name", character_of(finding.control))
+    let Some(control) = control else {
+        return Ok(());
+    };
+    push_member(out, "control", control.short_name())?;
+    push_member(out, "codePoint", code_of(control))?;
+    push_member(out, "name", character_of(control))
 }
 
 // Returns what is found, in words.
@@ -69,8 +75,8 @@ fn push_json_kind(alloc: Global, out: &mut String, finding: &Finding) -> Result<
     push_member(out, "message", message.as_str())
 }
 
-// Returns characters as a text.
-fn text_of(alloc: Global, chars: &[char]) -> Result<String, AllocError>
+/// Returns characters as a text.
+pub fn text_of(alloc: Global, chars: &[char]) -> Result<String, AllocError>
     ensures { IfOk result (λ text. string_bytes text ≡ flat_map encode_utf8 chars.now) }
 {
     let mut text = String::new(alloc);
@@ -108,7 +114,7 @@ pub fn push_json(
     ensures { OnOk result (string_bytes out.new ≡ string_bytes out.old ++ json_report name.now displayed.now finding.now) }
 {
     push_json_place(alloc, out, name, finding)?;
-    push_json_control(out, finding)?;
+    push_json_control(out, finding.control)?;
     push_json_kind(alloc, out, finding)?;
     push_json_displayed(alloc, out, displayed, finding)?;
     out.push_str("}\n")
@@ -127,6 +133,7 @@ fn result_message(
         text.push_str("; it is displayed as: ")?;
         push_part(
             &mut text,
+            Escapes::HiddenAndRightToLeft,
             false,
             displayed,
             finding.column.saturating_sub(1),
@@ -200,7 +207,7 @@ fn push_result_region(out: &mut String, finding: &Finding) -> Result<(), AllocEr
     push_region_start(out)?;
     push_number(out, finding.line)?;
     push_result_columns(out, finding.column)?;
-    out.push_str("}}}]}")
+    out.push_str("}}}]")
 }
 
 // Appends what is before the file of a result.
@@ -216,33 +223,62 @@ fn push_result_place(out: &mut String, name: &str, finding: &Finding) -> Result<
     ensures { OnOk result (string_bytes out.new ≡ string_bytes out.old ++ result_place name.now finding.now) }
 {
     push_locations_start(out)?;
-    push_uri(out, name)?;
+    push_uri(out, name.as_bytes())?;
     push_result_region(out, finding)
 }
 
-// Appends what separates a result from those before it, if there are any.
-fn push_result_start(out: &mut String, later: bool) -> Result<(), AllocError>
+// Appends what is before the fingerprint of a result.
+#[tactic(auto, unfolding(crate::specs::Json::fingerprint_start))]
+fn push_fingerprint_start(out: &mut String) -> Result<(), AllocError>
+    ensures { OnOk result (string_bytes out.new ≡ string_bytes out.old ++ fingerprint_start) }
+{
+    out.push_str(",\"partialFingerprints\":{\"findingInLine/v1\":\"")
+}
+
+// Appends what stays the same of a result when its line moves.
+#[tactic(auto, unfolding(crate::specs::Json::result_fingerprint))]
+fn push_result_fingerprint(
+    out: &mut String,
+    digest: &str,
+    finding: &Finding,
+) -> Result<(), AllocError>
+    ensures { OnOk result (string_bytes out.new ≡ string_bytes out.old ++ result_fingerprint digest.now finding.now) }
+{
+    push_fingerprint_start(out)?;
+    out.push_str(digest)?;
+    out.push_str("/")?;
+    out.push_str(kind_of(finding.trouble))?;
+    out.push_str("/")?;
+    push_number(out, finding.column)?;
+    out.push_str("\"}}")
+}
+
+/// Appends what separates a result, or a notification, from those before it, if there are any.
+pub fn push_result_start(out: &mut String, later: bool) -> Result<(), AllocError>
     ensures { OnOk result (string_bytes out.new ≡ string_bytes out.old ++ result_start later) }
 {
     out.push_str(if later { ",\n" } else { "\n" })
 }
 
-/// Appends a finding as a result of SARIF. `later` says whether a result was written before it.
+/// Appends a finding as a result of SARIF. `later` says whether a result was written before it, and `digest` is that of
+/// its line.
 pub fn push_result(
     alloc: Global,
     out: &mut String,
     later: bool,
     name: &str,
+    digest: &str,
     displayed: &[char],
     finding: &Finding,
 ) -> Result<(), AllocError>
-    ensures { OnOk result (string_bytes out.new ≡ string_bytes out.old ++ sarif_report later name.now displayed.now finding.now) }
+    ensures { OnOk result (string_bytes out.new ≡ string_bytes out.old ++ sarif_report later name.now digest.now displayed.now finding.now) }
 {
     let message = result_message(alloc, displayed, finding)?;
     push_result_start(out, later)?;
     push_result_rule(out, finding)?;
     push_json_string(alloc, out, message.as_str())?;
-    push_result_place(out, name, finding)
+    push_result_place(out, name, finding)?;
+    push_result_fingerprint(out, digest, finding)
 }
 
 // Appends what is before the description of a rule.
@@ -250,7 +286,44 @@ pub fn push_result(
 fn push_description_start(out: &mut String) -> Result<(), AllocError>
     ensures { OnOk result (string_bytes out.new ≡ string_bytes out.old ++ description_start) }
 {
-    out.push_str("\",\"shortDescription\":{\"text\":\"A direction control or mark ")
+    out.push_str("\",\"shortDescription\":{\"text\":\"")
+}
+
+// Appends what the description of a rule says before the words of its kind.
+fn push_rule_subject(out: &mut String, trouble: Trouble) -> Result<(), AllocError>
+    ensures { OnOk result (string_bytes out.new ≡ string_bytes out.old ++ rule_subject trouble) }
+{
+    match trouble {
+        Trouble::LettersAlone => Ok(()),
+        _ => out.push_str("A direction control or mark "),
+    }
+}
+
+// Appends what is before the help text of a rule.
+#[tactic(auto, unfolding(crate::specs::Json::help_start))]
+fn push_help_start(out: &mut String) -> Result<(), AllocError>
+    ensures { OnOk result (string_bytes out.new ≡ string_bytes out.old ++ help_start) }
+{
+    out.push_str("\"},\"help\":{\"text\":\"")
+}
+
+// Appends what is before the page of a rule.
+#[tactic(auto, unfolding(crate::specs::Json::help_uri_start))]
+fn push_help_uri_start(out: &mut String) -> Result<(), AllocError>
+    ensures { OnOk result (string_bytes out.new ≡ string_bytes out.old ++ help_uri_start) }
+{
+    out.push_str("\"},\"helpUri\":\"")
+}
+
+// Appends the help of a rule: a text, and the URI of a page.
+#[tactic(auto, unfolding(crate::specs::Json::rule_help))]
+fn push_rule_help(out: &mut String, trouble: Trouble) -> Result<(), AllocError>
+    ensures { OnOk result (string_bytes out.new ≡ string_bytes out.old ++ rule_help trouble) }
+{
+    push_help_start(out)?;
+    out.push_str(help_of(trouble))?;
+    push_help_uri_start(out)?;
+    out.push_str(help_uri_of(trouble))
 }
 
 // Appends what is before the level of a rule.
@@ -258,7 +331,7 @@ fn push_description_start(out: &mut String) -> Result<(), AllocError>
 fn push_rule_level(out: &mut String) -> Result<(), AllocError>
     ensures { OnOk result (string_bytes out.new ≡ string_bytes out.old ++ rule_level) }
 {
-    out.push_str("\"},\"defaultConfiguration\":{\"level\":\"")
+    out.push_str("\",\"defaultConfiguration\":{\"level\":\"")
 }
 
 // Appends the name and the description of a rule.
@@ -269,6 +342,7 @@ fn push_rule_start(out: &mut String, trouble: Trouble) -> Result<(), AllocError>
     out.push_str("\n{\"id\":\"")?;
     out.push_str(kind_of(trouble))?;
     push_description_start(out)?;
+    push_rule_subject(out, trouble)?;
     out.push_str(trouble.text())
 }
 
@@ -288,7 +362,17 @@ fn push_rule(out: &mut String, trouble: Trouble) -> Result<(), AllocError>
     ensures { OnOk result (string_bytes out.new ≡ string_bytes out.old ++ rule_text trouble) }
 {
     push_rule_start(out, trouble)?;
+    push_rule_help(out, trouble)?;
     push_rule_end(out, trouble)
+}
+
+// Appends a rule of SARIF after others.
+#[tactic(auto, unfolding(crate::specs::Json::next_rule))]
+fn push_next_rule(out: &mut String, trouble: Trouble) -> Result<(), AllocError>
+    ensures { OnOk result (string_bytes out.new ≡ string_bytes out.old ++ next_rule trouble) }
+{
+    out.push_str(",")?;
+    push_rule(out, trouble)
 }
 
 // Appends all rules of SARIF.
@@ -297,12 +381,10 @@ fn push_rules(out: &mut String) -> Result<(), AllocError>
     ensures { OnOk result (string_bytes out.new ≡ string_bytes out.old ++ rules_text) }
 {
     push_rule(out, Trouble::DisplayedDifferently)?;
-    out.push_str(",")?;
-    push_rule(out, Trouble::NotClosed)?;
-    out.push_str(",")?;
-    push_rule(out, Trouble::ClosesNothing)?;
-    out.push_str(",")?;
-    push_rule(out, Trouble::Present)
+    push_next_rule(out, Trouble::NotClosed)?;
+    push_next_rule(out, Trouble::ClosesNothing)?;
+    push_next_rule(out, Trouble::Present)?;
+    push_next_rule(out, Trouble::LettersAlone)
 }
 
 // Appends a version.
@@ -321,9 +403,6 @@ fn push_version(out: &mut String, version: (u64, u64, u64)) -> Result<(), AllocE
 // What is before the version in a document of SARIF.
 const SARIF_START: &str =
     "{\"$schema\":\"https://json.schemastore.org/sarif-2.1.0.json\",\"version\":\"2.1.0\",\"runs\":[{\"columnKind\":\"unicodeCodePoints\",\n\"tool\":{\"driver\":{\"name\":\"bidi check\",\"version\":\"";
-
-/// What is after the results in a document of SARIF.
-pub const SARIF_FOOT: &str = "\n]}]}\n";
 
 // Appends what is before the version in a document of SARIF.
 #[tactic(auto, unfolding(crate::specs::Json::sarif_start))]

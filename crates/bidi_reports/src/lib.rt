@@ -1,10 +1,19 @@
-//! The reports of `bidi check`: lines of text, JSON and SARIF.
+//! The reports of `bidi check`: lines of text, JSON and SARIF. Allow-lists, read and written.
 #![tactic(auto)]
 
-mod displayed;
+mod allow_index;
+pub mod allowance;
+pub mod allowed;
+pub mod digest;
+pub mod entry;
 pub mod form;
+pub mod glob;
 mod json_text;
+pub mod kind;
+mod notifications;
 mod parts;
+pub mod pattern;
 pub mod report;
 mod text;
 mod words;
+pub mod written;

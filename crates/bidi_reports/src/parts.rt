@@ -1,9 +1,13 @@
 //! The part of a line that a report shows.
 ghost use Rattle.std.specs.Prelude.{◌≡◌, ◌++◌, ◌≤◌, ◌<◌, flat_map, min, if◌then◌else◌, [], OnOk, string_bytes};
-ghost use Rattle.bidi_reports.specs.Parts.{styled, is_marked, marked_char, part_start, part_end, dots, marked_part, shown_columns, blanks, blank_part};
+ghost use Rattle.bidi_reports.specs.Parts.{is_right_to_left, is_hidden_in_line, is_marked, escape_of, plain_char, marked_char, part_start, part_end, dots, marked_part, shown_columns, blanks, blank_part};
 
+use bidi_base::classes::may_turn;
+use bidi_base::data_source::BidiDataSource;
 use bidi_shown::cluster::columns;
-use bidi_terminal::names::{is_hidden, push_quoted};
+use bidi_terminal::names::is_hidden;
+use bidi_terminal::push_code_point;
+use bidi_unicode::UnicodeData;
 use std::alloc::AllocError;
 
 /// The escape sequence that sets bold text.
@@ -30,29 +34,86 @@ pub fn push_style(out: &mut String, colors: bool, style: &str) -> Result<(), All
     if colors { out.push_str(style) } else { Ok(()) }
 }
 
-// Returns whether a character is hidden and is written by its code point.
-fn is_marked(c: char) -> bool
-    ensures { result ≡ is_marked c }
+/// Which characters of a line are written by their code points, as in `<U+202E>`.
+#[derive(Clone, Copy, Debug, PartialEq)]
+pub enum Escapes {
+    /// Hidden characters, but for a tab, which is written as a space.
+    Hidden,
+    /// Characters of right-to-left text too: those of the classes R, AL and AN in Unicode's data. Without them and without
+    /// controls, each character of a line that is displayed from left to right has level 0.
+    HiddenAndRightToLeft,
+}
+
+// Returns whether a character can keep a line from being all left to right.
+fn is_right_to_left(c: char) -> bool
+    ensures { result ≡ is_right_to_left c }
+{
+    may_turn(UnicodeData.bidi_class(c))
+}
+
+// Returns whether a character is hidden and not a tab.
+fn is_hidden_in_line(c: char) -> bool
+    ensures { result ≡ is_hidden_in_line c }
 {
     is_hidden(c) && c != '\t'
 }
 
-// Appends a character of a line.
-fn push_marked(out: &mut String, colors: bool, c: char) -> Result<(), AllocError>
-    ensures { OnOk result (string_bytes out.new ≡ string_bytes out.old ++ marked_char colors c) }
+impl Escapes {
+    // Returns whether a character is written by its code point.
+    fn marks(self, c: char) -> bool
+        ensures { result ≡ is_marked self c }
+    {
+        match self {
+            Escapes::Hidden => is_hidden_in_line(c),
+            Escapes::HiddenAndRightToLeft => is_hidden_in_line(c) || is_right_to_left(c),
+        }
+    }
+}
+
+// Appends a character by its code point.
+#[tactic(auto, unfolding(crate::specs::Parts::escape_of))]
+fn push_escape(out: &mut String, c: char) -> Result<(), AllocError>
+    ensures { OnOk result (string_bytes out.new ≡ string_bytes out.old ++ escape_of c) }
 {
-    let styled = colors && is_marked(c);
-    push_style(out, styled, REVERSE_VIDEO)?;
-    push_quoted(out, c)?;
-    push_style(out, styled, AS_BEFORE)
+    out.push_str("<U+")?;
+    push_code_point(out, c)?;
+    out.push_str(">")
+}
+
+// Appends a character that is not written by its code point. A backslash is not doubled, since lines of source code have
+// many.
+fn push_plain(out: &mut String, c: char) -> Result<(), AllocError>
+    ensures { OnOk result (string_bytes out.new ≡ string_bytes out.old ++ plain_char c) }
+{
+    if c == '\t' {
+        return out.push_str(" ");
+    }
+    out.push(c)
+}
+
+// Appends a character of a line.
+fn push_marked(out: &mut String, escapes: Escapes, colors: bool, c: char) -> Result<(), AllocError>
+    ensures { OnOk result (string_bytes out.new ≡ string_bytes out.old ++ marked_char escapes colors c) }
+{
+    if !escapes.marks(c) {
+        return push_plain(out, c);
+    }
+    push_style(out, colors, REVERSE_VIDEO)?;
+    push_escape(out, c)?;
+    push_style(out, colors, AS_BEFORE)
 }
 
 // Appends characters of a line.
-fn push_marked_chars(out: &mut String, colors: bool, chars: &[char]) -> Result<(), AllocError>
-    ensures { OnOk result (string_bytes out.new ≡ string_bytes out.old ++ flat_map (marked_char colors) chars.now) }
+fn push_marked_chars(
+    out: &mut String,
+    escapes: Escapes,
+    colors: bool,
+    chars: &[char],
+) -> Result<(), AllocError>
+    ensures { OnOk result (string_bytes out.new ≡ string_bytes out.old ++ flat_map (marked_char escapes colors) chars.now) }
 {
     for c in chars {
-        push_marked(out, colors, *c)?;
+        push_marked(out, escapes, colors, *c)?;
     }
     Ok(())
 }
@@ -90,21 +151,22 @@ fn push_dots(out: &mut String, left_out: bool) -> Result<(), AllocError>
     }
 }
 
-/// Appends a line, or the part around an index if the line has more than 200 characters. Hidden characters are written
-/// by their code points.
+/// Appends a line, or the part around an index if the line has more than 200 characters. `escapes` says which characters
+/// are written by their code points.
 #[tactic(auto, unfolding(crate::specs::Parts::marked_part))]
 pub fn push_part(
     out: &mut String,
+    escapes: Escapes,
     colors: bool,
     line: &[char],
     place: usize,
 ) -> Result<(), AllocError>
-    ensures { OnOk result (string_bytes out.new ≡ string_bytes out.old ++ marked_part colors line.now place) }
+    ensures { OnOk result (string_bytes out.new ≡ string_bytes out.old ++ marked_part escapes colors line.now place) }
 {
     let start = part_start(line.len(), place);
     let end = part_end(line.len(), place);
     push_dots(out, start > 0)?;
-    push_marked_chars(out, colors, &line[start..end])?;
+    push_marked_chars(out, escapes, colors, &line[start..end])?;
     push_dots(out, end < line.len())
 }
 

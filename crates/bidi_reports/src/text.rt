@@ -2,11 +2,13 @@
 ghost use Rattle.std.specs.Prelude.{◌≡◌, ◌++◌, codes, OnOk, string_bytes};
 ghost use Rattle.bidi_controls.specs.Findings.{place_text};
 ghost use Rattle.bidi_reports.specs.Parts.{bold, bold_red, styled};
-ghost use Rattle.bidi_reports.specs.Text.{without_last, without_end, finding_text, excerpt_text, note_start, note_text, excerpt_report, note_report, text_report};
+ghost use Rattle.bidi_reports.specs.Text.{without_last, without_end, finding_text, excerpt_text, note_start, displayed_part, note_text, excerpt_report, note_report, text_report};
 ghost use Rattle.bidi_reports.specs.Words.{is_about_line};
 
-use crate::parts::{AS_BEFORE, BOLD, BOLD_RED, push_blank_part, push_part, push_style};
+use crate::form::Notes;
+use crate::parts::{AS_BEFORE, BOLD, BOLD_RED, Escapes, push_blank_part, push_part, push_style};
 use crate::words::{is_about_line, push_message};
+use bidi_base::format_chars::{LRO, PDF};
 use bidi_controls::finding::Finding;
 use bidi_controls::report::push_place;
 use std::alloc::AllocError;
@@ -21,8 +23,8 @@ fn without_last(c: char, chars: &[char]) -> &[char]
     }
 }
 
-// Returns a line without the line feed, the carriage return or both that end it.
-fn without_end(line: &[char]) -> &[char]
+/// Returns a line without the line feed, the carriage return or both that end it.
+pub fn without_end(line: &[char]) -> &[char]
     ensures { result.now ≡ without_end line.now }
 {
     without_last('\r', without_last('\n', line))
@@ -68,7 +70,7 @@ fn push_excerpt(
     ensures { OnOk result (string_bytes out.new ≡ string_bytes out.old ++ excerpt_text colors line.now place) }
 {
     out.push_str("  ")?;
-    push_part(out, colors, line, place)?;
+    push_part(out, Escapes::Hidden, colors, line, place)?;
     out.push_str("\n  ")?;
     push_blank_part(out, line, place)?;
     push_caret(out, colors)?;
@@ -92,20 +94,50 @@ fn push_note_start(out: &mut String) -> Result<(), AllocError>
     out.push_str("note: displayed as: ")
 }
 
+// Appends a displayed line, or the part around an index, so that no screen reorders it once more.
+#[tactic(auto, unfolding(crate::specs::Text::displayed_part))]
+fn push_displayed_part(
+    out: &mut String,
+    notes: Notes,
+    colors: bool,
+    displayed: &[char],
+    place: usize,
+) -> Result<(), AllocError>
+    ensures { OnOk result (string_bytes out.new ≡ string_bytes out.old ++ displayed_part notes colors displayed.now place) }
+{
+    match notes {
+        Notes::Overridden => {
+            out.push(LRO)?;
+            push_part(out, Escapes::Hidden, colors, displayed, place)?;
+            out.push(PDF)
+        }
+        Notes::Escaped => {
+            push_part(out, Escapes::HiddenAndRightToLeft, colors, displayed, place)
+        }
+    }
+}
+
 // Appends the line that shows how the line of a finding is displayed.
 #[tactic(auto, unfolding(crate::specs::Text::note_text))]
 fn push_note(
     out: &mut String,
+    notes: Notes,
     colors: bool,
     name: &str,
     displayed: &[char],
     finding: &Finding,
 ) -> Result<(), AllocError>
-    ensures { OnOk result (string_bytes out.new ≡ string_bytes out.old ++ note_text colors name.now displayed.now finding.now) }
+    ensures { OnOk result (string_bytes out.new ≡ string_bytes out.old ++ note_text notes colors name.now displayed.now finding.now) }
 {
     push_styled_place(out, colors, name, finding)?;
     push_note_start(out)?;
-    push_part(out, colors, displayed, finding.column.saturating_sub(1))?;
+    push_displayed_part(
+        out,
+        notes,
+        colors,
+        displayed,
+        finding.column.saturating_sub(1),
+    )?;
     out.push_str("\n")
 }
 
@@ -130,17 +162,18 @@ fn push_excerpt_if(
 #[tactic(auto, unfolding(crate::specs::Text::note_report))]
 fn push_note_if(
     out: &mut String,
+    notes: Notes,
     colors: bool,
     name: &str,
     displayed: &[char],
     finding: &Finding,
 ) -> Result<(), AllocError>
-    ensures { OnOk result (string_bytes out.new ≡ string_bytes out.old ++ note_report colors name.now displayed.now finding.now) }
+    ensures { OnOk result (string_bytes out.new ≡ string_bytes out.old ++ note_report notes colors name.now displayed.now finding.now) }
 {
     if !is_about_line(finding.trouble) {
         return Ok(());
     }
-    push_note(out, colors, name, displayed, finding)
+    push_note(out, notes, colors, name, displayed, finding)
 }
 
 /// A finding, and what is reported with it.
@@ -150,6 +183,8 @@ pub struct ReportedFinding<'f> {
     pub name: &'f str,
     /// The line of the file, with the characters that end it.
     pub line: &'f [char],
+    /// The digest of the line, if the form of the report has it. Otherwise empty.
+    pub digest: &'f str,
     /// The paragraph as it is displayed, if the finding is about that. Otherwise empty.
     pub displayed: &'f [char],
     /// The finding.
@@ -157,16 +192,17 @@ pub struct ReportedFinding<'f> {
 }
 
 /// Appends the report of a finding: its line, an excerpt if `excerpts` is true, and a note if it is about how its line
-/// is displayed.
+/// is displayed. `notes` says how the note writes the displayed line.
 #[tactic(auto, unfolding(crate::specs::Text::text_report))]
 pub fn push_text(
     out: &mut String,
     excerpts: bool,
     colors: bool,
+    notes: Notes,
     reported: &ReportedFinding<'_>,
 ) -> Result<(), AllocError>
     ensures { OnOk result (string_bytes out.new ≡ string_bytes out.old
-        ++ text_report excerpts colors reported.now.name.now reported.now.line.now reported.now.displayed.now reported.now.finding.now) }
+        ++ text_report excerpts colors notes reported.now.name.now reported.now.line.now reported.now.displayed.now reported.now.finding.now) }
 {
     let (name, finding) = (reported.name, reported.finding);
     push_finding(out, colors, name, finding)?;
@@ -177,5 +213,5 @@ pub fn push_text(
         reported.line,
         finding.column.saturating_sub(1),
     )?;
-    push_note_if(out, colors, name, reported.displayed, finding)
+    push_note_if(out, notes, colors, name, reported.displayed, finding)
 }

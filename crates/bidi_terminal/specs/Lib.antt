@@ -1,4 +1,5 @@
 pub mod Bases
+pub mod CodePoints
 pub mod Json
 pub mod Names
 pub mod Numbers

@@ -1,4 +1,4 @@
--- How names, other arguments and lines are written in a report.
+-- How names and other arguments are written in a report.
 use Rattle.std.specs.Prelude.{ℕ, ◌/◌, ◌%◌, Bool, nat_le, ◌==◌, ◌&&◌, ◌||◌, if◌then◌else◌, List, [], ◌∷◌, ◌++◌, flat_map, codes, encode_utf8}
 use Rattle.bidi_terminal.specs.Numbers.{hex_digit}
 
@@ -46,10 +46,3 @@ shown_byte byte =
 -- a name that is not UTF-8, from its bytes
 abbrev pub shown_bytes : List ℕ → List ℕ
 shown_bytes bytes = flat_map shown_byte bytes
-
--- a character of a line
-abbrev pub quoted_char : ℕ → List ℕ
-quoted_char c =
-    if c == 9 then codes " "
-    else if is_hidden c then codes "<U+" ++ (four_hex_digits c ++ codes ">")
-    else encode_utf8 c

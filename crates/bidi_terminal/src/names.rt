@@ -1,7 +1,7 @@
-//! How names, other arguments and lines are written in a report.
+//! How names and other arguments are written in a report.
 ghost use Rattle.std.specs.Prelude.{◌≡◌, ◌++◌, IfOk, OnOk, string_bytes};
 ghost use Rattle.std.specs.Str.{chars};
-ghost use Rattle.bidi_terminal.specs.Names.{is_hidden, four_hex_digits, code_escape, byte_escape, shown_char, shown_name as shown_name_of, shown_byte, shown_bytes as shown_bytes_of, quoted_char};
+ghost use Rattle.bidi_terminal.specs.Names.{is_hidden, four_hex_digits, code_escape, byte_escape, shown_char, shown_name as shown_name_of, shown_byte, shown_bytes as shown_bytes_of};
 
 use crate::push_hex_digit;
 use std::alloc::{AllocError, Global};
@@ -117,20 +117,4 @@ pub fn shown_bytes(alloc: Global, bytes: &[u8]) -> Result<String, AllocError>
         push_byte(&mut out, *byte)?;
     }
     Ok(out)
-}
-
-/// Appends a character of a line. A hidden character is written as in `<U+202E>`, and a tab as a space. Unlike in a
-/// name, a backslash is not doubled, since lines of source code have many.
-pub fn push_quoted(out: &mut String, c: char) -> Result<(), AllocError>
-    ensures { OnOk result (string_bytes out.new ≡ string_bytes out.old ++ quoted_char c) }
-{
-    if c == '\t' {
-        return out.push_str(" ");
-    }
-    if !is_hidden(c) {
-        return out.push(c);
-    }
-    out.push_str("<U+")?;
-    push_hex(out, c)?;
-    out.push_str(">")
 }

@@ -27,10 +27,10 @@ fn plain_path(path: &[u8]) -> &[u8]
 
 /// Appends a path as a reference of a URI, without the `./` that it may begin with.
 ///
-/// A relative path becomes a relative reference. Bytes other than letters, digits, `-`, `.`, `_`, `~` and `/` are
+/// The path need not be UTF-8. A relative path becomes a relative reference. Bytes other than letters, digits, `-`, `.`, `_`, `~` and `/` are
 /// written as in `%20`.
-pub fn push_uri(out: &mut String, path: &str) -> Result<(), AllocError>
+pub fn push_uri(out: &mut String, path: &[u8]) -> Result<(), AllocError>
     ensures { OnOk result (string_bytes out.new ≡ string_bytes out.old ++ uri_of path.now) }
 {
-    percent_encode(plain_path(path.as_bytes()), NOT_IN_PATHS).append_to(out)
+    percent_encode(plain_path(path), NOT_IN_PATHS).append_to(out)
 }

@@ -25,6 +25,8 @@ mod levels;
 #[cfg(test)]
 mod pairs;
 #[cfg(test)]
+mod placeholders;
+#[cfg(test)]
 mod printed;
 #[cfg(test)]
 mod show_failing;

@@ -8,8 +8,10 @@ use crate::languages::{self, Language};
 use crate::random::Random;
 use crate::texts::{self, Sentences};
 use bidi_base::level::{LTR_LEVEL, Level, RTL_LEVEL};
-use bidi_controls::check::findings_in;
-use bidi_controls::report::report;
+use bidi_controls::check::{Sought, findings_in};
+use bidi_controls::file_search::{FileSearch, FoundLine};
+use bidi_controls::finding::{Finding, Wanted};
+use bidi_controls::report::push_place;
 use bidi_text::text::{StrText, is_line};
 use bidi_unicode::UnicodeData;
 use std::alloc::{AllocError, Global};
@@ -36,10 +38,11 @@ pub enum Job {
     Sources,
     Hostile,
     Shown,
+    Files,
 }
 
 /// All jobs.
-pub const ALL: [Job; 7] = [
+pub const ALL: [Job; 8] = [
     Job::Documents,
     Job::Lines,
     Job::Messages,
@@ -47,6 +50,7 @@ pub const ALL: [Job; 7] = [
     Job::Sources,
     Job::Hostile,
     Job::Shown,
+    Job::Files,
 ];
 
 impl Job {
@@ -60,6 +64,7 @@ impl Job {
             Job::Sources => "sources",
             Job::Hostile => "hostile",
             Job::Shown => "shown",
+            Job::Files => "files",
         }
     }
 
@@ -75,6 +80,7 @@ impl Job {
             Job::Sources => sources(alloc, &mut random, amount, &mut digest)?,
             Job::Hostile => hostile(alloc, &mut random, amount, &mut digest)?,
             Job::Shown => shown(alloc, &mut random, amount, &mut digest)?,
+            Job::Files => files(alloc, &mut random, amount, &mut digest)?,
         }
         Ok(digest.number())
     }
@@ -288,6 +294,26 @@ fn controls(
     Ok(())
 }
 
+// Appends a line of text for a finding.
+fn push_finding(out: &mut String, name: &str, finding: &Finding) -> Result<(), AllocError> {
+    push_place(out, name, finding)?;
+    if let Some(control) = finding.control {
+        out.push_str(control.name())?;
+        out.push_str(" ")?;
+    }
+    out.push_str(finding.trouble.text())?;
+    out.push_str("\n")
+}
+
+// Returns a line of text for each finding in a file.
+fn report(alloc: Global, name: &str, findings: &[Finding]) -> Result<String, AllocError> {
+    let mut out = String::new(alloc);
+    for finding in findings {
+        push_finding(&mut out, name, finding)?;
+    }
+    Ok(out)
+}
+
 // Checks source files for controls.
 fn sources(
     alloc: Global,
@@ -302,6 +328,66 @@ fn sources(
         let found = findings_in(alloc, &UnicodeData, any, file.as_slice())?;
         let reported = report(alloc, "source", found.as_slice())?;
         digest.add_bytes(reported.as_str().as_bytes());
+    }
+    Ok(())
+}
+
+// The number of bytes of a file that are read at once.
+const PIECE: usize = 0x4_0000;
+
+// Adds the number of a line, its findings, and its paragraphs as they are displayed.
+fn add_found(digest: &mut Digest, line: &FoundLine) {
+    digest.add(line.number as u64);
+    for finding in line.findings.as_slice() {
+        digest.add(finding.column as u64);
+    }
+    for paragraph in line.displayed.as_slice() {
+        for c in paragraph.chars.as_slice() {
+            digest.add(u64::from(u32::from(*c)));
+        }
+    }
+}
+
+// Searches a file piece by piece, as `bidi check` does.
+fn search_file(alloc: Global, file: &[u8], digest: &mut Digest) -> Result<(), AllocError> {
+    let sought = Sought {
+        wanted: Wanted::MISLEADING,
+        displays: true,
+    };
+    let mut search = FileSearch::new(alloc, sought);
+    let mut bytes = Vec::new(alloc);
+    let mut found = Vec::new(alloc);
+    for piece in file.chunks(PIECE) {
+        bytes.extend_from_slice(piece)?;
+        if search.has_room(bytes.len()) {
+            search.push_read(alloc, false, &mut bytes, &mut found)?;
+        }
+    }
+    if search.has_room(bytes.len()) {
+        search.push_read(alloc, true, &mut bytes, &mut found)?;
+    }
+    for line in &found {
+        add_found(digest, line);
+    }
+    digest.add(search.lines as u64);
+    Ok(())
+}
+
+// Searches the bytes of source files.
+fn files(
+    alloc: Global,
+    random: &mut Random,
+    amount: Amount,
+    digest: &mut Digest,
+) -> Result<(), AllocError> {
+    for _ in 0..amount.count {
+        let lines = amount.size.saturating_add(random.below(200));
+        let file = texts::source_file(alloc, random, lines)?;
+        let mut text = String::new(alloc);
+        for c in &file {
+            text.push(*c)?;
+        }
+        search_file(alloc, text.as_bytes(), digest)?;
     }
     Ok(())
 }

@@ -15,7 +15,7 @@ use std::{env, io};
 
 const USAGE: &str = "usage: bidi_workloads JOB COUNT SIZE SEED
 
-JOB is documents, lines, messages, controls, sources, hostile, shown, or all of them. COUNT is how many
+JOB is documents, lines, messages, controls, sources, hostile, shown, files, or all of them. COUNT is how many
 inputs a job has, SIZE how large each is: in paragraphs, messages, lines of a source, or pieces of a hostile
 text. SEED, a number below 4294967296, makes them.";
 

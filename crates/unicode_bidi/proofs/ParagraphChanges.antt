@@ -2,17 +2,13 @@
 use Rattle.bidi_base.proofs.Common.{◌≡◌, ◌∙◌, ap, ℕ, ◌+◌, ◌<◌, List, [], ◌∷◌, ◌++◌, length, get_or, set, take, drop, map, arith, take_more, drop_more, map-append, Range}
 use Rattle.std.proofs.lemmas.List.{take_more_set, drop-set-lt}
 use Rattle.bidi_paragraphs.specs.declared.paragraph_info.ParagraphInfo.{ParagraphInfo}
-use Rattle.bidi_paragraphs.specs.ParagraphInfo.{range_of, level_of, ranges_of, levels_of}
+use Rattle.bidi_paragraphs.specs.ParagraphInfo.{range_of, level_of, ends_of, ranges_of, levels_of}
 
 map-take_more : {Y : Type 0} (f : ParagraphInfo → Y) (ps : List ParagraphInfo) (k : ℕ) (d : ParagraphInfo) → k < length ps → map f (take (k + 1) ps) ≡ map f (take k ps) ++ f (get_or ps k d) ∷ []
 map-take_more f ps k d within = ap (map f) (take_more ps k d within) ∙ map-append f (take k ps) (get_or ps k d ∷ [])
 
 map-take_set : {Y : Type 0} (f : ParagraphInfo → Y) (ps : List ParagraphInfo) (k : ℕ) (p : ParagraphInfo) → k < length ps → map f (take (k + 1) (set ps k p)) ≡ map f (take k ps) ++ f p ∷ []
 map-take_set f ps k p within = ap (map f) (take_more_set ps k p within) ∙ map-append f (take k ps) (p ∷ [])
-
--- the ends of a range
-abbrev ends_of : ParagraphInfo → ℕ × ℕ
-ends_of p = (p.range.start, p.range.end)
 
 ends-range : (p q : ParagraphInfo) → range_of p ≡ range_of q → ends_of p ≡ ends_of q
 ends-range p q e = ap (λ (r : Range ℕ). (r.start, r.end)) e

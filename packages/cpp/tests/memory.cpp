@@ -85,6 +85,12 @@ void sweep_all() {
     const auto line = text->paragraphs()[0];
     const auto equal = [](const auto &a, const auto &b) { return a == b; };
     sweep("analyse", [&] { return bidi::try_analyse(source); }, is_same_text<char32_t>);
+    sweep("analyse with a new analyser", [&] {
+        bidi::Analyser analyser;
+        return bidi::try_analyse(analyser, source);
+    }, is_same_text<char32_t>);
+    bidi::Analyser analyser;
+    sweep("analyse with one analyser", [&] { return bidi::try_analyse(analyser, source); }, is_same_text<char32_t>);
     const std::string lines_only(1000, '\n');
     sweep("analyse many paragraphs", [&] { return bidi::try_analyse(lines_only); }, is_same_text<char>);
     sweep("base_direction", [&] { return bidi::try_base_direction(source); }, equal);

@@ -288,6 +288,12 @@ void check_found_paragraphs(const Row &row, const Encoded<Char> &in) {
     row.check(std::equal(found.paragraphs.begin(), found.paragraphs.end(), text.paragraphs().begin(),
                          text.paragraphs().end(), is_same),
               "the paragraphs of an analysis");
+    static bidi::Analyser analyser; // serves every row
+    const auto kept = value_of(row, bidi::try_analyse(analyser, in.text, base_of(row), split_of(row)));
+    row.check(std::equal(kept.classes().begin(), kept.classes().end(), text.classes().begin(), text.classes().end()) &&
+                  std::equal(kept.levels().begin(), kept.levels().end(), text.levels().begin(), text.levels().end()) &&
+                  kept.paragraphs().size() == text.paragraphs().size(),
+              "an analysis in memory that is kept");
 }
 
 /// Checks the analysis of the classes and brackets of characters, without their text.
@@ -708,6 +714,9 @@ void check_faults() {
     std::array<char, 3> small = {'x', 'x', 'x'};
 
     CHECK_FAULT(row, Fault::not_utf8, bidi::try_analyse(broken), bidi::Text(broken));
+    bidi::Analyser analyser;
+    CHECK_FAULT(row, Fault::not_utf8, bidi::try_analyse(analyser, broken), bidi::Text(analyser, broken));
+    CHECK_FAULT(row, Fault::bad_base_level, bidi::try_analyse(analyser, hebrew, 126), bidi::Text(analyser, hebrew, 126));
     CHECK_FAULT(row, Fault::not_utf8, bidi::try_base_direction(broken), bidi::base_direction(broken));
     CHECK_FAULT(row, Fault::not_utf8, bidi::try_first_direction("\xFF"), bidi::first_direction("\xFF"));
     CHECK_FAULT(row, Fault::not_utf8, bidi::try_classes(broken), bidi::classes(broken));
@@ -823,6 +832,21 @@ void check_objects() {
               "ranges of nothing");
     row.check(lines == std::vector<std::string>{"\u05D1\u05D0", "a "}, "lines");
     row.check(moved.paragraphs()[1].text() == "b" && moved.paragraphs()[1].content_end() == 9, "the last paragraph");
+
+    bidi::Analyser analyser;
+    row.check(analyser.get()->memory == nullptr, "an analyser that has read no text");
+    const auto kept = value_of(row, bidi::try_analyse(analyser, "\u2067(\u05D0)\u2069"sv));
+    row.check(kept.levels()[3] == 1 && analyser.get()->memory != nullptr, "an analyser");
+    bidi::Analyser other = std::move(analyser);
+    row.check(analyser.get()->memory == nullptr && other.get()->memory != nullptr, "an analyser that was moved");
+    const auto after = value_of(row, bidi::try_analyse(analyser, "b\u05D0"sv));
+    row.check(after.levels()[1] == 1, "an analyser that was moved from");
+    analyser = std::move(other);
+    const auto last = value_of(row, bidi::try_analyse(analyser, "\u05D0b"sv));
+    row.check(last.levels()[2] == 2, "an analyser that was assigned");
+    analyser.clear();
+    analyser.clear();
+    row.check(analyser.get()->memory == nullptr, "an analyser that was cleared");
 
     const auto separator = value_of(row, bidi::try_analyse("\n"sv));
     row.check(separator.paragraphs().size() == 1 && separator.paragraphs()[0].content_end() == 0, "a separator by itself");

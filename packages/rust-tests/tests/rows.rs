@@ -529,7 +529,16 @@ macro_rules! checks {
                     of_encoding::$encoding(&expected),
                 );
                 expect_maps(row, case.at.len() - 1, &shown.order, &shown.places);
-                expect(row, "levels", shown.levels.len(), text.len());
+                let levels: Vec<Level> = found
+                    .paragraphs
+                    .iter()
+                    .flat_map(|paragraph| {
+                        let part = &text[paragraph.range.clone()];
+                        let info = ParagraphBidiInfo::new(part, Some(paragraph.level));
+                        info.reordered_levels(0..part.len())
+                    })
+                    .collect();
+                expect(row, "levels", shown.levels, levels);
             }
         }
     };

@@ -13,7 +13,7 @@ use crate::paragraph_flags::ParagraphFlags;
 use bidi_base::char_data::BidiClass;
 use bidi_base::classes::{is_isolate_initiator, is_pdi, is_strong};
 use bidi_base::level::{LTR_LEVEL, Level, RTL_LEVEL};
-use std::alloc::{AllocError, Global};
+use std::alloc::AllocError;
 use std::ops::Range;
 
 // Returns the class that an FSI becomes if the character that decides its isolate has this class.
@@ -48,9 +48,9 @@ fn resolve(classes: &mut [BidiClass], initiator: &Range<usize>, class: BidiClass
     classes[start..end].fill(resolved_by(class));
 }
 
-// An open isolate of an FSI that no character has decided yet.
+/// An open isolate of an FSI that no character has decided yet.
 #[derive(Drop)]
-struct Undecided {
+pub(super) struct Undecided {
     // The code units of the FSI.
     units: Range<usize>,
     // The depth of the paragraph directly after the FSI.
@@ -64,8 +64,8 @@ pub(super) struct ParagraphState {
     pub(super) start: usize,
     // The number of open isolates. Isolates that were open at any time in a decided state are not counted.
     depth: usize,
-    // The open isolates of an FSI that no character has decided yet, outermost first.
-    undecided: Vec<Undecided>,
+    /// The open isolates of an FSI that no character has decided yet, outermost first.
+    pub(super) undecided: Vec<Undecided>,
     /// The class of the character that decides its level, if there is one yet.
     pub(super) deciding: Option<BidiClass>,
     /// The flags of the characters that were read.
@@ -73,14 +73,15 @@ pub(super) struct ParagraphState {
 }
 
 impl ParagraphState {
-    /// Returns the state before the text.
-    pub(super) fn new(alloc: Global) -> ParagraphState
+    /// Returns the state before the text. It reuses the memory of a list.
+    pub(super) fn new(mut undecided: Vec<Undecided>) -> ParagraphState
         ensures { IsAtStart result 0 }
     {
+        undecided.clear();
         ParagraphState {
             start: 0,
             depth: 0,
-            undecided: Vec::new(alloc),
+            undecided,
             deciding: None,
             flags: ParagraphFlags::NONE,
         }

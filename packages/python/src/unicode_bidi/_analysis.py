@@ -37,7 +37,7 @@ def analyse(buffers: Buffers, characters: bytes, length: Any, base: int, split: 
     ``length`` is an argument of C. ``base`` and ``split`` are numbers up to 255. ``tables`` are the arguments of C for
     the caller's own tables.
     """
-    call = partial(library.analyse_by_tables, *tables) if tables else library.analyse
+    call = partial(library.analyse_by_tables, *tables) if tables else partial(library.analyse_with, buffers.analyser)
     return write_paragraphs(buffers, partial(call, characters, length, base, split, buffers.classes_pointer, length,
                                              buffers.levels_pointer, length))
 

@@ -7,10 +7,10 @@ handler that runs in the same thread.
 from __future__ import annotations
 
 import struct
-from ctypes import byref, c_size_t, c_uint8, c_wchar, sizeof
-from typing import Any, List, Sequence, Tuple
+from ctypes import byref, c_size_t, c_uint8, c_void_p, c_wchar, sizeof
+from typing import Any, Callable, List, Sequence, Tuple
 
-from ._library import Range, size
+from ._library import Range, free, size
 
 #: A range of characters and its level, as C writes it.
 RangeTuple = Tuple[int, int, int]
@@ -61,17 +61,22 @@ class Buffers:
     """What an analysis and a displayed line need: room for the classes, levels and characters of a text.
 
     A part of ``shown`` is a ``str`` of displayed characters. The pointers, and ``shown_room``, are arguments of C.
-    ``text_arguments`` are the last arguments of a displayed text that is wanted without levels and maps.
+    ``text_arguments`` are the last arguments of a displayed text that is wanted without levels and maps. ``analyser`` is
+    an analyser of C, which keeps the memory of its lists.
     """
 
-    __slots__ = ("room", "shown_room", "classes", "classes_pointer", "levels", "levels_pointer", "shown", "shown_pointer",
-                 "characters_pointer", "text_arguments", "paragraphs", "runs")
+    __slots__ = ("analyser", "room", "shown_room", "classes", "classes_pointer", "levels", "levels_pointer", "shown",
+                 "shown_pointer", "characters_pointer", "text_arguments", "paragraphs", "runs")
 
     def __init__(self, room: int) -> None:
+        self.analyser = byref(c_void_p())
         self.paragraphs = Ranges(4)
         self.runs = Ranges(16)
         self.characters_pointer = byref(c_size_t())
         self.make_room(room)
+
+    def __del__(self, free: Callable[[Any], None] = free) -> None:
+        free(self.analyser)
 
     def make_room(self, room: int) -> None:
         """Makes new buffers for the characters of a text."""

@@ -1,11 +1,12 @@
-use Rattle.bidi_base.proofs.Common.{◌≡◌, ℕ, ◌+◌, ◌++◌, List, ◌∷◌, take, sym, ap, arith, append_assoc, append-nil, ◌∙◌, Source}
+use Rattle.bidi_base.proofs.Common.{◌≡◌, ℕ, ◌+◌, ◌++◌, List, ◌∷◌, take, sym, ap, arith, append_assoc, append-nil, not, or_parts, ◌∙◌, Source}
 use Rattle.bidi_controls.proofs.LinesWithoutControls.{findings_in_line-without_controls}
 use Rattle.bidi_controls.specs.Findings.{findings_of, findings_from, findings_in_line}
-use Rattle.bidi_bytes.specs.FileLines.{file_lines_of}
+use Rattle.bidi_controls.specs.FileLines.{file_lines_of}
 use Rattle.bidi_controls.specs.declared.finding.Finding.{Finding}
 use Rattle.bidi_controls.specs.declared.finding.Wanted.{Wanted}
+use Rattle.std.proofs.lemmas.Bool.{not-false}
 use Rattle.bidi_controls.proofs.check.findings_wanted.Goals as goal
-use Rattle.bidi_controls.proofs.check.findings_wanted.Goals.{then-not-first+in_ok-push_found_in, else-not-first}
+use Rattle.bidi_controls.proofs.check.findings_wanted.Goals.{then-may_have_findings+in_ok-push_found_in, else-may_have_findings}
 
 pub loop-rest-init : goal.loop-rest-init
 unfolding findings_of
@@ -22,11 +23,15 @@ loop-rest-preserved g c =
     let source = g.D.BidiDataSource.source c.args.data_source.now in
     let first = c.first_file_line-first.ensures in
     let line = take c.first_file_line-first.result.len c.loop-rest.rest.now in
-    let here : c.if-not-first.findings.items ≡ c.loop-rest.findings.items ++ findings_in_line source c.args.wanted (c.loop-rest.lines_before + 1) line = elim c.if-not-first.branch [
-      | then-not-first+in_ok-push_found_in w ↦
-          ap (λ found. found.items) w.findings-is
-          ∙ (w.in_ok-push_found_in.ensures ∙ ap (λ chars. c.loop-rest.findings.items ++ findings_in_line source c.args.wanted (c.loop-rest.lines_before + 1) chars) c.split_at.ensures.front)
-      | else-not-first w ↦ grind (arith, append-nil, findings_in_line-without_controls source c.args.wanted (c.loop-rest.lines_before + 1) line)
+    let here : c.if-may_have_findings.found.findings.items ≡ c.loop-rest.found.findings.items ++ findings_in_line source c.args.wanted (c.loop-rest.lines_before + 1) line = elim c.if-may_have_findings.branch [
+      | then-may_have_findings+in_ok-push_found_in w ↦
+          ap (λ found. found.findings.items) w.found-is
+          ∙ (w.in_ok-push_found_in.ensures.findings ∙ ap (λ chars. c.loop-rest.found.findings.items ++ findings_in_line source c.args.wanted (c.loop-rest.lines_before + 1) chars) c.split_at.ensures.front)
+      | else-may_have_findings w ↦
+          let parts = or_parts (not c.first_file_line-first.result.has_no_controls) c.args.wanted.letters_alone (sym c.may_have_findings.ensures ∙ w.if-may_have_findings.false) in
+          ap (λ found. found.findings.items) w.found-is
+          ∙ sym (append-nil c.loop-rest.found.findings.items)
+          ∙ ap (λ t. c.loop-rest.found.findings.items ++ t) (sym (findings_in_line-without_controls source c.args.wanted (c.loop-rest.lines_before + 1) line parts.1 (first.without_controls (not-false _ parts.0))))
     ] in
     record {
       few = grind arith;

@@ -1,6 +1,6 @@
 use Rattle.bidi_base.proofs.Common.{◌≡◌, ℕ, ◌+◌, ◌-◌, ◌<◌, ◌≤◌, true, false, List, All, length, take, drop, get_or, ap, subst, sym, ◌∙◌, arith, length-drop, length-take-le, take_all, nat_tests}
 use Rattle.bidi_base.proofs.Common.{Source, get_or-drop, get_or-take}
-use Rattle.bidi_bytes.specs.FileLines.{ends_file_line}
+use Rattle.bidi_controls.specs.FileLines.{ends_file_line}
 use Rattle.bidi_controls.specs.Lines.{is_printable_ascii}
 use Rattle.bidi_controls.proofs.LinesLemmas.{IsUnbroken-more, IsUnbroken-plain, IsUnbroken-ended, IsUnbroken-whole}
 use Rattle.bidi_controls.proofs.LinesWithoutControls.{HaveNoControls-more, HaveNoControls-plain}

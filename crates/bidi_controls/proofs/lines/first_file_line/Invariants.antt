@@ -1,5 +1,5 @@
 use Rattle.bidi_base.proofs.Common.{◌≡◌, ◌-◌, ◌≤◌, true, length, take}
-use Rattle.bidi_bytes.specs.FileLines.{ends_file_line}
+use Rattle.bidi_controls.specs.FileLines.{ends_file_line}
 use Rattle.bidi_controls.specs.NoControls.{HaveNoControls}
 use Rattle.bidi_controls.proofs.LinesLemmas.{IsUnbroken}
 use Rattle.bidi_controls.proofs.lines.first_file_line.Given as goal

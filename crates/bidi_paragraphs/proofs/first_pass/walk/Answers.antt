@@ -85,9 +85,8 @@ loop-stop-preserved g c =
 pub close-requires : goal.close-requires
 close-requires g c = grind arith
 
-answered : (g : Over) (c : goal.After-drop-walk-2 g)
-    → IsAnswer (g.D.BidiDataSource.source c.args.data_source.now) g.T.TextSource.encoding.len_of (g.T.TextSource.text c.args.text).chars c.args.rule c.args.base_level (seen c.next_stop.new.classes c.if-is_none.walk)
-answered g c =
+pub returns : goal.returns
+returns g c =
     let rule = c.args.rule in
     let old = seen c.next_stop.new.classes c.loop-stop.walk in
     let cs : List ℕ = (g.T.TextSource.text c.args.text).chars in
@@ -95,6 +94,7 @@ answered g c =
     let kept = IsRead-end _ _ _ g.T.TextSource.encoding.positive _ _ _ _ _ _ c.loop-stop.invariant.0 c.next_stop.auto.classes c.next_stop.new.state.flags c.in_default.ensures.stop in
     let h = subst (λ (r : ParagraphState). IsRead (g.D.BidiDataSource.source c.args.data_source.now) g.T.TextSource.encoding.len_of cs rule c.args.base_level n old r) (sym c.next_stop.ensures.outside) kept in
     let end : c.len-end.result ≡ unit_index g.T.TextSource.encoding.len_of cs n = c.len-end.ensures ∙ sym (unit_index-end _ cs n (omega arith)) in
+    let a : IsAnswer (g.D.BidiDataSource.source c.args.data_source.now) g.T.TextSource.encoding.len_of cs rule c.args.base_level (seen c.next_stop.new.classes c.if-is_none.walk) =
     elim c.if-is_none.branch [
       | then-is_none+in_ok-close w ↦
           let rest : (is_none rule ≡ true) ⊎ (c.next_stop.new.state.start < unit_index g.T.TextSource.encoding.len_of cs n) = elim w.then-is_none.branch [
@@ -107,12 +107,8 @@ answered g c =
       | else-is_none+else-walk-end w ↦
           let none = IsRead-none _ _ _ g.T.TextSource.encoding.positive _ n old _ refl rule h (ap not (c.is_none.ensures ∙ ap not w.if-is_none.false)) (omega (arith, w.if-walk-end.false, end)) in
           rw w.walk-is (IsTextDone-answer _ _ _ rule _ n _ old refl none.1 (IsTextDone-none _ _ _ _ n _ _ old _ none.0 h.read))
-    ]
-
-pub returns : goal.returns
-returns g c =
-    let a = answered g c in
+    ] in
     record {
-      paragraphs = AreParagraphs-found _ c.args.base_level c.args.rule _ g.T.TextSource.encoding.positive _ _ _ _ (grind (arith, with_items_is, a)) a.ranges a.levels;
+      paragraphs = AreParagraphs-found _ c.args.base_level rule _ g.T.TextSource.encoding.positive _ _ _ _ (grind (arith, with_items_is, a)) a.ranges a.levels;
       flags = a.flags;
     }

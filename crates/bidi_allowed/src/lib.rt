@@ -1,4 +1,0 @@
-//! A list of findings that `bidi check` allows.
-#![tactic(auto)]
-
-pub mod allowed;

@@ -1,0 +1,6 @@
+use Rattle.bidi_base.proofs.Common.{◌≡◌, ◌<◌, ℕ, false}
+use Rattle.bidi_arguments.specs.LineNames.{is_colon_before, is_line}
+use Rattle.bidi_arguments.proofs.line_name.file_colon.Given as goal
+
+abbrev pub invariant-loop-index : goal.invariant-loop-index
+invariant-loop-index l = (k : ℕ) → k < l.index → is_colon_before is_line l.text k ≡ false

@@ -1,7 +1,0 @@
-use Rattle.std.proofs.lemmas.List.{take_min}
-use Rattle.bidi_bytes.specs.Decoded.{prefix_of}
-use Rattle.bidi_bytes.proofs.decode.prefix_of.Goals as goal
-
-pub returns : goal.returns
-unfolding prefix_of
-returns c = rw c.min.ensures (take_min 8000 c.args.bytes.now)

@@ -1,3 +1,0 @@
-pub mod ControlBytes
-pub mod Decoded
-pub mod FileLines
