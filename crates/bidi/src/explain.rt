@@ -1,6 +1,7 @@
 //! What `explain` reads and writes.
 use crate::files::{
-    STANDARD_INPUT, end_without_memory, read_standard_input, refuse, refuse_rest, write_out,
+    STANDARD_INPUT, end_without_memory, read_input, read_standard_input, refuse, refuse_rest,
+    write_out,
 };
 use bidi_arguments::input::{explain_input, explain_line, explain_text};
 use bidi_arguments::line_name::LineName;
@@ -10,7 +11,7 @@ use bidi_explain::frame;
 use bidi_explain::view::{Form, StageView};
 use bidi_terminal::names::shown_name;
 use std::rt::Files;
-use std::{fs, io};
+use std::fs;
 
 // Writes the results of the rules for a text.
 fn explain_argument(
@@ -64,15 +65,6 @@ fn explain_file(
     match fs::read(rt, name) {
         Ok(bytes) => explain_bytes(rt, view, name, bytes.as_slice()),
         Err(error) => refuse(rt, name, &error),
-    }
-}
-
-// Returns the bytes of a file, or of standard input.
-fn read_input(rt: &(impl Files + Input + AllocGlobal), name: &str) -> io::Result<Vec<u8>> {
-    if name == STANDARD_INPUT_NAME {
-        read_standard_input(rt)
-    } else {
-        fs::read(rt, name)
     }
 }
 
@@ -167,8 +159,8 @@ fn explain_as_page(
 }
 
 /// Writes the results of the rules for texts, for the files of these names, or for lines of them: `-` is standard input.
-/// Without any, reads standard input. A file that cannot be read or is not UTF-8 is reported on standard error, and the next one is
-/// read.
+/// Without any, reads standard input. A file that cannot be read or is not UTF-8 is reported on standard error, and the
+/// next one is read.
 pub fn explain_operands(
     rt: &(impl Files + Input + Print + Eprint + AllocGlobal),
     view: StageView,

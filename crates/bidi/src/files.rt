@@ -156,6 +156,15 @@ pub fn read_standard_input(rt: &(impl Input + AllocGlobal)) -> io::Result<Vec<u8
     Ok(bytes)
 }
 
+/// Returns the bytes of a file, or of standard input if the name is `-`.
+pub fn read_input(rt: &(impl Files + Input + AllocGlobal), name: &str) -> io::Result<Vec<u8>> {
+    if name == STANDARD_INPUT_NAME {
+        read_standard_input(rt)
+    } else {
+        fs::read(rt, name)
+    }
+}
+
 fn show_standard_input(
     rt: &(impl Input + Print + Eprint + AllocGlobal),
     view: View,

@@ -20,7 +20,8 @@ const PROGRAM: &str = "bidi: the Unicode Bidirectional Algorithm for text in UTF
     \n\
     Status: 0 nothing was found, or all was written\n\
     \u{20}       1 check found something\n\
-    \u{20}       2 the arguments are wrong, or an argument, a name or a file is not UTF-8\n\
+    \u{20}       2 the arguments are wrong; an argument, a name or a file is not UTF-8; or check did\n\
+    \u{20}         not open a pipe, a socket or a device\n\
     \u{20}       3 out of memory\n\
     \u{20}       4 reading or writing failed, or the arguments could not be read\n\
     If several apply, the highest counts.\n";
@@ -77,12 +78,12 @@ const CHECK: &str = "usage: bidi check [OPTION..] [--] [FILE..]\n\
     A file is in UTF-8, or in UTF-16 with a byte order mark. Any other file is searched too, but\n\
     it is reported, and the status is 2.\n\
     \n\
-    A gate, such as a hook or a build step, that accepts no control uses --any:\n\
+    A hook or a step of a build uses --gate:\n\
     \n\
-    git ls-files -z | bidi check --any --files-from -\n\
+    git ls-files -z | bidi check --gate --files-from -\n\
     \n\
-    Without --any, marks pass, and controls that are closed on their line, if its ASCII displays\n\
-    as it reads, or as it would without them.\n\
+    Without --any and --gate, marks pass, and controls that are closed on their line, if its\n\
+    ASCII displays as it reads, or as it would without them.\n\
     \n\
     Status: 0 nothing was found; 1 something was found; 'bidi --help' lists the others.\n\
     A gate accepts 0 and no other.\n";

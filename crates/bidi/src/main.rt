@@ -1,6 +1,6 @@
-//! The program `bidi`. `bidi check` finds direction controls that have no match on their line: they can make a text,
-//! such as source code, display differently from how it reads. `bidi show` writes the lines of a text for a terminal
-//! without bidirectional support. `bidi explain` writes the result of each rule for the characters of a text.
+//! The program `bidi`. `bidi check` finds direction controls that have no match on their line, and lines that are
+//! displayed differently from how they read, such as lines of source code. `bidi show` writes the lines of a text for a
+//! terminal without bidirectional support. `bidi explain` writes the result of each rule for the characters of a text.
 #![tactic(auto)]
 
 mod explain;

@@ -1,6 +1,6 @@
 //! The files that `check` searches: its arguments and its list name them, or they are below a directory. They are
 //! searched one after another. If one cannot be read, the next is searched all the same.
-use crate::files::{STANDARD_INPUT, end_without_memory, read_standard_input, write_out};
+use crate::files::{STANDARD_INPUT, end_without_memory, read_input, write_out};
 use crate::search::{
     Run, check_reader, is_reported, note_unread, or_end, report_fault, report_named, report_unread,
 };
@@ -355,22 +355,13 @@ fn check_arguments(
     Ok(())
 }
 
-// Returns the bytes of a list of names.
-fn read_list(rt: &(impl Files + Input + AllocGlobal), list: &str) -> io::Result<Vec<u8>> {
-    if list == STANDARD_INPUT_NAME {
-        read_standard_input(rt)
-    } else {
-        fs::read(rt, list)
-    }
-}
-
 // Searches the files and directories that a list names.
 fn check_list(
     rt: &(impl Files + Input + Print + Eprint + AllocGlobal),
     run: &mut Run<'_, '_, '_>,
     list: &str,
 ) -> Result<(), Status> {
-    let bytes = match read_list(rt, list) {
+    let bytes = match read_input(rt, list) {
         Ok(bytes) => bytes,
         Err(error) => return note_unread(rt, run, list, &error),
     };
@@ -456,13 +447,13 @@ fn allow_list<'l>(
     }
 }
 
-// Returns the bytes of the allow-list, if there is one. If it cannot be read, the run ends.
+// Returns the bytes of the allow-list. If it cannot be read, the run ends.
 fn read_allowed(
     rt: &(impl Files + Input + Eprint + AllocGlobal),
     report: &mut Report,
     list: &str,
 ) -> Result<Vec<u8>, Status> {
-    match read_list(rt, list) {
+    match read_input(rt, list) {
         Ok(bytes) => Ok(bytes),
         Err(error) => Err(report_unread(rt, report, list, &error)?),
     }

@@ -187,7 +187,7 @@ impl<'l> AllowList<'l> {
     ///
     /// Names are compared without the `./` that either of them may begin with. Returns an error if an allocation fails.
     /// Then no more is promised of which entries were noted.
-    pub fn allow(&mut self, alloc: Global, query: &Query<'_>) -> Result<bool, AllocError>
+    pub(crate) fn allow(&mut self, alloc: Global, query: &Query<'_>) -> Result<bool, AllocError>
         ensures allows { IfOk result (λ allowed. allowed ≡ allows self.old.entries query.now) }
         ensures notes { OnOk result (Notes (query.now ∷ []) self.old self.new) }
         ensures entries { self.new.entries ≡ self.old.entries }
