@@ -102,7 +102,14 @@ fn push_findings<D: BidiDataSource>(
         ++ filter (is_wanted_of wanted) (character_findings paragraph.now.line paragraph.now.place classes chars)) }
 {
     for (index, is_unmatched) in unmatched.iter().enumerate() {
-        push_finding_at(findings, data_source, wanted, paragraph, index, *is_unmatched)?;
+        push_finding_at(
+            findings,
+            data_source,
+            wanted,
+            paragraph,
+            index,
+            *is_unmatched,
+        )?;
     }
     Ok(())
 }
