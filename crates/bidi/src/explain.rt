@@ -10,8 +10,8 @@ use bidi_arguments::status::Status;
 use bidi_explain::frame;
 use bidi_explain::view::{Form, StageView};
 use bidi_terminal::names::shown_name;
-use std::rt::Files;
 use std::fs;
+use std::rt::Files;
 
 // Writes the results of the rules for a text.
 fn explain_argument(
@@ -143,7 +143,7 @@ fn explain_words(
     Ok(status)
 }
 
-// The same as one page of HTML.
+// Writes the results of the rules for texts or files as one page of HTML.
 fn explain_as_page(
     rt: &(impl Files + Input + Print + Eprint + AllocGlobal),
     view: StageView,
