@@ -143,7 +143,7 @@ fn explain_words(
     Ok(status)
 }
 
-// The same as one page of HTML.
+// Writes the results of the rules for texts or files as one page of HTML.
 fn explain_as_page(
     rt: &(impl Files + Input + Print + Eprint + AllocGlobal),
     view: StageView,

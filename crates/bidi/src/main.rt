@@ -98,7 +98,8 @@ fn output_width(rt: &(impl Env + AllocGlobal), to_terminal: bool) -> Option<u16>
     }
 }
 
-fn answer(
+// Does what the arguments ask for.
+fn run_command(
     rt: &(impl Env + Files + Input + Print + Eprint + AllocGlobal),
     command: Command<'_>,
     to_terminal: bool,
@@ -126,7 +127,8 @@ fn answer(
     }
 }
 
-fn serve(
+// Reads the arguments, and does what they ask for.
+fn run(
     rt: &(impl Env + Files + Input + Print + Eprint + AllocGlobal),
     to_terminal: bool,
 ) -> Status {
@@ -135,7 +137,7 @@ fn serve(
         Err(error) => return refuse_arguments(rt, &error),
     };
     match Command::parse(words.as_slice()) {
-        Ok(command) => answer(rt, command, to_terminal),
+        Ok(command) => run_command(rt, command, to_terminal),
         Err(refusal) => match refuse(rt, &refusal) {
             Ok(()) => Status::Refused,
             Err(AllocError) => end_without_memory(rt),
@@ -145,5 +147,5 @@ fn serve(
 
 fn main(rt: HostRuntime) -> ExitCode {
     let to_terminal = rt.stdout().is_terminal();
-    ExitCode::from(serve(&rt, to_terminal).number())
+    ExitCode::from(run(&rt, to_terminal).number())
 }

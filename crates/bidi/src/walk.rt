@@ -86,8 +86,8 @@ fn refuse_special(
     Ok(())
 }
 
-// Searches what a link says: the name of its target. The target is not opened. A name that is not UTF-8 is reported,
-// unless that is allowed.
+// Searches the name of a link's target. The target is not opened. A name that is not UTF-8 is reported, unless that is
+// allowed.
 fn check_link(
     rt: &(impl Files + Print + Eprint + AllocGlobal),
     run: &mut Run<'_, '_, '_>,
@@ -109,7 +109,7 @@ fn check_link(
     }
 }
 
-// Searches what a link says, or reports an input that is neither a link, a file nor a directory.
+// Searches the name of a link's target, or reports an input that is neither a link, a file nor a directory.
 fn check_other(
     rt: &(impl Files + Print + Eprint + AllocGlobal),
     run: &mut Run<'_, '_, '_>,
@@ -123,8 +123,8 @@ fn check_other(
     }
 }
 
-// Searches the file that a link of a directory leads to, or keeps the directory for later. As a gate, also searches what
-// the link says.
+// Searches the file that a link of a directory leads to, or keeps the directory for later. As a gate, also searches the
+// name of the link's target.
 fn visit_link(
     rt: &(impl Files + Print + Eprint + AllocGlobal),
     run: &mut Run<'_, '_, '_>,
@@ -244,8 +244,8 @@ impl Trail {
     }
 }
 
-// Returns whether the search goes on below a directory. If links are followed, it does not where the directory is on its
-// own path already, which only a link can bring about.
+// Returns whether a directory is searched. If links are followed, a directory is not searched again below itself, so a
+// loop of links ends.
 fn enters(
     rt: &(impl Files + Eprint + AllocGlobal),
     run: &mut Run<'_, '_, '_>,
@@ -290,7 +290,7 @@ fn walk(
     Ok(())
 }
 
-// Searches what a link says, and the file or the directory that it leads to.
+// Searches the name of a link's target, and then the file or the directory that the link leads to.
 fn check_followed(
     rt: &(impl Files + Print + Eprint + AllocGlobal),
     run: &mut Run<'_, '_, '_>,
