@@ -8,7 +8,8 @@ const PROGRAM: &str = "bidi: the Unicode Bidirectional Algorithm for text in UTF
     \u{20}      bidi explain [--base auto|ltr|rtl] [--html] [--width N] [--files | --line] [--] [TEXT..]\n\
     \u{20}      bidi --help | --version\n\
     \n\
-    check    finds direction controls that make a line display differently from how it reads\n\
+    check    finds direction controls and marks that make a line display differently from how\n\
+    \u{20}        it reads\n\
     show     writes lines from left to right, for a terminal without bidirectional support\n\
     explain  shows each step of the algorithm for a text\n\
     \n\
@@ -20,10 +21,10 @@ const PROGRAM: &str = "bidi: the Unicode Bidirectional Algorithm for text in UTF
     \n\
     Status: 0 nothing was found, or all was written\n\
     \u{20}       1 check found something\n\
-    \u{20}       2 the arguments are wrong; an argument, a name or a file is not UTF-8; or check did\n\
-    \u{20}         not open a pipe, a socket or a device\n\
+    \u{20}       2 the arguments are wrong; an argument, a name or a file is not UTF-8; check did not\n\
+    \u{20}         open a pipe, a socket or a device; explain --line found no such line\n\
     \u{20}       3 out of memory\n\
-    \u{20}       4 reading or writing failed, or the arguments could not be read\n\
+    \u{20}       4 reading or writing failed, or there was no memory for the arguments\n\
     If several apply, the highest counts.\n";
 
 const CHECK: &str = "usage: bidi check [OPTION..] [--] [FILE..]\n\
@@ -39,15 +40,16 @@ const CHECK: &str = "usage: bidi check [OPTION..] [--] [FILE..]\n\
     with file, line and column. Lines and columns count from 1, columns in characters.\n\
     \n\
     --any         finds every direction control and mark too, also those that have a match\n\
-    --gate        for builds: finds what --any finds, searches what --text and --hidden search,\n\
-    \u{20}             follows no link, and names what it does not open\n\
+    --gate        for builds and hooks: finds what --any finds, searches what --text and --hidden\n\
+    \u{20}             search, follows no link, and reports what it does not open\n\
     --letters     also finds lines that letters alone make display differently from how they read\n\
     --unmatched   finds only controls that have no match\n\
     --only KIND,..\n\
     \u{20}             finds only these kinds: displayed-differently, letters-alone, not-closed,\n\
-    \u{20}             closes-nothing, present; --except KIND,.. leaves out these kinds\n\
+    \u{20}             closes-nothing, present; --except KIND,.. leaves out these kinds. Write both\n\
+    \u{20}             after --any, --gate or --unmatched\n\
     --hidden      also searches hidden files below a directory, whose names begin with a dot\n\
-    --follow      follows each link: one that a directory or LIST names, and those of --gate\n\
+    --follow      follows each link that a directory or LIST names, and with --gate also FILE\n\
     --text        also searches binary files, which have a NUL in their first 8,000 bytes\n\
     --files-from LIST\n\
     \u{20}             also searches the files that LIST names; - is standard input\n\
@@ -55,7 +57,8 @@ const CHECK: &str = "usage: bidi check [OPTION..] [--] [FILE..]\n\
     \u{20}             with / at its end for all files below it, a pattern with *, ** or ?, or a\n\
     \u{20}             comment that begins with #. After a tab it may name kinds, as in\n\
     \u{20}             not-closed,present, and after one more the digest of the line, as in\n\
-    \u{20}             #9f86d081884c7d65. An entry that allows nothing is reported\n\
+    \u{20}             #9f86d081884c7d65. The kinds not-utf8 and link are for a file as a whole. An\n\
+    \u{20}             entry that allows nothing is reported\n\
     --strict-allow\n\
     \u{20}             such an entry counts as a finding\n\
     --write-allow FILE\n\
@@ -78,11 +81,11 @@ const CHECK: &str = "usage: bidi check [OPTION..] [--] [FILE..]\n\
     A file is in UTF-8, or in UTF-16 with a byte order mark. Any other file is searched too, but\n\
     it is reported, and the status is 2.\n\
     \n\
-    A hook or a step of a build uses --gate:\n\
+    A gate, such as a hook or a build step, that accepts no control uses --gate:\n\
     \n\
     git ls-files -z | bidi check --gate --files-from -\n\
     \n\
-    Without --any and --gate, marks pass, and controls that are closed on their line, if its\n\
+    Without --any or --gate, marks pass, and controls that are closed on their line, if its\n\
     ASCII displays as it reads, or as it would without them.\n\
     \n\
     Status: 0 nothing was found; 1 something was found; 'bidi --help' lists the others.\n\
