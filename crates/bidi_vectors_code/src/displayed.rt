@@ -53,7 +53,11 @@ fn check_comparison<D: BidiDataSource>(
         assert!(rt; found.place == place && found.level.number() == 0);
     }
     for line in AS_READ {
-        assert!(rt; comparison.differing(rt.alloc(), source, LINES, &line)?.is_none());
+        assert!(rt;
+            comparison
+                .differing(rt.alloc(), source, LINES, &line)?
+                .is_none()
+        );
     }
     Ok(())
 }
