@@ -7,7 +7,7 @@ use Rattle.std.proofs.lemmas.List.Folds.{list_any-append, list_any_at}
 use Rattle.std.proofs.lemmas.Option.{slice_get_cases}
 use Rattle.std.proofs.lemmas.Bool.{eq-eqb, eqb-true}
 use Rattle.std.proofs.lemmas.Slice.Eq.{bytes_eq-Decides}
-use Rattle.bidi_reports.specs.AllowIndex.{literal_text, line_key, digest_key, key_with, key_of, name_key, place_keys, keys_of, keyed_from, indexes_at, allows_at}
+use Rattle.bidi_reports.specs.AllowIndex.{literal_text, line_key, digest_key, digest_path_key, key_with, key_of, name_key, place_keys, keys_of, keyed_from, indexes_at, allows_at}
 use Rattle.bidi_reports.specs.Entries.{Entry, Query, allows_kind, allows_number, allows_place, entry_allows}
 use Rattle.bidi_reports.specs.Globs.{matches}
 use Rattle.bidi_reports.specs.Patterns.{allows_name, is_wild, plain_path, subject_of}
@@ -75,10 +75,17 @@ key-with : (parts : List Part) (line : Option ℕ) (digest path : Option (List �
     → list_any (bytes_eq (key_with digest path line)) ([] ∷ name_key name ∷ place_keys (name_key name) place) ≡ true
 key-with parts None (Some digest) path name None is at named = cc
 key-with parts (Some number) (Some digest) path name None is at named = cc
-key-with parts line (Some digest) path name (Some place) is at named =
+key-with parts line (Some digest) None name (Some place) is at named =
     let both = and-both (allows_number line place.0) (bytes_eq digest place.1) at in
     let same : digest ≡ place.1 = (bytes_eq-Decides digest place.1).0 both.1 in
     or-right _ _ (or-right _ _ (or-left _ _ (eq-same (digest_key digest) (digest_key place.1) (ap digest_key same))))
+key-with parts line (Some digest) (Some path) name (Some place) is at named =
+    let both = and-both (allows_number line place.0) (bytes_eq digest place.1) at in
+    let same : digest ≡ place.1 = (bytes_eq-Decides digest place.1).0 both.1 in
+    let path-same : path ≡ name_key name = literal-name parts path name is named in
+    let key = bytes_eq (digest_path_key digest path) in
+    or-right (key []) _ (or-right (key (name_key name)) _ (or-right (key (digest_key place.1)) _ (or-left (key (digest_path_key place.1 (name_key name))) _
+    (eq-same (digest_path_key digest path) (digest_path_key place.1 (name_key name)) (rw (same, path-same) refl)))))
 key-with parts line None None name place is at named = refl
 key-with parts None None (Some path) name place is at named =
     or-right _ _ (or-left _ _ (eq-same path (name_key name) (literal-name parts path name is named)))
@@ -88,8 +95,9 @@ key-with parts (Some number) None (Some path) name (Some place) is at named =
     let same : number ≡ place.0 = eqb-true number place.0 both.0 in
     let path-same : path ≡ name_key name = literal-name parts path name is named in
     let key = bytes_eq (line_key path number) in
-    or-right (key []) _ (or-right (key (name_key name)) _ (or-right (key (digest_key place.1)) _ (or-left (key (line_key (name_key name) place.0)) false
-    (eq-same (line_key path number) (line_key (name_key name) place.0) (rw (path-same, same) refl)))))
+    or-right (key []) _ (or-right (key (name_key name)) _ (or-right (key (digest_key place.1)) _
+    (or-right (key (digest_path_key place.1 (name_key name))) _ (or-left (key (line_key (name_key name) place.0)) false
+    (eq-same (line_key path number) (line_key (name_key name) place.0) (rw (path-same, same) refl))))))
 
 pub key-found : (query : Query) (entry : Entry) → entry_allows query entry ≡ true → list_any (bytes_eq (key_of entry)) (keys_of query) ≡ true
 unfolding entry_allows

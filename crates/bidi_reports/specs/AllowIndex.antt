@@ -23,6 +23,15 @@ line_key path number = path ++ (codes ":" ++ decimal number)
 abbrev pub digest_key : List ℕ → List ℕ
 digest_key digest = flat_map encode_utf8 digest
 
+-- a digest in the file of a path
+abbrev pub digest_path_key : List ℕ → List ℕ → List ℕ
+digest_path_key digest path = digest_key digest ++ (codes ":" ++ path)
+
+-- the key of an entry with a digest: with its path, but without one for other patterns
+abbrev pub place_key : List ℕ → Option (List ℕ) → List ℕ
+place_key digest None = digest_key digest
+place_key digest (Some path) = digest_path_key digest path
+
 -- the key of an entry: the digest, the path or the line that it is for, and nothing for other patterns
 abbrev pub path_key : Option (List ℕ) → Option ℕ → List ℕ
 path_key None line = []
@@ -30,7 +39,7 @@ path_key (Some path) None = path
 path_key (Some path) (Some number) = line_key path number
 
 abbrev pub key_with : Option (List ℕ) → Option (List ℕ) → Option ℕ → List ℕ
-key_with (Some digest) path line = digest_key digest
+key_with (Some digest) path line = place_key digest path
 key_with None path line = path_key path line
 
 abbrev pub key_of : Entry → List ℕ
@@ -42,7 +51,7 @@ name_key name = flat_map encode_utf8 (chars (plain_path name))
 
 abbrev pub place_keys : List ℕ → Option (ℕ × List ℕ) → List (List ℕ)
 place_keys path None = []
-place_keys path (Some place) = digest_key place.1 ∷ line_key path place.0 ∷ []
+place_keys path (Some place) = digest_key place.1 ∷ digest_path_key place.1 path ∷ line_key path place.0 ∷ []
 
 abbrev pub keys_of : Query → List (List ℕ)
 keys_of query = [] ∷ name_key query.name ∷ place_keys (name_key query.name) query.place

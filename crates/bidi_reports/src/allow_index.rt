@@ -4,7 +4,7 @@ ghost use Rattle.std.specs.List.{list_any};
 ghost use Rattle.std.specs.Option.{option_map_or};
 ghost use Rattle.std.specs.BTreeMap.{get_by_text};
 ghost use Rattle.std.specs.Str.{bytes_eq, chars};
-ghost use Rattle.bidi_reports.specs.AllowIndex.{literal_text, digest_key, line_key, path_key, key_of, name_key, keys_of, keyed_from, indexes_at, allows_at};
+ghost use Rattle.bidi_reports.specs.AllowIndex.{literal_text, digest_key, digest_path_key, place_key, line_key, path_key, key_of, name_key, keys_of, keyed_from, indexes_at, allows_at};
 
 use crate::entry::{Entry, Query};
 use crate::glob::Part;
@@ -68,6 +68,24 @@ fn digest_key(alloc: Global, digest: &[u8]) -> Result<String, AllocError>
     Ok(key)
 }
 
+// Returns the key of a digest in a file of this name.
+fn digest_path_key(alloc: Global, digest: &[u8], path: &str) -> Result<String, AllocError>
+    ensures { IfOk result (λ key. string_bytes key ≡ digest_path_key digest.now path.now) }
+{
+    let digest = digest_key(alloc, digest)?;
+    format!(in alloc; "{digest}:{path}")
+}
+
+// Returns the key of an entry with a digest.
+fn place_key(alloc: Global, digest: &[u8], path: Option<String>) -> Result<String, AllocError>
+    ensures { IfOk result (λ key. string_bytes key ≡ place_key digest.now (option_map string_bytes path)) }
+{
+    match path {
+        None => digest_key(alloc, digest),
+        Some(path) => digest_path_key(alloc, digest, path.as_str()),
+    }
+}
+
 // Returns the key of a file of this name.
 fn name_key(alloc: Global, name: &str) -> Result<String, AllocError>
     ensures { IfOk result (λ key. string_bytes key ≡ name_key name.now) }
@@ -119,7 +137,7 @@ fn key_of(alloc: Global, entry: &Entry<'_>) -> Result<String, AllocError>
 {
     let path = literal_text(alloc, entry.parts())?;
     if let Some(digest) = entry.digest() {
-        return digest_key(alloc, digest);
+        return place_key(alloc, digest, path);
     }
     path_key(alloc, path, entry.line())
 }
@@ -133,7 +151,9 @@ pub fn keys_of(alloc: Global, query: &Query<'_>) -> Result<Vec<String>, AllocErr
     keys.push(String::new(alloc))?;
     keys.push(name.clone()?)?;
     if let Some(place) = &query.place {
-        keys.push(digest_key(alloc, place.digest.as_bytes())?)?;
+        let digest = place.digest.as_bytes();
+        keys.push(digest_key(alloc, digest)?)?;
+        keys.push(digest_path_key(alloc, digest, name.as_str())?)?;
         keys.push(line_key(alloc, name.as_str(), place.number)?)?;
     }
     Ok(keys)
@@ -193,12 +213,23 @@ pub fn note_allowing(
 {
     let mut allows = false;
     for index in indexes {
+        // Another entry allows this, and this one has allowed something before: there is nothing to note.
+        if allows && is_used(used, *index) {
+            continue;
+        }
         if allows_at(alloc, query, entries, *index)? {
             allows = true;
             note_used(used, *index);
         }
     }
     Ok(allows)
+}
+
+// Returns whether the entry at this index, if there is one, is used.
+fn is_used(used: &[bool], index: usize) -> bool
+    ensures { result ≡ get_or used.now index false }
+{
+    index < used.len() && used[index]
 }
 
 // Notes that an entry is used.
