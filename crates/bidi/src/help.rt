@@ -57,8 +57,8 @@ const CHECK: &str = "usage: bidi check [OPTION..] [--] [FILE..]\n\
     \u{20}             with / at its end for all files below it, a pattern with *, ** or ?, or a\n\
     \u{20}             comment that begins with #. After a tab it may name kinds, as in\n\
     \u{20}             not-closed,present, and after one more the digest of the line, as in\n\
-    \u{20}             #9f86d081884c7d65. The kinds not-utf8 and link are for a file as a whole. An\n\
-    \u{20}             entry that allows nothing is reported\n\
+    \u{20}             #9f86d081884c7d659a2feaa0c55ad015. The kinds not-utf8 and link are for a file\n\
+    \u{20}             as a whole. An entry that allows nothing is reported\n\
     --strict-allow\n\
     \u{20}             such an entry counts as a finding\n\
     --write-allow FILE\n\

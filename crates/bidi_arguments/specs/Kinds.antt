@@ -1,22 +1,15 @@
 -- The kinds of findings that arguments name.
-use Rattle.std.specs.Prelude.{ℕ, ◌==◌, Bool, if◌then◌else◌, List, [], ◌∷◌, Option, Some, None, codes}
+use Rattle.std.specs.Prelude.{ℕ, ◌==◌, Bool, List, [], ◌∷◌, Option, Some, None}
 use Rattle.std.specs.List.{slice_split}
 use Rattle.std.specs.Option.{option_and_then}
-use Rattle.std.specs.Str.{bytes_eq}
 use Rattle.bidi_controls.specs.Findings.{with_kind}
 use Rattle.bidi_controls.specs.declared.finding.Trouble.{Trouble}
-use Rattle.bidi_controls.specs.declared.finding.Trouble.TheVariants.{NotClosed, ClosesNothing, Present, DisplayedDifferently, LettersAlone}
 use Rattle.bidi_controls.specs.declared.finding.Wanted.{Wanted}
+use Rattle.bidi_reports.specs.Kinds.{kind_named, trouble_in}
 
--- the kind of this name
-abbrev pub kind_named : List ℕ → Option Trouble
-kind_named word =
-    if bytes_eq word (codes "closes-nothing") then Some ClosesNothing
-    else if bytes_eq word (codes "displayed-differently") then Some DisplayedDifferently
-    else if bytes_eq word (codes "letters-alone") then Some LettersAlone
-    else if bytes_eq word (codes "not-closed") then Some NotClosed
-    else if bytes_eq word (codes "present") then Some Present
-    else None
+-- the kind of a finding of this name
+abbrev pub trouble_named : List ℕ → Option Trouble
+trouble_named word = option_and_then trouble_in (kind_named word)
 
 -- the names of a list, which commas separate
 abbrev pub names_in : List ℕ → List (List ℕ)
@@ -31,4 +24,4 @@ with_named flag (Some kind) wanted = Some (with_kind wanted kind flag)
 abbrev pub with_kinds : Bool → Wanted → List (List ℕ) → Option Wanted
 with_kinds flag wanted [] = Some wanted
 with_kinds flag wanted (name ∷ names) =
-    option_and_then (λ next. with_kinds flag next names) (with_named flag (kind_named name) wanted)
+    option_and_then (λ next. with_kinds flag next names) (with_named flag (trouble_named name) wanted)

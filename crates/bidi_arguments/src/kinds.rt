@@ -1,22 +1,16 @@
 //! The kinds of findings that a list in an argument names, such as `not-closed,closes-nothing`.
 ghost use Rattle.std.specs.Prelude.{◌≡◌, ◌∷◌, ◌<◌, [], length, MatchOption, IfSome};
-ghost use Rattle.bidi_arguments.specs.Kinds.{kind_named, names_in, with_kinds as with_kinds_of};
+ghost use Rattle.bidi_arguments.specs.Kinds.{trouble_named, names_in, with_kinds as with_kinds_of};
 
 use bidi_controls::finding::{Trouble, Wanted};
+use bidi_reports::kind::Kind;
 
 /// Returns the kind of a finding that a name in an argument means: that of the reports. Returns `None` for any other
 /// name.
 pub fn parse_kind(name: &str) -> Option<Trouble>
-    ensures { result ≡ kind_named name.now }
+    ensures { result ≡ trouble_named name.now }
 {
-    match name {
-        "closes-nothing" => Some(Trouble::ClosesNothing),
-        "displayed-differently" => Some(Trouble::DisplayedDifferently),
-        "letters-alone" => Some(Trouble::LettersAlone),
-        "not-closed" => Some(Trouble::NotClosed),
-        "present" => Some(Trouble::Present),
-        _ => None,
-    }
+    Kind::parse(name.as_bytes())?.trouble()
 }
 
 // Returns the first name of a list, and what follows the comma after it, if there is one.

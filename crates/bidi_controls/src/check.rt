@@ -3,7 +3,7 @@ ghost use Rattle.std.specs.Prelude.{◌≡◌, ◌+◌, ◌<◌, ◌^◌, ◌++�
 ghost use Rattle.std.specs.Option.{option_to_list};
 ghost use Rattle.bidi_base.specs.Indexes.{indexes};
 ghost use Rattle.bidi_controls.specs.FileSearch.{displayed_of, displayed_in_line, displayed_in_paragraph};
-ghost use Rattle.bidi_controls.specs.Findings.{is_wanted as is_wanted_of, character_findings, findings_of, controls_wanted};
+ghost use Rattle.bidi_controls.specs.Findings.{is_wanted as is_wanted_of, character_findings, finding_of, findings_of, controls_wanted};
 ghost use Rattle.bidi_controls.specs.Matches.{is_unmatched as is_unmatched_in};
 
 use crate::differing::DisplayedParagraph;
@@ -63,6 +63,29 @@ impl LineParagraph<'_> {
     }
 }
 
+/// Appends what is found at an index of a paragraph, if it is wanted.
+fn push_finding_at<D: BidiDataSource>(
+    findings: &mut Vec<Finding>,
+    data_source: &D,
+    wanted: Wanted,
+    paragraph: &LineParagraph<'_>,
+    index: usize,
+    is_unmatched: bool,
+) -> Result<(), AllocError>
+    requires { index < length paragraph.now.chars.now }
+    ensures { let c = get_or paragraph.now.chars.now index 0 in
+        OnOk result (findings.new.items ≡ findings.old.items
+        ++ filter (is_wanted_of wanted) (option_to_list (finding_of paragraph.now.line (paragraph.now.place + index)
+        is_unmatched ((D.source data_source.now).class_of c) c))) }
+{
+    // What is not without a match is at most present. Most characters are passed over here, without a look at them.
+    if !is_unmatched && !wanted.present {
+        return Ok(());
+    }
+    let at = paragraph.char_at(data_source, index);
+    push_wanted(findings, wanted, Finding::of(is_unmatched, at))
+}
+
 /// Appends what is found in the characters of a paragraph, if it is wanted.
 fn push_findings<D: BidiDataSource>(
     findings: &mut Vec<Finding>,
@@ -79,8 +102,14 @@ fn push_findings<D: BidiDataSource>(
         ++ filter (is_wanted_of wanted) (character_findings paragraph.now.line paragraph.now.place classes chars)) }
 {
     for (index, is_unmatched) in unmatched.iter().enumerate() {
-        let at = paragraph.char_at(data_source, index);
-        push_wanted(findings, wanted, Finding::of(*is_unmatched, at))?;
+        push_finding_at(
+            findings,
+            data_source,
+            wanted,
+            paragraph,
+            index,
+            *is_unmatched,
+        )?;
     }
     Ok(())
 }

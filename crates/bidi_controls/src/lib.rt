@@ -4,7 +4,7 @@
 
 pub mod check;
 pub mod control;
-pub mod control_bytes;
+mod control_bytes;
 pub mod decode;
 pub mod differing;
 pub mod displayed;

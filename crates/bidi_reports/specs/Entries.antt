@@ -79,9 +79,9 @@ kinds_of text = kinds_named (fields_of 44 text)
 abbrev pub is_digest_digit : ℕ → Bool
 is_digest_digit c = is_ascii_digit c || (nat_le 97 c && nat_le c 102)
 
--- the digest of a line: sixteen of these digits
+-- the digest of a line: 32 of these digits
 abbrev pub is_digest : List ℕ → Bool
-is_digest text = length text == 16 && list_all is_digest_digit text
+is_digest text = length text == 32 && list_all is_digest_digit text
 
 -- # and a digest
 abbrev pub begins_with_hash : List ℕ → Bool

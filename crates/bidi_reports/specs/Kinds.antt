@@ -1,6 +1,7 @@
 -- The kinds of what an allow-list allows.
 use Rattle.std.specs.Prelude.{ℕ, Bool, true, false, if◌then◌else◌, List, Option, Some, None, codes}
 use Rattle.std.specs.Str.{bytes_eq}
+use Rattle.bidi_controls.specs.declared.finding.Trouble.{Trouble}
 use Rattle.bidi_controls.specs.declared.finding.Trouble.TheVariants.{NotClosed, ClosesNothing, Present, DisplayedDifferently, LettersAlone}
 use Rattle.bidi_reports.specs.Words.{kind_of}
 use Rattle.bidi_reports.specs.declared.kind.Kind.{Kind}
@@ -23,6 +24,12 @@ kind_named name =
     else if bytes_eq name (codes "not-utf8") then Some NotUtf8
     else if bytes_eq name (codes "link") then Some Link
     else None
+
+-- what is wrong, if it is the kind of a finding
+abbrev pub trouble_in : Kind → Option Trouble
+trouble_in (Finding trouble) = Some trouble
+trouble_in NotUtf8 = None
+trouble_in Link = None
 
 abbrev pub is_finding : Kind → Bool
 is_finding (Finding trouble) = true

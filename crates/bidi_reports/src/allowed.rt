@@ -4,7 +4,7 @@
 //! `src/names.c:12`. It allows what is found in the file of that name, or in that line of it. A path that ends with `/`
 //! is for each file below that directory. In a path `*` stands for any characters but `/`, `**` for any characters, and
 //! `?` for one character but `/`. After a tab an entry may have kinds, as in `not-closed,present`, and after one more
-//! the digest of a line, as in `#9f86d081884c7d65`: it then allows only these kinds, and only in lines with this digest.
+//! the digest of a line, as in `#9f86d081884c7d659a2feaa0c55ad015`: it then allows only these kinds, and only in lines with this digest.
 //! An empty line allows nothing, nor does one that begins with `#`.
 ghost use Rattle.std.specs.Prelude.{◌≡◌, ◌++◌, ◌∷◌, [], List, ℕ, map, not, true, false, ◌||◌, ◌<◌, get_or, length, IfOk, IfErr, OnOk};
 ghost use Rattle.std.specs.BTreeMap.{get_by_text};

@@ -7,7 +7,7 @@ use crate::text::without_end;
 use sha2::{Digest, Sha256};
 use std::alloc::{AllocError, Global};
 
-/// Returns the digest of a line: the first sixteen hexadecimal digits of SHA-256 over its characters in UTF-8, without the
+/// Returns the digest of a line: the first 32 hexadecimal digits of SHA-256 over its characters in UTF-8, without the
 /// line feed, the carriage return or both that end it.
 ///
 /// The same line has the same digest wherever it is in a file. Returns an error if an allocation fails.
@@ -17,5 +17,5 @@ pub fn line_digest(alloc: Global, line: &[char]) -> Result<String, AllocError>
 {
     let text = text_of(alloc, without_end(line))?;
     let digest = Sha256::digest(text.as_bytes());
-    hex::encode(alloc, &digest[..8])
+    hex::encode(alloc, &digest[..16])
 }

@@ -172,7 +172,7 @@ fn are_digest_digits(text: &[u8]) -> bool
 fn is_digest(text: &[u8]) -> bool
     ensures { result ≡ is_digest text.now }
 {
-    text.len() == 16 && are_digest_digits(text)
+    text.len() == 32 && are_digest_digits(text)
 }
 
 // Returns whether a text begins with `#`.
@@ -360,7 +360,7 @@ impl<'l> Entry<'l> {
 pub struct Place<'q> {
     /// Its number, counted from 1.
     pub number: usize,
-    /// Its digest: sixteen hexadecimal digits.
+    /// Its digest: 32 hexadecimal digits.
     pub digest: &'q str,
 }
 

@@ -1,6 +1,6 @@
 //! The kinds of what an allow-list allows.
 ghost use Rattle.std.specs.Prelude.{◌≡◌};
-ghost use Rattle.bidi_reports.specs.Kinds.{kind_name, kind_named, is_finding, is_same_kind};
+ghost use Rattle.bidi_reports.specs.Kinds.{kind_name, kind_named, trouble_in, is_finding, is_same_kind};
 
 use crate::words::kind_of;
 use bidi_controls::finding::Trouble;
@@ -48,6 +48,16 @@ impl Kind {
             Some(Kind::Link)
         } else {
             None
+        }
+    }
+
+    /// Returns what is wrong, if this is the kind of a finding.
+    pub fn trouble(self) -> Option<Trouble>
+        ensures { result ≡ trouble_in self }
+    {
+        match self {
+            Kind::Finding(trouble) => Some(trouble),
+            Kind::NotUtf8 | Kind::Link => None,
         }
     }
 
