@@ -88,7 +88,7 @@ unfoldable pub help_of : Trouble → List ℕ
 help_of NotClosed =
     codes "Nothing on this line closes the control, so it also moves what follows it. Close an isolate by U+2069, and an embedding or an override by U+202C, or remove the control."
 help_of ClosesNothing = codes "Nothing on this line is open that this control closes. Remove it, or open on this line what it should close."
-help_of Present = codes "bidi check --any reports each direction control and mark. Remove it, or allow it with --allow."
+help_of Present = codes "bidi check --any and --gate report each direction control and mark. Remove it, or allow it with --allow."
 help_of DisplayedDifferently =
     codes "A reader of this line sees its ASCII in another order, or mirrored, than a compiler reads it. Remove the controls, or close each directly after the text that it is for."
 help_of LettersAlone =

@@ -104,7 +104,7 @@ pub fn help_of(trouble: Trouble) -> &'static str
             "Nothing on this line is open that this control closes. Remove it, or open on this line what it should close."
         }
         Trouble::Present => {
-            "bidi check --any reports each direction control and mark. Remove it, or allow it with --allow."
+            "bidi check --any and --gate report each direction control and mark. Remove it, or allow it with --allow."
         }
         Trouble::DisplayedDifferently => {
             "A reader of this line sees its ASCII in another order, or mirrored, than a compiler reads it. Remove the controls, or close each directly after the text that it is for."
