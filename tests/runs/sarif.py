@@ -123,7 +123,7 @@ def want(what, found, wanted):
 
 
 def digest(line):
-    return hashlib.sha256(line.encode("utf-8")).hexdigest()[:16]
+    return hashlib.sha256(line.encode("utf-8")).hexdigest()[:32]
 
 
 def success(program, folder):
