@@ -28,6 +28,4 @@ pub mod per_char;
 pub mod run_structs;
 pub mod show;
 pub mod shown;
-#[cfg(test)]
-mod tests;
 pub mod whole_text;

@@ -14,8 +14,6 @@ pub mod line_breaks;
 pub mod line_char;
 pub mod line_cluster;
 pub mod options;
-#[cfg(test)]
-mod tests;
 pub mod text;
 pub mod text_display;
 pub mod width;

@@ -1,11 +1,13 @@
-//! Tests that are not test vectors: of `unicode_bidi` and of what it is built on, of a line as it is displayed, and of
-//! `bidi_show` over readers and writers in memory.
+//! Tests that are not test vectors: of `unicode_bidi` and of what it is built on, of a line as it is displayed, of the
+//! calls of the C interface, and of `bidi_show` over readers and writers in memory.
 #![tactic(auto)]
 
 #[cfg(test)]
 mod analyser;
 #[cfg(test)]
 mod bases;
+#[cfg(test)]
+mod calls;
 #[cfg(test)]
 mod check;
 #[cfg(test)]

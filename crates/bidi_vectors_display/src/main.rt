@@ -8,6 +8,8 @@
 #![tactic(auto)]
 
 mod case;
+#[cfg(test)]
+mod cluster_tests;
 mod display;
 mod encodings;
 mod line_rows;

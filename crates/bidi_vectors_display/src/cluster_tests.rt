@@ -1,7 +1,7 @@
 //! The clusters of worked texts, in each encoding. The expected ones come from the rules of UAX #29 and from Unicode's
 //! `GraphemeBreakTest.txt`.
 
-use crate::clusters::Clusters;
+use bidi_display::clusters::Clusters;
 use bidi_text::text::{CharsText, StrText, TextSource, Utf16Text};
 use std::process::Abort;
 use std::test::Fail;

@@ -1,14 +1,15 @@
-//! Worked lines and texts. The expected ones come from the rules P1 to L4 and UAX #29.
+//! The calls that the C interface makes, for worked lines and texts. The expected results come from the rules P1 to L4
+//! and UAX #29.
 
-use crate::buffers::{AnalysisBuffers, ParagraphBuffers, Settings};
-use crate::display_buffers::DisplayBuffers;
-use crate::display_line::display_line;
-use crate::kept::{KeptAnalyser, analyse_kept};
-use crate::line::CallerLine;
-use crate::line_order::line_order;
-use crate::paragraph_search::find_paragraphs;
-use crate::shown::write_places;
-use crate::whole_text::display_text;
+use bidi_calls::buffers::{AnalysisBuffers, ParagraphBuffers, Settings};
+use bidi_calls::display_buffers::DisplayBuffers;
+use bidi_calls::display_line::display_line;
+use bidi_calls::kept::{KeptAnalyser, analyse_kept};
+use bidi_calls::line::CallerLine;
+use bidi_calls::line_order::line_order;
+use bidi_calls::paragraph_search::find_paragraphs;
+use bidi_calls::shown::write_places;
+use bidi_calls::whole_text::display_text;
 use bidi_numbers::fault::Fault;
 use bidi_numbers::structs::Paragraph;
 use bidi_numbers::utf32_text::Utf32Text;
