@@ -1,6 +1,6 @@
 -- How a line is displayed, and lines that are displayed differently from how they read. A line here is the list of
 -- its characters without the separator that ends it, and is a paragraph by itself.
-use Rattle.std.specs.Prelude.{ℕ, Bool, not, ◌==◌, ◌&&◌, ◌||◌, true, false, nat_eq, if◌then◌else◌, List, map, filter, get_or, Option, Some, None}
+use Rattle.std.specs.Prelude.{ℕ, ◌+◌, Bool, not, ◌==◌, ◌&&◌, ◌||◌, true, false, nat_eq, if◌then◌else◌, List, [], ◌∷◌, map, filter, drop, get_or, Option, Some, None}
 use Rattle.std.specs.Char.{is_ascii_graphic}
 use Rattle.std.specs.Cmp.Lexicographic.{pointwise}
 use Rattle.std.specs.List.{list_any}
@@ -63,6 +63,15 @@ without_controls source chars = filter (λ c. not (is_control (source.class_of c
 -- the printable ASCII characters except the space, U+0021 to U+007E
 abbrev pub visible_ascii : List ℕ → List ℕ
 visible_ascii chars = filter is_ascii_graphic chars
+
+-- the index, in a list of characters that a device shows, of the first printable ASCII character other than the space that
+-- is not the next one of these that are read; or the number of characters, if there is none
+abbrev pub first_moved : List ℕ → List ℕ → ℕ
+first_moved [] read = 0
+first_moved (c ∷ shown) read =
+    if not (is_ascii_graphic c) then first_moved shown read + 1
+    else if get_or read 0 0 == c then first_moved shown (drop 1 read) + 1
+    else 0
 
 -- these two lists of characters are the same
 abbrev pub are_same : List ℕ → List ℕ → Bool

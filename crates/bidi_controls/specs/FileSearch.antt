@@ -7,7 +7,7 @@ use Rattle.bidi_base.specs.Paragraphs.{own_chars, paragraphs_in}
 use Rattle.bidi_base.specs.Source.{Source}
 use Rattle.bidi_unicode.specs.Unicode.{unicode_source}
 use Rattle.bidi_controls.specs.ControlBytes.{holds_control}
-use Rattle.bidi_controls.specs.Displayed.{as_shown, without_controls}
+use Rattle.bidi_controls.specs.Displayed.{as_shown, first_moved, visible_ascii, without_controls}
 use Rattle.bidi_controls.specs.Findings.{findings_in_line, wanted_differing}
 use Rattle.bidi_controls.specs.declared.check.Sought.{Sought}
 use Rattle.bidi_controls.specs.declared.differing.Differing.{Differing}
@@ -21,19 +21,22 @@ use Rattle.bidi_controls.specs.declared.file_search.FileSearch.{FileSearch}
 
 -- ---- what is kept of a line
 
--- a paragraph as it is displayed: the column of its finding, the base level with which it is displayed, and its characters
--- as a device shows them, without direction controls
+-- a paragraph as it is displayed: the column of its finding, the base level with which it is displayed, the index of the
+-- first visible ASCII character that is not read at its place, and its characters as a device shows them, without direction
+-- controls
 abbrev pub DisplayedAt : Type 0
-DisplayedAt = ℕ × ℕ × List ℕ
+DisplayedAt = ℕ × ℕ × ℕ × List ℕ
 
 -- those of a `DisplayedParagraph`
 abbrev pub displayed_of : DisplayedParagraph → DisplayedAt
-displayed_of paragraph = (paragraph.column, paragraph.level, paragraph.chars.items)
+displayed_of paragraph = (paragraph.column, paragraph.level, paragraph.moved, paragraph.chars.items)
 
 -- a paragraph that begins at the index `from` of its line, as it is displayed if it differs like this
 abbrev pub displayed_as : Source → ℕ → List ℕ → Differing → DisplayedAt
 displayed_as source from chars differing =
-    (from + differing.place + 1, differing.level, without_controls source (as_shown source (Some differing.level) (own_chars source chars)))
+    let line = own_chars source chars in
+    let shown = without_controls source (as_shown source (Some differing.level) line) in
+    (from + differing.place + 1, differing.level, first_moved shown (visible_ascii line), shown)
 
 -- the same, if it has a finding as a whole, and if that is kept
 abbrev pub displayed_in_paragraph : Source → Sought → ℕ → List ℕ → List DisplayedAt

@@ -209,11 +209,13 @@ impl LineSearch {
         if sought.displays {
             let line = own_chars(data_source, chars);
             let mut displayed = Vec::new(alloc);
-            self.comparison
+            let moved = self
+                .comparison
                 .write_displayed(data_source, line, &mut displayed)?;
             found.displayed.push(DisplayedParagraph {
                 column: finding.column,
                 level: differing.level,
+                moved,
                 chars: displayed,
             })?;
         }

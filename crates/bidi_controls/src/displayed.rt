@@ -4,7 +4,7 @@ ghost use Rattle.bidi_base.specs.Order.{visual_order, IsVisualOrder};
 ghost use Rattle.bidi_base.specs.Paragraphs.{own_chars as own_chars_of};
 ghost use Rattle.bidi_controls.specs.Controls.{is_control_or_mark as is_control_or_mark_of};
 ghost use Rattle.bidi_controls.specs.Comparison.{IsShown, IsOfLine, IsPlainOf};
-ghost use Rattle.bidi_controls.specs.Displayed.{displayed_levels, visible_ascii, are_same, mirrored_ascii as mirrored_ascii_of, shown_at as shown_at_of, shown_char, shown_in_order, shown_ascii};
+ghost use Rattle.bidi_controls.specs.Displayed.{displayed_levels, visible_ascii, first_moved, are_same, mirrored_ascii as mirrored_ascii_of, shown_at as shown_at_of, shown_char, shown_in_order, shown_ascii};
 ghost use Rattle.bidi_controls.specs.Displayed.{without_controls, plain_line, has_control_or_mark as has_control_or_mark_of, has_right_to_left as has_right_to_left_of};
 ghost use Rattle.bidi_controls.specs.Displayed.{is_as_read, is_displayed_differently, differing_level, moving_level, is_right_to_left as is_right_to_left_of};
 ghost use Rattle.bidi_controls.specs.Findings.{wanted_differing};
@@ -47,6 +47,23 @@ fn write_visible_ascii(chars: &[char], out: &mut Vec<u8>) -> Result<(), AllocErr
         }
     }
     Ok(())
+}
+
+// Returns the index of the first displayed character that is visible ASCII, and not the next one of what is read. If there
+// is none, returns the number of displayed characters.
+fn first_moved(displayed: &[char], read: &[u8]) -> usize
+    ensures { result ≡ first_moved displayed.now read.now }
+{
+    let mut rest = read;
+    for (index, c) in displayed.iter().enumerate() {
+        if c.is_ascii_graphic() {
+            match rest {
+                [next, after @ ..] if char::from(*next) == *c => rest = after,
+                _ => return index,
+            }
+        }
+    }
+    displayed.len()
 }
 
 // Returns the mirrored partner of an ASCII character, or the character itself if it has none.
@@ -506,7 +523,7 @@ impl DisplayComparison {
     }
 
     /// Writes the characters of a line as a device shows them: from left to right, mirrored at odd levels, and without
-    /// direction controls.
+    /// direction controls. Returns the index in `out` of the first printable ASCII character that is not read at its place.
     ///
     /// `line` is the paragraph for which `differing` returned a value last, without the separator that ends it. The base
     /// level is that of the value. The characters replace the contents of `out`.
@@ -515,12 +532,15 @@ impl DisplayComparison {
         data_source: &D,
         line: &[char],
         out: &mut Vec<char>,
-    ) -> Result<(), AllocError>
+    ) -> Result<usize, AllocError>
         requires { length self.old.shown.levels.items ≡ length line.now }
-        ensures { OnOk result (out.new.items
+        ensures chars { OnOk result (out.new.items
             ≡ without_controls (D.source data_source.now) (shown_in_order self.old.shown.levels.items line.now)) }
+        ensures moved { IfOk result (λ moved. moved ≡ first_moved out.new.items (visible_ascii line.now)) }
     {
         let levels = self.shown.levels.as_slice();
-        self.display.write_chars(data_source, line, levels, out)
+        self.display.write_chars(data_source, line, levels, out)?;
+        write_visible_ascii(line, &mut self.read)?;
+        Ok(first_moved(out.as_slice(), self.read.as_slice()))
     }
 }

@@ -1,5 +1,5 @@
 -- The report as JSON: a line for each finding, or one document of SARIF.
-use Rattle.std.specs.Prelude.{ℕ, ◌+◌, ◌-◌, ◌^◌, nat_lt, Bool, false, if◌then◌else◌, List, [], ◌++◌, Option, None, Some, flat_map, codes, decimal, encode_utf8}
+use Rattle.std.specs.Prelude.{ℕ, ◌+◌, ◌^◌, nat_lt, Bool, false, if◌then◌else◌, List, [], ◌++◌, Option, None, Some, flat_map, codes, decimal, encode_utf8}
 use Rattle.bidi_controls.specs.Controls.{control_short}
 use Rattle.bidi_controls.specs.Findings.{trouble_text}
 use Rattle.bidi_controls.specs.declared.control.Control.{Control}
@@ -9,6 +9,7 @@ use Rattle.bidi_controls.specs.declared.finding.Trouble.TheVariants.{NotClosed, 
 use Rattle.bidi_terminal.specs.Json.{json_string}
 use Rattle.bidi_terminal.specs.Uris.{uri_of}
 use Rattle.bidi_reports.specs.Parts.{marked_part}
+use Rattle.bidi_reports.specs.Text.{DisplayedChars}
 use Rattle.bidi_reports.specs.declared.parts.Escapes.TheVariants.{HiddenAndRightToLeft}
 use Rattle.unicode_bidi.specs.declared.version.TheConstants.{VERSION}
 use Rattle.bidi_reports.specs.Words.{code_of, character_of, kind_of, level_of, is_about_line, help_of, help_uri_of, message_of}
@@ -43,11 +44,11 @@ json_report name displayed finding =
 -- ---- SARIF
 
 -- what is found, and how the line is displayed if the finding is about that
-abbrev pub result_message : List ℕ → Finding → List ℕ
+abbrev pub result_message : DisplayedChars → Finding → List ℕ
 result_message displayed finding =
     message_of finding
     ++ (if is_about_line finding.trouble
-    then codes "; it is displayed as: " ++ marked_part HiddenAndRightToLeft false displayed (finding.column - 1)
+    then codes "; it is displayed as: " ++ marked_part HiddenAndRightToLeft false displayed.1 displayed.0
     else [])
 
 unfoldable pub message_start : List ℕ
@@ -93,7 +94,7 @@ abbrev pub result_start : Bool → List ℕ
 result_start later = if later then codes ",\n" else codes "\n"
 
 -- `digest` is that of the line
-abbrev pub sarif_report : Bool → List ℕ → List ℕ → List ℕ → Finding → List ℕ
+abbrev pub sarif_report : Bool → List ℕ → List ℕ → DisplayedChars → Finding → List ℕ
 sarif_report later name digest displayed finding =
     result_start later
     ++ (result_rule finding
@@ -104,7 +105,7 @@ unfoldable pub description_start : List ℕ
 description_start = codes "\",\"shortDescription\":{\"text\":\""
 
 abbrev pub rule_subject : Trouble → List ℕ
-rule_subject LettersAlone = []
+rule_subject LettersAlone = codes "On a line, "
 rule_subject _ = codes "A direction control or mark "
 
 unfoldable pub help_start : List ℕ

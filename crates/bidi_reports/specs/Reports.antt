@@ -8,7 +8,7 @@ use Rattle.bidi_terminal.specs.Names.{shown_name}
 use Rattle.bidi_reports.specs.Digests.{digest_for}
 use Rattle.bidi_reports.specs.Json.{json_report, sarif_report, sarif_head}
 use Rattle.bidi_reports.specs.Notifications.{sarif_foot}
-use Rattle.bidi_reports.specs.Text.{text_report}
+use Rattle.bidi_reports.specs.Text.{DisplayedChars, text_report}
 use Rattle.bidi_reports.specs.Words.{is_about_line, is_displayed_differently, is_unmatched}
 use Rattle.bidi_reports.specs.declared.form.Form.{Form}
 use Rattle.bidi_reports.specs.declared.form.Form.TheVariants.{Quiet, Text, Json, Sarif}
@@ -20,22 +20,23 @@ shows_lines (Text excerpts colors notes) = true
 shows_lines Json = true
 shows_lines Sarif = true
 
--- the characters of the paragraph that has its finding at a column, as it is displayed
-abbrev pub displayed_at : ℕ → List DisplayedAt → List ℕ
-displayed_at column [] = []
-displayed_at column (paragraph ∷ displayed) = if paragraph.0 == column then paragraph.2 else displayed_at column displayed
+-- the paragraph that has its finding at a column, as it is displayed
+abbrev pub displayed_at : ℕ → List DisplayedAt → DisplayedChars
+displayed_at column [] = (0, [])
+displayed_at column (paragraph ∷ displayed) =
+    if paragraph.0 == column then (paragraph.2, paragraph.3) else displayed_at column displayed
 
 -- what is displayed, if a finding is about that, or nothing
-abbrev pub displayed_for : List DisplayedAt → Finding → List ℕ
-displayed_for displayed finding = if is_about_line finding.trouble then displayed_at finding.column displayed else []
+abbrev pub displayed_for : List DisplayedAt → Finding → DisplayedChars
+displayed_for displayed finding = if is_about_line finding.trouble then displayed_at finding.column displayed else (0, [])
 
 -- a finding in a file of this name, in this form; `later` says whether findings were written before, and `digest` is that
 -- of the line
-abbrev pub finding_report : Form → Bool → List ℕ → List ℕ → List ℕ → List ℕ → Finding → List ℕ
+abbrev pub finding_report : Form → Bool → List ℕ → List ℕ → List ℕ → DisplayedChars → Finding → List ℕ
 finding_report Quiet later name line digest displayed finding = []
 finding_report (Text excerpts colors notes) later name line digest displayed finding =
     text_report excerpts colors notes (shown_name (chars name)) line displayed finding
-finding_report Json later name line digest displayed finding = json_report name displayed finding
+finding_report Json later name line digest displayed finding = json_report name displayed.1 finding
 finding_report Sarif later name line digest displayed finding = sarif_report later name digest displayed finding
 
 -- one of these findings says that the line is displayed differently from how it reads

@@ -5,6 +5,7 @@ ghost use Rattle.unicode_bidi.specs.declared.version.TheConstants.{VERSION};
 ghost use Rattle.bidi_reports.specs.Json.{json_place, json_member, message_start, region_start, locations_start, description_start, help_start, help_uri_start, rule_help, rule_level, rule_subject, rule_start, rule_end, columns_start, result_columns, rules_start, results_start, sarif_start, json_control, json_kind, json_displayed, json_report, result_message, result_rule, result_end, result_region, result_place, fingerprint_start, result_fingerprint, result_start, sarif_report, rule_text, next_rule, rules_text, version_text, sarif_rules, sarif_head};
 
 use crate::parts::{Escapes, push_part};
+use crate::text::{DisplayedChars, ReportedFinding};
 use crate::words::{
     character_of, code_of, help_of, help_uri_of, is_about_line, kind_of, level_of, push_message,
 };
@@ -107,37 +108,32 @@ fn push_json_displayed(
 pub fn push_json(
     alloc: Global,
     out: &mut String,
-    name: &str,
-    displayed: &[char],
-    finding: &Finding,
+    reported: &ReportedFinding<'_>,
 ) -> Result<(), AllocError>
-    ensures { OnOk result (string_bytes out.new ≡ string_bytes out.old ++ json_report name.now displayed.now finding.now) }
+    ensures { OnOk result (string_bytes out.new ≡ string_bytes out.old
+        ++ json_report reported.now.name.now reported.now.displayed.chars.now reported.now.finding.now) }
 {
-    push_json_place(alloc, out, name, finding)?;
+    let finding = reported.finding;
+    push_json_place(alloc, out, reported.name, finding)?;
     push_json_control(out, finding.control)?;
     push_json_kind(alloc, out, finding)?;
-    push_json_displayed(alloc, out, displayed, finding)?;
+    push_json_displayed(alloc, out, reported.displayed.chars, finding)?;
     out.push_str("}\n")
 }
 
 // Returns the message of a finding in SARIF.
 fn result_message(
     alloc: Global,
-    displayed: &[char],
+    displayed: DisplayedChars<'_>,
     finding: &Finding,
 ) -> Result<String, AllocError>
-    ensures { IfOk result (λ text. string_bytes text ≡ result_message displayed.now finding.now) }
+    ensures { IfOk result (λ text. string_bytes text ≡ result_message (displayed.moved, displayed.chars.now) finding.now) }
 {
     let mut text = message_of(alloc, finding)?;
     if is_about_line(finding.trouble) {
         text.push_str("; it is displayed as: ")?;
-        push_part(
-            &mut text,
-            Escapes::HiddenAndRightToLeft,
-            false,
-            displayed,
-            finding.column.saturating_sub(1),
-        )?;
+        let escapes = Escapes::HiddenAndRightToLeft;
+        push_part(&mut text, escapes, false, displayed.chars, displayed.moved)?;
     }
     Ok(text)
 }
@@ -260,25 +256,24 @@ pub fn push_result_start(out: &mut String, later: bool) -> Result<(), AllocError
     out.push_str(if later { ",\n" } else { "\n" })
 }
 
-/// Appends a finding as a result of SARIF. `later` says whether a result was written before it, and `digest` is that of
-/// its line.
+/// Appends a finding as a result of SARIF. `later` says whether a result was written before it.
 pub fn push_result(
     alloc: Global,
     out: &mut String,
     later: bool,
-    name: &str,
-    digest: &str,
-    displayed: &[char],
-    finding: &Finding,
+    reported: &ReportedFinding<'_>,
 ) -> Result<(), AllocError>
-    ensures { OnOk result (string_bytes out.new ≡ string_bytes out.old ++ sarif_report later name.now digest.now displayed.now finding.now) }
+    ensures { OnOk result (string_bytes out.new ≡ string_bytes out.old
+        ++ sarif_report later reported.now.name.now reported.now.digest.now
+        (reported.now.displayed.moved, reported.now.displayed.chars.now) reported.now.finding.now) }
 {
-    let message = result_message(alloc, displayed, finding)?;
+    let finding = reported.finding;
+    let message = result_message(alloc, reported.displayed, finding)?;
     push_result_start(out, later)?;
     push_result_rule(out, finding)?;
     push_json_string(alloc, out, message.as_str())?;
-    push_result_place(out, name, finding)?;
-    push_result_fingerprint(out, digest, finding)
+    push_result_place(out, reported.name, finding)?;
+    push_result_fingerprint(out, reported.digest, finding)
 }
 
 // Appends what is before the description of a rule.
@@ -293,10 +288,10 @@ fn push_description_start(out: &mut String) -> Result<(), AllocError>
 fn push_rule_subject(out: &mut String, trouble: Trouble) -> Result<(), AllocError>
     ensures { OnOk result (string_bytes out.new ≡ string_bytes out.old ++ rule_subject trouble) }
 {
-    match trouble {
-        Trouble::LettersAlone => Ok(()),
-        _ => out.push_str("A direction control or mark "),
-    }
+    out.push_str(match trouble {
+        Trouble::LettersAlone => "On a line, ",
+        _ => "A direction control or mark ",
+    })
 }
 
 // Appends what is before the help text of a rule.

@@ -10,7 +10,7 @@ use crate::digest::line_digest;
 use crate::form::Form;
 use crate::json_text::{push_json, push_result, push_result_start, push_sarif_head};
 use crate::notifications::{push_notification, push_sarif_foot};
-use crate::text::{ReportedFinding, push_text};
+use crate::text::{DisplayedChars, ReportedFinding, push_text};
 use crate::words::{is_about_line, is_displayed_differently, is_unmatched};
 use bidi_controls::differing::DisplayedParagraph;
 use bidi_controls::finding::Finding;
@@ -26,9 +26,9 @@ fn push_finding(
     reported: &ReportedFinding<'_>,
 ) -> Result<(), AllocError>
     ensures { OnOk result (string_bytes out.new ≡ string_bytes out.old
-        ++ finding_report form later reported.now.name.now reported.now.line.now reported.now.digest.now reported.now.displayed.now reported.now.finding.now) }
+        ++ finding_report form later reported.now.name.now reported.now.line.now reported.now.digest.now
+        (reported.now.displayed.moved, reported.now.displayed.chars.now) reported.now.finding.now) }
 {
-    let (name, displayed, finding) = (reported.name, reported.displayed, reported.finding);
     match form {
         Form::Quiet => Ok(()),
         Form::Text {
@@ -36,15 +36,15 @@ fn push_finding(
             colors,
             notes,
         } => {
-            let shown = shown_name(alloc, name)?;
+            let shown = shown_name(alloc, reported.name)?;
             let reported = ReportedFinding {
                 name: shown.as_str(),
                 ..*reported
             };
             push_text(out, excerpts, colors, notes, &reported)
         }
-        Form::Json => push_json(alloc, out, name, displayed, finding),
-        Form::Sarif => push_result(alloc, out, later, name, reported.digest, displayed, finding),
+        Form::Json => push_json(alloc, out, reported),
+        Form::Sarif => push_result(alloc, out, later, reported),
     }
 }
 
@@ -91,28 +91,37 @@ pub struct LineFindings<'l> {
     pub displayed: &'l [DisplayedParagraph],
 }
 
-// Returns the characters of the paragraph that has its finding at a column, as it is displayed. Returns none if there is
-// no such paragraph.
-fn displayed_at(displayed: &[DisplayedParagraph], column: usize) -> &[char]
-    ensures { result.now ≡ displayed_at column (map displayed_of displayed.now) }
+// Nothing that is displayed.
+const NOTHING_DISPLAYED: DisplayedChars<'static> = DisplayedChars {
+    chars: &[],
+    moved: 0,
+};
+
+// Returns the paragraph that has its finding at a column, as it is displayed. Returns no characters if there is no such
+// paragraph.
+fn displayed_at(displayed: &[DisplayedParagraph], column: usize) -> DisplayedChars<'_>
+    ensures { (result.moved, result.chars.now) ≡ displayed_at column (map displayed_of displayed.now) }
 {
     for paragraph in displayed {
         if paragraph.column == column {
-            return paragraph.chars.as_slice();
+            return DisplayedChars {
+                chars: paragraph.chars.as_slice(),
+                moved: paragraph.moved,
+            };
         }
     }
-    &[]
+    NOTHING_DISPLAYED
 }
 
 impl<'l> LineFindings<'l> {
     // Returns what is displayed, if a finding is about that, or nothing.
-    fn displayed_for(&self, finding: &Finding) -> &'l [char]
-        ensures { result.now ≡ displayed_for (map displayed_of self.now.displayed.now) finding.now }
+    fn displayed_for(&self, finding: &Finding) -> DisplayedChars<'l>
+        ensures { (result.moved, result.chars.now) ≡ displayed_for (map displayed_of self.now.displayed.now) finding.now }
     {
         if is_about_line(finding.trouble) {
             displayed_at(self.displayed, finding.column)
         } else {
-            &[]
+            NOTHING_DISPLAYED
         }
     }
 }

@@ -94,26 +94,25 @@ fn push_note_start(out: &mut String) -> Result<(), AllocError>
     out.push_str("note: displayed as: ")
 }
 
-// Appends a displayed line, or the part around an index, so that no screen reorders it once more.
+// Appends a displayed line, or a part of it, so that no screen reorders it once more.
 #[tactic(auto, unfolding(crate::specs::Text::displayed_part))]
 fn push_displayed_part(
     out: &mut String,
     notes: Notes,
     colors: bool,
-    displayed: &[char],
-    place: usize,
+    displayed: DisplayedChars<'_>,
 ) -> Result<(), AllocError>
-    ensures { OnOk result (string_bytes out.new ≡ string_bytes out.old ++ displayed_part notes colors displayed.now place) }
+    ensures { OnOk result (string_bytes out.new ≡ string_bytes out.old
+        ++ displayed_part notes colors (displayed.moved, displayed.chars.now)) }
 {
+    let DisplayedChars { chars, moved } = displayed;
     match notes {
         Notes::Overridden => {
             out.push(LRO)?;
-            push_part(out, Escapes::Hidden, colors, displayed, place)?;
+            push_part(out, Escapes::Hidden, colors, chars, moved)?;
             out.push(PDF)
         }
-        Notes::Escaped => {
-            push_part(out, Escapes::HiddenAndRightToLeft, colors, displayed, place)
-        }
+        Notes::Escaped => push_part(out, Escapes::HiddenAndRightToLeft, colors, chars, moved),
     }
 }
 
@@ -124,20 +123,15 @@ fn push_note(
     notes: Notes,
     colors: bool,
     name: &str,
-    displayed: &[char],
+    displayed: DisplayedChars<'_>,
     finding: &Finding,
 ) -> Result<(), AllocError>
-    ensures { OnOk result (string_bytes out.new ≡ string_bytes out.old ++ note_text notes colors name.now displayed.now finding.now) }
+    ensures { OnOk result (string_bytes out.new ≡ string_bytes out.old
+        ++ note_text notes colors name.now (displayed.moved, displayed.chars.now) finding.now) }
 {
     push_styled_place(out, colors, name, finding)?;
     push_note_start(out)?;
-    push_displayed_part(
-        out,
-        notes,
-        colors,
-        displayed,
-        finding.column.saturating_sub(1),
-    )?;
+    push_displayed_part(out, notes, colors, displayed)?;
     out.push_str("\n")
 }
 
@@ -165,15 +159,26 @@ fn push_note_if(
     notes: Notes,
     colors: bool,
     name: &str,
-    displayed: &[char],
+    displayed: DisplayedChars<'_>,
     finding: &Finding,
 ) -> Result<(), AllocError>
-    ensures { OnOk result (string_bytes out.new ≡ string_bytes out.old ++ note_report notes colors name.now displayed.now finding.now) }
+    ensures { OnOk result (string_bytes out.new ≡ string_bytes out.old
+        ++ note_report notes colors name.now (displayed.moved, displayed.chars.now) finding.now) }
 {
     if !is_about_line(finding.trouble) {
         return Ok(());
     }
     push_note(out, notes, colors, name, displayed, finding)
+}
+
+/// What is displayed of a line.
+#[derive(Clone, Copy)]
+pub struct DisplayedChars<'d> {
+    /// The characters, from left to right.
+    pub chars: &'d [char],
+    /// The index in `chars` of the first printable ASCII character, other than the space, that is not read at its place. Of a
+    /// long line the part around it is shown.
+    pub moved: usize,
 }
 
 /// A finding, and what is reported with it.
@@ -185,8 +190,8 @@ pub struct ReportedFinding<'f> {
     pub line: &'f [char],
     /// The digest of the line, if the form of the report has it. Otherwise empty.
     pub digest: &'f str,
-    /// The paragraph as it is displayed, if the finding is about that. Otherwise empty.
-    pub displayed: &'f [char],
+    /// The paragraph as it is displayed, if the finding is about that. Otherwise without characters.
+    pub displayed: DisplayedChars<'f>,
     /// The finding.
     pub finding: &'f Finding,
 }
@@ -202,7 +207,8 @@ pub fn push_text(
     reported: &ReportedFinding<'_>,
 ) -> Result<(), AllocError>
     ensures { OnOk result (string_bytes out.new ≡ string_bytes out.old
-        ++ text_report excerpts colors notes reported.now.name.now reported.now.line.now reported.now.displayed.now reported.now.finding.now) }
+        ++ text_report excerpts colors notes reported.now.name.now reported.now.line.now
+        (reported.now.displayed.moved, reported.now.displayed.chars.now) reported.now.finding.now) }
 {
     let (name, finding) = (reported.name, reported.finding);
     push_finding(out, colors, name, finding)?;
