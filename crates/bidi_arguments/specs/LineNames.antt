@@ -1,16 +1,7 @@
 -- The name of a line of a file, as a report of `check` has it, and the line.
-use Rattle.std.specs.Prelude.{ℕ, ◌+◌, ◌-◌, ◌==◌, Bool, not, is_some, nat_le, ◌&&◌, if◌then◌else◌, List, [], ◌∷◌, length, slice_index, take, drop, find, Option, Some, None, option_map}
-use Rattle.std.specs.Char.{is_ascii_digit}
-use Rattle.std.specs.List.{list_all, range_with_len}
-use Rattle.std.specs.Str.Parse.{digits_value}
-
--- one to nine digits, of which the first is not 0
-abbrev pub is_number : List ℕ → Bool
-is_number text = not (length text == 0) && nat_le (length text) 9 && not (slice_index text 0 == 48) && list_all is_ascii_digit text
-
--- the number that a text is
-abbrev pub number_of : List ℕ → Option ℕ
-number_of text = if is_number text then Some (digits_value 10 text) else None
+use Rattle.std.specs.Prelude.{ℕ, ◌+◌, ◌-◌, ◌==◌, Bool, is_some, ◌&&◌, if◌then◌else◌, List, [], ◌∷◌, length, slice_index, take, drop, find, Option, Some, None, option_map}
+use Rattle.std.specs.List.{range_with_len}
+use Rattle.bidi_reports.specs.LineNumbers.{is_line_number, line_number}
 
 -- a colon at this index, before something that passes a test
 abbrev pub is_colon_before : (List ℕ → Bool) → List ℕ → ℕ → Bool
@@ -22,12 +13,12 @@ colon_before test text = find (is_colon_before test text) (range_with_len 0 (len
 
 -- the colon before COLUMN
 abbrev pub column_colon : List ℕ → Option ℕ
-column_colon text = colon_before is_number text
+column_colon text = colon_before is_line_number text
 
 -- LINE, if the colon before COLUMN is at this index
 abbrev pub line_before : List ℕ → Option ℕ → Option ℕ
-line_before text None = number_of text
-line_before text (Some colon) = number_of (take colon text)
+line_before text None = line_number text
+line_before text (Some colon) = line_number (take colon text)
 
 -- LINE of LINE or LINE:COLUMN
 abbrev pub line_in : List ℕ → Option ℕ

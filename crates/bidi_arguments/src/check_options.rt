@@ -297,196 +297,88 @@ impl<'w> CheckOptions<'w> {
 
     /// Returns the options with one more that has no value.
     #[tactic(auto, unfolding(crate::specs::Checks::with_flag))]
-    pub fn with_flag(self, flag: Flag) -> CheckOptions<'w>
+    pub fn with_flag(mut self, flag: Flag) -> CheckOptions<'w>
         ensures { result ≡ with_flag flag self.entry }
     {
-        let CheckOptions {
-            wanted,
-            search,
-            report,
-        } = self;
         match flag {
-            Flag::Any => CheckOptions {
-                wanted: with_everything(wanted),
-                search,
-                report,
-            },
-            Flag::Follow => CheckOptions {
-                wanted,
-                search: Search {
-                    follow: true,
-                    ..search
-                },
-                report,
-            },
+            Flag::Any => self.wanted = with_everything(self.wanted),
+            Flag::Follow => self.search.follow = true,
             // All that `--any`, `--text` and `--hidden` ask for, and more.
-            Flag::Gate => CheckOptions {
-                wanted: with_everything(wanted),
-                search: Search {
-                    hidden: true,
-                    text: true,
-                    gate: true,
-                    ..search
-                },
-                report,
-            },
-            Flag::Hidden => CheckOptions {
-                wanted,
-                search: Search {
-                    hidden: true,
-                    ..search
-                },
-                report,
-            },
-            Flag::Letters => CheckOptions {
-                wanted: Wanted {
-                    letters_alone: true,
-                    ..wanted
-                },
-                search,
-                report,
-            },
-            Flag::Quiet => CheckOptions {
-                wanted,
-                search,
-                report: ReportOptions {
-                    quiet: true,
-                    ..report
-                },
-            },
-            Flag::StrictAllow => CheckOptions {
-                wanted,
-                search,
-                report: ReportOptions {
-                    strict: true,
-                    ..report
-                },
-            },
-            Flag::Binary => CheckOptions {
-                wanted,
-                search: Search {
-                    text: true,
-                    ..search
-                },
-                report,
-            },
-            Flag::OnlyUnmatched => CheckOptions {
-                wanted: Wanted::UNMATCHED,
-                search,
-                report,
-            },
+            Flag::Gate => {
+                self.wanted = with_everything(self.wanted);
+                self.search.hidden = true;
+                self.search.text = true;
+                self.search.gate = true;
+            }
+            Flag::Hidden => self.search.hidden = true,
+            Flag::Letters => self.wanted.letters_alone = true,
+            Flag::Quiet => self.report.quiet = true,
+            Flag::StrictAllow => self.report.strict = true,
+            Flag::Binary => self.search.text = true,
+            Flag::OnlyUnmatched => self.wanted = Wanted::UNMATCHED,
         }
+        self
     }
 
     // Returns the options with this format, which an argument names.
-    fn with_format(self, value: &'w str) -> Result<CheckOptions<'w>, Refusal<'w>>
+    fn with_format(mut self, value: &'w str) -> Result<CheckOptions<'w>, Refusal<'w>>
         ensures { result ≡ with_format value.now self.entry (format_named value.now) }
     {
-        let CheckOptions {
-            wanted,
-            search,
-            report,
-        } = self;
-        match Format::parse(value) {
-            Some(format) => Ok(CheckOptions {
-                wanted,
-                search,
-                report: ReportOptions { format, ..report },
-            }),
-            None => Err(Refusal::NotAFormat(Word::new(value))),
-        }
+        let Some(format) = Format::parse(value) else {
+            return Err(Refusal::NotAFormat(Word::new(value)));
+        };
+        self.report.format = format;
+        Ok(self)
     }
 
     // Returns the options with this value of `--color`, which an argument names.
-    fn with_color(self, value: &'w str) -> Result<CheckOptions<'w>, Refusal<'w>>
+    fn with_color(mut self, value: &'w str) -> Result<CheckOptions<'w>, Refusal<'w>>
         ensures { result ≡ with_color value.now self.entry (color_named value.now) }
     {
-        let CheckOptions {
-            wanted,
-            search,
-            report,
-        } = self;
-        match Color::parse(value) {
-            Some(color) => Ok(CheckOptions {
-                wanted,
-                search,
-                report: ReportOptions { color, ..report },
-            }),
-            None => Err(Refusal::NotAColor(Word::new(value))),
-        }
+        let Some(color) = Color::parse(value) else {
+            return Err(Refusal::NotAColor(Word::new(value)));
+        };
+        self.report.color = color;
+        Ok(self)
     }
 
     // Returns the options with this list of what is allowed.
-    fn with_allow(self, value: &'w str) -> CheckOptions<'w>
+    fn with_allow(mut self, value: &'w str) -> CheckOptions<'w>
         ensures { result ≡ with_allow value.now self.entry }
     {
-        let CheckOptions {
-            wanted,
-            search,
-            report,
-        } = self;
-        let allow = Some(Word::new(value));
-        CheckOptions {
-            wanted,
-            search,
-            report: ReportOptions { allow, ..report },
-        }
+        self.report.allow = Some(Word::new(value));
+        self
     }
 
     // Returns the options with this file for a list of all that is found.
-    fn with_write_allow(self, value: &'w str) -> CheckOptions<'w>
+    fn with_write_allow(mut self, value: &'w str) -> CheckOptions<'w>
         ensures { result ≡ with_write_allow value.now self.entry }
     {
-        let CheckOptions {
-            wanted,
-            search,
-            report,
-        } = self;
-        let write_allow = Some(Word::new(value));
-        CheckOptions {
-            wanted,
-            search,
-            report: ReportOptions {
-                write_allow,
-                ..report
-            },
-        }
+        self.report.write_allow = Some(Word::new(value));
+        self
     }
 
     // Returns the options with this list of files.
-    fn with_list(self, value: &'w str) -> CheckOptions<'w>
+    fn with_list(mut self, value: &'w str) -> CheckOptions<'w>
         ensures { result ≡ with_list value.now self.entry }
     {
-        let CheckOptions {
-            wanted,
-            search,
-            report,
-        } = self;
-        let list = Some(Word::new(value));
-        CheckOptions {
-            wanted,
-            search: Search { list, ..search },
-            report,
-        }
+        self.search.list = Some(Word::new(value));
+        self
     }
 
     // Returns the options with these kinds of findings, which an argument names.
     fn with_wanted(
-        self,
+        mut self,
         value: &'w str,
         kinds: Option<Wanted>,
     ) -> Result<CheckOptions<'w>, Refusal<'w>>
         ensures { result ≡ with_wanted value.now self.entry kinds }
     {
-        let CheckOptions { search, report, .. } = self;
-        match kinds {
-            Some(wanted) => Ok(CheckOptions {
-                wanted,
-                search,
-                report,
-            }),
-            None => Err(Refusal::NotKinds(Word::new(value))),
-        }
+        let Some(kinds) = kinds else {
+            return Err(Refusal::NotKinds(Word::new(value)));
+        };
+        self.wanted = kinds;
+        Ok(self)
     }
 
     // Returns the options with exactly the kinds of findings that an argument names.

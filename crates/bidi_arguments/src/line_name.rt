@@ -1,49 +1,9 @@
 //! The name of a line of a file, as a report of `check` has it.
 ghost use Rattle.std.specs.Prelude.{◌≡◌, ◌<◌, ◌≤◌, length, slice_index, true, IfSome};
-ghost use Rattle.std.specs.Char.{is_ascii_digit};
-ghost use Rattle.std.specs.List.{list_all};
-ghost use Rattle.std.specs.Str.Parse.{digits_value};
-ghost use Rattle.bidi_arguments.specs.LineNames.{is_number, number_of, column_colon, line_in, file_colon};
+ghost use Rattle.bidi_arguments.specs.LineNames.{column_colon, line_in, file_colon};
 
+use bidi_reports::line_number::{is_line_number, line_number};
 use std::marker::Model;
-
-// Returns whether a text has nothing but digits.
-fn are_digits(text: &[u8]) -> bool
-    ensures { result ≡ list_all is_ascii_digit text.now }
-{
-    text.iter().all(|byte| byte.is_ascii_digit())
-}
-
-// Returns whether a text is a number: one to nine digits, of which the first is not 0.
-fn is_number(text: &[u8]) -> bool
-    ensures { result ≡ is_number text.now }
-{
-    !text.is_empty() && text.len() <= 9 && text[0] != b'0' && are_digits(text)
-}
-
-// Returns the number that digits write. There are few enough of them that it fits.
-fn value_of(digits: &[u8]) -> usize
-    requires digits { list_all is_ascii_digit digits.now ≡ true }
-    requires short { length digits.now ≤ 9 }
-    ensures { result ≡ digits_value 10 digits.now }
-{
-    let mut number = 0;
-    for digit in digits {
-        number = number * 10 + usize::from(*digit - b'0');
-    }
-    number
-}
-
-// Returns the number that a text is, or `None` if it is not a number.
-fn number_of(text: &[u8]) -> Option<usize>
-    ensures { result ≡ number_of text.now }
-{
-    if is_number(text) {
-        Some(value_of(text))
-    } else {
-        None
-    }
-}
 
 // Returns the index of the colon that a number alone follows.
 fn column_colon(text: &[u8]) -> Option<usize>
@@ -51,7 +11,7 @@ fn column_colon(text: &[u8]) -> Option<usize>
     ensures within { IfSome result (λ colon. colon < length text.now) }
 {
     for (index, byte) in text.iter().enumerate() {
-        if *byte == b':' && is_number(&text[index + 1..]) {
+        if *byte == b':' && is_line_number(&text[index + 1..]) {
             return Some(index);
         }
     }
@@ -63,8 +23,8 @@ fn line_in(text: &[u8]) -> Option<usize>
     ensures { result ≡ line_in text.now }
 {
     match column_colon(text) {
-        Some(colon) => number_of(&text[..colon]),
-        None => number_of(text),
+        Some(colon) => line_number(&text[..colon]),
+        None => line_number(text),
     }
 }
 

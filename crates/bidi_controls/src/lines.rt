@@ -111,8 +111,7 @@ pub(crate) struct FirstLine {
     pub has_no_controls: bool,
 }
 
-/// Returns the first line of a file that is not empty. With `ascii_has_no_control`, printable ASCII is passed over in
-/// blocks.
+/// Returns the first line of a file that is not empty. With `ascii_has_no_control`, printable ASCII is passed over.
 #[inline(never)]
 pub(crate) fn first_file_line<D: BidiDataSource>(
     data_source: &D,
@@ -140,6 +139,9 @@ pub(crate) fn first_file_line<D: BidiDataSource>(
         }
         let c = chars[at];
         at += 1;
+        if ascii_has_no_control && is_printable_ascii(c) {
+            continue;
+        }
         if is_control_or_mark(data_source, c) {
             has_no_controls = false;
         }

@@ -3,9 +3,9 @@ use Rattle.std.specs.Prelude.{ℕ, ◌+◌, ◌==◌, Bool, true, not, nat_le, �
 use Rattle.std.specs.Char.{is_ascii_digit}
 use Rattle.std.specs.List.{list_all, list_any, slice_split}
 use Rattle.std.specs.Str.{bytes_eq}
-use Rattle.std.specs.Str.Parse.{digits_value}
 use Rattle.bidi_base.specs.Indexes.{indexes}
 use Rattle.bidi_reports.specs.Kinds.{is_finding, is_same_kind, kind_named}
+use Rattle.bidi_reports.specs.LineNumbers.{is_digits, line_number}
 use Rattle.bidi_reports.specs.Patterns.{allows_name, is_directory, path_parts, plain_path}
 use Rattle.bidi_reports.specs.declared.glob.Part.{Part}
 use Rattle.bidi_reports.specs.declared.kind.Kind.{Kind}
@@ -25,10 +25,6 @@ pub record Entry : Type 0 where
 abbrev pub fields_of : ℕ → List ℕ → List (List ℕ)
 fields_of separator text = slice_split (λ byte. byte == separator) text
 
--- one digit at least, and nothing else
-abbrev pub is_digits : List ℕ → Bool
-is_digits text = not (length text == 0) && list_all is_ascii_digit text
-
 -- at this index is a colon, and digits alone follow
 abbrev pub is_number_colon : List ℕ → ℕ → Bool
 is_number_colon text index = slice_index text index == 58 && is_digits (drop (index + 1) text)
@@ -36,10 +32,6 @@ is_number_colon text index = slice_index text index == 58 && is_digits (drop (in
 -- the colon before the number of a line
 abbrev pub number_colon : List ℕ → Option ℕ
 number_colon text = find (is_number_colon text) (indexes text)
-
--- the number of a line, counted from 1, that digits write: one to nine of them, the first not 0
-abbrev pub number_of : List ℕ → Option ℕ
-number_of digits = if nat_le (length digits) 9 && not (slice_index digits 0 == 48) then Some (digits_value 10 digits) else None
 
 -- the files, and the number of a line
 abbrev pub Target : Type 0
@@ -57,7 +49,7 @@ line_target path (Some line) = if is_directory path then None else option_map (�
 -- the same, with this colon before the number of a line
 abbrev pub target_with : List ℕ → Option ℕ → Option Target
 target_with text None = whole_target (plain_path text)
-target_with text (Some colon) = line_target (plain_path (take colon text)) (number_of (drop (colon + 1) text))
+target_with text (Some colon) = line_target (plain_path (take colon text)) (line_number (drop (colon + 1) text))
 
 abbrev pub target_of : List ℕ → Option Target
 target_of text = target_with text (number_colon text)

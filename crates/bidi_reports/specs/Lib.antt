@@ -6,6 +6,7 @@ pub mod Entries
 pub mod Globs
 pub mod Json
 pub mod Kinds
+pub mod LineNumbers
 pub mod Notifications
 pub mod Parts
 pub mod Patterns

@@ -1,13 +1,12 @@
 //! The entries of an allow-list.
 ghost use Rattle.std.specs.Prelude.{◌≡◌, ◌≤◌, ◌+◌, ◌<◌, length, map, drop, option_map, true, IfOk, IfSome};
-ghost use Rattle.std.specs.Char.{is_ascii_digit};
 ghost use Rattle.std.specs.List.{list_all, list_any};
-ghost use Rattle.std.specs.Str.Parse.{digits_value};
-ghost use Rattle.bidi_reports.specs.Entries.{fields_of, is_digits, number_colon, number_of, whole_target, line_target, target_of, kinds_named, kinds_of, is_digest_digit, is_digest, begins_with_hash, digest_of, if_some, entry_with, entry_of_fields, entry_of, allows_kind, allows_number, allows_digest, allows_place, entry_allows};
+ghost use Rattle.bidi_reports.specs.Entries.{fields_of, number_colon, whole_target, line_target, target_of, kinds_named, kinds_of, is_digest_digit, is_digest, begins_with_hash, digest_of, if_some, entry_with, entry_of_fields, entry_of, allows_kind, allows_number, allows_digest, allows_place, entry_allows};
 ghost use Rattle.bidi_reports.specs.Kinds.{is_same_kind};
 
 use crate::glob::Part;
 use crate::kind::Kind;
+use crate::line_number::{is_digits, line_number};
 use crate::pattern::{allows_name, is_directory, path_parts, plain_path};
 use std::alloc::{AllocError, Global};
 use std::marker::Model;
@@ -23,25 +22,10 @@ pub fn fields_of<'l>(
     text.split(|byte| *byte == separator).collect(alloc)
 }
 
-// Returns whether a text has nothing but digits.
-fn are_digits(text: &[u8]) -> bool
-    ensures { result ≡ list_all is_ascii_digit text.now }
-{
-    text.iter().all(|byte| byte.is_ascii_digit())
-}
-
-// Returns whether a text has one digit at least, and nothing else.
-fn is_digits(text: &[u8]) -> bool
-    ensures { result ≡ is_digits text.now }
-{
-    !text.is_empty() && are_digits(text)
-}
-
 // Returns the index of a colon that digits alone follow.
 fn number_colon(text: &[u8]) -> Option<usize>
     ensures colon { result ≡ number_colon text.now }
     ensures within { IfSome result (λ colon. colon < length text.now) }
-    ensures digits { IfSome result (λ colon. is_digits (drop (colon + 1) text.now) ≡ true) }
 {
     for (index, byte) in text.iter().enumerate() {
         if *byte == b':' && is_digits(&text[index + 1..]) {
@@ -49,30 +33,6 @@ fn number_colon(text: &[u8]) -> Option<usize>
         }
     }
     None
-}
-
-// Returns the number that digits write. There are few enough of them that it fits.
-fn value_of(digits: &[u8]) -> usize
-    requires digits { list_all is_ascii_digit digits.now ≡ true }
-    requires short { length digits.now ≤ 9 }
-    ensures { result ≡ digits_value 10 digits.now }
-{
-    let mut number = 0;
-    for digit in digits {
-        number = number * 10 + usize::from(*digit - b'0');
-    }
-    number
-}
-
-// Returns the number of a line, which has one to nine digits and does not begin with 0.
-fn number_of(digits: &[u8]) -> Option<usize>
-    requires { is_digits digits.now ≡ true }
-    ensures { result ≡ number_of digits.now }
-{
-    if digits.len() > 9 || digits[0] == b'0' {
-        return None;
-    }
-    Some(value_of(digits))
 }
 
 // The files that an entry is for, and the number of a line.
@@ -125,7 +85,7 @@ impl Target {
         match number_colon(text) {
             None => Target::whole(alloc, plain_path(text)),
             Some(colon) => {
-                let line = number_of(&text[colon + 1..]);
+                let line = line_number(&text[colon + 1..]);
                 Target::of_line(alloc, plain_path(&text[..colon]), line)
             }
         }

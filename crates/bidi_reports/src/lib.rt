@@ -10,6 +10,7 @@ pub mod form;
 mod glob;
 mod json_text;
 pub mod kind;
+pub mod line_number;
 mod notifications;
 mod parts;
 mod pattern;

@@ -1,5 +1,5 @@
 use Rattle.bidi_base.proofs.Common.{◌≡◌, ℕ, ◌+◌, ◌-◌, ◌<◌, ◌≤◌, true, false, List, All, length, take, drop, get_or, ap, subst, sym, ◌∙◌, arith, length-drop, length-take-le, take_all, nat_tests}
-use Rattle.bidi_base.proofs.Common.{Source, get_or-drop, get_or-take}
+use Rattle.bidi_base.proofs.Common.{Source, get_or-drop, get_or-take, get_or_default}
 use Rattle.bidi_controls.specs.FileLines.{ends_file_line}
 use Rattle.bidi_controls.specs.Lines.{is_printable_ascii}
 use Rattle.bidi_controls.proofs.LinesLemmas.{IsUnbroken-more, IsUnbroken-plain, IsUnbroken-ended, IsUnbroken-whole}
@@ -37,6 +37,24 @@ loop-at-preserved-then-are_printable_ascii g c =
       ends = fits;
       unbroken = IsUnbroken-plain ends_file_line chars c.loop-at.at 16 fits (λ i low high. no_end (get_or chars i 0) (block i low high)) c.loop-at.invariant.unbroken;
       without_controls = λ yes. HaveNoControls-plain source chars c.loop-at.at 16 fits (λ i low high. c.requires.no_control_in_ascii c.if-ascii_has_no_control.true (get_or chars i 0) (block i low high)) (c.loop-at.invariant.without_controls yes);
+    }
+
+-- nor does this one
+at_one : (chars : List ℕ) (at c : ℕ) → at < length chars → c ≡ get_or chars at c → is_printable_ascii c ≡ true → (i : ℕ) → at ≤ i → i < at + 1 → is_printable_ascii (get_or chars i 0) ≡ true
+at_one chars at c fits here printable i low high =
+    let same : at ≡ i = omega (arith, low, high) in
+    subst (λ n. is_printable_ascii (get_or chars n 0) ≡ true) same (ap is_printable_ascii (sym (here ∙ get_or_default chars at c 0 fits)) ∙ printable)
+
+pub loop-at-preserved-then-is_printable_ascii : goal.loop-at-preserved-then-is_printable_ascii
+loop-at-preserved-then-is_printable_ascii g c =
+    let source : Source = g.D.BidiDataSource.source c.args.data_source.now in
+    let chars : List ℕ = c.args.chars.now in
+    let fits : c.loop-at.at + 1 ≤ length chars = omega (arith, c.loop-at-test.true) in
+    let here = at_one chars c.loop-at.at c.index-chars-at.result c.loop-at-test.true c.index-chars-at.is (sym c.is_printable_ascii.ensures ∙ c.if-is_printable_ascii.true) in
+    record {
+      ends = fits;
+      unbroken = IsUnbroken-plain ends_file_line chars c.loop-at.at 1 fits (λ i low high. no_end (get_or chars i 0) (here i low high)) c.loop-at.invariant.unbroken;
+      without_controls = λ yes. HaveNoControls-plain source chars c.loop-at.at 1 fits (λ i low high. c.requires.no_control_in_ascii c.if-ascii_has_no_control-2.true (get_or chars i 0) (here i low high)) (c.loop-at.invariant.without_controls yes);
     }
 
 pub returns-then-ends_file_line-clause-first : goal.returns-then-ends_file_line-clause-first

@@ -8,8 +8,5 @@ returns-then-is_digits-clause-colon c =
     found (is_number_colon c.args.text.now) (length c.args.text.now) c.loop-index.index (omega arith)
     (grind (arith, take_rest c.args.text.now (c.loop-index.index + 1))) c.loop-index.invariant
 
-pub returns-then-is_digits-clause-digits : goal.returns-then-is_digits-clause-digits
-returns-then-is_digits-clause-digits c = grind (arith, take_rest c.args.text.now (c.loop-index.index + 1))
-
 pub returns-clause-colon : goal.returns-clause-colon
 returns-clause-colon c = not_found (is_number_colon c.args.text.now) (length c.args.text.now) (λ k below. c.loop-index.invariant k (omega arith))
