@@ -127,7 +127,7 @@ fn result_message(
     displayed: DisplayedChars<'_>,
     finding: &Finding,
 ) -> Result<String, AllocError>
-    ensures { IfOk result (λ text. string_bytes text ≡ result_message (displayed.moved, displayed.chars.now) finding.now) }
+    ensures { IfOk result (λ text. string_bytes text ≡ result_message (displayed.entry.moved, displayed.entry.chars.now) finding.now) }
 {
     let mut text = message_of(alloc, finding)?;
     if is_about_line(finding.trouble) {

@@ -103,7 +103,7 @@ fn push_displayed_part(
     displayed: DisplayedChars<'_>,
 ) -> Result<(), AllocError>
     ensures { OnOk result (string_bytes out.new ≡ string_bytes out.old
-        ++ displayed_part notes colors (displayed.moved, displayed.chars.now)) }
+        ++ displayed_part notes colors (displayed.entry.moved, displayed.entry.chars.now)) }
 {
     let DisplayedChars { chars, moved } = displayed;
     match notes {
@@ -127,7 +127,7 @@ fn push_note(
     finding: &Finding,
 ) -> Result<(), AllocError>
     ensures { OnOk result (string_bytes out.new ≡ string_bytes out.old
-        ++ note_text notes colors name.now (displayed.moved, displayed.chars.now) finding.now) }
+        ++ note_text notes colors name.now (displayed.entry.moved, displayed.entry.chars.now) finding.now) }
 {
     push_styled_place(out, colors, name, finding)?;
     push_note_start(out)?;
@@ -163,7 +163,7 @@ fn push_note_if(
     finding: &Finding,
 ) -> Result<(), AllocError>
     ensures { OnOk result (string_bytes out.new ≡ string_bytes out.old
-        ++ note_report notes colors name.now (displayed.moved, displayed.chars.now) finding.now) }
+        ++ note_report notes colors name.now (displayed.entry.moved, displayed.entry.chars.now) finding.now) }
 {
     if !is_about_line(finding.trouble) {
         return Ok(());
