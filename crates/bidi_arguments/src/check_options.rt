@@ -321,49 +321,95 @@ impl<'w> CheckOptions<'w> {
     }
 
     // Returns the options with this format, which an argument names.
-    fn with_format(mut self, value: &'w str) -> Result<CheckOptions<'w>, Refusal<'w>>
+    fn with_format(self, value: &'w str) -> Result<CheckOptions<'w>, Refusal<'w>>
         ensures { result ≡ with_format value.now self.entry (format_named value.now) }
     {
-        let Some(format) = Format::parse(value) else {
-            return Err(Refusal::NotAFormat(Word::new(value)));
-        };
-        self.report.format = format;
-        Ok(self)
+        let CheckOptions {
+            wanted,
+            search,
+            report,
+        } = self;
+        match Format::parse(value) {
+            Some(format) => Ok(CheckOptions {
+                wanted,
+                search,
+                report: ReportOptions { format, ..report },
+            }),
+            None => Err(Refusal::NotAFormat(Word::new(value))),
+        }
     }
 
     // Returns the options with this value of `--color`, which an argument names.
-    fn with_color(mut self, value: &'w str) -> Result<CheckOptions<'w>, Refusal<'w>>
+    fn with_color(self, value: &'w str) -> Result<CheckOptions<'w>, Refusal<'w>>
         ensures { result ≡ with_color value.now self.entry (color_named value.now) }
     {
-        let Some(color) = Color::parse(value) else {
-            return Err(Refusal::NotAColor(Word::new(value)));
-        };
-        self.report.color = color;
-        Ok(self)
+        let CheckOptions {
+            wanted,
+            search,
+            report,
+        } = self;
+        match Color::parse(value) {
+            Some(color) => Ok(CheckOptions {
+                wanted,
+                search,
+                report: ReportOptions { color, ..report },
+            }),
+            None => Err(Refusal::NotAColor(Word::new(value))),
+        }
     }
 
     // Returns the options with this list of what is allowed.
-    fn with_allow(mut self, value: &'w str) -> CheckOptions<'w>
+    fn with_allow(self, value: &'w str) -> CheckOptions<'w>
         ensures { result ≡ with_allow value.now self.entry }
     {
-        self.report.allow = Some(Word::new(value));
-        self
+        let CheckOptions {
+            wanted,
+            search,
+            report,
+        } = self;
+        let allow = Some(Word::new(value));
+        CheckOptions {
+            wanted,
+            search,
+            report: ReportOptions { allow, ..report },
+        }
     }
 
     // Returns the options with this file for a list of all that is found.
-    fn with_write_allow(mut self, value: &'w str) -> CheckOptions<'w>
+    fn with_write_allow(self, value: &'w str) -> CheckOptions<'w>
         ensures { result ≡ with_write_allow value.now self.entry }
     {
-        self.report.write_allow = Some(Word::new(value));
-        self
+        let CheckOptions {
+            wanted,
+            search,
+            report,
+        } = self;
+        let write_allow = Some(Word::new(value));
+        CheckOptions {
+            wanted,
+            search,
+            report: ReportOptions {
+                write_allow,
+                ..report
+            },
+        }
     }
 
     // Returns the options with this list of files.
-    fn with_list(mut self, value: &'w str) -> CheckOptions<'w>
+    fn with_list(self, value: &'w str) -> CheckOptions<'w>
         ensures { result ≡ with_list value.now self.entry }
     {
-        self.search.list = Some(Word::new(value));
-        self
+        let CheckOptions {
+            wanted,
+            search,
+            report,
+        } = self;
+        let list = Some(Word::new(value));
+        CheckOptions {
+            wanted,
+            search: Search { list, ..search },
+            report,
+        }
     }
 
     // Returns the options with these kinds of findings, which an argument names.
