@@ -1,5 +1,5 @@
 -- What `check` finds in a text, and how it is reported.
-use Rattle.std.specs.Prelude.{ℕ, ◌+◌, Bool, true, false, not, is_some, if◌then◌else◌, List, [], ◌∷◌, ◌++◌, get_or, length, map, filter, flat_map, position, codes, decimal, unwrap_or, Option, Some, None, option_map}
+use Rattle.std.specs.Prelude.{ℕ, ◌+◌, Bool, true, false, is_some, if◌then◌else◌, List, [], ◌∷◌, ◌++◌, get_or, length, map, filter, flat_map, position, codes, decimal, unwrap_or, Option, Some, None, option_map}
 use Rattle.std.specs.Option.{option_to_list}
 use Rattle.bidi_base.specs.declared.char_data.BidiClass.{BidiClass}
 use Rattle.bidi_base.specs.Classes.{is_opener}

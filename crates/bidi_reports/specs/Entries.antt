@@ -1,5 +1,5 @@
 -- The entries of an allow-list: how they are written, and what they allow.
-use Rattle.std.specs.Prelude.{ℕ, ◌+◌, ◌==◌, Bool, true, not, nat_le, ◌&&◌, ◌||◌, if◌then◌else◌, List, [], ◌∷◌, find, length, slice_index, take, drop, Option, Some, None, is_none, option_map}
+use Rattle.std.specs.Prelude.{ℕ, ◌+◌, ◌==◌, Bool, true, nat_le, ◌&&◌, ◌||◌, if◌then◌else◌, List, [], ◌∷◌, find, length, slice_index, take, drop, Option, Some, None, is_none, option_map}
 use Rattle.std.specs.Char.{is_ascii_digit}
 use Rattle.std.specs.List.{list_all, list_any, slice_split}
 use Rattle.std.specs.Str.{bytes_eq}

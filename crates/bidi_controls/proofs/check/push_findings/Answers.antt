@@ -1,4 +1,4 @@
-use Rattle.bidi_base.proofs.Common.{◌≡◌, Bool, false, arith, length, get_or, map, length-map-range_with_len, get_or-map-range_with_len}
+use Rattle.bidi_base.proofs.Common.{◌≡◌, Bool, false, arith, length, get_or, length-map-range_with_len, get_or-map-range_with_len}
 use Rattle.bidi_controls.proofs.FindingsLemmas.{more_findings}
 use Rattle.bidi_controls.proofs.check.push_findings.Goals as goal
 

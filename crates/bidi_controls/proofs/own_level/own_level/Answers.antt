@@ -1,5 +1,5 @@
 use Rattle.bidi_base.proofs.Common.{◌≡◌, ◌∙◌, ℕ, zero, suc, ◌+◌, ◌-◌, ◌<◌, ◌≤◌, ◌==◌, Bool, true, false, ◌&&◌, cond, if◌then◌else◌, List, ◌∷◌, Some, length, get_or, drop, map, arith, level_by, is_strong, is_pdi, is_isolate_initiator}
-use Rattle.bidi_base.proofs.Common.{drop-cons, add-one, drop_all, refl, sym, ap, deciding_class, paragraph_level, nat_tests}
+use Rattle.bidi_base.proofs.Common.{drop-cons, add-one, drop_all, refl, sym, ap, paragraph_level, nat_tests}
 use Rattle.bidi_base.specs.declared.char_data.BidiClass.{BidiClass}
 use Rattle.bidi_laws.proofs.IsolateWalk.{Kind, opening, closing, neither, opens_one, closes_one, deciding_from, deciding_class-from, depth_by, initiator-kind, is_zero, kind_of, pdi-kind}
 use Rattle.bidi_controls.proofs.own_level.own_level.Goals as goal
