@@ -108,6 +108,7 @@ fn check_kept(
         [] => assert!(rt; wanted.is_empty()),
         [paragraph, ..] => {
             assert!(rt; paragraph.column == 2 && paragraph.level.number() == 0);
+            assert!(rt; paragraph.moved == 1);
             same(rt, "displayed", paragraph.chars.as_slice(), wanted);
         }
     }
