@@ -6,6 +6,7 @@ use Rattle.bidi_base.specs.Classes.{is_opener}
 use Rattle.bidi_base.specs.Indexes.{indexes, class_at}
 use Rattle.bidi_base.specs.Source.{Source}
 use Rattle.bidi_controls.specs.Controls.{control_of, is_control_or_mark}
+use Rattle.bidi_controls.specs.declared.control.Control.{Control}
 use Rattle.bidi_controls.specs.Displayed.{is_displayed_differently, is_moved_by_letters, is_right_to_left, differing_level, moving_level}
 use Rattle.bidi_controls.specs.FileLines.{file_lines_of}
 use Rattle.bidi_base.specs.Paragraphs.{paragraphs_in, own_chars}
@@ -68,14 +69,21 @@ controls_wanted any = if any then every_control else unmatched
 abbrev pub trouble_of : Bool → BidiClass → Trouble
 trouble_of unmatched class = if unmatched then (if is_opener class then NotClosed else ClosesNothing) else Present
 
--- the finding of this kind at an index of a line, with the control or the mark that is there, if one is
-abbrev pub finding_with : Trouble → ℕ → ℕ → BidiClass → ℕ → Finding
-finding_with trouble line place class c = record { line = line; column = place + 1; control = control_of class c; trouble = trouble }
+-- the control or the mark that a finding of this kind names, if one is there: none if letters alone are the cause
+abbrev pub control_named : Trouble → BidiClass → ℕ → Option Control
+control_named LettersAlone class c = None
+control_named _ class c = control_of class c
+
+-- the finding of this kind at an index of a line
+abbrev pub paragraph_finding : Trouble → ℕ → ℕ → BidiClass → ℕ → Finding
+paragraph_finding trouble line place class c =
+    record { line = line; column = place + 1; control = control_named trouble class c; trouble = trouble }
 
 -- what is found at a character of a line: a control or a mark
 abbrev pub finding_of : ℕ → ℕ → Bool → BidiClass → ℕ → Option Finding
 finding_of line place unmatched class c =
-    if is_some (control_of class c) then Some (finding_with (trouble_of unmatched class) line place class c) else None
+    if is_some (control_of class c)
+    then Some (record { line = line; column = place + 1; control = control_of class c; trouble = trouble_of unmatched class }) else None
 
 -- the same for the character at an index of a paragraph that begins at the index `from` of its line
 abbrev pub finding_at : ℕ → ℕ → List BidiClass → List ℕ → ℕ → Option Finding
@@ -120,10 +128,10 @@ wanted_differing source wanted chars = if_wanted wanted (differing_of source cha
 abbrev pub line_finding : Source → ℕ → ℕ → List ℕ → Differing → Finding
 line_finding source line from chars differing =
     let c = get_or chars differing.place 0 in
-    finding_with differing.trouble line (from + differing.place) (source.class_of c) c
+    paragraph_finding differing.trouble line (from + differing.place) (source.class_of c) c
 
 -- all that is found in a paragraph that begins at the index `from` of the line of this number: first what is found in
--- the paragraph as a whole, then what is found in its characters. This is the order of their columns.
+-- the paragraph as a whole, then what is found in its characters. A finding of letters can be behind some of these.
 abbrev pub all_findings_in_paragraph : Source → ℕ → ℕ → List ℕ → List Finding
 all_findings_in_paragraph source line from chars =
     option_to_list (option_map (line_finding source line from chars) (differing_of source chars))

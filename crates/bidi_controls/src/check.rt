@@ -135,7 +135,7 @@ pub struct Sought {
 /// What is found in a line.
 #[derive(Drop)]
 pub struct LineFound {
-    /// The findings, in the order of their columns.
+    /// The findings, paragraph by paragraph: first that of the paragraph as a whole, then those of its characters in order.
     pub findings: Vec<Finding>,
     /// Each of its paragraphs that has a finding as a whole, as it is displayed, in order.
     pub displayed: Vec<DisplayedParagraph>,
@@ -204,7 +204,7 @@ impl LineSearch {
             return Ok(());
         };
         let at = paragraph.char_at(data_source, differing.place);
-        let finding = Finding::with(differing.trouble, at);
+        let finding = Finding::of_paragraph(differing.trouble, at);
         found.findings.push(finding)?;
         if sought.displays {
             let line = own_chars(data_source, chars);
@@ -297,7 +297,8 @@ fn may_have_findings(wanted: Wanted, line: FirstLine) -> bool
     !line.has_no_controls || wanted.letters_alone
 }
 
-/// Returns what is found in a text, in order.
+/// Returns what is found in a text, line by line, and in a line paragraph by paragraph: first the finding of the paragraph as
+/// a whole, then those of its characters in order.
 ///
 /// These are the findings of the kinds that `wanted` has: direction controls that have no match in their paragraph on
 /// their line, other controls and marks, and paragraphs that are displayed differently from how they read (see

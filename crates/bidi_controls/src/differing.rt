@@ -20,7 +20,8 @@ pub struct DisplayedParagraph {
     pub column: usize,
     /// The base level with which it is displayed, 0 or 1.
     pub level: Level,
-    /// The index in `chars` of the first printable ASCII character, other than the space, that is not read at its place.
+    /// The index in `chars` of the first printable ASCII character, other than the space, that is not read at its place. If
+    /// there is none, the length of `chars`.
     pub moved: usize,
     /// Its characters from left to right (L2), mirrored at odd levels (L4), without direction controls.
     pub chars: Vec<char>,

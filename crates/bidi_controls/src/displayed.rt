@@ -113,8 +113,8 @@ fn write_ascii_in_order(
     Ok(())
 }
 
-// Appends the characters of a line at some indexes, as a device shows them, without direction controls.
-fn push_in_order<D: BidiDataSource>(
+// Replaces a list by the characters of a line at some indexes, as a device shows them, without direction controls.
+fn write_in_order<D: BidiDataSource>(
     data_source: &D,
     line: &[char],
     levels: &[Level],
@@ -304,7 +304,7 @@ impl Display {
         ensures { OnOk result (out.new.items ≡ without_controls (D.source data_source.now) (shown_in_order levels.now line.now)) }
     {
         replace_order(levels, &mut self.order)?;
-        push_in_order(data_source, line, levels, self.order.as_slice(), out)
+        write_in_order(data_source, line, levels, self.order.as_slice(), out)
     }
 }
 
@@ -523,10 +523,11 @@ impl DisplayComparison {
     }
 
     /// Writes the characters of a line as a device shows them: from left to right, mirrored at odd levels, and without
-    /// direction controls. Returns the index in `out` of the first printable ASCII character that is not read at its place.
+    /// direction controls. Returns the index in `out` of the first printable ASCII character, other than the space, that is
+    /// not read at its place. If there is none, returns the length of `out`.
     ///
     /// `line` is the paragraph for which `differing` returned a value last, without the separator that ends it. The base
-    /// level is that of the value. The characters replace the contents of `out`.
+    /// level is that of the value. The characters replace the contents of `out`. Returns an error if an allocation fails.
     pub fn write_displayed<D: BidiDataSource>(
         &mut self,
         data_source: &D,
@@ -540,6 +541,7 @@ impl DisplayComparison {
     {
         let levels = self.shown.levels.as_slice();
         self.display.write_chars(data_source, line, levels, out)?;
+        // `differing` wrote the same, but its clauses do not say so.
         write_visible_ascii(line, &mut self.read)?;
         Ok(first_moved(out.as_slice(), self.read.as_slice()))
     }

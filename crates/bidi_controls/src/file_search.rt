@@ -24,7 +24,8 @@ pub struct FoundLine {
     pub number: usize,
     /// Its characters, with the LF, CR LF or CR that ends it.
     pub chars: Vec<char>,
-    /// What is found in it, in the order of the columns.
+    /// What is found in it, paragraph by paragraph: first the finding of the paragraph as a whole, then those of its
+    /// characters in order.
     pub findings: Vec<Finding>,
     /// Each of its paragraphs that has a finding as a whole, as it is displayed, in order. Empty if the search does not keep
     /// what is displayed.

@@ -186,19 +186,34 @@ pub struct Finding {
 
 impl Finding {
     ghost use Rattle.std.specs.Prelude.{◌≡◌, ◌+◌, ◌<◌, ◌^◌};
-    ghost use Rattle.bidi_controls.specs.Findings.{finding_with, finding_of};
+    ghost use Rattle.bidi_controls.specs.Findings.{paragraph_finding, finding_of};
 
-    /// Returns the finding of this kind at a character. The column must be below 2^64.
-    pub fn with(trouble: Trouble, at: LineChar) -> Finding
+    // Returns the finding of this kind at a character, with the control or the mark that it names.
+    fn at(at: LineChar, trouble: Trouble, control: Option<Control>) -> Finding
         requires { at.place + 1 < 2 ^ 64 }
-        ensures { result ≡ finding_with trouble at.line at.place at.class at.c }
+        ensures { result ≡ record { line = at.line; column = at.place + 1; control = control; trouble = trouble } }
     {
         Finding {
             line: at.line,
             column: at.place + 1,
-            control: Control::of(at.class, at.c),
+            control,
             trouble,
         }
+    }
+
+    /// Returns the finding of a paragraph as a whole, of this kind, at a character. The column must be below 2^64.
+    ///
+    /// It names the control or the mark that is there, but not if letters alone are the cause: RLM and ALM are of the classes
+    /// R and AL too.
+    pub fn of_paragraph(trouble: Trouble, at: LineChar) -> Finding
+        requires { at.place + 1 < 2 ^ 64 }
+        ensures { result ≡ paragraph_finding trouble at.line at.place at.class at.c }
+    {
+        let control = match trouble {
+            Trouble::LettersAlone => None,
+            _ => Control::of(at.class, at.c),
+        };
+        Finding::at(at, trouble, control)
     }
 
     /// Returns what is found at a character: a control, without a match on its line or not, or a mark. Returns `None` for
@@ -207,7 +222,8 @@ impl Finding {
         requires { at.place + 1 < 2 ^ 64 }
         ensures { result ≡ finding_of at.line at.place unmatched at.class at.c }
     {
-        let finding = Finding::with(Trouble::of(unmatched, at.class), at);
-        finding.control.is_some().then_some(finding)
+        let control = Control::of(at.class, at.c);
+        let finding = Finding::at(at, Trouble::of(unmatched, at.class), control);
+        control.is_some().then_some(finding)
     }
 }

@@ -1,4 +1,4 @@
-//! The openers that are open while a line is read.
+//! The openers that are open while a paragraph is read.
 ghost use Rattle.std.specs.Prelude.{◌≡◌, reverse, OnOk, is_some, if◌then◌else◌};
 
 use bidi_base::char_data::BidiClass;
@@ -9,13 +9,13 @@ use std::marker::Model;
 /// An embedding, an override or an isolate initiator.
 #[derive(Clone, Copy)]
 pub struct Opener {
-    /// Its index in the line.
+    /// Its index in the paragraph.
     pub place: usize,
     /// Whether it is an isolate initiator.
     pub is_isolate: bool,
 }
 
-/// The openers that are open at an index of a line. In clauses they are a list, the innermost first.
+/// The openers that are open at an index of a paragraph. In clauses they are a list, the innermost first.
 #[derive(Drop)]
 pub struct Openers {
     /// The outermost first.

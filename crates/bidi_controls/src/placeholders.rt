@@ -16,7 +16,7 @@ use std::alloc::AllocError;
 pub enum PlaceholderState {
     /// Nothing but spaces and characters that are not ASCII.
     Before,
-    /// A number.
+    /// A number, or `$` and a number.
     Number,
     /// `%`.
     Percent,
@@ -32,11 +32,11 @@ pub enum PlaceholderState {
     Dollar,
     /// `$` and a name.
     DollarWord,
-    /// `{` or `${`.
+    /// `{` or `${`, maybe with spaces.
     Brace,
     /// `{` or `${`, and digits.
     BraceNumber,
-    /// `{ $` or `{ -`.
+    /// `{` or `${`, maybe with spaces, and `$` or `-`.
     BraceSign,
     /// `{` and a name.
     BraceName,

@@ -1,4 +1,4 @@
-//! The controls of a line that have no match on it.
+//! The controls of a paragraph that have no match in it.
 ghost use Rattle.std.specs.Prelude.{◌≡◌, ◌<◌, ◌++◌, ◌&&◌, [], ◌∷◌, map, vec_len, is_none, OnOk};
 ghost use Rattle.std.specs.Option.{ForSome};
 ghost use Rattle.bidi_base.specs.Indexes.{indexes};
@@ -42,7 +42,7 @@ fn note_character(
     Ok(())
 }
 
-/// Writes for each character of a line whether it is a control without its match on that line.
+/// Writes for each character of a paragraph whether it is a control without its match in it.
 ///
 /// Replaces the contents of `unmatched` and of `openers`, and reuses their memory. Returns an error if an allocation
 /// fails.

@@ -2,5 +2,5 @@ use Rattle.bidi_base.proofs.Common.{arith}
 use Rattle.bidi_controls.proofs.LineLevels.{order-within}
 use Rattle.bidi_controls.proofs.displayed.Display.write_chars.Goals as goal
 
-pub push_in_order-requires-clause-indexes : goal.push_in_order-requires-clause-indexes
-push_in_order-requires-clause-indexes g c = grind (arith, order-within)
+pub write_in_order-requires-clause-indexes : goal.write_in_order-requires-clause-indexes
+write_in_order-requires-clause-indexes g c = grind (arith, order-within)

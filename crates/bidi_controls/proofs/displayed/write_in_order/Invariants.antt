@@ -1,6 +1,6 @@
 use Rattle.bidi_base.proofs.Common.{◌≡◌, map, take}
 use Rattle.bidi_controls.specs.Displayed.{shown_char, without_controls}
-use Rattle.bidi_controls.proofs.displayed.push_in_order.Given as goal
+use Rattle.bidi_controls.proofs.displayed.write_in_order.Given as goal
 
 abbrev pub invariant-loop-index : goal.invariant-loop-index
 invariant-loop-index g l =
