@@ -159,8 +159,8 @@ fn explain_as_page(
 }
 
 /// Writes the results of the rules for texts, for the files of these names, or for lines of them: `-` is standard input.
-/// Without any, reads standard input. A file that cannot be read or is not UTF-8 is reported on standard error, and the
-/// next one is read.
+/// Without any, reads standard input. A file that cannot be read is reported on standard error, and so is one that is not
+/// UTF-8, unless lines are named. The next one is read.
 pub fn explain_operands(
     rt: &(impl Files + Input + Print + Eprint + AllocGlobal),
     view: StageView,

@@ -285,8 +285,8 @@ impl<'w> CheckOptions<'w> {
         has_input(files)
     }
 
-    /// Returns whether standard input would be read twice, if the arguments name these files. The second reader would
-    /// find it empty.
+    /// Returns whether two of these read standard input: the allow-list, the list of files, and the search of these files.
+    /// The second reader would find it empty.
     pub fn reads_input_twice(&self, files: &[String]) -> bool
         ensures { result ≡ reads_input_twice self.now (map string_bytes files.now) }
     {

@@ -33,7 +33,8 @@ use std::alloc::{AllocError, Global};
 pub struct Checked {
     /// The report of the findings that are not allowed, in the form of the run's `Report`.
     pub report: String,
-    /// Whether there is a finding that is not allowed. With the form `Quiet`, `report` is empty even then.
+    /// Whether a finding is reported: one that is not allowed, unless `allowance` writes entries. With the form `Quiet`,
+    /// `report` is empty even then.
     pub found: bool,
     /// The index of the first byte that is not UTF-8, counted from 0. `None` if there is none, and for UTF-16.
     pub invalid: Option<usize>,
@@ -43,7 +44,7 @@ pub struct Checked {
 ///
 /// `bytes` are all bytes of the input: UTF-8, or UTF-16 after a byte order mark. Invalid bytes are read as U+FFFD.
 /// `wanted` says which findings count. `name` is the input's name in the report and in the allow-list. `report` has the
-/// form, and notes whether there were findings that are not allowed. `allowance` notes which entries allow a finding, and
+/// form, and notes whether findings were reported. `allowance` notes which entries allow a finding, and
 /// gets the entries for those that are left, if it writes them. Returns an error if an allocation fails. Then the report
 /// of this input is lost, but `report` and `allowance` may have noted its findings.
 pub fn check_input(

@@ -1,5 +1,5 @@
 //! The name of a line of a file, as a report of `check` has it.
-ghost use Rattle.std.specs.Prelude.{◌≡◌, ◌<◌, ◌≤◌, length, slice_index, true, IfSome};
+ghost use Rattle.std.specs.Prelude.{◌≡◌, ◌<◌, length, slice_index, IfSome};
 ghost use Rattle.bidi_arguments.specs.LineNames.{column_colon, line_in, file_colon};
 
 use bidi_reports::line_number::{is_line_number, line_number};

@@ -64,10 +64,10 @@ fn push_reported(
 }
 
 /// Appends the report of lines of a file to `out`, without the findings that `allowance` allows. Returns whether a
-/// finding is left.
+/// finding is reported.
 ///
-/// `name` is the file's name in the report and in the allow-list. `report` has the form, and notes whether there were
-/// findings that are not allowed. `allowance` notes which entries of its list allow a finding. If it writes entries, it
+/// `name` is the file's name in the report and in the allow-list. `report` has the form, and notes whether findings were
+/// reported. `allowance` notes which entries of its list allow a finding. If it writes entries, it
 /// gets those for all findings that are left, and none of these is reported. Returns an error if an allocation fails.
 /// Then `out` may have a part of the report.
 pub fn push_lines_reported(

@@ -6,13 +6,15 @@ ghost use Rattle.std.specs.Prelude.{◌≡◌, max};
 pub enum Status {
     /// Nothing was found, or all was written.
     Clean,
-    /// `check` found something.
+    /// `check` found something, or with `--strict-allow` an entry that allows nothing.
     Found,
-    /// An argument or an allow-list is wrong, or an argument, a name or an input is not UTF-8.
+    /// An argument or an allow-list is wrong; an argument, a name or an input is not UTF-8; `check` did not open a pipe, a
+    /// socket or a device; or `explain --line` found no such line.
     Refused,
     /// An allocation failed.
     Memory,
-    /// A read or a write failed, or the arguments could not be read.
+    /// A read or a write failed, the arguments could not be read, the name of a link's target is not UTF-8, or the reader of
+    /// a gate's output is gone.
     Device,
 }
 

@@ -1,5 +1,5 @@
 //! The entries of an allow-list.
-ghost use Rattle.std.specs.Prelude.{◌≡◌, ◌≤◌, ◌+◌, ◌<◌, length, map, drop, option_map, true, IfOk, IfSome};
+ghost use Rattle.std.specs.Prelude.{◌≡◌, ◌+◌, ◌<◌, length, map, option_map, true, IfOk, IfSome};
 ghost use Rattle.std.specs.List.{list_all, list_any};
 ghost use Rattle.bidi_reports.specs.Entries.{fields_of, number_colon, whole_target, line_target, target_of, kinds_named, kinds_of, is_digest_digit, is_digest, begins_with_hash, digest_of, if_some, entry_with, entry_of_fields, entry_of, allows_kind, allows_number, allows_digest, allows_place, entry_allows};
 ghost use Rattle.bidi_reports.specs.Kinds.{is_same_kind};

@@ -12,7 +12,7 @@ pub enum Kind {
     Finding(Trouble),
     /// A file that is not UTF-8.
     NotUtf8,
-    /// A link that is not followed and whose target has a name that is not UTF-8.
+    /// A link whose target has a name that is not UTF-8, where that name is searched.
     Link,
 }
 

@@ -1,4 +1,4 @@
-//! Numbers of lines, as they are written in names.
+//! Numbers of lines and columns, as in `FILE:LINE:COLUMN` and in the entries of allow-lists.
 ghost use Rattle.std.specs.Prelude.{◌≡◌, ◌≤◌, length, true};
 ghost use Rattle.std.specs.Char.{is_ascii_digit};
 ghost use Rattle.std.specs.List.{list_all};
@@ -19,7 +19,8 @@ pub fn is_digits(text: &[u8]) -> bool
     !text.is_empty() && are_digits(text)
 }
 
-/// Returns whether a text is the number of a line, counted from 1: one to nine digits, of which the first is not 0.
+/// Returns whether a text is the number of a line, counted from 1: one to nine digits, of which the first is not 0. A column
+/// is written in the same way.
 pub fn is_line_number(text: &[u8]) -> bool
     ensures { result ≡ is_line_number text.now }
 {

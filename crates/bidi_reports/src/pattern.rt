@@ -44,7 +44,7 @@ pub fn path_parts(alloc: Global, path: &[u8]) -> Result<Option<Vec<Part>>, Alloc
     Ok(Some(parts))
 }
 
-// Returns whether a part can stand for more than one character.
+// Returns whether a part is a wildcard: `*`, `**` or `?`.
 fn is_wild(part: &Part) -> bool
     ensures { result ≡ is_wild part.now }
 {

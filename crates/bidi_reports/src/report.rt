@@ -133,7 +133,8 @@ pub struct Report {
     pub form: Form,
     /// Whether findings were written.
     pub later: bool,
-    /// What SARIF says after the results: for each input that could not be searched as it is, why.
+    /// What SARIF says after the results: why an input could not be searched as it is, and with `--strict-allow` each entry
+    /// that allows nothing.
     pub notifications: String,
 }
 
